@@ -1,0 +1,85 @@
+// The block form of a sheet, rows 1 and 2: blocks of 512 bytes, 128 little-endian words, the last of which checks the other 127.
+ghost use mathlib.Core.Path.{_≡_};
+ghost use Prim.Native.Nat.{_%_, _^_};
+ghost use lib.ListN.{length};
+ghost use Rattle.words.specs.Folds.{sumOf, allOf, stores};
+ghost use Rattle.block.specs.Block.{wordOf, checkOk, unpacked, shapeOk};
+
+// The sum of a block's first 127 words, modulo 2^32.
+fn block_sum(block: &[u8]) -> u32
+    ensures { λ r. ⌜ r ≡ sumOf 127 (wordOf (now (block .entry))) % 2 ^ 32 ⌝ }
+{
+    let mut sum: u32 = 0;
+    let mut j: usize = 0;
+    while j < 127 {
+        let w = words::le_word(block, 4 * j);
+        sum = std::num::wrapping_add_u32(sum, w);
+        j += 1;
+    }
+    sum
+}
+
+// Whether block k, counted from 0, has the check word that it should have.
+fn check_ok(bytes: &[u8], k: u32) -> bool
+    ensures { λ r. ⌜ r ≡ checkOk (now (bytes .entry)) k ⌝ }
+{
+    let from = (k as usize) * 512;
+    let b = words::part(bytes, from, 512);
+    let sum = block_sum(b);
+    let number = (((k as u64) + 1) % 4294967296) as u32;
+    let want = std::num::wrapping_add_u32(sum, number);
+    words::le_word(b, 508) == want
+}
+
+// Whether each of the first n blocks has the check word that it should have.
+pub fn checks_ok(bytes: &[u8], n: u32) -> bool
+    ensures { λ r. ⌜ r ≡ allOf n (checkOk (now (bytes .entry))) ⌝ }
+{
+    let mut k: u32 = 0;
+    while k < n {
+        if !check_ok(bytes, k) {
+            return false;
+        }
+        k += 1;
+    }
+    true
+}
+
+// A block's first 127 words.
+fn unpack_block(block: &[u8], out: &mut [u32])
+    ensures { λ _. ⌜ now (out .exit) ≡ stores 127 (wordOf (now (block .entry))) (now (out .entry)) ⌝ }
+{
+    let mut j: usize = 0;
+    while j < 127 {
+        words::put_word(out, j, words::le_word(block, 4 * j));
+        j += 1;
+    }
+}
+
+// The words of the first n blocks, one after the other, where there is room for them, and else nothing.
+pub fn unpack(bytes: &[u8], n: u32, out: &mut [u32])
+    ensures { λ _. ⌜ now (out .exit) ≡ unpacked (now (bytes .entry)) n (now (out .entry)) ⌝ }
+{
+    let count = n as usize;
+    if out.len() < 127 * count {
+        return;
+    }
+    let mut k: usize = 0;
+    while k < count {
+        let b = words::part(bytes, k * 512, 512);
+        let from = 127 * k;
+        let end = from + 127;
+        unpack_block(b, &mut out[from..end]);
+        k += 1;
+    }
+}
+
+// Whether the bytes are some whole blocks, at most `limit`, and their words fit into `room` words.
+pub fn shape_ok(bytes: &[u8], room: usize, limit: u32) -> bool
+    ensures { λ r. ⌜ r ≡ shapeOk (length (now (bytes .entry))) room limit ⌝ }
+{
+    let len = bytes.len();
+    let n = len / 512;
+    let most = limit as usize;
+    (len != 0) & (len % 512 == 0) & (n <= most) & (127 * n <= room)
+}

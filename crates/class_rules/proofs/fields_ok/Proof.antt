@@ -1,0 +1,61 @@
+use native.Mathlib.Omega.{arith}
+use borrow.Author.Tests.{not-true, not-false}
+use mathlib.Core.Path.{_≡_}
+use mathlib.Core.Bool.{true}
+use Prim.Native.Nat.{_+_, _-_, _≤_}
+use Rattle.words.specs.Folds.{allOf}
+use Rattle.words.proofs.FoldLaws.{all-none, all-turn, all-stop, all-done}
+use Rattle.class_rules.specs.ClassRules.{fieldRecord}
+use Rattle.class_sheet.specs.ClassSheet.{fieldCount}
+use borrow.Author.Needs.{needs}
+use Rattle.class_rules.proofs.fields_ok.Statement.{statement}
+use Rattle.class_rules.proofs.fields_ok.Tie as tie
+use Rattle.class_rules.proofs.fields_ok.Reads as reads
+use Rattle.class_rules.proofs.fields_ok.Lts as lts
+use Rattle.class_rules.proofs.field_ok.Reads as field-ok-reads
+use Rattle.class_sheet.proofs.field_count.Reads as field-count-reads
+
+abbrev Inv-loop : tie.InvT-loop
+Inv-loop ws text n f₀ f = (f ≤ n) × (allOf f (fieldRecord ws text) ≡ true) × (n ≡ fieldCount ws)
+
+abbrev μ-loop : tie.MeasureT-loop
+μ-loop ws text n f₀ f = n - f
+
+field-count-requires : tie.Need-field-count-requires Inv-loop μ-loop
+field-count-requires c κs = search needs
+
+loop-holds : tie.Need-loop-holds Inv-loop μ-loop
+loop-holds c = (omega arith, all-none _, omega arith)
+
+field-ok-requires : tie.Need-field-ok-requires Inv-loop μ-loop
+field-ok-requires c κs = search needs
+
+returns : tie.Need-returns Inv-loop μ-loop
+returns c = all-stop _ _ (c .before .before .before .loop .f) (omega arith) (c .before .field-ok .ensures) (not-true _ (c .if1 .taken))
+
+add-f : tie.Need-add-f Inv-loop μ-loop
+add-f c = search needs
+
+loop-less : tie.Need-loop-less Inv-loop μ-loop
+loop-less c = search needs
+
+loop-again : tie.Need-loop-again Inv-loop μ-loop
+loop-again c = (omega arith, all-turn (c .before .before .before .loop .f) _ (c .before .before .before .loop .inv .1) (c .before .field-ok .ensures) (not-false _ (c .if1 .left)), omega arith)
+
+returns-2 : tie.Need-returns-2 Inv-loop μ-loop
+returns-2 c = all-done _ _ _ (c .before .loop .inv .1) (omega arith)
+
+pub fields-ok-spec : {M : Type 1} → statement M
+fields-ok-spec =
+    tie.close
+    (tie.spec
+    Inv-loop
+    μ-loop
+    field-count-requires
+    loop-holds
+    field-ok-requires
+    returns
+    add-f
+    loop-less
+    loop-again
+    returns-2)

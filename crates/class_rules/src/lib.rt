@@ -1,0 +1,313 @@
+// Rows 3 and 4 of the table of refusals, for the words of a class sheet.
+ghost use mathlib.Core.Path.{_≡_};
+ghost use Prim.Native.Nat.{_+_};
+ghost use Rattle.words.specs.Folds.{allOf};
+ghost use Rattle.class_sheet.specs.ClassSheet.{classCount, methodCount, fieldCount, interfaceCount};
+ghost use Rattle.class_rules.specs.ClassRules.{classLimits, classFits, unlinked, classForm, compilerOk, classNumbers, classLists, classRecord, methodFlagsOk, methodRecord, fieldRecord, interfaceNames, apart, methodsApart, fieldsApart, classesApart, apartBefore, classRecords};
+
+// Whether each count is within its limit.
+fn limits_ok(ws: &[u32]) -> bool
+    ensures { λ r. ⌜ r ≡ classLimits (now (ws .entry)) ⌝ }
+{
+    (class_sheet::class_count(ws) <= 64)
+        & (class_sheet::method_count(ws) <= 512)
+        & (class_sheet::field_count(ws) <= 512)
+        & (class_sheet::interface_count(ws) <= 256)
+        & (class_sheet::compiler_count(ws) <= 2048)
+        & (class_sheet::text_length(ws) <= 8192)
+}
+
+// Row 3 of a link or an ask: whether the counts are within their limits and the content fits the slice.
+pub fn fits_ok(ws: &[u32]) -> bool
+    ensures { λ r. ⌜ r ≡ classFits (now (ws .entry)) ⌝ }
+{
+    limits_ok(ws) & (class_sheet::content_end(ws) <= ws.len())
+}
+
+// Whether class c has table place and slot count 0.
+fn is_unlinked(ws: &[u32], c: u32) -> bool
+    ensures { λ r. ⌜ r ≡ unlinked (now (ws .entry)) c ⌝ }
+{
+    (class_sheet::class_table_place(ws, c) == 0) & (class_sheet::class_slot_count(ws, c) == 0)
+}
+
+// Whether each class has table place and slot count 0.
+fn all_unlinked(ws: &[u32]) -> bool
+    ensures { λ r. ⌜ r ≡ allOf (classCount (now (ws .entry))) (λ i. unlinked (now (ws .entry)) (i + 1)) ⌝ }
+{
+    let n = class_sheet::class_count(ws);
+    let mut i: u32 = 0;
+    while i < n {
+        if !is_unlinked(ws, i + 1) {
+            return false;
+        }
+        i += 1;
+    }
+    true
+}
+
+// Row 3 of a reading, for the words of whole blocks.
+pub fn form_ok(ws: &[u32]) -> bool
+    ensures { λ r. ⌜ r ≡ classForm (now (ws .entry)) ⌝ }
+{
+    if !limits_ok(ws) {
+        return false;
+    }
+    let end = class_sheet::content_end(ws);
+    let n = ws.len();
+    if n < end {
+        return false;
+    }
+    let text_end = 4 * class_sheet::text_at(ws) + words::wide(class_sheet::text_length(ws));
+    (n < end + 127) & text::zero_rest(ws, text_end) & all_unlinked(ws)
+}
+
+// Whether a compiler table, counted from 1, lies inside its section; without one there are no slots.
+fn compiler_ok(first: u32, slots: u32, total: u32) -> bool
+    ensures { λ r. ⌜ r ≡ compilerOk first slots total ⌝ }
+{
+    if first == 0 {
+        return slots == 0;
+    }
+    words::is_inside(first - 1, slots, total)
+}
+
+// Whether class c's parent is below it, and its numbers are within their limits.
+fn numbers_ok(ws: &[u32], c: u32) -> bool
+    ensures { λ r. ⌜ r ≡ classNumbers (now (ws .entry)) c ⌝ }
+{
+    (class_sheet::class_parent(ws, c) < c)
+        & (class_sheet::class_flags(ws, c) <= 65535)
+        & (class_sheet::class_kind(ws, c) <= 2)
+        & (class_sheet::class_link_state(ws, c) <= 65535)
+        & (class_sheet::class_instance_words(ws, c) <= 65535)
+        & (class_sheet::class_compiler_slots(ws, c) <= 1024)
+        & ((class_sheet::class_table_place(ws, c) == 0)
+            | (class_sheet::class_slot_count(ws, c) <= 1024))
+}
+
+// Whether the four lists of class c lie inside their sections.
+fn lists_ok(ws: &[u32], c: u32) -> bool
+    ensures { λ r. ⌜ r ≡ classLists (now (ws .entry)) c ⌝ }
+{
+    let methods = words::is_inside(
+        class_sheet::class_first_method(ws, c),
+        class_sheet::class_method_count(ws, c),
+        class_sheet::method_count(ws),
+    );
+    let fields = words::is_inside(
+        class_sheet::class_first_field(ws, c),
+        class_sheet::class_field_count(ws, c),
+        class_sheet::field_count(ws),
+    );
+    let interfaces = words::is_inside(
+        class_sheet::class_first_interface(ws, c),
+        class_sheet::class_interface_count(ws, c),
+        class_sheet::interface_count(ws),
+    );
+    let compiler = compiler_ok(
+        class_sheet::class_compiler_table(ws, c),
+        class_sheet::class_compiler_slots(ws, c),
+        class_sheet::compiler_count(ws),
+    );
+    methods & fields & interfaces & compiler
+}
+
+// Whether class c's record is in order.
+fn class_ok(ws: &[u32], text: &[u8], c: u32) -> bool
+    ensures { λ r. ⌜ r ≡ classRecord (now (ws .entry)) (now (text .entry)) c ⌝ }
+{
+    let start = class_sheet::class_name_start(ws, c);
+    let length = class_sheet::class_name_length(ws, c);
+    text::part_ok(text, start, length) & numbers_ok(ws, c) & lists_ok(ws, c)
+}
+
+// Whether each class record is in order.
+fn classes_ok(ws: &[u32], text: &[u8]) -> bool
+    ensures { λ r. ⌜ r ≡ allOf (classCount (now (ws .entry))) (λ i. classRecord (now (ws .entry)) (now (text .entry)) (i + 1)) ⌝ }
+{
+    let n = class_sheet::class_count(ws);
+    let mut i: u32 = 0;
+    while i < n {
+        if !class_ok(ws, text, i + 1) {
+            return false;
+        }
+        i += 1;
+    }
+    true
+}
+
+// Whether a method's flags lie within 0x1DFF.
+fn method_flags_ok(flags: u32) -> bool
+    ensures { λ r. ⌜ r ≡ methodFlagsOk flags ⌝ }
+{
+    (flags < 8192) & (flags / 512 % 2 == 0)
+}
+
+// Whether method m's record is in order.
+fn method_ok(ws: &[u32], text: &[u8], m: u32) -> bool
+    ensures { λ r. ⌜ r ≡ methodRecord (now (ws .entry)) (now (text .entry)) m ⌝ }
+{
+    let name = class_sheet::method_name_start(ws, m);
+    let name_length = class_sheet::method_name_length(ws, m);
+    let descriptor = class_sheet::method_descriptor_start(ws, m);
+    let descriptor_length = class_sheet::method_descriptor_length(ws, m);
+    text::part_ok(text, name, name_length)
+        & text::part_ok(text, descriptor, descriptor_length)
+        & method_flags_ok(class_sheet::method_flags(ws, m))
+}
+
+// Whether each method record is in order.
+fn methods_ok(ws: &[u32], text: &[u8]) -> bool
+    ensures { λ r. ⌜ r ≡ allOf (methodCount (now (ws .entry))) (methodRecord (now (ws .entry)) (now (text .entry))) ⌝ }
+{
+    let n = class_sheet::method_count(ws);
+    let mut m: u32 = 0;
+    while m < n {
+        if !method_ok(ws, text, m) {
+            return false;
+        }
+        m += 1;
+    }
+    true
+}
+
+// Whether field f's record is in order.
+fn field_ok(ws: &[u32], text: &[u8], f: u32) -> bool
+    ensures { λ r. ⌜ r ≡ fieldRecord (now (ws .entry)) (now (text .entry)) f ⌝ }
+{
+    let name = class_sheet::field_name_start(ws, f);
+    let name_length = class_sheet::field_name_length(ws, f);
+    let descriptor = class_sheet::field_descriptor_start(ws, f);
+    let descriptor_length = class_sheet::field_descriptor_length(ws, f);
+    text::part_ok(text, name, name_length)
+        & text::part_ok(text, descriptor, descriptor_length)
+        & (class_sheet::field_flags(ws, f) <= 65535)
+}
+
+// Whether each field record is in order.
+fn fields_ok(ws: &[u32], text: &[u8]) -> bool
+    ensures { λ r. ⌜ r ≡ allOf (fieldCount (now (ws .entry))) (fieldRecord (now (ws .entry)) (now (text .entry))) ⌝ }
+{
+    let n = class_sheet::field_count(ws);
+    let mut f: u32 = 0;
+    while f < n {
+        if !field_ok(ws, text, f) {
+            return false;
+        }
+        f += 1;
+    }
+    true
+}
+
+// Whether interface word i names a class.
+fn interface_ok(ws: &[u32], i: u32) -> bool
+    ensures { λ r. ⌜ r ≡ interfaceNames (now (ws .entry)) i ⌝ }
+{
+    let c = class_sheet::interface_word(ws, i);
+    (1 <= c) & (c <= class_sheet::class_count(ws))
+}
+
+// Whether each interface word names a class.
+fn interfaces_ok(ws: &[u32]) -> bool
+    ensures { λ r. ⌜ r ≡ allOf (interfaceCount (now (ws .entry))) (interfaceNames (now (ws .entry))) ⌝ }
+{
+    let n = class_sheet::interface_count(ws);
+    let mut i: u32 = 0;
+    while i < n {
+        if !interface_ok(ws, i) {
+            return false;
+        }
+        i += 1;
+    }
+    true
+}
+
+// Whether two lists have no element in common.
+fn is_apart(f: u32, n: u32, g: u32, m: u32) -> bool
+    ensures { λ r. ⌜ r ≡ apart f n g m ⌝ }
+{
+    (n == 0)
+        | (m == 0)
+        | (words::wide(f) + words::wide(n) <= words::wide(g))
+        | (words::wide(g) + words::wide(m) <= words::wide(f))
+}
+
+// Whether the method lists of classes c and d have no method in common.
+fn methods_apart(ws: &[u32], c: u32, d: u32) -> bool
+    ensures { λ r. ⌜ r ≡ methodsApart (now (ws .entry)) c d ⌝ }
+{
+    let first = class_sheet::class_first_method(ws, c);
+    let n = class_sheet::class_method_count(ws, c);
+    is_apart(
+        first,
+        n,
+        class_sheet::class_first_method(ws, d),
+        class_sheet::class_method_count(ws, d),
+    )
+}
+
+// Whether the field lists of classes c and d have no field in common.
+fn fields_apart(ws: &[u32], c: u32, d: u32) -> bool
+    ensures { λ r. ⌜ r ≡ fieldsApart (now (ws .entry)) c d ⌝ }
+{
+    let first = class_sheet::class_first_field(ws, c);
+    let n = class_sheet::class_field_count(ws, c);
+    is_apart(
+        first,
+        n,
+        class_sheet::class_first_field(ws, d),
+        class_sheet::class_field_count(ws, d),
+    )
+}
+
+// Whether classes c and d have different names, and no method and no field in common.
+fn classes_apart(ws: &[u32], text: &[u8], c: u32, d: u32) -> bool
+    ensures { λ r. ⌜ r ≡ classesApart (now (ws .entry)) (now (text .entry)) d c ⌝ }
+{
+    let name = class_sheet::class_name(ws, text, c);
+    !text::same(name, class_sheet::class_name(ws, text, d))
+        & methods_apart(ws, c, d)
+        & fields_apart(ws, c, d)
+}
+
+// Whether class d is apart from each class before it.
+fn apart_before(ws: &[u32], text: &[u8], d: u32) -> bool
+    ensures { λ r. ⌜ r ≡ apartBefore (now (ws .entry)) (now (text .entry)) d ⌝ }
+{
+    let n = words::before(d);
+    let mut i: u32 = 0;
+    while i < n {
+        if !classes_apart(ws, text, i + 1, d) {
+            return false;
+        }
+        i += 1;
+    }
+    true
+}
+
+// Whether each class is apart from each before it.
+fn all_apart(ws: &[u32], text: &[u8]) -> bool
+    ensures { λ r. ⌜ r ≡ allOf (classCount (now (ws .entry))) (λ i. apartBefore (now (ws .entry)) (now (text .entry)) (i + 1)) ⌝ }
+{
+    let n = class_sheet::class_count(ws);
+    let mut i: u32 = 0;
+    while i < n {
+        if !apart_before(ws, text, i + 1) {
+            return false;
+        }
+        i += 1;
+    }
+    true
+}
+
+// Row 4, of a reading, a link or an ask.
+pub fn records_ok(ws: &[u32], text: &[u8]) -> bool
+    ensures { λ r. ⌜ r ≡ classRecords (now (ws .entry)) (now (text .entry)) ⌝ }
+{
+    classes_ok(ws, text)
+        & methods_ok(ws, text)
+        & fields_ok(ws, text)
+        & interfaces_ok(ws)
+        & all_apart(ws, text)
+}

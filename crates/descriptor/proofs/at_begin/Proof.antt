@@ -1,0 +1,16 @@
+-- `descriptor::at_begin` meets its contract. Assumes nothing.
+use Rattle.descriptor.specs.Machine.{methodNext}
+use borrow.Author.Tests.{eq-eqb, ne-eqb}
+use Rattle.descriptor.proofs.at_begin.Statement.{statement}
+use Rattle.descriptor.proofs.at_begin.Tie as tie
+
+returns : tie.Need-returns
+unfolding methodNext
+returns c = simp (eq-eqb _ _ (c .if1 .taken))
+
+returns-2 : tie.Need-returns-2
+unfolding methodNext
+returns-2 c = simp (ne-eqb _ _ (c .if1 .left))
+
+pub at-begin-spec : {M : Type 1} → statement M
+at-begin-spec = tie.close (tie.spec returns returns-2)

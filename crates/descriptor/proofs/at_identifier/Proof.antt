@@ -1,0 +1,20 @@
+-- `descriptor::at_identifier` meets its contract. Assumes nothing.
+use mathlib.Core.Path.{sym, _∙_}
+use Rattle.descriptor.specs.Machine.{fieldNext}
+use borrow.Author.Needs.{needs}
+use Rattle.descriptor.proofs.at_identifier.Statement.{statement}
+use Rattle.descriptor.proofs.at_identifier.Tie as tie
+
+is-name-byte-requires : tie.Need-is-name-byte-requires
+is-name-byte-requires c κs = search needs
+
+returns : tie.Need-returns
+unfolding fieldNext
+returns c = simp (sym (c .before .is-name-byte .ensures) ∙ c .if1 .taken)
+
+returns-2 : tie.Need-returns-2
+unfolding fieldNext
+returns-2 c = simp (sym (c .before .is-name-byte .ensures) ∙ c .if1 .left)
+
+pub at-identifier-spec : {M : Type 1} → statement M
+at-identifier-spec = tie.close (tie.spec is-name-byte-requires returns returns-2)

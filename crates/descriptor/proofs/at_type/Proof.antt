@@ -1,0 +1,39 @@
+-- `descriptor::at_type` meets its contract. Assumes nothing.
+use mathlib.Core.Path.{sym, _∙_}
+use Rattle.descriptor.specs.Machine.{fieldNext}
+use borrow.Author.Tests.{eq-eqb, ne-eqb}
+use borrow.Author.Needs.{needs}
+use Rattle.descriptor.proofs.at_type.Statement.{statement}
+use Rattle.descriptor.proofs.at_type.Tie as tie
+
+returns : tie.Need-returns
+unfolding fieldNext
+returns c = simp (eq-eqb _ _ (c .if1 .taken))
+
+returns-2 : tie.Need-returns-2
+unfolding fieldNext
+returns-2 c = simp (ne-eqb _ _ (c .before .if1 .left), eq-eqb _ _ (c .if2 .taken))
+
+is-base-byte-requires : tie.Need-is-base-byte-requires
+is-base-byte-requires c κs = search needs
+
+returns-3 : tie.Need-returns-3
+unfolding fieldNext
+returns-3 c =
+    simp (
+      ne-eqb _ _ (c .before .before .before .if1 .left),
+      ne-eqb _ _ (c .before .before .if2 .left),
+      sym (c .before .is-base-byte .ensures) ∙ c .if3 .taken,
+    )
+
+returns-4 : tie.Need-returns-4
+unfolding fieldNext
+returns-4 c =
+    simp (
+      ne-eqb _ _ (c .before .before .before .if1 .left),
+      ne-eqb _ _ (c .before .before .if2 .left),
+      sym (c .before .is-base-byte .ensures) ∙ c .if3 .left,
+    )
+
+pub at-type-spec : {M : Type 1} → statement M
+at-type-spec = tie.close (tie.spec returns returns-2 is-base-byte-requires returns-3 returns-4)

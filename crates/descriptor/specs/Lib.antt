@@ -1,0 +1,5 @@
+pub mod Bytes
+pub mod Grammar
+pub mod Machine
+pub mod Meaning
+pub mod Words

@@ -1,0 +1,32 @@
+-- What is claimed of the definitions that the contracts cite: they are the Specification's grammar and its count of words.
+-- proofs/Meaning.antt proves it. Assumes nothing.
+use mathlib.Core.Path.{_≡_}
+use mathlib.Core.Bool.{true}
+use mathlib.Core.List.{List}
+use mathlib.Core.Logic.{_↔_}
+use Prim.Native.Nat.{ℕ, _%_, _^_, _<_}
+use lib.ListN.{length}
+use Rattle.descriptor.specs.Grammar.{FieldDescriptor, fieldSpelling, FieldDerivation, MethodDescriptor, methodSpelling}
+use Rattle.descriptor.specs.Grammar.{MethodDerivation}
+use Rattle.descriptor.specs.Machine.{isFieldDescriptor, isMethodDescriptor}
+use Rattle.descriptor.specs.Words.{fieldWords, argumentWords, width, counted, fieldAnswer, argumentAnswer}
+
+pub record Meaning : Type 0 where
+  -- bytes are accepted if and only if a derivation spells them
+  pub field-sound : (s : List ℕ) → isFieldDescriptor s ≡ true → FieldDerivation s
+  pub field-complete : (s : List ℕ) → FieldDerivation s → isFieldDescriptor s ≡ true
+  pub method-sound : (s : List ℕ) → isMethodDescriptor s ≡ true → MethodDerivation s
+  pub method-complete : (s : List ℕ) → MethodDerivation s → isMethodDescriptor s ≡ true
+  -- only one derivation spells them
+  pub field-unique : (t u : FieldDescriptor) → fieldSpelling t ≡ fieldSpelling u → t ≡ u
+  pub method-unique : (t u : MethodDescriptor) → methodSpelling t ≡ methodSpelling u → t ≡ u
+  -- a field's words are its derivation's, and it is refused, by 5, just where it has none
+  pub width-is : (t : FieldDescriptor) → width (fieldSpelling t) ≡ fieldWords t
+  pub field-words-exact : (t : FieldDescriptor) → fieldAnswer (fieldSpelling t) ≡ counted (fieldWords t)
+  pub field-words-refused : (s : List ℕ) → ((fieldAnswer s) .refusal ≡ 5) ↔ (FieldDerivation s → ⊥)
+  -- a method's argument words are the sum over its derivation's parameters and the receiver, modulo 2^64, so exactly where the
+  -- descriptor has fewer than 2^63 bytes; and it is refused, by 5, just where it has none
+  pub argument-words-modulo : (t : MethodDescriptor) (flags : ℕ) → argumentAnswer (methodSpelling t) flags ≡ counted (argumentWords t flags % 2 ^ 64)
+  pub argument-words-exact : (t : MethodDescriptor) (flags : ℕ) → length (methodSpelling t) < 2 ^ 63
+      → argumentAnswer (methodSpelling t) flags ≡ counted (argumentWords t flags)
+  pub argument-words-refused : (s : List ℕ) (flags : ℕ) → ((argumentAnswer s flags) .refusal ≡ 5) ↔ (MethodDerivation s → ⊥)

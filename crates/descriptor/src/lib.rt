@@ -1,0 +1,320 @@
+// Descriptors of fields and methods, JVMS 4.2, 4.3.2 and 4.3.3: whether bytes are one, and the words that it stands for. Every
+// function takes any bytes. specs/Grammar.antt has the grammar, and specs/Meaning.antt says what the definitions cited here mean.
+ghost use mathlib.Core.Path.{_≡_};
+ghost use Prim.Native.Nat.{_%_, _^_};
+ghost use Rattle.descriptor.specs.Bytes.{member, isBaseByte, isNameByte};
+ghost use Rattle.descriptor.specs.Machine.{
+  fieldNext,
+  fieldDone,
+  isFieldDescriptor,
+  methodNext,
+  methodDone,
+  isMethodDescriptor,
+};
+ghost use Rattle.descriptor.specs.Words.{
+  receiverWords,
+  byteWidth,
+  width,
+  betweenParameters,
+  begunWords,
+  begunFrom,
+  answer,
+  fieldAnswer,
+  argumentAnswer,
+};
+
+// Where a reader of a field type stands: at a type, at the first byte of an identifier of a class name, after one, at the type's
+// end, or past a fault.
+enum FieldState {
+    Open,
+    Start,
+    Inside,
+    Done,
+    Bad,
+}
+
+// Where a reader of a method descriptor stands: at its first byte, among the parameters (`Done` before and after each), at the
+// return descriptor, or in it.
+enum MethodState {
+    Begin,
+    Parameters(FieldState),
+    Return,
+    Returned(FieldState),
+}
+
+// The words of a descriptor, modulo 2^64, or the number by which it is refused.
+pub enum DescriptorWords {
+    Count(u64),
+    Refused(u32),
+}
+
+// Whether b is among the bytes.
+fn contains(s: &[u8], b: u8) -> bool
+    ensures { λ r. ⌜ r ≡ member b (now (s .entry)) ⌝ }
+{
+    let mut i: usize = 0;
+    while i < s.len() {
+        if words::byte_at(s, i) == b {
+            return true;
+        }
+        i += 1;
+    }
+    false
+}
+
+// Whether b is a base type.
+fn is_base_byte(b: u8) -> bool
+    ensures { λ r. ⌜ r ≡ isBaseByte b ⌝ }
+{
+    contains(b"BCDFIJSZ", b)
+}
+
+// Whether an unqualified name may have b.
+fn is_name_byte(b: u8) -> bool
+    ensures { λ r. ⌜ r ≡ isNameByte b ⌝ }
+{
+    !contains(b".;[/", b)
+}
+
+// b where a type begins.
+fn at_type(b: u8) -> FieldState
+    ensures { λ r. ⌜ r ≡ fieldNext FieldState.Open b ⌝ }
+{
+    if b == b'[' {
+        return FieldState::Open;
+    }
+    if b == b'L' {
+        return FieldState::Start;
+    }
+    if is_base_byte(b) {
+        return FieldState::Done;
+    }
+    FieldState::Bad
+}
+
+// b where an identifier begins.
+fn at_identifier(b: u8) -> FieldState
+    ensures { λ r. ⌜ r ≡ fieldNext FieldState.Start b ⌝ }
+{
+    if is_name_byte(b) {
+        return FieldState::Inside;
+    }
+    FieldState::Bad
+}
+
+// b after a byte of an identifier.
+fn in_identifier(b: u8) -> FieldState
+    ensures { λ r. ⌜ r ≡ fieldNext FieldState.Inside b ⌝ }
+{
+    if b == b';' {
+        return FieldState::Done;
+    }
+    if b == b'/' {
+        return FieldState::Start;
+    }
+    at_identifier(b)
+}
+
+// Reads b of a field descriptor.
+fn field_next(q: FieldState, b: u8) -> FieldState
+    ensures { λ r. ⌜ r ≡ fieldNext q b ⌝ }
+{
+    match q {
+        FieldState::Open => at_type(b),
+        FieldState::Start => at_identifier(b),
+        FieldState::Inside => in_identifier(b),
+        FieldState::Done => FieldState::Bad,
+        FieldState::Bad => FieldState::Bad,
+    }
+}
+
+// Whether a field descriptor may end here.
+fn field_done(q: FieldState) -> bool
+    ensures { λ r. ⌜ r ≡ fieldDone q ⌝ }
+{
+    match q {
+        FieldState::Open => false,
+        FieldState::Start => false,
+        FieldState::Inside => false,
+        FieldState::Done => true,
+        FieldState::Bad => false,
+    }
+}
+
+// Whether the bytes are a field descriptor.
+pub fn is_field_descriptor(s: &[u8]) -> bool
+    ensures { λ r. ⌜ r ≡ isFieldDescriptor (now (s .entry)) ⌝ }
+{
+    let mut q = FieldState::Open;
+    let mut i: usize = 0;
+    while i < s.len() {
+        q = field_next(q, words::byte_at(s, i));
+        i += 1;
+    }
+    field_done(q)
+}
+
+// b where the method descriptor begins.
+fn at_begin(b: u8) -> MethodState
+    ensures { λ r. ⌜ r ≡ methodNext MethodState.Begin b ⌝ }
+{
+    if b == b'(' {
+        return MethodState::Parameters(FieldState::Done);
+    }
+    MethodState::Parameters(FieldState::Bad)
+}
+
+// b where a parameter or the closing parenthesis begins.
+fn at_parameter(b: u8) -> MethodState
+    ensures { λ r. ⌜ r ≡ methodNext (MethodState.Parameters FieldState.Done) b ⌝ }
+{
+    if b == b')' {
+        return MethodState::Return;
+    }
+    MethodState::Parameters(at_type(b))
+}
+
+// b among the parameters.
+fn in_parameters(q: FieldState, b: u8) -> MethodState
+    ensures { λ r. ⌜ r ≡ methodNext (MethodState.Parameters q) b ⌝ }
+{
+    match q {
+        FieldState::Open => MethodState::Parameters(at_type(b)),
+        FieldState::Start => MethodState::Parameters(at_identifier(b)),
+        FieldState::Inside => MethodState::Parameters(in_identifier(b)),
+        FieldState::Done => at_parameter(b),
+        FieldState::Bad => MethodState::Parameters(FieldState::Bad),
+    }
+}
+
+// b where the return descriptor begins.
+fn at_return(b: u8) -> MethodState
+    ensures { λ r. ⌜ r ≡ methodNext MethodState.Return b ⌝ }
+{
+    if b == b'V' {
+        return MethodState::Returned(FieldState::Done);
+    }
+    MethodState::Returned(at_type(b))
+}
+
+// Reads b of a method descriptor.
+fn method_next(q: MethodState, b: u8) -> MethodState
+    ensures { λ r. ⌜ r ≡ methodNext q b ⌝ }
+{
+    match q {
+        MethodState::Begin => at_begin(b),
+        MethodState::Parameters(p) => in_parameters(p, b),
+        MethodState::Return => at_return(b),
+        MethodState::Returned(p) => MethodState::Returned(field_next(p, b)),
+    }
+}
+
+// Whether a method descriptor may end here.
+fn method_done(q: MethodState) -> bool
+    ensures { λ r. ⌜ r ≡ methodDone q ⌝ }
+{
+    match q {
+        MethodState::Begin => false,
+        MethodState::Parameters(_) => false,
+        MethodState::Return => false,
+        MethodState::Returned(p) => field_done(p),
+    }
+}
+
+// Whether the bytes are a method descriptor.
+pub fn is_method_descriptor(s: &[u8]) -> bool
+    ensures { λ r. ⌜ r ≡ isMethodDescriptor (now (s .entry)) ⌝ }
+{
+    let mut q = MethodState::Begin;
+    let mut i: usize = 0;
+    while i < s.len() {
+        q = method_next(q, words::byte_at(s, i));
+        i += 1;
+    }
+    method_done(q)
+}
+
+// The words of a value whose descriptor begins with b.
+fn byte_width(b: u8) -> u32
+    ensures { λ r. ⌜ r ≡ byteWidth b ⌝ }
+{
+    if (b == b'J') | (b == b'D') {
+        return 2;
+    }
+    1
+}
+
+// The words of a value of the field descriptor: 2 where its first byte is J or D, else 1.
+pub fn width(s: &[u8]) -> u32
+    ensures { λ r. ⌜ r ≡ width (now (s .entry)) ⌝ }
+{
+    byte_width(words::byte_at(s, 0))
+}
+
+// The words of a field, or refusal 5 where the bytes are no field descriptor.
+pub fn field_words(s: &[u8]) -> DescriptorWords
+    ensures { λ r. ⌜ answer r ≡ fieldAnswer (now (s .entry)) ⌝ }
+{
+    if is_field_descriptor(s) {
+        return DescriptorWords::Count(width(s) as u64);
+    }
+    DescriptorWords::Refused(5)
+}
+
+// Whether a parameter or the closing parenthesis is next.
+fn between_parameters(q: MethodState) -> bool
+    ensures { λ r. ⌜ r ≡ betweenParameters q ⌝ }
+{
+    match q {
+        MethodState::Begin => false,
+        MethodState::Parameters(p) => field_done(p),
+        MethodState::Return => false,
+        MethodState::Returned(_) => false,
+    }
+}
+
+// The words of the parameter that b begins, and 0 where it begins none.
+fn begun_words(q: MethodState, b: u8) -> u32
+    ensures { λ r. ⌜ r ≡ begunWords q b ⌝ }
+{
+    if between_parameters(q) & (b != b')') {
+        return byte_width(b);
+    }
+    0
+}
+
+// The words of the parameters of a method descriptor, modulo 2^64.
+fn parameter_words(s: &[u8]) -> u64
+    ensures { λ r. ⌜ r ≡ begunFrom MethodState.Begin (now (s .entry)) % 2 ^ 64 ⌝ }
+{
+    let mut q = MethodState::Begin;
+    let mut n: u64 = 0;
+    let mut i: usize = 0;
+    while i < s.len() {
+        let b = words::byte_at(s, i);
+        n = std::num::wrapping_add_u64(n, begun_words(q, b) as u64);
+        q = method_next(q, b);
+        i += 1;
+    }
+    n
+}
+
+// The word of the receiver: none where the flags have 0x0008, static.
+fn receiver_words(flags: u32) -> u64
+    ensures { λ r. ⌜ r ≡ receiverWords flags ⌝ }
+{
+    (1 - flags / 8 % 2) as u64
+}
+
+// The words of a method's arguments, the receiver's among them, or refusal 5 where the bytes are no method descriptor.
+pub fn argument_words(s: &[u8], flags: u32) -> DescriptorWords
+    ensures { λ r. ⌜ answer r ≡ argumentAnswer (now (s .entry)) flags ⌝ }
+{
+    if is_method_descriptor(s) {
+        return DescriptorWords::Count(std::num::wrapping_add_u64(
+            receiver_words(flags),
+            parameter_words(s),
+        ));
+    }
+    DescriptorWords::Refused(5)
+}

@@ -1,0 +1,82 @@
+-- Reading a class sheet and an ABI sheet: rows 1 to 5, in that order. Assumes nothing.
+use Prim.Native.Nat.{ℕ, _*_, _/_, _%_}
+use mathlib.Core.Bool.{Bool, cond, not}
+use mathlib.Core.List.{List, _++_}
+use lib.ListN.{drop, length}
+use lib.Dec.{eqb}
+use Rattle.words.specs.Folds.{allOf}
+use Rattle.block.specs.Block.{checkOk, content, unpacked, shapeOk}
+use Rattle.class_sheet.specs.ClassSheet.{textOf}
+use Rattle.abi_sheet.specs.AbiSheet.{abiTextOf}
+use Rattle.class_rules.specs.ClassRules.{classForm}
+use Rattle.abi_rules.specs.AbiRules.{abiForm}
+use Rattle.set_rules.specs.SetRules.{classRefusal, abiRefusal}
+use Rattle.sheet.specs.declared.Read.{Read}
+use Rattle.sheet.specs.declared.Read.the-variants.{Words, Refused}
+
+-- ---- what a reading answers, and what the lent words then hold
+
+-- "An accepted call gives 0 and its result; a refused one gives its number, zero in every other answer word, and unchanged lent memory."
+pub record Outcome : Type 0 where
+  pub refusal : ℕ
+  pub words : ℕ
+  pub memory : List ℕ
+
+-- the number and value of each case of the answer, beside the memory
+abbrev pub outcome : Read → List ℕ → Outcome
+outcome (Words n) ws = record { refusal = 0; words = n; memory = ws }
+outcome (Refused k) ws = record { refusal = k; words = 0; memory = ws }
+
+-- ---- rows 1 to 5
+
+unfoldable pub blockCount : List ℕ → ℕ
+blockCount bs = length bs / 512
+
+-- "The 127s run on as one word list."
+unfoldable pub sheetWords : List ℕ → List ℕ
+sheetWords bs = content bs (blockCount bs)
+
+-- rows 1 and 2 for at most `limit` blocks and a lent slice of `room` words, then `rows` of the sheet's words; 0 where none refuses
+unfoldable pub sheetRefusal : ℕ → (List ℕ → ℕ) → List ℕ → ℕ → ℕ
+sheetRefusal limit rows bs room =
+    cond (not (shapeOk (length bs) room limit))
+    1
+    (cond (not (allOf (blockCount bs) (checkOk bs))) 2 (rows (sheetWords bs)))
+
+-- a sheet that `refusal` refuses changes nothing; an accepted one fills 127 words a block and leaves the rest of the slice as it was
+unfoldable pub readSheet : (List ℕ → ℕ → ℕ) → List ℕ → List ℕ → Outcome
+readSheet refusal bs ws =
+    cond (eqb (refusal bs (length ws)) 0)
+    (record { refusal = 0; words = 127 * blockCount bs; memory = sheetWords bs ++ drop (127 * blockCount bs) ws })
+    (record { refusal = refusal bs (length ws); words = 0; memory = ws })
+
+-- ---- the two sheets
+
+-- rows 3 to 5 for the words of a class sheet
+unfoldable pub classRows : List ℕ → ℕ
+classRows ws = cond (not (classForm ws)) 3 (classRefusal ws (textOf ws))
+
+unfoldable pub classSheetRefusal : List ℕ → ℕ → ℕ
+classSheetRefusal bs room = sheetRefusal 92 classRows bs room
+
+unfoldable pub readClassSheet : List ℕ → List ℕ → Outcome
+readClassSheet bs ws = readSheet classSheetRefusal bs ws
+
+-- rows 3 to 5 for the words of an ABI sheet
+unfoldable pub abiRows : List ℕ → ℕ
+abiRows abi = cond (not (abiForm abi)) 3 (abiRefusal abi (abiTextOf abi))
+
+unfoldable pub abiSheetRefusal : List ℕ → ℕ → ℕ
+abiSheetRefusal bs room = sheetRefusal 51 abiRows bs room
+
+unfoldable pub readAbiSheet : List ℕ → List ℕ → Outcome
+readAbiSheet bs ws = readSheet abiSheetRefusal bs ws
+
+-- ---- the last step of a reading, as the code takes it: `row` is 0 or refuses
+
+unfoldable pub finished : ℕ → List ℕ → List ℕ → Outcome
+finished row bs ws =
+    let n : ℕ = blockCount bs % 4294967296 in
+    cond (eqb row 0)
+    (record { refusal = 0; words = 127 * n % 4294967296; memory = unpacked bs n ws })
+    (record { refusal = row; words = 0; memory = ws })

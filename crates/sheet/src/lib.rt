@@ -1,0 +1,93 @@
+// Reading a class sheet and an ABI sheet: bytes are judged by rows 1 to 5 before the first word is written.
+ghost use mathlib.Core.Path.{_≡_};
+ghost use Rattle.sheet.specs.Sheet.{outcome, classRows, classSheetRefusal, readClassSheet, abiRows, abiSheetRefusal, readAbiSheet, finished};
+
+// What a reading answers: the number of words written, or the row that refuses.
+pub enum Read {
+    Words(u32),
+    Refused(u32),
+}
+
+// Rows 3 to 5 for the words of a class sheet: the number that refuses, or 0.
+fn class_rows(ws: &[u32]) -> u32
+    ensures { λ r. ⌜ r ≡ classRows (now (ws .entry)) ⌝ }
+{
+    if !class_rules::form_ok(ws) {
+        return 3;
+    }
+    let mut text = [0u8; 8192];
+    class_sheet::unpack_text(ws, &mut text);
+    set_rules::class_refusal(ws, text::name_at(&text, 0, class_sheet::text_length(ws)))
+}
+
+// Rows 1 to 5 for a class sheet and a lent slice of `room` words: the number that refuses, or 0.
+fn class_sheet_refusal(bytes: &[u8], room: usize) -> u32
+    ensures { λ r. ⌜ r ≡ classSheetRefusal (now (bytes .entry)) room ⌝ }
+{
+    if !block::shape_ok(bytes, room, 92) {
+        return 1;
+    }
+    let n = (bytes.len() / 512 % 4294967296) as u32;
+    if !block::checks_ok(bytes, n) {
+        return 2;
+    }
+    let mut sheet = [0u32; 11684];
+    block::unpack(bytes, n, &mut sheet);
+    class_rows(words::word_part(&sheet, 0, 127 * words::wide(n)))
+}
+
+// Rows 3 to 5 for the words of an ABI sheet: the number that refuses, or 0.
+fn abi_rows(abi: &[u32]) -> u32
+    ensures { λ r. ⌜ r ≡ abiRows (now (abi .entry)) ⌝ }
+{
+    if !abi_rules::form_ok(abi) {
+        return 3;
+    }
+    let mut text = [0u8; 8192];
+    abi_sheet::unpack_text(abi, &mut text);
+    set_rules::abi_refusal(abi, text::name_at(&text, 0, abi_sheet::text_length(abi)))
+}
+
+// Rows 1 to 5 for an ABI sheet and a lent slice of `room` words: the number that refuses, or 0.
+fn abi_sheet_refusal(bytes: &[u8], room: usize) -> u32
+    ensures { λ r. ⌜ r ≡ abiSheetRefusal (now (bytes .entry)) room ⌝ }
+{
+    if !block::shape_ok(bytes, room, 51) {
+        return 1;
+    }
+    let n = (bytes.len() / 512 % 4294967296) as u32;
+    if !block::checks_ok(bytes, n) {
+        return 2;
+    }
+    let mut sheet = [0u32; 6477];
+    block::unpack(bytes, n, &mut sheet);
+    abi_rows(words::word_part(&sheet, 0, 127 * words::wide(n)))
+}
+
+// Writes the sheet's words where `row` is 0, and answers their number or the row.
+fn finish(bytes: &[u8], out: &mut [u32], row: u32) -> Read
+    ensures { λ r. ⌜ outcome r (now (out .exit)) ≡ finished row (now (bytes .entry)) (now (out .entry)) ⌝ }
+{
+    if row != 0 {
+        return Read::Refused(row);
+    }
+    let n = (bytes.len() / 512 % 4294967296) as u32;
+    block::unpack(bytes, n, out);
+    Read::Words((127 * (n as u64) % 4294967296) as u32)
+}
+
+// Reads a class sheet into the lent words.
+pub fn read_class_sheet(bytes: &[u8], out: &mut [u32]) -> Read
+    ensures { λ r. ⌜ outcome r (now (out .exit)) ≡ readClassSheet (now (bytes .entry)) (now (out .entry)) ⌝ }
+{
+    let row = class_sheet_refusal(bytes, out.len());
+    finish(bytes, out, row)
+}
+
+// Reads an ABI sheet into the lent words.
+pub fn read_abi_sheet(bytes: &[u8], out: &mut [u32]) -> Read
+    ensures { λ r. ⌜ outcome r (now (out .exit)) ≡ readAbiSheet (now (bytes .entry)) (now (out .entry)) ⌝ }
+{
+    let row = abi_sheet_refusal(bytes, out.len());
+    finish(bytes, out, row)
+}

@@ -1,0 +1,51 @@
+use native.Mathlib.Omega.{arith}
+use Rattle.text.proofs.Laws.{part-empty, part-long, part-outside, part-inside}
+use borrow.Author.Needs.{needs}
+use Rattle.text.proofs.part_ok.Statement.{statement}
+use Rattle.text.proofs.part_ok.Tie as tie
+use Rattle.text.proofs.part_ok.Reads as reads
+use Rattle.text.proofs.part_ok.Lts as lts
+use Rattle.text.proofs.all_printable.Reads as all-printable-reads
+use Rattle.text.proofs.name_at.Reads as name-at-reads
+use Rattle.words.proofs.wide.Reads as wide-reads
+
+returns : tie.Need-returns
+returns c = part-empty _ _ _ (c .if1 .taken)
+
+returns-2 : tie.Need-returns-2
+returns-2 c = part-long _ _ _ (c .if2 .taken)
+
+wide-requires : tie.Need-wide-requires
+wide-requires c κs = search needs
+
+wide-requires-2 : tie.Need-wide-requires-2
+wide-requires-2 c κs = search needs
+
+add-if3 : tie.Need-add-if3
+add-if3 c = search needs
+
+returns-3 : tie.Need-returns-3
+returns-3 c = part-outside _ _ _ (omega arith)
+
+name-at-requires : tie.Need-name-at-requires
+name-at-requires c κs = search needs
+
+all-printable-requires : tie.Need-all-printable-requires
+all-printable-requires c κs = search needs
+
+returns-4 : tie.Need-returns-4
+returns-4 c = part-inside _ _ _ (omega arith) (omega arith) (omega arith) (c .before .name-at .ensures) (c .all-printable .ensures)
+
+pub part-ok-spec : {M : Type 1} → statement M
+part-ok-spec =
+    tie.close
+    (tie.spec
+    returns
+    returns-2
+    wide-requires
+    wide-requires-2
+    add-if3
+    returns-3
+    name-at-requires
+    all-printable-requires
+    returns-4)

@@ -1,0 +1,48 @@
+-- The text section, and names as parts of it. Assumes nothing.
+use Prim.Native.Nat.{ℕ, _+_, _*_, _-_, _/_, _%_}
+use mathlib.Core.Bool.{Bool, true, false, _&&_, cond}
+use mathlib.Core.List.{List, [], _∷_, _++_}
+use lib.ListN.{getD, take, drop, length}
+use lib.Dec.{eqb, leb, ltb}
+use Rattle.words.specs.Folds.{allOf, table}
+use Rattle.words.specs.Words.{byteOf}
+
+-- byte k of the text in the words: "text is four bytes a word, lowest byte first"
+unfoldable pub textByte : List ℕ → ℕ → ℕ
+textByte ws k = byteOf (getD ws (k / 4) 0) (k % 4)
+
+-- the first n bytes of the words
+unfoldable pub textOfWords : List ℕ → ℕ → List ℕ
+textOfWords ws n = table n (textByte ws)
+
+-- lent bytes with the first n of the words in front and the rest as it was, where there is room
+unfoldable pub unpackedText : List ℕ → ℕ → List ℕ → List ℕ
+unpackedText ws n text = cond (ltb (length text) n) text (textOfWords ws n ++ drop n text)
+
+-- byte `start + k` of the words is 0
+unfoldable pub zeroAt : List ℕ → ℕ → ℕ → Bool
+zeroAt ws start k = eqb (textByte ws (start + k)) 0
+
+-- each byte of the words from `start` to their end is 0
+unfoldable pub zeroRest : List ℕ → ℕ → Bool
+zeroRest ws start = allOf (4 * length ws - start) (zeroAt ws start)
+
+-- the part of the text from start on: "A name is handed on as its part of the text"
+unfoldable pub nameAt : List ℕ → ℕ → ℕ → List ℕ
+nameAt text start len = take len (drop start text)
+
+-- two names are the same bytes
+unfoldable pub sameBytes : List ℕ → List ℕ → Bool
+sameBytes [] [] = true
+sameBytes [] (y ∷ ys) = false
+sameBytes (x ∷ xs) [] = false
+sameBytes (x ∷ xs) (y ∷ ys) = eqb x y && sameBytes xs ys
+
+-- "each 0x21 to 0x7E"
+unfoldable pub printable : List ℕ → Bool
+printable [] = true
+printable (b ∷ bs) = leb 33 b && leb b 126 && printable bs
+
+-- "every list and text part lies inside its section; names and descriptors have 1 to 255 bytes, each 0x21 to 0x7E"
+unfoldable pub partOk : List ℕ → ℕ → ℕ → Bool
+partOk text start len = leb 1 len && leb len 255 && leb (start + len) (length text) && printable (nameAt text start len)

@@ -1,0 +1,4 @@
+pub mod Bools
+pub mod FoldLaws
+pub mod Laws
+pub mod Lists

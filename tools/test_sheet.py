@@ -1,0 +1,452 @@
+#!/usr/bin/env python3
+"""Tests of the sheet tools: round trips, the judge, its messages, and the commands."""
+
+import glob
+import itertools
+import os
+import random
+import re
+import subprocess
+import sys
+import tempfile
+import unittest
+
+sys.dont_write_bytecode = True
+HERE = os.path.dirname(os.path.realpath(__file__))
+sys.path.insert(0, HERE)
+
+import sheetform  # noqa: E402
+import sheetlib  # noqa: E402
+import vectors  # noqa: E402
+from sheetlib import ABI_SHEET, CLASS_SHEET, WORD, Sheet, blocks, judge, judge_words, layout_of  # noqa: E402
+
+TOP = WORD - 1
+vectors.make_all()
+
+
+def sheet(*args):
+    """Runs the command; answers status, standard output, standard error."""
+    done = subprocess.run([sys.executable, os.path.join(HERE, "sheet"), *args], capture_output=True, text=True, check=False)
+    return done.returncode, done.stdout, done.stderr
+
+
+def form(text):
+    return sheetform.parse(text)
+
+
+def row(made, layout=None):
+    """The row that a sheet, or bytes, meets."""
+    data = made if isinstance(made, bytes) else made.blocks()
+    return judge(layout or made.layout, data)[0]
+
+
+# ---- random sheets
+
+def random_name(pick):
+    return "".join(chr(pick.randrange(0x21, 0x7F)) for _ in range(pick.choice((1, 1, 2, 5, 12))))
+
+
+def random_type(pick):
+    name = "/".join("".join(pick.choice("ab<(#V)") for _ in range(pick.randrange(1, 4))) for _ in range(pick.randrange(1, 4)))
+    return "[" * pick.choice((0, 0, 1, 3)) + pick.choice(list("BCDFIJSZ") + [f"L{name};"] * 3)
+
+
+def random_method_type(pick):
+    return "(" + "".join(random_type(pick) for _ in range(pick.randrange(4))) + ")" + pick.choice(["V", random_type(pick)])
+
+
+def random_form(pick, layout):
+    """A text form of up to eight classes."""
+    names = sorted({random_name(pick) for _ in range(pick.randrange(9))}, key=lambda n: (len(n), n[::-1]))
+    out = ["sheet " + ("abi" if layout is ABI_SHEET else "classes")]
+    for i, name in enumerate(names):
+        if layout is ABI_SHEET:
+            out.append(f"abi class {name}" + pick.choice(("", f" size {pick.randrange(1025)}"))
+                       + pick.choice(("", f" words {pick.randrange(4097)}")))
+            out += [f"slot {random_name(pick)} {random_method_type(pick)} {pick.randrange(1024)}" for _ in range(pick.randrange(4))]
+            out += [f"field {random_name(pick)} {random_type(pick)} {pick.randrange(4096)}" for _ in range(pick.randrange(3))]
+            continue
+        out.append(f"class {name}" + (f" extends {pick.choice(names[:i])}" if i and pick.random() < 0.6 else "")
+                   + pick.choice(("", " built", " generated", " array")))
+        for word in ("flags", "state", "words"):
+            out += [f"{word} {pick.randrange(65536)}"] if pick.random() < 0.3 else []
+        if pick.random() < 0.3:
+            out.append("implements " + " ".join(pick.choice(names) for _ in range(pick.randrange(1, 4))))
+        if pick.random() < 0.3:
+            out.append(" ".join(["compiler"] + [str(pick.choice((0, TOP, 77))) for _ in range(pick.randrange(5))]))
+        out += [f"method {random_name(pick)} {random_method_type(pick)} {pick.randrange(WORD)}"
+                + pick.choice(("", f" flags 0x{pick.randrange(0x2000) & 0x1DFF:x}")) for _ in range(pick.randrange(4))]
+        out += [f"field {random_name(pick)} {random_type(pick)} {pick.randrange(WORD)}"
+                + pick.choice(("", f" flags {pick.randrange(65536)}")) for _ in range(pick.randrange(3))]
+    return "\n".join(out) + "\n"
+
+
+def odd(pick, made):
+    """The sheet with one change that often leaves it good, and that the plain form cannot tell."""
+    made = made.copy()
+    section = pick.choice(made.layout.sections)
+    records = made.records[section.name]
+    change = pick.randrange(5)
+    if change == 0 and records:
+        records.append(pick.choice(records)[:])
+    elif change == 1:
+        made.text += bytes(pick.randrange(256) for _ in range(pick.randrange(1, 6)))
+    elif change == 2 and records:
+        pick.choice(records)[pick.randrange(section.width())] = pick.choice((0, 1, 2, pick.randrange(WORD)))
+    elif change == 3 and records and section.parts:
+        one = pick.choice(records)
+        if 1 < one[1] < 256:
+            one[0] = (one[0] + 1) % WORD
+            one[1] -= 1
+    elif change == 4:
+        pick.shuffle(records)
+    return made
+
+
+class RoundTrips(unittest.TestCase):
+    """make after show gives the same bytes."""
+
+    def remade(self, layout, data):
+        made = sheetlib.sheet_of(layout, sheetlib.block_words(data))
+        self.assertEqual(made.blocks(), data)
+        for text in (sheetform.render(made), sheetform.render_raw(made)):
+            self.assertEqual(form(text).blocks(), data)
+        return sheetform.render(made)
+
+    def test_examples(self):
+        texts = glob.glob(os.path.join(HERE, "..", "examples", "*", "*.txt"))
+        self.assertTrue(texts)
+        for path in texts:
+            with open(path, encoding="utf-8") as file:
+                data = form(file.read()).blocks()
+            with open(path[:-4] + ".bin", "rb") as file:
+                self.assertEqual(file.read(), data, path)
+            shown = self.remade(layout_of(path), data)
+            self.assertNotIn("raw", shown.split("\n")[0])
+
+    def test_accepted_vectors(self):
+        good = [name for name in vectors.vectors if "-ok-" in name]
+        self.assertGreater(len(good), 300)
+        for name in good:
+            with self.subTest(name):
+                self.remade(layout_of(name), vectors.vectors[name])
+
+    def test_random_sheets(self):
+        pick = random.Random(20090401)
+        plain = raw = 0
+        for _ in range(250):
+            layout = pick.choice((CLASS_SHEET, ABI_SHEET))
+            made = form(random_form(pick, layout))
+            self.assertEqual(judge(layout, made.blocks())[0], 0)
+            self.assertNotIn("raw", self.remade(layout, made.blocks()).split("\n")[0])
+            plain += 1
+            for _ in range(pick.randrange(4)):
+                made = odd(pick, made)
+            if row(made) == 0:
+                raw += "raw" in self.remade(layout, made.blocks()).split("\n")[0]
+        self.assertEqual(plain, 250)
+        self.assertGreater(raw, 40)
+
+    def test_card(self):
+        """The example of document 01."""
+        with open(os.path.join(HERE, "..", "examples", "card", "classes.txt"), encoding="utf-8") as file:
+            card = form(file.read())
+        self.assertEqual(card.counts(), [2, 4, 0, 0, 0, 27])
+        self.assertEqual([card.get("class", 1, w) for w in ("parent", "access flags", "kind", "first method", "method count")],
+                         [1, 1, 0, 2, 2])
+        self.assertEqual([card.get("method", i, "target") for i in range(4)], [4096, 4112, 8192, 8208])
+        self.assertEqual([card.part("method", i, "name") for i in range(4)], [b"open", b"close", b"close", b"mark"])
+        self.assertEqual(card.blocks(), vectors.vectors["class-ok-card.bin"])
+
+
+class Blocks(unittest.TestCase):
+    def test_form(self):
+        """Little-endian words, the check word last: the sum of the 127 and the block's number."""
+        data = blocks([1, 2, TOP] + [0] * 124 + [5])
+        self.assertEqual(len(data), 1024)
+        self.assertEqual(data[:12], bytes([1, 0, 0, 0, 2, 0, 0, 0, 255, 255, 255, 255]))
+        self.assertEqual(data[508:512], (3 + TOP + 1 - WORD).to_bytes(4, "little"))
+        self.assertEqual(data[512:516] + data[1020:], bytes([5, 0, 0, 0, 7, 0, 0, 0]))
+
+    def test_sizes(self):
+        """The limits of document 01 fill 92 and 51 blocks."""
+        for layout, words in ((CLASS_SHEET, 11590), (ABI_SHEET, 6404)):
+            counts = [s.limit for s in layout.sections] + [layout.text_limit]
+            self.assertEqual(sheetlib.content_size(layout, counts), words)
+            self.assertEqual(-(-words // 127), layout.most_blocks)
+        self.assertEqual((CLASS_SHEET.most_words(), ABI_SHEET.most_words()), (11684, 6477))
+
+    def test_widths(self):
+        self.assertEqual([s.width() for s in CLASS_SHEET.sections], [17, 6, 6, 1, 1])
+        self.assertEqual([s.width() for s in ABI_SHEET.sections], [8, 5, 5])
+
+
+class Descriptors(unittest.TestCase):
+    """The readers against the grammar as regular expressions."""
+
+    TYPE = rb"\[*(?:[BCDFIJSZ]|L[^.;\[/]+(?:/[^.;\[/]+)*;)"
+    FIELD = re.compile(TYPE, re.S)
+    METHOD = re.compile(rb"\((?:" + TYPE + rb")*\)(?:V|" + TYPE + rb")", re.S)
+
+    def agree(self, bs):
+        for grammar, expression in (("field", self.FIELD), ("method", self.METHOD)):
+            self.assertEqual(sheetlib.descriptor_fault(grammar, bs) is None, bool(expression.fullmatch(bs)), bs)
+
+    def test_short(self):
+        for size in range(5):
+            for letters in itertools.product(b"VJL;[/().x", repeat=size):
+                self.agree(bytes(letters))
+
+    def test_random(self):
+        pick = random.Random(432)
+        for _ in range(20000):
+            bs = (random_method_type(pick) if pick.random() < 0.7 else random_type(pick)).encode()
+            if pick.random() < 0.7:
+                at = pick.randrange(len(bs))
+                bs = bs[:at] + bytes([pick.choice(b"VI;[/()L.\x80")]) * pick.randrange(2) + bs[at + pick.randrange(2):]
+            self.agree(bs)
+
+    def test_argument_words(self):
+        """The desk's examples, and any bytes and flags."""
+        for text, flags, want in (("(IJ)V", 1, (0, 4)), ("(IJ)V", 9, (0, 3)), ("(V)V", 1, (5, 0)), ("", 0, (5, 0)),
+                                  ("()V", 0xFFFFFFF7, (0, 1)), ("()V", TOP, (0, 0)), ("([J[[DLa;D)J", 0, (0, 6)),
+                                  ("(" + "J" * 200 + ")V", 8, (0, 400)), ("(" + "[" * 3000 + "I)V", 8, (0, 1))):
+            self.assertEqual(sheetlib.argument_words(text.encode(), flags), want, text[:20])
+        self.assertEqual(sheetlib.argument_words(b"(L\x80\xff;)V", 8), (0, 1))
+
+
+class OpenPoints(unittest.TestCase):
+    """The judge on the inputs that tell the readings of document 01 apart."""
+
+    def one(self, **words):
+        return vectors.but(form("class A\n"), "class", 1, **words)
+
+    def test_words_already_read(self):
+        """Of rows 1 to 3 only count limits and fit apply to words already read."""
+        self.assertEqual(judge_words(ABI_SHEET, [])[0], 3)
+        self.assertEqual(judge_words(ABI_SHEET, [0, 0, 0])[0], 3)
+        self.assertEqual(judge_words(ABI_SHEET, [0, 0, 0, 0])[0], 0)
+        self.assertEqual(judge_words(CLASS_SHEET, [0] * 6 + [5] * 20000)[0], 0)
+        self.assertEqual(judge_words(CLASS_SHEET, [0] * 5 + [1, 0x0141])[0], 0)
+        self.assertEqual(judge_words(CLASS_SHEET, [0] * 5 + [5, 0x41])[0], 3)
+        self.assertEqual(judge_words(CLASS_SHEET, [65] + [0] * 20000)[0], 3)
+        self.assertEqual(judge_words(CLASS_SHEET, self.one(kind=3).words())[0], 4)
+
+    def test_linked_slot_count(self):
+        """At most 1,024 where the class is linked; any number where it is not."""
+        for place, slots, want in ((0, 1025, 0), (1, 1024, 0), (1, 1025, 4), (0, TOP, 0)):
+            words = self.one(table_place=place, slot_count=slots).words()
+            self.assertEqual(judge_words(CLASS_SHEET, words)[0], want)
+
+    def test_what_is_written(self):
+        """127 words a block are written, and the rest of the lent words stays."""
+        self.assertEqual(judge(CLASS_SHEET, Sheet(CLASS_SHEET).blocks(), 128), (0, 127))
+        self.assertEqual(vectors.answer("class-x-lent-128.bin", Sheet(CLASS_SHEET).blocks()), "class-x-lent-128.bin accepted 127 7")
+        self.assertEqual(vectors.answer("abi-x-lent-126.bin", Sheet(ABI_SHEET).blocks()), f"abi-x-lent-126.bin refused 1 {7 * 126}")
+
+    def test_after_the_content(self):
+        made = Sheet(CLASS_SHEET, text=b"A")
+        self.assertEqual(row(made), 0)
+        self.assertEqual(row(blocks(made.words()[:-1] + [0x0141]), CLASS_SHEET), 3)
+        self.assertEqual(row(blocks(made.words() + [0, 1]), CLASS_SHEET), 3)
+        self.assertEqual(row(Sheet(CLASS_SHEET, text=b"A\x01")), 0)
+
+    def test_least_blocks(self):
+        for layout in (CLASS_SHEET, ABI_SHEET):
+            self.assertEqual(row(blocks(Sheet(layout).words(), 1), layout), 0)
+            self.assertEqual(row(blocks(Sheet(layout).words(), 2), layout), 3)
+
+    def test_linked(self):
+        self.assertEqual(row(self.one(table_place=1)), 3)
+        self.assertEqual(row(self.one(slot_count=1)), 3)
+
+    def test_naturals(self):
+        for word, count in (("first_method", "method_count"), ("first_field", "field_count"), ("first_interface_word", "interface_count")):
+            self.assertEqual(row(self.one(**{word: TOP, count: 1})), 4)
+        self.assertEqual(row(self.one(name_start=TOP, name_length=1)), 4)
+        self.assertEqual(row(self.one(compiler_table=TOP, compiler_slots=2)), 4)
+
+    def test_empty_lists(self):
+        self.assertEqual(row(self.one(first_method=0, method_count=0)), 0)
+        self.assertEqual(row(self.one(first_method=1, method_count=0)), 4)
+
+    def test_compiler_table_without_slots(self):
+        self.assertEqual(row(self.one(compiler_table=1, compiler_slots=0)), 0)
+        self.assertEqual(row(self.one(compiler_table=2, compiler_slots=0)), 4)
+        self.assertEqual(row(self.one(compiler_table=0, compiler_slots=1)), 4)
+
+    def test_unowned(self):
+        loose = Sheet(CLASS_SHEET, text=b"m()V")
+        loose.records["method"] = [[0, 0, 1, 3, 1, 0]]
+        self.assertEqual(row(loose), 4)
+        loose.records["method"] = [[0, 1, 1, 1, 1, 0]]
+        self.assertEqual(row(loose), 5)
+        loose.records["method"] = [[0, 1, 1, 3, 1, 0]]
+        self.assertEqual(row(loose), 0)
+
+    def test_interface_words(self):
+        made = form("class A\n")
+        for word, want in ((0, 4), (1, 0), (2, 4)):
+            made.records["interface word"] = [[word]]
+            self.assertEqual(row(made), want)
+
+    def test_overlaps(self):
+        made = form("class A\n method m ()V 1\n method n ()V 2\nclass B\n")
+        self.assertEqual(row(vectors.but(made, "class", 2, first_method=1, method_count=0)), 0)
+        self.assertEqual(row(vectors.but(made, "class", 2, first_method=1, method_count=1)), 4)
+        abi = form("abi class A\n slot m ()V 1\nabi class B\n")
+        self.assertEqual(row(vectors.but(abi, "class", 2, first_slot=0, slot_count=1)), 0)
+
+    def test_method_flags(self):
+        for flags, want in ((0x1DFF, 0), (0x0200, 4), (0x2000, 4), (0, 0)):
+            self.assertEqual(row(form(f"class A\n method m ()V 1 flags {flags}\n")), want)
+
+    def test_stored_plus_1(self):
+        for size, words, want in ((1024, 4096, 0), (1025, 0, 4), (0, 4097, 4)):
+            self.assertEqual(row(form(f"abi class A size {size} words {words}\n")), want)
+
+    def test_class_names(self):
+        """Names of class records need not be names by JVMS 4.2."""
+        for name in ("[I", "a//b", ";"):
+            self.assertEqual(row(form(f"class {name}\n")), 0)
+            self.assertEqual(row(form(f"abi class {name}\n")), 0)
+        self.assertEqual(row(form("class A\nclass A\n")), 4)
+        self.assertEqual(row(form("abi class A\nabi class A\n")), 0)
+
+    def test_grammar(self):
+        for descriptor, want in (("L(;", 0), ("L<;", 0), ("LV;", 0), ("[V", 5), ("V", 5), ("[" * 254 + "I", 0), ("La//b;", 5)):
+            self.assertEqual(row(form(f"class A\n field x {descriptor} 0\n")), want)
+        for descriptor, want in (("(V)V", 5), ("(L);)V", 0), ("(" + "J" * 252 + ")V", 0), ("()", 5)):
+            self.assertEqual(row(form(f"class A\n method m {descriptor} 0\n")), want)
+
+    def test_unused_text(self):
+        made = form("class A\n")
+        made.text += bytes([0, 0x80, 0x20, 0xFF])
+        self.assertEqual(row(made), 0)
+
+    def test_damaged(self):
+        """Whatever the bytes are, the judge answers."""
+        pick = random.Random(7)
+        good = [vectors.CLASSES.blocks(), vectors.ABI.blocks(), vectors.vectors["abi-ok-two-blocks.bin"]]
+        rows = set()
+        for _ in range(600):
+            words = sheetlib.block_words(pick.choice(good))
+            for _ in range(pick.randrange(1, 4)):
+                words[pick.randrange(pick.choice((8, 40, len(words))))] = pick.choice((0, 1, 3, TOP, pick.randrange(WORD)))
+            for layout in (CLASS_SHEET, ABI_SHEET):
+                rows.add(judge(layout, blocks(words))[0])
+        self.assertEqual(rows, {0, 3, 4, 5})
+
+
+class Vectors(unittest.TestCase):
+    def test_every_clause(self):
+        self.assertEqual(list(vectors.uncovered()), [])
+
+    def test_rows_by_name(self):
+        for name, data in vectors.vectors.items():
+            told = re.match(r"(?:abi|class)-(?:ok|r(\d))-", name)
+            self.assertEqual(judge(layout_of(name), data, vectors.lent_words(name))[0], int(told.group(1) or 0), name)
+
+
+class Commands(unittest.TestCase):
+    def setUp(self):
+        self.folder = tempfile.TemporaryDirectory()
+        self.addCleanup(self.folder.cleanup)
+
+    def file(self, name, data):
+        path = os.path.join(self.folder.name, name)
+        with open(path, "wb") as file:
+            file.write(data if isinstance(data, bytes) else data.encode())
+        return path
+
+    def test_help(self):
+        for args in (["--help"], ["make", "--help"], ["show", "--help"], ["check", "--help"]):
+            status, out, _ = sheet(*args)
+            self.assertEqual(status, 0)
+            self.assertIn("usage: sheet", out)
+
+    def test_make_show_check(self):
+        text = self.file("classes.txt", "class A\n  method m ()V 1\n")
+        self.assertEqual(sheet("make", text), (0, "", ""))
+        made = text[:-4] + ".bin"
+        status, out, _ = sheet("show", made)
+        self.assertEqual((status, out), (0, "sheet classes\n\nclass A\n  method m ()V 1\n"))
+        status, out, _ = sheet("check", made)
+        self.assertEqual(status, 0)
+        self.assertIn("accepted: class sheet, blocks 1, words 127; classes 1, methods 1,", out)
+        self.assertEqual(sheet("make", "--check", text)[0], 0)
+        self.file("classes.bin", b"")
+        self.assertEqual(sheet("make", "--check", text)[0], 1)
+
+    def test_kind_by_name(self):
+        made = self.file("abi.bin", form("abi class A words 0\n").blocks())
+        self.assertIn("ABI sheet", sheet("check", made)[1])
+        self.assertEqual(sheet("show", made)[1], "sheet abi\n\nabi class A words 0\n")
+        self.assertEqual(sheet("check", "--classes", made)[0], 1)
+
+    def test_refused_is_not_made(self):
+        text = self.file("classes.txt", "class A\n  method m (V)V 1\n")
+        status, _, err = sheet("make", text)
+        self.assertEqual(status, 1)
+        self.assertIn("refused 5: method 0 `m` `(V)V`: byte 1 of its descriptor", err)
+        self.assertFalse(os.path.exists(text[:-4] + ".bin"))
+        self.assertEqual(sheet("make", "--anyway", text)[0], 0)
+        self.assertTrue(os.path.exists(text[:-4] + ".bin"))
+
+    def test_bad_lines(self):
+        for text, line, told in (("class A\n  metod m ()V 1\n", 2, "'metod'"), ("class A\n method m ()V x\n", 2, "number"),
+                                 ("class A\n method m ()V\n", 2, "target is missing"), ("class A extends B\n", 1, "no class is named B"),
+                                 ("class A\n flags 1\n flags 2\n", 3, "twice"), ("method m ()V 1\n", 1, "before the first class"),
+                                 ("class A\n method m ()V 4294967296\n", 2, "above"), ("", 1, "sheet classes"),
+                                 ("class Caf\u00e9\n", 1, "0x21 to 0x7E"), ("abi class A\n method m ()V 1\n", 2, "slot"),
+                                 ("sheet abi raw\nclass 1 2\n", 2, "8 words"), ("sheet classes raw\ntext \\x4\n", 2, "text")):
+            status, _, err = sheet("make", self.file("classes.txt", text))
+            self.assertEqual(status, 1, text)
+            self.assertIn(f"line {line}: ", err)
+            self.assertIn(told, err)
+
+    def test_missing_file(self):
+        status, _, err = sheet("check", os.path.join(self.folder.name, "none.bin"))
+        self.assertEqual(status, 2)
+        self.assertIn("No such file", err)
+
+    def test_damaged_is_not_shown(self):
+        data = bytearray(vectors.CARD.blocks())
+        data[20] ^= 1
+        status, out, err = sheet("show", self.file("classes.bin", bytes(data)))
+        self.assertEqual((status, out), (1, ""))
+        self.assertIn("refused 2: block 1", err)
+
+    def test_messages(self):
+        """Each row of both sheets: the number, the place and the sentence of docs/REFUSALS.md."""
+        with open(os.path.join(HERE, "..", "docs", "REFUSALS.md"), encoding="utf-8") as file:
+            table = dict(re.findall(r"^\| (\d+) \| [^|]* \| ([^|]*) \|$", file.read(), re.M))
+        self.assertEqual(sorted(map(int, table)), list(range(1, 17)))
+        for name, place in (
+                ("class-r1-513-bytes", "the file has 513 bytes"), ("abi-r1-no-bytes", "the file is empty"),
+                ("class-r2-check-of-block-2", "block 2: the check word at byte 1020 of the file"),
+                ("abi-r2-check-plus-1", "block 1: the check word at byte 508"),
+                ("class-r3-65-classes", "the count of classes at byte 0 of the file (block 1) is 65, above 64"),
+                ("abi-r3-first-word-after", "after the content, the word at byte"),
+                ("class-r3-table-place-2-1", "class 2 `B`: table place at byte 152 of the file (block 1) is 1"),
+                ("class-r4-parent-equal", "class 2 `c01`: parent at byte 100 of the file (block 1) is 2, which is not below"),
+                ("class-r4-method-flags-0x0200", "method 0 `m` `()V`: flags at byte"),
+                ("abi-r4-slot-index-1024", "slot 2 `k` `()I`: index at byte"),
+                ("class-r4-class-name-last-0x7f", "byte 5 of its name, byte"),
+                ("class-r5-field-void", "field 2 `z` `V`: byte 0 of its descriptor, byte"),
+                ("abi-r5-slot-no-result", "slot 2 `k` `()`: byte 2 of its descriptor")):
+            wanted = re.match(r"\w+-r(\d)", name).group(1)
+            status, out, _ = sheet("check", self.file(name + ".bin", vectors.vectors[name + ".bin"]))
+            self.assertEqual(status, 1)
+            self.assertIn(f"refused {wanted}: ", out)
+            self.assertIn(place, out)
+            self.assertIn(table[wanted], out)
+
+    def test_all_faults(self):
+        path = self.file("class-x.bin", vectors.vectors["class-r4-before-5.bin"])
+        self.assertIn("also 5: method 0", sheet("check", "--all", path)[1])
+        self.assertNotIn("also", sheet("check", path)[1])
+
+
+if __name__ == "__main__":
+    unittest.main()
