@@ -1,1 +1,2 @@
 pub mod SetRules
+pub mod Valid

@@ -8,9 +8,10 @@ use native.Mathlib.Numerals.{add-one}
 use lib.ListN.{length, getD, set, take, drop, drop-of-length-le}
 use lib.Seq.{drop-cons, take-at}
 use lib.Dec.{eqb, leb, ltb}
-use borrow.Author.Tests.{eq-eqb, ne-eqb, lt-ltb, le-ltb, le-leb, lt-leb, eqb-true}
+use borrow.Author.Tests.{eq-eqb, ne-eqb, lt-ltb, le-ltb, le-leb, lt-leb, leb-true, eqb-true}
 use Rattle.words.specs.Words.{byteOf}
-use Rattle.words.proofs.Bools.{and-both}
+use Rattle.words.proofs.Bools.{and-both, and-3}
+use Rattle.words.proofs.Lists.{part-at, length-part}
 use Rattle.words.specs.Folds.{allOf, table, stores}
 use Rattle.words.proofs.FoldLaws.{stores-is, length-table, all-turn, all-stop, all-done}
 use Rattle.text.specs.Text.{textByte, textOfWords, unpackedText, zeroAt, zeroRest, nameAt, sameBytes, printable, partOk}
@@ -111,6 +112,20 @@ module _ (s : List ℕ) (i : ℕ) where
   pub print-end : length s ≤ i → printFrom s i ≡ true
   unfolding printFrom printable
   print-end h = rw (drop-of-length-le s h)
+
+-- what it says of each byte
+printable-at : (s : List ℕ) → printable s ≡ true → (i : ℕ) → i < length s → (33 ≤ getD s i 0) × (getD s i 0 ≤ 126)
+unfolding printable
+printable-at [] h i l = absurd (omega arith)
+printable-at (b ∷ s) h zero l = let p = and-3 (leb 33 b) (leb b 126) (printable s) h in (leb-true 33 b (p .0), leb-true b 126 (p .1))
+printable-at (b ∷ s) h (suc i) l = let p = and-3 (leb 33 b) (leb b 126) (printable s) h in printable-at s (p .2) i (omega arith)
+
+pub printable-each : (text : List ℕ) (start len : ℕ) → start + len ≤ length text → printable (nameAt text start len) ≡ true
+    → (i : ℕ) → i < len → (33 ≤ getD text (start + i) 0) × (getD text (start + i) 0 ≤ 126)
+unfolding nameAt
+printable-each text start len l h i k =
+    rw (← (part-at text start len i 0 k))
+    (printable-at (take len (drop start text)) h i (rw (length-part text start len l) k))
 
 -- ---- the rule for a part
 

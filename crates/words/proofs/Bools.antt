@@ -1,5 +1,6 @@
 -- Tests taken apart. Assumes nothing.
 use mathlib.Core.Path.{_≡_, refl, _∙_}
+use mathlib.Core.Logic.{_⊎_, inl, inr}
 use mathlib.Core.Bool.{Bool, true, false, _&&_, _||_, false≢true, true≢false}
 
 -- by cases on a test, with what it says in each
@@ -14,6 +15,10 @@ and-both false b h = absurd (false≢true h)
 pub or-neither : (a b : Bool) → (a || b) ≡ false → (a ≡ false) × (b ≡ false)
 or-neither true b h = absurd (true≢false h)
 or-neither false b h = (refl, h)
+
+pub or-either : (a b : Bool) → (a || b) ≡ true → (a ≡ true) ⊎ (b ≡ true)
+or-either true b h = inl refl
+or-either false b h = inr h
 
 -- chains of tests
 pub and-3 : (a b c : Bool) → (a && b && c) ≡ true → (a ≡ true) × (b ≡ true) × (c ≡ true)

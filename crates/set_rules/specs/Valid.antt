@@ -1,0 +1,100 @@
+-- What an accepted set guarantees: the facts that the tests of rows 3 to 5 stand for, in plain words. proofs/Valid.antt proves them
+-- from the tests; the theorems on links cite them. Assumes nothing.
+use mathlib.Core.Path.{_≡_}
+use mathlib.Core.List.{List}
+use Prim.Native.Nat.{ℕ, _+_, _-_, _/_, _%_, _≤_, _<_}
+use lib.ListN.{length, getD}
+use Rattle.descriptor.specs.Grammar.{FieldDerivation, MethodDerivation}
+use Rattle.class_sheet.specs.ClassSheet.{classCount, methodCount, fieldCount, interfaceCount, compilerCount, textLength, contentEnd, textOf, interfaceWord, classNameStart, classNameLength, classParent, classFlags, classKind, classFirstMethod, classMethodCount, classFirstField, classFieldCount, classFirstInterface, classInterfaceCount, classLinkState, classInstanceWords, classCompilerTable, classCompilerSlots, classTablePlace, classSlotCount, className, methodNameStart, methodNameLength, methodDescriptorStart, methodDescriptorLength, methodFlags, methodDescriptor, fieldNameStart, fieldNameLength, fieldDescriptorStart, fieldDescriptorLength, fieldFlags, fieldDescriptor}
+use Rattle.abi_sheet.specs.AbiSheet.{abiClassCount, abiSlotCount, abiFieldCount, abiTextLength, abiContentEnd, abiTextOf, abiClassNameStart, abiClassNameLength, abiClassTableSize, abiClassInstanceWords, abiClassFirstSlot, abiClassSlotCount, abiClassFirstField, abiClassFieldCount, abiSlotNameStart, abiSlotNameLength, abiSlotDescriptorStart, abiSlotDescriptorLength, abiSlotIndex, abiSlotDescriptor, abiFieldNameStart, abiFieldNameLength, abiFieldDescriptorStart, abiFieldDescriptorLength, abiFieldIndex, abiFieldDescriptor}
+
+-- a part of the text that is a name or a descriptor
+pub record Part (text : List ℕ) (start len : ℕ) : Type 0 where
+  pub some : 1 ≤ len
+  pub short : len ≤ 255
+  pub inside : start + len ≤ length text
+  pub printable : (i : ℕ) → i < len → (33 ≤ getD text (start + i) 0) × (getD text (start + i) 0 ≤ 126)
+
+-- c is the number of a class
+abbrev pub IsClass : List ℕ → ℕ → Type 0
+IsClass ws c = (1 ≤ c) × (c ≤ classCount ws)
+
+pub record ValidClass (ws : List ℕ) (c : ℕ) : Type 0 where
+  pub name : Part (textOf ws) (classNameStart ws c) (classNameLength ws c)
+  pub parent-below : classParent ws c < c
+  pub flags : classFlags ws c ≤ 65535
+  pub kind : classKind ws c ≤ 2
+  pub link-state : classLinkState ws c ≤ 65535
+  pub instance-words : classInstanceWords ws c ≤ 65535
+  pub compiler-slots : classCompilerSlots ws c ≤ 1024
+  pub slots : (classTablePlace ws c ≡ 0 → ⊥) → classSlotCount ws c ≤ 1024
+  pub methods : classFirstMethod ws c + classMethodCount ws c ≤ methodCount ws
+  pub fields : classFirstField ws c + classFieldCount ws c ≤ fieldCount ws
+  pub interfaces : classFirstInterface ws c + classInterfaceCount ws c ≤ interfaceCount ws
+  pub no-compiler : classCompilerTable ws c ≡ 0 → classCompilerSlots ws c ≡ 0
+  pub compiler : (classCompilerTable ws c ≡ 0 → ⊥) → classCompilerTable ws c - 1 + classCompilerSlots ws c ≤ compilerCount ws
+
+pub record ValidMethod (ws : List ℕ) (m : ℕ) : Type 0 where
+  pub name : Part (textOf ws) (methodNameStart ws m) (methodNameLength ws m)
+  pub descriptor : Part (textOf ws) (methodDescriptorStart ws m) (methodDescriptorLength ws m)
+  pub flags : methodFlags ws m < 8192
+  pub flag-0x0200 : methodFlags ws m / 512 % 2 ≡ 0
+  pub derivation : MethodDerivation (methodDescriptor ws (textOf ws) m)
+
+pub record ValidField (ws : List ℕ) (f : ℕ) : Type 0 where
+  pub name : Part (textOf ws) (fieldNameStart ws f) (fieldNameLength ws f)
+  pub descriptor : Part (textOf ws) (fieldDescriptorStart ws f) (fieldDescriptorLength ws f)
+  pub flags : fieldFlags ws f ≤ 65535
+  pub derivation : FieldDerivation (fieldDescriptor ws (textOf ws) f)
+
+-- class words that rows 3 to 5 accept
+pub record Valid (ws : List ℕ) : Type 0 where
+  pub class-count : classCount ws ≤ 64
+  pub method-count : methodCount ws ≤ 512
+  pub field-count : fieldCount ws ≤ 512
+  pub interface-count : interfaceCount ws ≤ 256
+  pub compiler-count : compilerCount ws ≤ 2048
+  pub text-length : textLength ws ≤ 8192
+  pub fits : contentEnd ws ≤ length ws
+  pub class : (c : ℕ) → IsClass ws c → ValidClass ws c
+  pub method : (m : ℕ) → m < methodCount ws → ValidMethod ws m
+  pub field : (f : ℕ) → f < fieldCount ws → ValidField ws f
+  pub interface : (i : ℕ) → i < interfaceCount ws → IsClass ws (interfaceWord ws i)
+  -- no two classes share a name, a method or a field
+  pub names : (c d : ℕ) → IsClass ws c → IsClass ws d → className ws (textOf ws) c ≡ className ws (textOf ws) d → c ≡ d
+  pub methods : (c d m : ℕ) → IsClass ws c → IsClass ws d
+      → classFirstMethod ws c ≤ m → m < classFirstMethod ws c + classMethodCount ws c
+      → classFirstMethod ws d ≤ m → m < classFirstMethod ws d + classMethodCount ws d → c ≡ d
+  pub fields : (c d f : ℕ) → IsClass ws c → IsClass ws d
+      → classFirstField ws c ≤ f → f < classFirstField ws c + classFieldCount ws c
+      → classFirstField ws d ≤ f → f < classFirstField ws d + classFieldCount ws d → c ≡ d
+
+pub record ValidAbiClass (abi : List ℕ) (a : ℕ) : Type 0 where
+  pub name : Part (abiTextOf abi) (abiClassNameStart abi a) (abiClassNameLength abi a)
+  pub table-size : abiClassTableSize abi a ≤ 1025
+  pub instance-words : abiClassInstanceWords abi a ≤ 4097
+  pub slots : abiClassFirstSlot abi a + abiClassSlotCount abi a ≤ abiSlotCount abi
+  pub fields : abiClassFirstField abi a + abiClassFieldCount abi a ≤ abiFieldCount abi
+
+pub record ValidAbiSlot (abi : List ℕ) (s : ℕ) : Type 0 where
+  pub name : Part (abiTextOf abi) (abiSlotNameStart abi s) (abiSlotNameLength abi s)
+  pub descriptor : Part (abiTextOf abi) (abiSlotDescriptorStart abi s) (abiSlotDescriptorLength abi s)
+  pub index : abiSlotIndex abi s ≤ 1023
+  pub derivation : MethodDerivation (abiSlotDescriptor abi (abiTextOf abi) s)
+
+pub record ValidAbiField (abi : List ℕ) (f : ℕ) : Type 0 where
+  pub name : Part (abiTextOf abi) (abiFieldNameStart abi f) (abiFieldNameLength abi f)
+  pub descriptor : Part (abiTextOf abi) (abiFieldDescriptorStart abi f) (abiFieldDescriptorLength abi f)
+  pub index : abiFieldIndex abi f ≤ 4095
+  pub derivation : FieldDerivation (abiFieldDescriptor abi (abiTextOf abi) f)
+
+-- ABI words that rows 3 to 5 accept
+pub record ValidAbi (abi : List ℕ) : Type 0 where
+  pub class-count : abiClassCount abi ≤ 64
+  pub slot-count : abiSlotCount abi ≤ 512
+  pub field-count : abiFieldCount abi ≤ 256
+  pub text-length : abiTextLength abi ≤ 8192
+  pub fits : abiContentEnd abi ≤ length abi
+  pub class : (a : ℕ) → a < abiClassCount abi → ValidAbiClass abi a
+  pub slot : (s : ℕ) → s < abiSlotCount abi → ValidAbiSlot abi s
+  pub field : (f : ℕ) → f < abiFieldCount abi → ValidAbiField abi f

@@ -1,0 +1,79 @@
+-- A sheet that is read holds a valid set, none of whose classes is linked. Assumes nothing.
+use mathlib.Core.Path.{_≡_, refl, sym, _∙_}
+use mathlib.Core.Bool.{Bool, true, false, cond, not, _&&_}
+use mathlib.Core.List.{List}
+use Prim.Native.Nat.{ℕ, _+_, _*_, _-_, _≤_, _<_}
+use native.Mathlib.Omega.{arith}
+use lib.ListN.{length}
+use lib.Dec.{eqb, leb, ltb}
+use borrow.Author.Tests.{not-false, eqb-true, leb-true}
+use Rattle.words.specs.Folds.{allOf}
+use Rattle.words.proofs.Bools.{and-both, and-3, and-4}
+use Rattle.words.proofs.FoldLaws.{all-each}
+use Rattle.block.specs.Block.{shapeOk, checkOk, leastFit}
+use Rattle.text.specs.Text.{zeroRest}
+use Rattle.class_sheet.specs.ClassSheet.{classCount, textLength, textAt, contentEnd, textOf, classTablePlace, classSlotCount}
+use Rattle.abi_sheet.specs.AbiSheet.{abiTextLength, abiTextAt, abiContentEnd, abiTextOf}
+use Rattle.class_rules.specs.ClassRules.{classLimits, classFits, unlinked, classForm, classRecords}
+use Rattle.abi_rules.specs.AbiRules.{abiLimits, abiFits, abiForm, abiRecords}
+use Rattle.set_rules.specs.SetRules.{classDescriptors, classRefusal, abiDescriptors, abiRefusal}
+use Rattle.set_rules.specs.Valid.{IsClass, Valid, ValidAbi}
+use Rattle.set_rules.proofs.Valid.{passed, valid-class, valid-abi}
+use Rattle.sheet.specs.Sheet.{blockCount, sheetWords, sheetRefusal, classRows, classSheetRefusal, abiRows, abiSheetRefusal}
+
+-- rows 1 and 2 passed, the others remain
+rows-passed : (limit : ℕ) (rows : List ℕ → ℕ) (bs : List ℕ) (room : ℕ) → sheetRefusal limit rows bs room ≡ 0 → rows (sheetWords bs) ≡ 0
+unfolding sheetRefusal
+rows-passed limit rows bs room e =
+    passed (not (allOf (blockCount bs) (checkOk bs))) 2 _ (omega arith)
+    (passed (not (shapeOk (length bs) room limit)) 1 _ (omega arith) e .1) .1
+
+fitted : (l : Bool) (end n : ℕ) → l ≡ true → leastFit end n ≡ true → (l && leb end n) ≡ true
+unfolding leastFit
+fitted l end n h k = rw (h, and-both (leb end n) (ltb n (end + 127)) k .0)
+
+module _ (bs : List ℕ) (room : ℕ) (e : classSheetRefusal bs room ≡ 0) where
+  abbrev ws : List ℕ
+  ws = sheetWords bs
+
+  class-passed : (classForm ws ≡ true) × (classRefusal ws (textOf ws) ≡ 0)
+  unfolding classSheetRefusal classRows
+  class-passed =
+      let p = passed (not (classForm ws)) 3 _ (omega arith) (rows-passed 92 classRows bs room e) in (not-false _ (p .0), p .1)
+
+  formed : (classLimits ws ≡ true) × (leastFit (contentEnd ws) (length ws) ≡ true) × (zeroRest ws (4 * textAt ws + textLength ws) ≡ true)
+      × (allOf (classCount ws) (λ i. unlinked ws (i + 1)) ≡ true)
+  unfolding classForm
+  formed =
+      and-4 (classLimits ws) (leastFit (contentEnd ws) (length ws)) (zeroRest ws (4 * textAt ws + textLength ws))
+      (allOf (classCount ws) (λ i. unlinked ws (i + 1))) (class-passed .0)
+
+  pub class-sheet-valid : Valid ws
+  unfolding classRefusal classFits
+  class-sheet-valid =
+      let p = passed (not (classRecords ws (textOf ws))) 4 _ (omega arith) (class-passed .1) in
+      let q = passed (not (classDescriptors ws (textOf ws))) 5 _ (omega arith) (p .1) in
+      valid-class ws (fitted (classLimits ws) (contentEnd ws) (length ws) (formed .0) (formed .1)) (not-false _ (p .0)) (not-false _ (q .0))
+
+  pub class-sheet-unlinked : (c : ℕ) → IsClass ws c → (classTablePlace ws c ≡ 0) × (classSlotCount ws c ≡ 0)
+  unfolding unlinked
+  class-sheet-unlinked c k =
+      let g : c - 1 + 1 ≡ c = omega arith in
+      let h : unlinked ws c ≡ true = rw g at (all-each (classCount ws) (λ i. unlinked ws (i + 1)) (formed .3) (c - 1) (omega arith)) in
+      let p = and-both (eqb (classTablePlace ws c) 0) (eqb (classSlotCount ws c) 0) h in (eqb-true _ _ (p .0), eqb-true _ _ (p .1))
+
+module _ (bs : List ℕ) (room : ℕ) (e : abiSheetRefusal bs room ≡ 0) where
+  abbrev abi : List ℕ
+  abi = sheetWords bs
+
+  abi-passed : (abiForm abi ≡ true) × (abiRefusal abi (abiTextOf abi) ≡ 0)
+  unfolding abiSheetRefusal abiRows
+  abi-passed = let p = passed (not (abiForm abi)) 3 _ (omega arith) (rows-passed 51 abiRows bs room e) in (not-false _ (p .0), p .1)
+
+  pub abi-sheet-valid : ValidAbi abi
+  unfolding abiRefusal abiFits abiForm
+  abi-sheet-valid =
+      let f = and-3 (abiLimits abi) (leastFit (abiContentEnd abi) (length abi)) (zeroRest abi (4 * abiTextAt abi + abiTextLength abi)) (abi-passed .0) in
+      let p = passed (not (abiRecords abi (abiTextOf abi))) 4 _ (omega arith) (abi-passed .1) in
+      let q = passed (not (abiDescriptors abi (abiTextOf abi))) 5 _ (omega arith) (p .1) in
+      valid-abi abi (fitted (abiLimits abi) (abiContentEnd abi) (length abi) (f .0) (f .1)) (not-false _ (p .0)) (not-false _ (q .0))
