@@ -5,6 +5,12 @@ ghost use Prim.Native.Nat.{_-_, _%_};
 ghost use lib.ListN.{getD, set, take, drop};
 ghost use Rattle.words.specs.Words.{leWord, byteOf, inside, copyWords};
 
+// What a search answers: a number, or nothing.
+pub enum Found {
+    At(u32),
+    Nothing,
+}
+
 // Word i, or 0 past the end.
 pub fn word_at(ws: &[u32], i: usize) -> u32
     ensures { λ r. ⌜ r ≡ getD (now (ws .entry)) i 0 ⌝ }

@@ -1,0 +1,3 @@
+pub mod Abi
+pub mod Chain
+pub mod Vtable
