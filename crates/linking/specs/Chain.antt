@@ -7,8 +7,14 @@ use lib.ListN.{getD}
 use lib.Dec.{eqb, ltb}
 use Rattle.words.specs.Lists.{numbers, find, firstFound}
 use Rattle.words.specs.declared.Found.{Found}
+use Rattle.words.specs.declared.Found.the-variants.{At, Nothing}
 use Rattle.text.specs.Text.{sameBytes}
 use Rattle.class_sheet.specs.ClassSheet.{classParent, classFirstMethod, classMethodCount, classFirstField, classFieldCount, classFirstInterface, classInterfaceCount, methodName, methodDescriptor, methodFlags, methodTarget}
+
+-- what is made of a number that was found, or what stands for nothing
+abbrev pub onFound {ℓ} : {A : Type ℓ} → Found → (ℕ → A) → A → A
+onFound (At n) f otherwise = f n
+onFound Nothing f otherwise = otherwise
 
 -- how many of `count` elements from `first` on lie below the limit
 abbrev pub listCount : ℕ → ℕ → ℕ → ℕ

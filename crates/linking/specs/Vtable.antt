@@ -5,12 +5,12 @@ use mathlib.Core.Bool.{Bool, true, false, cond, not, _&&_}
 use mathlib.Core.List.{List, [], _∷_, _++_}
 use lib.ListN.{length, getD, set, replicate}
 use lib.Dec.{eqb}
-use Rattle.words.specs.Lists.{listFrom, orElse, andThen, foundIs, firstFound, position, fold, keep}
+use Rattle.words.specs.Lists.{listFrom, orElse, andThen, firstFound, position, fold, keep}
 use Rattle.words.specs.declared.Found.{Found}
 use Rattle.words.specs.declared.Found.the-variants.{At, Nothing}
 use Rattle.class_sheet.specs.ClassSheet.{classTablePlace, classSlotCount, methodName, methodDescriptor, methodTarget}
 use Rattle.abi_sheet.specs.AbiSheet.{abiSlotName, abiSlotDescriptor}
-use Rattle.linking.specs.Chain.{ownMethods, parentOf, chain, eligible, methodIs, ownMethod, findByTarget}
+use Rattle.linking.specs.Chain.{onFound, ownMethods, parentOf, chain, eligible, methodIs, ownMethod, findByTarget}
 use Rattle.linking.specs.Abi.{slotAt, classAbi, chainAbi, fixedIndex, minimumSize}
 
 -- a slot: its word, 0 where it is empty, and its method where it is known
@@ -60,7 +60,7 @@ module _ (ws text abi labels : List ℕ) where
   -- ---- signatures in a table
 
   unfoldable pub entryIs : List ℕ → List ℕ → Entry → Bool
-  entryIs name descriptor e = foundIs (e .method) (λ m. methodIs ws text m name descriptor) false
+  entryIs name descriptor e = onFound (e .method) (λ m. methodIs ws text m name descriptor) false
 
   -- the first slot of the signature
   unfoldable pub slotOf : List ℕ → List ℕ → List Entry → Found
@@ -68,7 +68,7 @@ module _ (ws text abi labels : List ℕ) where
 
   -- a known entry of another signature
   unfoldable pub entryIsOther : List ℕ → List ℕ → Entry → Bool
-  entryIsOther name descriptor e = foundIs (e .method) (λ m. not (methodIs ws text m name descriptor)) false
+  entryIsOther name descriptor e = onFound (e .method) (λ m. not (methodIs ws text m name descriptor)) false
 
   abbrev pub methodEntry : ℕ → Entry
   methodEntry m = record { word = methodTarget ws m; method = At m }
@@ -101,18 +101,14 @@ module _ (ws text abi labels : List ℕ) where
   -- the table before the class's own methods
   unfoldable pub inheritedTable : List ℕ → ℕ → List Entry
   inheritedTable area c =
-      foundIs′ (classAbi ws text abi labels c) (relayed (chainAbi ws text abi labels c) (parentEntries area c))
+      onFound (classAbi ws text abi labels c) (λ a. relayed (chainAbi ws text abi labels c) (parentEntries area c))
       (extended (chainAbi ws text abi labels c) (parentEntries area c))
-    where
-      foundIs′ : Found → List Entry → List Entry → List Entry
-      foundIs′ (At a) x y = x
-      foundIs′ Nothing x y = y
 
   -- "Rows 11 and 12 go method by method, 11 first": "a fixed index differs from the inherited one", "the fixed slot holds another
   -- signature"
   unfoldable pub putMethod : Found → Found → ℕ → List Entry → Built
   putMethod (At i) slot m T =
-      cond (foundIs slot (λ j. not (eqb j i)) false)
+      cond (onFound slot (λ j. not (eqb j i)) false)
       (refused 11)
       (cond (entryIsOther (methodName ws text m) (methodDescriptor ws text m) (getD T i empty)) (refused 12) (built (set T i (methodEntry m))))
   putMethod Nothing (At j) m T = built (set T j (methodEntry m))

@@ -1,0 +1,229 @@
+-- `link`: rows 3 to 15 in the table's order, and what an accepted link leaves. Assumes nothing.
+use Prim.Native.Nat.{ℕ, _+_, _-_}
+use mathlib.Core.Bool.{Bool, true, false, cond, not, _&&_, _||_}
+use mathlib.Core.List.{List, [], _∷_, _++_}
+use lib.ListN.{length, getD, set, take, drop}
+use lib.Dec.{eqb, leb, ltb}
+use Rattle.words.specs.Folds.{allOf}
+use Rattle.words.specs.declared.Found.{Found}
+use Rattle.text.specs.Text.{sameBytes}
+use Rattle.class_sheet.specs.ClassSheet.{classCount, methodCount, fieldCount, textOf, classParent, classFlags, classKind, classFirstField, classMethodCount, classFieldCount, classCompilerTable, classTablePlace, classSlotCount, className, fieldsAt}
+use Rattle.abi_sheet.specs.AbiSheet.{abiTextOf, abiFieldName, abiFieldDescriptor}
+use Rattle.set_rules.specs.SetRules.{setRefusal}
+use Rattle.linking.specs.Chain.{parentOf, isInterface}
+use Rattle.linking.specs.Abi.{classAbi, fixedFieldIndex}
+use Rattle.linking.specs.Vtable.{Entry, Built, built, refused, parentEntries, buildMethods, buildInterfaceMethods, slotWords}
+use Rattle.linking.specs.Fields.{numberFields, addedFields, builtWords, tooManyWords, generatedRefusal, generatedIndices}
+use Rattle.linking.specs.Compiler.{New, addedMethods, compilerTable}
+use Rattle.linking.specs.Set.{putClass, putIndices, newText, grownMethods, grownFields, sectionFull, grownEnd}
+
+-- ---- row 6
+
+-- `java/lang/Object`
+abbrev pub objectName : List ℕ
+objectName = 106 ∷ 97 ∷ 118 ∷ 97 ∷ 47 ∷ 108 ∷ 97 ∷ 110 ∷ 103 ∷ 47 ∷ 79 ∷ 98 ∷ 106 ∷ 101 ∷ 99 ∷ 116 ∷ []
+
+-- "number 0 or above the count"
+unfoldable pub noClass : List ℕ → ℕ → Bool
+noClass ws c = eqb c 0 || ltb (classCount ws) c
+
+abbrev pub isLinked : List ℕ → ℕ → Bool
+isLinked ws c = not (eqb (classTablePlace ws c) 0)
+
+-- "an array class with members, no parent or a parent not named `java/lang/Object`"
+unfoldable pub badArray : List ℕ → List ℕ → ℕ → Bool
+badArray ws text c =
+    eqb (classKind ws c) 2
+    && (not (eqb (classMethodCount ws c) 0)
+    || not (eqb (classFieldCount ws c) 0)
+    || eqb (parentOf ws c) 0
+    || not (sameBytes (className ws text (parentOf ws c)) objectName))
+
+-- "link: already linked, parent unlinked, or an array class .."
+unfoldable pub badClass : List ℕ → List ℕ → ℕ → Bool
+badClass ws text c =
+    noClass ws c
+    || isLinked ws c
+    || (not (eqb (parentOf ws c) 0) && not (isLinked ws (parentOf ws c)))
+    || badArray ws text c
+
+-- ---- row 7: "area empty or above 4,294,967,295 words; word 0 is 0 or above the area's length; a linked table's end lies above word 0"
+
+abbrev pub nextFree : List ℕ → ℕ
+nextFree area = getD area 0 0
+
+unfoldable pub endsBelow : List ℕ → List ℕ → ℕ → Bool
+endsBelow ws area c = not (isLinked ws c) || leb (classTablePlace ws c + classSlotCount ws c + 2) (nextFree area)
+
+unfoldable pub badArea : List ℕ → List ℕ → Bool
+badArea ws area =
+    eqb (length area) 0
+    || ltb 4294967295 (length area)
+    || eqb (nextFree area) 0
+    || ltb (length area) (nextFree area)
+    || not (allOf (classCount ws) (λ i. endsBelow ws area (i + 1)))
+
+-- ---- rows 8 to 13: what a link comes to before anything is written
+
+-- the table, the class's new indices and instance words, and the members to add; of methods and fields at most one kind grows
+pub record Plan : Type 0 where
+  pub table : List Entry
+  pub indices : List ℕ
+  pub newMethods : List New
+  pub newFields : List New
+
+pub data Planned : Type 0 where
+  planned : Plan → Planned
+  unplanned : ℕ → Planned
+
+abbrev pub onTable : Built → (List Entry → Planned) → Planned
+onTable (built T) f = f T
+onTable (refused n) f = unplanned n
+
+-- "more than 1,024 slots"
+unfoldable pub withinSlots : Plan → Planned
+withinSlots p = cond (ltb 1024 (length (p .table))) (unplanned 13) (planned p)
+
+module _ (ws text abi labels area : List ℕ) where
+  -- "ABI fields .. are added after the declared ones, flags 0x0002"
+  unfoldable pub newFieldsOf : List ℕ → List New
+  newFieldsOf [] = []
+  newFieldsOf (g ∷ gs) =
+      record {
+        name = abiFieldName abi labels g;
+        descriptor = abiFieldDescriptor abi labels g;
+        flags = 2;
+        last = fixedFieldIndex abi g;
+      }
+      ∷ newFieldsOf gs
+
+  unfoldable pub builtTable : ℕ → Built
+  builtTable c =
+      cond (isInterface (classFlags ws c)) (built (buildInterfaceMethods ws text abi labels c)) (buildMethods ws text abi labels area c)
+
+  unfoldable pub planBuilt : ℕ → Planned
+  planBuilt c =
+      let own : Found = classAbi ws text abi labels c in
+      cond (tooManyWords ws text abi labels own c)
+      (unplanned 10)
+      (onTable (builtTable c)
+      (λ T. withinSlots
+      (record {
+        table = T;
+        indices = numberFields ws text abi labels own c .indices;
+        newMethods = [];
+        newFields = newFieldsOf (addedFields ws text abi labels own c);
+      })))
+
+  -- "Generated without a compiler table: `build_methods`, interface or not."
+  unfoldable pub generatedTable : ℕ → Built
+  generatedTable c =
+      cond (eqb (classCompilerTable ws c) 0) (buildMethods ws text abi labels area c) (built (compilerTable ws text abi labels area c))
+
+  unfoldable pub generatedMethods : ℕ → List New
+  generatedMethods c = cond (eqb (classCompilerTable ws c) 0) [] (addedMethods ws text abi labels area c)
+
+  unfoldable pub planGenerated : ℕ → Planned
+  planGenerated c =
+      cond (eqb (generatedRefusal ws text c) 0)
+      (onTable (generatedTable c)
+      (λ T. withinSlots
+      (record { table = T; indices = generatedIndices ws text c; newMethods = generatedMethods c; newFields = [] })))
+      (unplanned (generatedRefusal ws text c))
+
+  -- "Array: the parent's entries."
+  unfoldable pub planArray : ℕ → Planned
+  planArray c = withinSlots (record { table = parentEntries ws text abi labels area c; indices = []; newMethods = []; newFields = [] })
+
+  unfoldable pub plan : ℕ → Planned
+  plan c = cond (eqb (classKind ws c) 0) (planBuilt c) (cond (eqb (classKind ws c) 1) (planGenerated c) (planArray c))
+
+  -- "Linking sets .., unless generated, instance words": "An array class has 0."
+  unfoldable pub newWords : ℕ → ℕ
+  newWords c = cond (eqb (classKind ws c) 0) (builtWords ws text abi labels (classAbi ws text abi labels c) c) 0
+
+-- ---- rows 14 and 15
+
+abbrev pub isNone : List New → Bool
+isNone [] = true
+isNone (x ∷ xs) = false
+
+-- row 14, and row 15's "the set's slice too few for the grown sections"
+unfoldable pub listsFull : List ℕ → ℕ → Plan → Bool
+listsFull ws c p =
+    (not (isNone (p .newMethods)) && sectionFull ws (methodCount ws) (classMethodCount ws c) (p .newMethods))
+    || (not (isNone (p .newFields)) && sectionFull ws (fieldCount ws) (classFieldCount ws c) (p .newFields))
+
+unfoldable pub setShort : List ℕ → ℕ → Plan → Bool
+setShort ws c p =
+    (not (isNone (p .newMethods)) && ltb (length ws) (grownEnd ws (classMethodCount ws c) (p .newMethods)))
+    || (not (isNone (p .newFields)) && ltb (length ws) (grownEnd ws (classFieldCount ws c) (p .newFields)))
+
+-- "the stub list is shorter than the table to write, the area has too few free words"
+unfoldable pub noRoom : List ℕ → List ℕ → ℕ → Bool
+noRoom area stubs n = ltb (length stubs) n || ltb (length area - nextFree area) (n + 2)
+
+-- ---- the effect: "Written: class number, slots, then a zero list head, into the part of the area from the next free word on. Word 0 is
+-- that next place"
+
+unfoldable pub writeAt : List ℕ → ℕ → List ℕ → List ℕ
+writeAt l k xs = take k l ++ (xs ++ drop (k + length xs) l)
+
+unfoldable pub linkedArea : List ℕ → ℕ → List Entry → List ℕ → List ℕ
+linkedArea area c T stubs =
+    set (writeAt area (nextFree area) (c ∷ (slotWords stubs 0 T ++ (0 ∷ [])))) 0 (nextFree area + length T + 2)
+
+-- "Linking sets table place and slot count, its answer, and, unless generated, instance words; never link state."
+unfoldable pub linkedRecord : List ℕ → ℕ → ℕ → ℕ → ℕ → List ℕ
+linkedRecord ws c place slots words =
+    let placed : List ℕ = putClass (putClass ws c 15 place) c 16 slots in cond (eqb (classKind ws c) 1) placed (putClass placed c 12 words)
+
+unfoldable pub linkedWords : List ℕ → ℕ → ℕ → ℕ → Plan → List ℕ
+linkedWords ws c place words p =
+    let recorded : List ℕ = linkedRecord ws c place (length (p .table)) words in
+    cond (isNone (p .newFields))
+    (let numbered : List ℕ = putIndices (fieldsAt ws) (classFirstField ws c) (p .indices) recorded in
+    cond (isNone (p .newMethods)) numbered (grownMethods ws c (p .newMethods) numbered))
+    (grownFields ws c (p .indices) (p .newFields) recorded)
+
+-- ---- the call
+
+-- "An accepted call gives 0 and its result; a refused one gives its number, zero in every other answer word, and unchanged lent memory."
+pub record Outcome : Type 0 where
+  pub refusal : ℕ
+  pub first : ℕ
+  pub second : ℕ
+  pub set : List ℕ
+  pub area : List ℕ
+
+abbrev pub refusedCall : ℕ → List ℕ → List ℕ → Outcome
+refusedCall n ws area = record { refusal = n; first = 0; second = 0; set = ws; area = area }
+
+-- rows 14 and 15, then the effect; the answer is the place and the slot count
+unfoldable pub finishLink : List ℕ → List ℕ → ℕ → List ℕ → List ℕ → Plan → Outcome
+finishLink ws abi c area stubs p =
+    cond (listsFull ws c p)
+    (refusedCall 14 ws area)
+    (cond (noRoom area stubs (length (p .table)) || setShort ws c p)
+    (refusedCall 15 ws area)
+    (record {
+      refusal = 0;
+      first = nextFree area;
+      second = length (p .table);
+      set = linkedWords ws c (nextFree area) (newWords ws (textOf ws) abi (abiTextOf abi) area c) p;
+      area = linkedArea area c (p .table) stubs;
+    }))
+
+abbrev pub onPlan : Planned → (Plan → Outcome) → (ℕ → Outcome) → Outcome
+onPlan (planned p) f g = f p
+onPlan (unplanned n) f g = g n
+
+unfoldable pub linkDef : List ℕ → List ℕ → ℕ → List ℕ → List ℕ → Outcome
+linkDef ws abi c area stubs =
+    cond (not (eqb (setRefusal ws abi) 0))
+    (refusedCall (setRefusal ws abi) ws area)
+    (cond (badClass ws (textOf ws) c)
+    (refusedCall 6 ws area)
+    (cond (badArea ws area)
+    (refusedCall 7 ws area)
+    (onPlan (plan ws (textOf ws) abi (abiTextOf abi) area c) (finishLink ws abi c area stubs) (λ n. refusedCall n ws area))))
