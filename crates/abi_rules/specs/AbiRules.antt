@@ -8,7 +8,7 @@ use Rattle.words.specs.Folds.{allOf}
 use Rattle.words.specs.Words.{inside}
 use Rattle.block.specs.Block.{leastFit}
 use Rattle.text.specs.Text.{zeroRest, partOk}
-use Rattle.abi_sheet.specs.AbiSheet.{abiClassCount, abiSlotCount, abiFieldCount, abiTextLength, abiTextAt, abiContentEnd, abiClassNameStart, abiClassNameLength, abiClassTableSize, abiClassInstanceWords, abiClassFirstSlot, abiClassSlotCount, abiClassFirstField, abiClassFieldCount, abiSlotNameStart, abiSlotNameLength, abiSlotDescriptorStart, abiSlotDescriptorLength, abiSlotIndex, abiFieldNameStart, abiFieldNameLength, abiFieldDescriptorStart, abiFieldDescriptorLength, abiFieldIndex}
+use Rattle.abi_sheet.specs.AbiSheet.{abiClassCount, abiSlotCount, abiFieldCount, abiTextLength, abiTextAt, abiContentEnd, abiClassNameStart, abiClassNameLength, abiClassTableSizePlusOne, abiClassInstanceWordsPlusOne, abiClassFirstSlot, abiClassSlotCount, abiClassFirstField, abiClassFieldCount, abiSlotNameStart, abiSlotNameLength, abiSlotDescriptorStart, abiSlotDescriptorLength, abiSlotIndex, abiFieldNameStart, abiFieldNameLength, abiFieldDescriptorStart, abiFieldDescriptorLength, abiFieldIndex}
 
 -- ---- row 3
 
@@ -37,8 +37,8 @@ abiForm abi =
 unfoldable pub abiClassRecord : List ℕ → List ℕ → ℕ → Bool
 abiClassRecord abi text a =
     partOk text (abiClassNameStart abi a) (abiClassNameLength abi a)
-    && leb (abiClassTableSize abi a) 1025
-    && leb (abiClassInstanceWords abi a) 4097
+    && leb (abiClassTableSizePlusOne abi a) 1025
+    && leb (abiClassInstanceWordsPlusOne abi a) 4097
     && inside (abiClassFirstSlot abi a) (abiClassSlotCount abi a) (abiSlotCount abi)
     && inside (abiClassFirstField abi a) (abiClassFieldCount abi a) (abiFieldCount abi)
 

@@ -38,8 +38,8 @@ fn class_ok(abi: &[u32], text: &[u8], a: u32) -> bool
 {
     let start = abi_sheet::class_name_start(abi, a);
     let name = text::part_ok(text, start, abi_sheet::class_name_length(abi, a));
-    let size = abi_sheet::class_table_size(abi, a) <= 1025;
-    let instance = abi_sheet::class_instance_words(abi, a) <= 4097;
+    let size = abi_sheet::class_table_size_plus_one(abi, a) <= 1025;
+    let instance = abi_sheet::class_instance_words_plus_one(abi, a) <= 4097;
     let first = abi_sheet::class_first_slot(abi, a);
     let count = abi_sheet::class_slot_count(abi, a);
     let slots = words::is_inside(first, count, abi_sheet::slot_count(abi));

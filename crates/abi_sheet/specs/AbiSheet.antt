@@ -76,11 +76,11 @@ abiClassNameStart abi a = abiClassWord abi a 0
 abbrev pub abiClassNameLength : List ℕ → ℕ → ℕ
 abiClassNameLength abi a = abiClassWord abi a 1
 
-abbrev pub abiClassTableSize : List ℕ → ℕ → ℕ
-abiClassTableSize abi a = abiClassWord abi a 2
+abbrev pub abiClassTableSizePlusOne : List ℕ → ℕ → ℕ
+abiClassTableSizePlusOne abi a = abiClassWord abi a 2
 
-abbrev pub abiClassInstanceWords : List ℕ → ℕ → ℕ
-abiClassInstanceWords abi a = abiClassWord abi a 3
+abbrev pub abiClassInstanceWordsPlusOne : List ℕ → ℕ → ℕ
+abiClassInstanceWordsPlusOne abi a = abiClassWord abi a 3
 
 abbrev pub abiClassFirstSlot : List ℕ → ℕ → ℕ
 abiClassFirstSlot abi a = abiClassWord abi a 4

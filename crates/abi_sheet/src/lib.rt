@@ -2,7 +2,7 @@
 ghost use mathlib.Core.Path.{_≡_};
 ghost use Prim.Native.Nat.{_<_, _^_};
 ghost use Rattle.text.specs.Text.{unpackedText};
-ghost use Rattle.abi_sheet.specs.AbiSheet.{abiCountAt, abiClassCount, abiSlotCount, abiFieldCount, abiTextLength, abiSlotsAt, abiFieldsAt, abiTextAt, abiContentEnd, abiClassWord, abiSlotWord, abiFieldWord, abiTextWords, abiClassNameStart, abiClassNameLength, abiClassTableSize, abiClassInstanceWords, abiClassFirstSlot, abiClassSlotCount, abiClassFirstField, abiClassFieldCount, abiSlotNameStart, abiSlotNameLength, abiSlotDescriptorStart, abiSlotDescriptorLength, abiSlotIndex, abiFieldNameStart, abiFieldNameLength, abiFieldDescriptorStart, abiFieldDescriptorLength, abiFieldIndex, abiClassName, abiSlotName, abiSlotDescriptor, abiFieldName, abiFieldDescriptor};
+ghost use Rattle.abi_sheet.specs.AbiSheet.{abiCountAt, abiClassCount, abiSlotCount, abiFieldCount, abiTextLength, abiSlotsAt, abiFieldsAt, abiTextAt, abiContentEnd, abiClassWord, abiSlotWord, abiFieldWord, abiTextWords, abiClassNameStart, abiClassNameLength, abiClassTableSizePlusOne, abiClassInstanceWordsPlusOne, abiClassFirstSlot, abiClassSlotCount, abiClassFirstField, abiClassFieldCount, abiSlotNameStart, abiSlotNameLength, abiSlotDescriptorStart, abiSlotDescriptorLength, abiSlotIndex, abiFieldNameStart, abiFieldNameLength, abiFieldDescriptorStart, abiFieldDescriptorLength, abiFieldIndex, abiClassName, abiSlotName, abiSlotDescriptor, abiFieldName, abiFieldDescriptor};
 
 const COUNTS_WIDTH: usize = 4;
 
@@ -119,14 +119,14 @@ pub fn class_name_length(abi: &[u32], a: u32) -> u32
     class_word(abi, a, 1)
 }
 
-pub fn class_table_size(abi: &[u32], a: u32) -> u32
-    ensures { λ r. ⌜ r ≡ abiClassTableSize (now (abi .entry)) a ⌝ }
+pub fn class_table_size_plus_one(abi: &[u32], a: u32) -> u32
+    ensures { λ r. ⌜ r ≡ abiClassTableSizePlusOne (now (abi .entry)) a ⌝ }
 {
     class_word(abi, a, 2)
 }
 
-pub fn class_instance_words(abi: &[u32], a: u32) -> u32
-    ensures { λ r. ⌜ r ≡ abiClassInstanceWords (now (abi .entry)) a ⌝ }
+pub fn class_instance_words_plus_one(abi: &[u32], a: u32) -> u32
+    ensures { λ r. ⌜ r ≡ abiClassInstanceWordsPlusOne (now (abi .entry)) a ⌝ }
 {
     class_word(abi, a, 3)
 }

@@ -68,7 +68,7 @@ pub unpacked-is : (bs : List ℕ) (n : ℕ) (ws : List ℕ) → 127 * n ≤ leng
 unfolding unpacked
 unpacked-is bs n ws h = simp (le-ltb (length ws) (127 * n) h)
 
--- ---- the laws of `shapeOk` and the answers of `read_sheet`
+-- ---- the laws of `shapeOk`
 
 pub shape-fits : (len room limit : ℕ) → shapeOk len room limit ≡ true → (len / 512 ≤ limit) × (127 * (len / 512) ≤ room)
 unfolding shapeOk

@@ -17,6 +17,10 @@ wordOf blk j = leWord blk (4 * j)
 unfoldable pub block : List ℕ → ℕ → List ℕ
 block bs k = take 512 (drop (k * 512) bs)
 
+-- how many blocks the bytes are, and the words that they hold: "The 127s run on as one word list."
+unfoldable pub blockCount : List ℕ → ℕ
+blockCount bs = length bs / 512
+
 -- row 2, of block k: its last word is the sum of the other 127 and its number from 1
 unfoldable pub checkOk : List ℕ → ℕ → Bool
 checkOk bs k = eqb (wordOf (block bs k) 127) ((sumOf 127 (wordOf (block bs k)) + (k + 1)) % 2 ^ 32)
@@ -25,6 +29,9 @@ checkOk bs k = eqb (wordOf (block bs k) 127) ((sumOf 127 (wordOf (block bs k)) +
 unfoldable pub content : List ℕ → ℕ → List ℕ
 content bs zero = []
 content bs (suc n) = content bs n ++ table 127 (wordOf (block bs n))
+
+unfoldable pub sheetWords : List ℕ → List ℕ
+sheetWords bs = content bs (blockCount bs)
 
 -- words with the content of n blocks in front and the rest as it was, where there is room
 unfoldable pub unpacked : List ℕ → ℕ → List ℕ → List ℕ

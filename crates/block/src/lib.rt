@@ -3,7 +3,14 @@ ghost use mathlib.Core.Path.{_≡_};
 ghost use Prim.Native.Nat.{_%_, _^_};
 ghost use lib.ListN.{length};
 ghost use Rattle.words.specs.Folds.{sumOf, allOf, stores};
-ghost use Rattle.block.specs.Block.{wordOf, checkOk, unpacked, shapeOk};
+ghost use Rattle.block.specs.Block.{wordOf, blockCount, checkOk, unpacked, shapeOk};
+
+// How many whole blocks the bytes are, modulo 2^32.
+pub fn block_count(bytes: &[u8]) -> u32
+    ensures { λ r. ⌜ r ≡ blockCount (now (bytes .entry)) % 2 ^ 32 ⌝ }
+{
+    (bytes.len() / 512 % 4294967296) as u32
+}
 
 // The sum of a block's first 127 words, modulo 2^32.
 fn block_sum(block: &[u8]) -> u32

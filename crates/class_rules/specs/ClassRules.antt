@@ -69,7 +69,7 @@ classLists ws c =
 unfoldable pub classRecord : List ℕ → List ℕ → ℕ → Bool
 classRecord ws text c = partOk text (classNameStart ws c) (classNameLength ws c) && classNumbers ws c && classLists ws c
 
--- "method flags within 0x1DFF": no bit but those of the mask
+-- "method flags within 0x1DFF": no bit but those of the mask, which are 0 to 8 and 10 to 12; so below 2^13, and not bit 9
 unfoldable pub methodFlagsOk : ℕ → Bool
 methodFlagsOk f = ltb f 8192 && eqb (f / 512 % 2) 0
 
@@ -102,12 +102,12 @@ fieldsApart ws c d = apart (classFirstField ws c) (classFieldCount ws c) (classF
 
 -- classes c and d have different names, and neither a method nor a field in common
 unfoldable pub classesApart : List ℕ → List ℕ → ℕ → ℕ → Bool
-classesApart ws text d c =
+classesApart ws text c d =
     not (sameBytes (className ws text c) (className ws text d)) && methodsApart ws c d && fieldsApart ws c d
 
 -- class d is apart from each class before it: "no two class-sheet classes share a name"
 unfoldable pub apartBefore : List ℕ → List ℕ → ℕ → Bool
-apartBefore ws text d = allOf (d - 1) (λ i. classesApart ws text d (i + 1))
+apartBefore ws text d = allOf (d - 1) (λ i. classesApart ws text (i + 1) d)
 
 -- row 4 does not refuse
 unfoldable pub classRecords : List ℕ → List ℕ → Bool

@@ -263,7 +263,7 @@ fn fields_apart(ws: &[u32], c: u32, d: u32) -> bool
 
 // Whether classes c and d have different names, and no method and no field in common.
 fn classes_apart(ws: &[u32], text: &[u8], c: u32, d: u32) -> bool
-    ensures { λ r. ⌜ r ≡ classesApart (now (ws .entry)) (now (text .entry)) d c ⌝ }
+    ensures { λ r. ⌜ r ≡ classesApart (now (ws .entry)) (now (text .entry)) c d ⌝ }
 {
     let name = class_sheet::class_name(ws, text, c);
     !text::same(name, class_sheet::class_name(ws, text, d))

@@ -61,7 +61,8 @@ textAt ws = compilersAt ws + compilerCount ws
 unfoldable pub contentEnd : List ℕ → ℕ
 contentEnd ws = textAt ws + (textLength ws + 3) / 4
 
--- ---- words of records; classes are numbered from 1, all else from 0
+-- ---- words of records; classes are numbered from 1, all else from 0. (0 is no class; its words here are those of class 1, and no
+-- definition asks for them.)
 
 unfoldable pub classWord : List ℕ → ℕ → ℕ → ℕ
 classWord ws c k = getD ws (countsWidth + classWidth * (c - 1) + k) 0

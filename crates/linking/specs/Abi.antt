@@ -9,7 +9,7 @@ use Rattle.words.specs.Lists.{numbers, find, firstFound, allFound, mapFound, fo
 use Rattle.words.specs.declared.Found.{Found}
 use Rattle.text.specs.Text.{sameBytes}
 use Rattle.class_sheet.specs.ClassSheet.{className}
-use Rattle.abi_sheet.specs.AbiSheet.{abiClassCount, abiClassName, abiClassTableSize, abiClassInstanceWords, abiClassFirstSlot, abiClassSlotCount, abiClassFirstField, abiClassFieldCount, abiSlotName, abiSlotDescriptor, abiSlotIndex, abiFieldName, abiFieldDescriptor, abiFieldIndex}
+use Rattle.abi_sheet.specs.AbiSheet.{abiClassCount, abiClassName, abiClassTableSizePlusOne, abiClassInstanceWordsPlusOne, abiClassFirstSlot, abiClassSlotCount, abiClassFirstField, abiClassFieldCount, abiSlotName, abiSlotDescriptor, abiSlotIndex, abiFieldName, abiFieldDescriptor, abiFieldIndex}
 use Rattle.linking.specs.Chain.{listCount, chain}
 
 -- the first ABI class of the name
@@ -51,11 +51,11 @@ fixedField abi labels name descriptor a = find (λ f. fieldIs abi labels f name 
 
 -- "table size plus 1 (0 none)", and its largest fixed index + 1
 unfoldable pub classSize : List ℕ → ℕ → ℕ
-classSize abi a = fold (λ n s. max n (slotIndex abi s + 1)) (min (abiClassTableSize abi a) 1025 - 1) (abiSlots abi a)
+classSize abi a = fold (λ n s. max n (slotIndex abi s + 1)) (min (abiClassTableSizePlusOne abi a) 1025 - 1) (abiSlots abi a)
 
 -- "instance words plus 1 (0 none)"
 unfoldable pub givenWords : List ℕ → ℕ → ℕ
-givenWords abi a = min (abiClassInstanceWords abi a) 4097
+givenWords abi a = min (abiClassInstanceWordsPlusOne abi a) 4097
 
 -- ---- of the ABI classes that a chain names, nearest first
 

@@ -10,14 +10,14 @@ use lib.Dec.{eqb, leb, ltb}
 use borrow.Author.Tests.{leb-true, ltb-true, eqb-true, eqb-false, eq-eqb, ne-eqb, not-true, not-false}
 use Rattle.words.specs.Folds.{allOf}
 use Rattle.words.specs.Words.{inside}
-use Rattle.words.proofs.Bools.{by, and-both, and-3, and-4, and-5, and-7, or-either}
+use Rattle.words.proofs.Bools.{and-both, and-3, and-4, and-5, and-7, or-either, passed}
 use Rattle.words.proofs.FoldLaws.{all-each}
-use Rattle.words.proofs.Lists.{part-at}
+use Rattle.words.proofs.Laws.{inside-is}
 use Rattle.text.specs.Text.{nameAt, printable, partOk, sameBytes}
 use Rattle.text.proofs.Laws.{printable-each, same-refl}
 use Rattle.descriptor.proofs.Meaning.{meaning}
 use Rattle.class_sheet.specs.ClassSheet.{classCount, methodCount, fieldCount, interfaceCount, compilerCount, textLength, contentEnd, textOf, interfaceWord, classNameStart, classNameLength, classParent, classFlags, classKind, classFirstMethod, classMethodCount, classFirstField, classFieldCount, classFirstInterface, classInterfaceCount, classLinkState, classInstanceWords, classCompilerTable, classCompilerSlots, classTablePlace, classSlotCount, className, methodNameStart, methodNameLength, methodDescriptorStart, methodDescriptorLength, methodFlags, methodDescriptor, fieldNameStart, fieldNameLength, fieldDescriptorStart, fieldDescriptorLength, fieldFlags, fieldDescriptor}
-use Rattle.abi_sheet.specs.AbiSheet.{abiClassCount, abiSlotCount, abiFieldCount, abiContentEnd, abiTextOf, abiClassNameStart, abiClassNameLength, abiClassTableSize, abiClassInstanceWords, abiClassFirstSlot, abiClassSlotCount, abiClassFirstField, abiClassFieldCount, abiSlotNameStart, abiSlotNameLength, abiSlotDescriptorStart, abiSlotDescriptorLength, abiSlotIndex, abiSlotDescriptor, abiFieldNameStart, abiFieldNameLength, abiFieldDescriptorStart, abiFieldDescriptorLength, abiFieldIndex, abiFieldDescriptor}
+use Rattle.abi_sheet.specs.AbiSheet.{abiClassCount, abiSlotCount, abiFieldCount, abiContentEnd, abiTextOf, abiClassNameStart, abiClassNameLength, abiClassTableSizePlusOne, abiClassInstanceWordsPlusOne, abiClassFirstSlot, abiClassSlotCount, abiClassFirstField, abiClassFieldCount, abiSlotNameStart, abiSlotNameLength, abiSlotDescriptorStart, abiSlotDescriptorLength, abiSlotIndex, abiSlotDescriptor, abiFieldNameStart, abiFieldNameLength, abiFieldDescriptorStart, abiFieldDescriptorLength, abiFieldIndex, abiFieldDescriptor}
 use Rattle.class_rules.specs.ClassRules.{classFits, compilerOk, classNumbers, classLists, classRecord, methodFlagsOk, methodRecord, fieldRecord, interfaceNames, apart, methodsApart, fieldsApart, classesApart, apartBefore, classRecords}
 use Rattle.abi_rules.specs.AbiRules.{abiFits, abiClassRecord, abiSlotRecord, abiFieldRecord, abiRecords}
 use Rattle.class_rules.proofs.Laws as class
@@ -38,10 +38,6 @@ part text start len h =
       inside = l;
       printable = λ i k. printable-each text start len l (p .3) i k;
     }
-
-inside-is : (f n t : ℕ) → inside f n t ≡ true → f + n ≤ t
-unfolding inside
-inside-is f n t h = leb-true _ _ h
 
 -- two lists that are apart have no element in common
 apart-is : (f n g m : ℕ) → apart f n g m ≡ true → (x : ℕ) → f ≤ x → x < f + n → g ≤ x → x < g + m → ⊥
@@ -156,14 +152,14 @@ module _ (ws : List ℕ) where
   -- ---- classes apart: a class and one before it
 
   module _ (all : allOf (classCount ws) (λ i. apartBefore ws (textOf ws) (i + 1)) ≡ true) (c d : ℕ) (few : IsClass ws d) (low : 1 ≤ c) (less : c < d) where
-    apart-at : classesApart ws (textOf ws) d c ≡ true
+    apart-at : classesApart ws (textOf ws) c d ≡ true
     unfolding apartBefore
     apart-at =
         let e : d - 1 + 1 ≡ d = omega arith in
         let g : c - 1 + 1 ≡ c = omega arith in
         let p : apartBefore ws (textOf ws) d ≡ true =
         rw e at (all-each (classCount ws) (λ i. apartBefore ws (textOf ws) (i + 1)) all (d - 1) (omega arith)) in
-        rw g at (all-each (d - 1) (λ i. classesApart ws (textOf ws) d (i + 1)) p (c - 1) (omega arith))
+        rw g at (all-each (d - 1) (λ i. classesApart ws (textOf ws) (i + 1) d) p (c - 1) (omega arith))
 
     apart-parts : (not (sameBytes (className ws (textOf ws) c) (className ws (textOf ws) d)) ≡ true) × (methodsApart ws c d ≡ true)
         × (fieldsApart ws c d ≡ true)
@@ -225,13 +221,13 @@ module _ (abi : List ℕ) where
   abi-class-is : (a : ℕ) → abiClassRecord abi (abiTextOf abi) a ≡ true → ValidAbiClass abi a
   unfolding abiClassRecord
   abi-class-is a h =
-      let p = and-5 (partOk (abiTextOf abi) (abiClassNameStart abi a) (abiClassNameLength abi a)) (leb (abiClassTableSize abi a) 1025)
-      (leb (abiClassInstanceWords abi a) 4097) (inside (abiClassFirstSlot abi a) (abiClassSlotCount abi a) (abiSlotCount abi))
+      let p = and-5 (partOk (abiTextOf abi) (abiClassNameStart abi a) (abiClassNameLength abi a)) (leb (abiClassTableSizePlusOne abi a) 1025)
+      (leb (abiClassInstanceWordsPlusOne abi a) 4097) (inside (abiClassFirstSlot abi a) (abiClassSlotCount abi a) (abiSlotCount abi))
       (inside (abiClassFirstField abi a) (abiClassFieldCount abi a) (abiFieldCount abi)) h in
       record {
         name = part _ _ _ (p .0);
-        table-size = leb-true _ _ (p .1);
-        instance-words = leb-true _ _ (p .2);
+        size-plus-one = leb-true _ _ (p .1);
+        words-plus-one = leb-true _ _ (p .2);
         slots = inside-is _ _ _ (p .3);
         fields = inside-is _ _ _ (p .4);
       }
@@ -279,11 +275,6 @@ valid-abi a f h t =
     }
 
 -- ---- both: what a link or an ask has passed once rows 3 to 5 do not refuse
-
--- a refusal with a number that is not 0 was passed over
-pub passed : (b : Bool) (k r : ℕ) → (k ≡ 0 → ⊥) → cond b k r ≡ 0 → (b ≡ false) × (r ≡ 0)
-passed true k r n e = absurd (n e)
-passed false k r n e = (refl, e)
 
 pub valid : (ws a : List ℕ) → setRefusal ws a ≡ 0 → Valid ws × ValidAbi a
 unfolding setRefusal recordsRefusal setFits

@@ -6,7 +6,7 @@ use Prim.Native.Nat.{ℕ, _+_, _-_, _/_, _%_, _≤_, _<_}
 use lib.ListN.{length, getD}
 use Rattle.descriptor.specs.Grammar.{FieldDerivation, MethodDerivation}
 use Rattle.class_sheet.specs.ClassSheet.{classCount, methodCount, fieldCount, interfaceCount, compilerCount, textLength, contentEnd, textOf, interfaceWord, classNameStart, classNameLength, classParent, classFlags, classKind, classFirstMethod, classMethodCount, classFirstField, classFieldCount, classFirstInterface, classInterfaceCount, classLinkState, classInstanceWords, classCompilerTable, classCompilerSlots, classTablePlace, classSlotCount, className, methodNameStart, methodNameLength, methodDescriptorStart, methodDescriptorLength, methodFlags, methodDescriptor, fieldNameStart, fieldNameLength, fieldDescriptorStart, fieldDescriptorLength, fieldFlags, fieldDescriptor}
-use Rattle.abi_sheet.specs.AbiSheet.{abiClassCount, abiSlotCount, abiFieldCount, abiTextLength, abiContentEnd, abiTextOf, abiClassNameStart, abiClassNameLength, abiClassTableSize, abiClassInstanceWords, abiClassFirstSlot, abiClassSlotCount, abiClassFirstField, abiClassFieldCount, abiSlotNameStart, abiSlotNameLength, abiSlotDescriptorStart, abiSlotDescriptorLength, abiSlotIndex, abiSlotDescriptor, abiFieldNameStart, abiFieldNameLength, abiFieldDescriptorStart, abiFieldDescriptorLength, abiFieldIndex, abiFieldDescriptor}
+use Rattle.abi_sheet.specs.AbiSheet.{abiClassCount, abiSlotCount, abiFieldCount, abiTextLength, abiContentEnd, abiTextOf, abiClassNameStart, abiClassNameLength, abiClassTableSizePlusOne, abiClassInstanceWordsPlusOne, abiClassFirstSlot, abiClassSlotCount, abiClassFirstField, abiClassFieldCount, abiSlotNameStart, abiSlotNameLength, abiSlotDescriptorStart, abiSlotDescriptorLength, abiSlotIndex, abiSlotDescriptor, abiFieldNameStart, abiFieldNameLength, abiFieldDescriptorStart, abiFieldDescriptorLength, abiFieldIndex, abiFieldDescriptor}
 
 -- a part of the text that is a name or a descriptor
 pub record Part (text : List ℕ) (start len : ℕ) : Type 0 where
@@ -71,8 +71,8 @@ pub record Valid (ws : List ℕ) : Type 0 where
 
 pub record ValidAbiClass (abi : List ℕ) (a : ℕ) : Type 0 where
   pub name : Part (abiTextOf abi) (abiClassNameStart abi a) (abiClassNameLength abi a)
-  pub table-size : abiClassTableSize abi a ≤ 1025
-  pub instance-words : abiClassInstanceWords abi a ≤ 4097
+  pub size-plus-one : abiClassTableSizePlusOne abi a ≤ 1025
+  pub words-plus-one : abiClassInstanceWordsPlusOne abi a ≤ 4097
   pub slots : abiClassFirstSlot abi a + abiClassSlotCount abi a ≤ abiSlotCount abi
   pub fields : abiClassFirstField abi a + abiClassFieldCount abi a ≤ abiFieldCount abi
 

@@ -141,13 +141,13 @@ pub fn set_fits(ws: &[u32], abi: &[u32]) -> bool
 }
 
 // Rows 4 and 5 of a link or an ask, over both sheets and their texts: the number that refuses, or 0.
-pub fn records_refusal(ws: &[u32], text: &[u8], abi: &[u32], abitext: &[u8]) -> u32
-    ensures { λ r. ⌜ r ≡ recordsRefusal (now (ws .entry)) (now (text .entry)) (now (abi .entry)) (now (abitext .entry)) ⌝ }
+pub fn records_refusal(ws: &[u32], text: &[u8], abi: &[u32], labels: &[u8]) -> u32
+    ensures { λ r. ⌜ r ≡ recordsRefusal (now (ws .entry)) (now (text .entry)) (now (abi .entry)) (now (labels .entry)) ⌝ }
 {
-    if !(class_rules::records_ok(ws, text) & abi_rules::records_ok(abi, abitext)) {
+    if !(class_rules::records_ok(ws, text) & abi_rules::records_ok(abi, labels)) {
         return 4;
     }
-    if !(class_descriptors_ok(ws, text) & abi_descriptors_ok(abi, abitext)) {
+    if !(class_descriptors_ok(ws, text) & abi_descriptors_ok(abi, labels)) {
         return 5;
     }
     0
@@ -162,12 +162,12 @@ pub fn set_refusal(ws: &[u32], abi: &[u32]) -> u32
     }
     let mut text = [0u8; 8192];
     class_sheet::unpack_text(ws, &mut text);
-    let mut abi_text = [0u8; 8192];
-    abi_sheet::unpack_text(abi, &mut abi_text);
+    let mut labels = [0u8; 8192];
+    abi_sheet::unpack_text(abi, &mut labels);
     records_refusal(
         ws,
         text::name_at(&text, 0, class_sheet::text_length(ws)),
         abi,
-        text::name_at(&abi_text, 0, abi_sheet::text_length(abi)),
+        text::name_at(&labels, 0, abi_sheet::text_length(abi)),
     )
 }

@@ -1,25 +1,24 @@
 -- Laws of reading, over any limit and any rows after the first two. Assumes nothing.
 use mathlib.Core.Path.{_≡_, refl, sym, ap, _∙_}
-use mathlib.Core.Bool.{Bool, true, false, cond, not, _&&_}
+use mathlib.Core.Bool.{Bool, true, false, cond, not}
 use mathlib.Core.List.{List, _++_}
-use Prim.Native.Nat.{ℕ, suc, _+_, _*_, _-_, _/_, _%_, _≤_, _<_}
+use Prim.Native.Nat.{ℕ, _+_, _*_, _-_, _/_, _%_, _^_, _≤_, _<_}
 use native.Mathlib.Omega.{arith}
-use lib.ListN.{length, take, drop, length-append}
+use lib.ListN.{length, take, drop}
 use lib.Seq.{take-at}
 use lib.Dec.{eqb}
-use borrow.Author.Tests.{eq-eqb, ne-eqb, eqb-true, eqb-false, not-false}
+use borrow.Author.Tests.{eq-eqb, ne-eqb, eqb-true, eqb-false, le-ltb, not-false}
 use Rattle.words.specs.Folds.{allOf}
-use Rattle.words.proofs.Bools.{by, and-4}
-use Rattle.block.specs.Block.{checkOk, content, unpacked, shapeOk}
+use Rattle.words.proofs.Bools.{by, passed}
+use Rattle.block.specs.Block.{blockCount, sheetWords, checkOk, content, unpacked, shapeOk}
 use Rattle.block.proofs.Laws.{shape-fits, unpacked-is, length-content}
-use Rattle.class_sheet.specs.ClassSheet.{textLength, textOf, contentEnd}
-use Rattle.abi_sheet.specs.AbiSheet.{abiTextLength, abiTextOf}
+use Rattle.class_sheet.specs.ClassSheet.{textOf}
+use Rattle.abi_sheet.specs.AbiSheet.{abiTextOf}
 use Rattle.class_rules.specs.ClassRules.{classForm}
 use Rattle.abi_rules.specs.AbiRules.{abiForm}
-use Rattle.class_rules.proofs.Laws as class
-use Rattle.abi_rules.proofs.Laws as abi
 use Rattle.set_rules.specs.SetRules.{classRefusal, abiRefusal}
-use Rattle.sheet.specs.Sheet.{Outcome, blockCount, sheetWords, sheetRefusal, readSheet, classRows, abiRows, finished}
+use Rattle.sheet.specs.Sheet.{Outcome, blockRefusal, sheetRefusal, readSheet, classRows, abiRows}
+use Rattle.sheet.specs.Steps.{writtenBlocks, finished}
 
 -- ---- rows 3 to 5
 
@@ -43,59 +42,93 @@ module _ (ws : List ℕ) {f : Bool} (form : f ≡ abiForm ws) where
 
 -- ---- rows 1 and 2
 
-module _ (limit : ℕ) (rows : List ℕ → ℕ) (bs : List ℕ) (room : ℕ) {a : Bool} (shape : a ≡ shapeOk (length bs) room limit) where
-  pub sheet-1 : not a ≡ true → 1 ≡ sheetRefusal limit rows bs room
+module _ (bs : List ℕ) (room limit : ℕ) {a : Bool} (shape : a ≡ shapeOk (length bs) room limit) where
+  pub block-1 : not a ≡ true → 1 ≡ blockRefusal bs room limit
+  unfolding blockRefusal
+  block-1 h = rw (← shape, h)
+
+  module _ (small : limit < 2 ^ 32) (h : not a ≡ false) {n : ℕ} (blocks : n ≡ blockCount bs % 2 ^ 32) {b : Bool} (checks : b ≡ allOf n (checkOk bs)) where
+    whole : n ≡ blockCount bs
+    unfolding blockCount
+    whole = let f = shape-fits (length bs) room limit (sym shape ∙ not-false a h) in omega arith
+
+    pub block-2 : not b ≡ true → 2 ≡ blockRefusal bs room limit
+    unfolding blockRefusal
+    block-2 k = rw (← shape, h, ← whole, ← checks, k)
+
+    pub block-0 : not b ≡ false → 0 ≡ blockRefusal bs room limit
+    unfolding blockRefusal
+    block-0 k = rw (← shape, h, ← whole, ← checks, k)
+
+-- blocks that rows 1 and 2 do not refuse are few, and their words fit
+pub block-fits : (bs : List ℕ) (room limit : ℕ) → blockRefusal bs room limit ≡ 0
+    → (blockCount bs ≤ limit) × (127 * blockCount bs ≤ room)
+unfolding blockRefusal blockCount
+block-fits bs room limit e =
+    let p = passed (not (shapeOk (length bs) room limit)) 1 _ (omega arith) e in
+    shape-fits (length bs) room limit (not-false _ (p .0))
+
+-- ---- rows 1 to 5
+
+module _ (limit : ℕ) (rows : List ℕ → ℕ) (bs : List ℕ) (room : ℕ) {row : ℕ} (first : row ≡ blockRefusal bs room limit) where
+  pub sheet-early : (row ≡ 0 → ⊥) → row ≡ sheetRefusal limit rows bs room
   unfolding sheetRefusal
-  sheet-1 h = rw (← shape, h)
+  sheet-early n = rw (← first) (simp (ne-eqb row 0 n))
 
-  module _ (h : not a ≡ false) where
-    module _ {n : ℕ} (blocks : n ≡ length bs / 512) {b : Bool} (checks : b ≡ allOf n (checkOk bs)) where
-      pub sheet-2 : not b ≡ true → 2 ≡ sheetRefusal limit rows bs room
-      unfolding sheetRefusal blockCount
-      sheet-2 k = rw (← shape, h, ← blocks, ← checks, k)
-
-      -- the words unpacked into a slice that has room for them, handed on as their part
-      pub sheet-rest : not b ≡ false → (d : List ℕ) → 127 * n ≤ length d → {u p : List ℕ} {w r : ℕ} → u ≡ unpacked bs n d → w ≡ n
-          → p ≡ take (127 * w) (drop 0 u) → r ≡ rows p → r ≡ sheetRefusal limit rows bs room
-      unfolding sheetRefusal blockCount sheetWords
-      sheet-rest k d l {u = u} {p = p} e f g i =
-          let q : u ≡ content bs n ++ drop (127 * n) d = e ∙ unpacked-is bs n d l in
-          let s : p ≡ content bs n = g ∙ rw (f, q) (take-at (content bs n) (drop (127 * n) d) (127 * n) (length-content bs n)) in
-          i ∙ rw (← shape, h, ← blocks, ← checks, k, s)
-
--- a sheet that is not refused has few blocks, whose words fit
-pub accepted-fits : (limit : ℕ) (rows : List ℕ → ℕ) (bs : List ℕ) (room : ℕ) → sheetRefusal limit rows bs room ≡ 0
-    → (length bs / 512 ≤ limit) × (127 * (length bs / 512) ≤ room)
-unfolding sheetRefusal
-accepted-fits limit rows bs room e =
-    by (shapeOk (length bs) room limit) (λ h. shape-fits (length bs) room limit h)
-    (λ h. let z : _≡_ {A = ℕ} 1 0 = rw h at e in absurd (omega arith))
+  -- the words unpacked into a slice that has room for them, handed on as their part
+  pub sheet-rest : row ≡ 0 → limit < 2 ^ 32 → (d : List ℕ) → 127 * limit ≤ length d → {n w r : ℕ} {u p : List ℕ} → n ≡ blockCount bs % 2 ^ 32
+      → u ≡ unpacked bs n d → w ≡ n → p ≡ take (127 * w) (drop 0 u) → r ≡ rows p → r ≡ sheetRefusal limit rows bs room
+  unfolding sheetRefusal sheetWords
+  sheet-rest z small d l {n = n} {u = u} {p = p} e g f i q =
+      let k = block-fits bs room limit (sym first ∙ z) in
+      let b : n ≡ blockCount bs = omega arith in
+      let o : u ≡ content bs n ++ drop (127 * n) d = g ∙ unpacked-is bs n d (omega arith) in
+      let s : p ≡ content bs n = i ∙ rw (f, o) (take-at (content bs n) (drop (127 * n) d) (127 * n) (length-content bs n)) in
+      q ∙ rw (← first) (simp (eq-eqb row 0 z, ← b, s))
 
 -- ---- the last step
 
-pub finish-refused : (row : ℕ) (bs ws : List ℕ) → (row ≡ 0 → ⊥)
-    → _≡_ {A = Outcome} (record { refusal = row; words = 0; memory = ws }) (finished row bs ws)
-unfolding finished
-finish-refused row bs ws n = simp (ne-eqb row 0 n)
+pub written-none : (bs : List ℕ) (row : ℕ) → (row ≡ 0 → ⊥) → 0 ≡ writtenBlocks bs row
+unfolding writtenBlocks
+written-none bs row n = simp (ne-eqb row 0 n)
 
-pub finish-read : (row : ℕ) (bs ws : List ℕ) {n : ℕ} {o : List ℕ} → row ≡ 0 → n ≡ length bs / 512 % 4294967296 → o ≡ unpacked bs n ws
-    → _≡_ {A = Outcome} (record { refusal = 0; words = 127 * n % 4294967296; memory = o }) (finished row bs ws)
-unfolding finished blockCount
-finish-read row bs ws e f g = rw (g, f) (simp (eq-eqb row 0 e))
+pub written-all : (bs : List ℕ) (row : ℕ) {n : ℕ} → row ≡ 0 → n ≡ blockCount bs % 2 ^ 32 → n ≡ writtenBlocks bs row
+unfolding writtenBlocks
+written-all bs row z e = e ∙ simp (eq-eqb row 0 z)
+
+module _ (row : ℕ) (bs ws : List ℕ) {n : ℕ} {o : List ℕ} (blocks : n ≡ writtenBlocks bs row) (memory : o ≡ unpacked bs n ws) where
+  pub finish-refused : (row ≡ 0 → ⊥) → _≡_ {A = Outcome} (record { refusal = row; words = 0; memory = o }) (finished row bs ws)
+  unfolding finished
+  finish-refused k = let e : writtenBlocks bs row ≡ 0 = sym (written-none bs row k) in rw (memory, blocks, e)
+
+  pub finish-read : row ≡ 0 → _≡_ {A = Outcome} (record { refusal = 0; words = 127 * n % 4294967296; memory = o }) (finished row bs ws)
+  unfolding finished
+  finish-read z = rw (memory, blocks, z)
+
+unpacked-zero : (bs ws : List ℕ) → unpacked bs 0 ws ≡ ws
+unfolding content
+unpacked-zero bs ws = unpacked-is bs 0 ws (omega arith)
 
 -- the reading is the last step at the sheet's refusal
 module _ (limit : ℕ) (rows : List ℕ → ℕ) (small : limit ≤ 1000) (bs ws : List ℕ) where
-  private-read : (r : ℕ) → sheetRefusal limit rows bs (length ws) ≡ r → (b : Bool) → eqb r 0 ≡ b
+  -- a sheet that is not refused has few blocks, whose words fit
+  accepted-fits : sheetRefusal limit rows bs (length ws) ≡ 0 → (blockCount bs ≤ limit) × (127 * blockCount bs ≤ length ws)
+  unfolding sheetRefusal
+  accepted-fits e =
+      by (eqb (blockRefusal bs (length ws) limit) 0) (λ q. block-fits bs (length ws) limit (eqb-true _ _ q))
+      (λ q. absurd (eqb-false _ _ q (rw q at e)))
+
+  finished-is : (r : ℕ) → sheetRefusal limit rows bs (length ws) ≡ r → (b : Bool) → eqb r 0 ≡ b
       → finished r bs ws ≡ readSheet (sheetRefusal limit rows) bs ws
-  unfolding finished readSheet blockCount sheetWords
-  private-read r e true h =
+  unfolding finished readSheet writtenBlocks sheetWords
+  finished-is r e true h =
       let z : r ≡ 0 = eqb-true r 0 h in
-      let f = accepted-fits limit rows bs (length ws) (e ∙ z) in
-      let n : length bs / 512 % 4294967296 ≡ length bs / 512 = omega arith in
-      let m : 127 * (length bs / 512) % 4294967296 ≡ 127 * (length bs / 512) = omega arith in
-      rw (e, h, n, m, unpacked-is bs (length bs / 512) ws (f .1))
-  private-read r e false h = rw (e, h)
+      let f = accepted-fits (e ∙ z) in
+      let n : blockCount bs % 4294967296 ≡ blockCount bs = omega arith in
+      let m : 127 * blockCount bs % 4294967296 ≡ 127 * blockCount bs = omega arith in
+      rw (e, h, n, m, unpacked-is bs (blockCount bs) ws (f .1), z)
+  finished-is r e false h = rw (e, h, unpacked-zero bs ws)
 
   pub read-is : {row : ℕ} {out : Outcome} → row ≡ sheetRefusal limit rows bs (length ws) → out ≡ finished row bs ws
       → out ≡ readSheet (sheetRefusal limit rows) bs ws
-  read-is {row = row} e g = g ∙ private-read row (sym e) (eqb row 0) refl
+  read-is {row = row} e g = g ∙ finished-is row (sym e) (eqb row 0) refl

@@ -6,11 +6,11 @@ use Prim.Native.Nat.{ℕ, _+_, _*_, _-_, _≤_, _<_}
 use native.Mathlib.Omega.{arith}
 use lib.ListN.{length}
 use lib.Dec.{eqb, leb, ltb}
-use borrow.Author.Tests.{not-false, eqb-true, leb-true}
+use borrow.Author.Tests.{not-false, eqb-true, eqb-false}
 use Rattle.words.specs.Folds.{allOf}
-use Rattle.words.proofs.Bools.{and-both, and-3, and-4}
+use Rattle.words.proofs.Bools.{by, and-both, and-3, and-4, passed}
 use Rattle.words.proofs.FoldLaws.{all-each}
-use Rattle.block.specs.Block.{shapeOk, checkOk, leastFit}
+use Rattle.block.specs.Block.{sheetWords, leastFit}
 use Rattle.text.specs.Text.{zeroRest}
 use Rattle.class_sheet.specs.ClassSheet.{classCount, textLength, textAt, contentEnd, textOf, classTablePlace, classSlotCount}
 use Rattle.abi_sheet.specs.AbiSheet.{abiTextLength, abiTextAt, abiContentEnd, abiTextOf}
@@ -18,15 +18,14 @@ use Rattle.class_rules.specs.ClassRules.{classLimits, classFits, unlinked, clas
 use Rattle.abi_rules.specs.AbiRules.{abiLimits, abiFits, abiForm, abiRecords}
 use Rattle.set_rules.specs.SetRules.{classDescriptors, classRefusal, abiDescriptors, abiRefusal}
 use Rattle.set_rules.specs.Valid.{IsClass, Valid, ValidAbi}
-use Rattle.set_rules.proofs.Valid.{passed, valid-class, valid-abi}
-use Rattle.sheet.specs.Sheet.{blockCount, sheetWords, sheetRefusal, classRows, classSheetRefusal, abiRows, abiSheetRefusal}
+use Rattle.set_rules.proofs.Valid.{valid-class, valid-abi}
+use Rattle.sheet.specs.Sheet.{blockRefusal, sheetRefusal, classRows, classSheetRefusal, abiRows, abiSheetRefusal}
 
 -- rows 1 and 2 passed, the others remain
 rows-passed : (limit : ℕ) (rows : List ℕ → ℕ) (bs : List ℕ) (room : ℕ) → sheetRefusal limit rows bs room ≡ 0 → rows (sheetWords bs) ≡ 0
 unfolding sheetRefusal
 rows-passed limit rows bs room e =
-    passed (not (allOf (blockCount bs) (checkOk bs))) 2 _ (omega arith)
-    (passed (not (shapeOk (length bs) room limit)) 1 _ (omega arith) e .1) .1
+    by (eqb (blockRefusal bs room limit) 0) (λ q. rw q at e) (λ q. absurd (eqb-false _ _ q (rw q at e)))
 
 fitted : (l : Bool) (end n : ℕ) → l ≡ true → leastFit end n ≡ true → (l && leb end n) ≡ true
 unfolding leastFit

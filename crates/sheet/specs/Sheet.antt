@@ -1,11 +1,11 @@
 -- Reading a class sheet and an ABI sheet: rows 1 to 5, in that order. Assumes nothing.
-use Prim.Native.Nat.{ℕ, _*_, _/_, _%_}
+use Prim.Native.Nat.{ℕ, _*_, _/_}
 use mathlib.Core.Bool.{Bool, cond, not}
 use mathlib.Core.List.{List, _++_}
 use lib.ListN.{drop, length}
 use lib.Dec.{eqb}
 use Rattle.words.specs.Folds.{allOf}
-use Rattle.block.specs.Block.{checkOk, content, unpacked, shapeOk}
+use Rattle.block.specs.Block.{blockCount, sheetWords, checkOk, shapeOk}
 use Rattle.class_sheet.specs.ClassSheet.{textOf}
 use Rattle.abi_sheet.specs.AbiSheet.{abiTextOf}
 use Rattle.class_rules.specs.ClassRules.{classForm}
@@ -29,19 +29,15 @@ outcome (Refused k) ws = record { refusal = k; words = 0; memory = ws }
 
 -- ---- rows 1 to 5
 
-unfoldable pub blockCount : List ℕ → ℕ
-blockCount bs = length bs / 512
+-- rows 1 and 2 for at most `limit` blocks and a lent slice of `room` words: the number that refuses, or 0
+unfoldable pub blockRefusal : List ℕ → ℕ → ℕ → ℕ
+blockRefusal bs room limit =
+    cond (not (shapeOk (length bs) room limit)) 1 (cond (not (allOf (blockCount bs) (checkOk bs))) 2 0)
 
--- "The 127s run on as one word list."
-unfoldable pub sheetWords : List ℕ → List ℕ
-sheetWords bs = content bs (blockCount bs)
-
--- rows 1 and 2 for at most `limit` blocks and a lent slice of `room` words, then `rows` of the sheet's words; 0 where none refuses
+-- rows 1 and 2, then `rows` of the sheet's words
 unfoldable pub sheetRefusal : ℕ → (List ℕ → ℕ) → List ℕ → ℕ → ℕ
 sheetRefusal limit rows bs room =
-    cond (not (shapeOk (length bs) room limit))
-    1
-    (cond (not (allOf (blockCount bs) (checkOk bs))) 2 (rows (sheetWords bs)))
+    cond (eqb (blockRefusal bs room limit) 0) (rows (sheetWords bs)) (blockRefusal bs room limit)
 
 -- a sheet that `refusal` refuses changes nothing; an accepted one fills 127 words a block and leaves the rest of the slice as it was
 unfoldable pub readSheet : (List ℕ → ℕ → ℕ) → List ℕ → List ℕ → Outcome
@@ -71,12 +67,3 @@ abiSheetRefusal bs room = sheetRefusal 51 abiRows bs room
 
 unfoldable pub readAbiSheet : List ℕ → List ℕ → Outcome
 readAbiSheet bs ws = readSheet abiSheetRefusal bs ws
-
--- ---- the last step of a reading, as the code takes it: `row` is 0 or refuses
-
-unfoldable pub finished : ℕ → List ℕ → List ℕ → Outcome
-finished row bs ws =
-    let n : ℕ = blockCount bs % 4294967296 in
-    cond (eqb row 0)
-    (record { refusal = 0; words = 127 * n % 4294967296; memory = unpacked bs n ws })
-    (record { refusal = row; words = 0; memory = ws })

@@ -1,11 +1,25 @@
 // Reading a class sheet and an ABI sheet: bytes are judged by rows 1 to 5 before the first word is written.
 ghost use mathlib.Core.Path.{_≡_};
-ghost use Rattle.sheet.specs.Sheet.{outcome, classRows, classSheetRefusal, readClassSheet, abiRows, abiSheetRefusal, readAbiSheet, finished};
+ghost use Rattle.sheet.specs.Sheet.{outcome, blockRefusal, classRows, classSheetRefusal, readClassSheet, abiRows, abiSheetRefusal, readAbiSheet};
+ghost use Rattle.sheet.specs.Steps.{writtenBlocks, finished};
 
 // What a reading answers: the number of words written, or the row that refuses.
 pub enum Read {
     Words(u32),
     Refused(u32),
+}
+
+// Rows 1 and 2: the number that refuses, or 0.
+fn block_refusal(bytes: &[u8], room: usize, limit: u32) -> u32
+    ensures { λ r. ⌜ r ≡ blockRefusal (now (bytes .entry)) room limit ⌝ }
+{
+    if !block::shape_ok(bytes, room, limit) {
+        return 1;
+    }
+    if !block::checks_ok(bytes, block::block_count(bytes)) {
+        return 2;
+    }
+    0
 }
 
 // Rows 3 to 5 for the words of a class sheet: the number that refuses, or 0.
@@ -24,13 +38,11 @@ fn class_rows(ws: &[u32]) -> u32
 fn class_sheet_refusal(bytes: &[u8], room: usize) -> u32
     ensures { λ r. ⌜ r ≡ classSheetRefusal (now (bytes .entry)) room ⌝ }
 {
-    if !block::shape_ok(bytes, room, 92) {
-        return 1;
+    let row = block_refusal(bytes, room, 92);
+    if row != 0 {
+        return row;
     }
-    let n = (bytes.len() / 512 % 4294967296) as u32;
-    if !block::checks_ok(bytes, n) {
-        return 2;
-    }
+    let n = block::block_count(bytes);
     let mut sheet = [0u32; 11684];
     block::unpack(bytes, n, &mut sheet);
     class_rows(words::word_part(&sheet, 0, 127 * words::wide(n)))
@@ -52,31 +64,41 @@ fn abi_rows(abi: &[u32]) -> u32
 fn abi_sheet_refusal(bytes: &[u8], room: usize) -> u32
     ensures { λ r. ⌜ r ≡ abiSheetRefusal (now (bytes .entry)) room ⌝ }
 {
-    if !block::shape_ok(bytes, room, 51) {
-        return 1;
+    let row = block_refusal(bytes, room, 51);
+    if row != 0 {
+        return row;
     }
-    let n = (bytes.len() / 512 % 4294967296) as u32;
-    if !block::checks_ok(bytes, n) {
-        return 2;
-    }
+    let n = block::block_count(bytes);
     let mut sheet = [0u32; 6477];
     block::unpack(bytes, n, &mut sheet);
     abi_rows(words::word_part(&sheet, 0, 127 * words::wide(n)))
 }
 
-// Writes the sheet's words where `row` is 0, and answers their number or the row.
+// How many blocks are to be written: all of them, or none where a row refuses.
+fn written_blocks(bytes: &[u8], row: u32) -> u32
+    ensures { λ r. ⌜ r ≡ writtenBlocks (now (bytes .entry)) row ⌝ }
+{
+    if row != 0 {
+        return 0;
+    }
+    block::block_count(bytes)
+}
+
+// Writes the sheet's words unless a row refuses, and answers their number or the row.
 fn finish(bytes: &[u8], out: &mut [u32], row: u32) -> Read
     ensures { λ r. ⌜ outcome r (now (out .exit)) ≡ finished row (now (bytes .entry)) (now (out .entry)) ⌝ }
 {
+    let n = written_blocks(bytes, row);
+    block::unpack(bytes, n, out);
     if row != 0 {
         return Read::Refused(row);
     }
-    let n = (bytes.len() / 512 % 4294967296) as u32;
-    block::unpack(bytes, n, out);
     Read::Words((127 * (n as u64) % 4294967296) as u32)
 }
 
-// Reads a class sheet into the lent words.
+// Reads a class sheet into the lent words. An accepted sheet fills 127 words a block, which is the number answered, and leaves the
+// rest of the slice as it was (both are this program's choice: the papers say only how many words a block asks for); a refused one
+// changes nothing.
 pub fn read_class_sheet(bytes: &[u8], out: &mut [u32]) -> Read
     ensures { λ r. ⌜ outcome r (now (out .exit)) ≡ readClassSheet (now (bytes .entry)) (now (out .entry)) ⌝ }
 {
@@ -84,7 +106,7 @@ pub fn read_class_sheet(bytes: &[u8], out: &mut [u32]) -> Read
     finish(bytes, out, row)
 }
 
-// Reads an ABI sheet into the lent words.
+// Reads an ABI sheet into the lent words, as `read_class_sheet` does a class sheet.
 pub fn read_abi_sheet(bytes: &[u8], out: &mut [u32]) -> Read
     ensures { λ r. ⌜ outcome r (now (out .exit)) ≡ readAbiSheet (now (bytes .entry)) (now (out .entry)) ⌝ }
 {

@@ -1,7 +1,8 @@
 -- Tests taken apart. Assumes nothing.
 use mathlib.Core.Path.{_≡_, refl, _∙_}
+use Prim.Native.Nat.{ℕ}
 use mathlib.Core.Logic.{_⊎_, inl, inr}
-use mathlib.Core.Bool.{Bool, true, false, _&&_, _||_, false≢true, true≢false}
+use mathlib.Core.Bool.{Bool, true, false, cond, _&&_, _||_, false≢true}
 
 -- by cases on a test, with what it says in each
 pub by : {X : Type 0} (b : Bool) → (b ≡ true → X) → (b ≡ false → X) → X
@@ -11,10 +12,6 @@ by false f g = g refl
 pub and-both : (a b : Bool) → (a && b) ≡ true → (a ≡ true) × (b ≡ true)
 and-both true b h = (refl, h)
 and-both false b h = absurd (false≢true h)
-
-pub or-neither : (a b : Bool) → (a || b) ≡ false → (a ≡ false) × (b ≡ false)
-or-neither true b h = absurd (true≢false h)
-or-neither false b h = (refl, h)
 
 pub or-either : (a b : Bool) → (a || b) ≡ true → (a ≡ true) ⊎ (b ≡ true)
 or-either true b h = inl refl
@@ -41,3 +38,8 @@ pub and-7 : (a b c d e f g : Bool) → (a && b && c && d && e && f && g) ≡ tru
 and-7 a b c d e f g h =
     let p = and-both (a && b && c && d && e && f) g h in
     let q = and-6 a b c d e f (p .0) in (q .0, q .1, q .2, q .3, q .4, q .5, p .1)
+
+-- a refusal with a number that is not 0 was passed over
+pub passed : (b : Bool) (k r : ℕ) → (k ≡ 0 → ⊥) → cond b k r ≡ 0 → (b ≡ false) × (r ≡ 0)
+passed true k r n e = absurd (n e)
+passed false k r n e = (refl, e)

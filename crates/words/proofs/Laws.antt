@@ -7,9 +7,9 @@ use lib.ListN.{length, getD, set, take, drop, length-drop, drop-of-length-le, Li
 use native.Mathlib.Nat.{le-of-lt}
 use lib.Seq.{take-nil, take-all, set-out, paste-zero, paste-suc, getD-drop}
 use native.Mathlib.Numerals.{add-one}
-use Rattle.words.specs.Words.{leWord, byteOf, pasted, copyFits, copyWords}
+use Rattle.words.specs.Words.{leWord, byteOf, inside, pasted, copyFits, copyWords}
 use mathlib.Core.Bool.{Bool, true, false, _&&_, and-false}
-use borrow.Author.Tests.{le-leb, lt-leb}
+use borrow.Author.Tests.{le-leb, lt-leb, leb-true}
 
 -- past the end there are zeros
 pub past : (l : List ℕ) (i : ℕ) → length l ≤ i → 0 ≡ getD l i 0
@@ -88,3 +88,7 @@ module _ (l : List ℕ) (start len : ℕ) where
 -- as many elements as the whole has are all from k on
 pub part-rest : (l : List ℕ) (k : ℕ) → take (length l) (drop k l) ≡ drop k l
 part-rest l k = take-all (length l) (drop k l) (simp length-drop (omega arith))
+
+pub inside-is : (f n t : ℕ) → inside f n t ≡ true → f + n ≤ t
+unfolding inside
+inside-is f n t h = leb-true _ _ h

@@ -7,11 +7,11 @@ use Rattle.abi_rules.proofs.class_ok.Lts as lts
 use Rattle.abi_sheet.proofs.class_field_count.Reads as class-field-count-reads
 use Rattle.abi_sheet.proofs.class_first_field.Reads as class-first-field-reads
 use Rattle.abi_sheet.proofs.class_first_slot.Reads as class-first-slot-reads
-use Rattle.abi_sheet.proofs.class_instance_words.Reads as class-instance-words-reads
+use Rattle.abi_sheet.proofs.class_instance_words_plus_one.Reads as class-instance-words-plus-one-reads
 use Rattle.abi_sheet.proofs.class_name_length.Reads as class-name-length-reads
 use Rattle.abi_sheet.proofs.class_name_start.Reads as class-name-start-reads
 use Rattle.abi_sheet.proofs.class_slot_count.Reads as class-slot-count-reads
-use Rattle.abi_sheet.proofs.class_table_size.Reads as class-table-size-reads
+use Rattle.abi_sheet.proofs.class_table_size_plus_one.Reads as class-table-size-plus-one-reads
 use Rattle.abi_sheet.proofs.field_count.Reads as field-count-reads
 use Rattle.abi_sheet.proofs.slot_count.Reads as slot-count-reads
 use Rattle.text.proofs.part_ok.Reads as part-ok-reads
@@ -26,11 +26,11 @@ class-name-length-requires c κs = search needs
 part-ok-requires : tie.Need-part-ok-requires
 part-ok-requires c κs = search needs
 
-class-table-size-requires : tie.Need-class-table-size-requires
-class-table-size-requires c κs = search needs
+class-table-size-plus-one-requires : tie.Need-class-table-size-plus-one-requires
+class-table-size-plus-one-requires c κs = search needs
 
-class-instance-words-requires : tie.Need-class-instance-words-requires
-class-instance-words-requires c κs = search needs
+class-instance-words-plus-one-requires : tie.Need-class-instance-words-plus-one-requires
+class-instance-words-plus-one-requires c κs = search needs
 
 class-first-slot-requires : tie.Need-class-first-slot-requires
 class-first-slot-requires c κs = search needs
@@ -67,8 +67,8 @@ class-ok-spec =
     class-name-start-requires
     class-name-length-requires
     part-ok-requires
-    class-table-size-requires
-    class-instance-words-requires
+    class-table-size-plus-one-requires
+    class-instance-words-plus-one-requires
     class-first-slot-requires
     class-slot-count-requires
     slot-count-requires

@@ -16,7 +16,7 @@ use Rattle.class_rules.proofs.classes_apart.Reads as classes-apart-read
 use Rattle.words.proofs.before.Reads as before-reads
 
 abbrev Inv-loop : tie.InvT-loop
-Inv-loop ws text d n i₀ i = (i ≤ n) × (allOf i (λ k. classesApart ws text d (k + 1)) ≡ true) × (n ≡ d - 1)
+Inv-loop ws text d n i₀ i = (i ≤ n) × (allOf i (λ k. classesApart ws text (k + 1) d) ≡ true) × (n ≡ d - 1)
 
 abbrev μ-loop : tie.MeasureT-loop
 μ-loop ws text d n i₀ i = n - i

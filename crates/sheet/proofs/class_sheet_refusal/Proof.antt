@@ -1,41 +1,27 @@
-use mathlib.Core.Path.{sym, _∙_}
-use borrow.Author.Tests.{not-false}
-use Rattle.block.proofs.Laws.{shape-fits}
+use Rattle.sheet.specs.Sheet.{classSheetRefusal}
 use native.Mathlib.Omega.{arith}
-use Rattle.sheet.specs.Sheet.{classSheetRefusal, classRows}
-use Rattle.sheet.proofs.Laws.{sheet-1, sheet-2, sheet-rest}
+use Rattle.sheet.proofs.Laws.{sheet-early, sheet-rest}
 use borrow.Author.Needs.{needs}
 use Rattle.sheet.proofs.class_sheet_refusal.Statement.{statement}
 use Rattle.sheet.proofs.class_sheet_refusal.Tie as tie
 use Rattle.sheet.proofs.class_sheet_refusal.Reads as reads
 use Rattle.sheet.proofs.class_sheet_refusal.Lts as lts
-use Rattle.block.proofs.checks_ok.Reads as checks-ok-reads
-use Rattle.block.proofs.shape_ok.Reads as shape-ok-reads
+use Rattle.block.proofs.block_count.Reads as block-count-reads
 use Rattle.block.proofs.unpack.Reads as unpack-reads
+use Rattle.sheet.proofs.block_refusal.Reads as block-refusal-reads
 use Rattle.sheet.proofs.class_rows.Reads as class-rows-reads
 use Rattle.words.proofs.wide.Reads as wide-reads
 use Rattle.words.proofs.word_part.Reads as word-part-reads
 
-shape-ok-requires : tie.Need-shape-ok-requires
-shape-ok-requires c κs = search needs
+block-refusal-requires : tie.Need-block-refusal-requires
+block-refusal-requires c κs = search needs
 
 returns : tie.Need-returns
 unfolding classSheetRefusal
-returns c = sheet-1 _ _ _ _ (c .before .shape-ok .ensures) (c .if1 .taken)
+returns c = sheet-early _ _ _ _ (c .before .block-refusal .ensures) (c .if1 .taken)
 
-cast-n : tie.Need-cast-n
-cast-n c = search needs
-
-checks-ok-requires : tie.Need-checks-ok-requires
-checks-ok-requires c κs = search needs
-
-returns-2 : tie.Need-returns-2
-unfolding classSheetRefusal
-returns-2 c =
-    let s = c .before .before .before .shape-ok .ensures in
-    let h = c .before .before .if1 .left in
-    let f = shape-fits _ _ _ (sym s ∙ not-false _ h) in
-    sheet-2 _ _ _ _ s h (omega arith) (c .before .checks-ok .ensures) (c .if2 .taken)
+block-count-requires : tie.Need-block-count-requires
+block-count-requires c κs = search needs
 
 slice-aggregate-unpack : tie.Need-slice-aggregate-unpack
 slice-aggregate-unpack c = search needs
@@ -58,24 +44,19 @@ word-part-requires c κs = search needs
 class-rows-requires : tie.Need-class-rows-requires
 class-rows-requires c κs = search needs
 
-returns-3 : tie.Need-returns-3
+returns-2 : tie.Need-returns-2
 unfolding classSheetRefusal
-returns-3 c =
-    let s = c .before .before .before .before .before .before .before .before .before .before .shape-ok .ensures in
-    let h = c .before .before .before .before .before .before .before .before .before .if1 .left in
-    let f = shape-fits _ _ _ (sym s ∙ not-false _ h) in
-    sheet-rest _ _ _ _ s h (omega arith) (c .before .before .before .before .before .before .before .before .checks-ok .ensures) (c .before .before .before .before .before .before .before .if2 .left) _ (omega arith) (c .before .before .before .before .before .unpack .ensures) (c .before .before .wide .ensures)
-    (c .before .word-part .ensures) (c .class-rows .ensures)
+returns-2 c =
+    sheet-rest _ _ _ _ (c .before .before .before .before .before .before .before .before .before .block-refusal .ensures) (c .before .before .before .before .before .before .before .before .if1 .left) (omega arith) _ (omega arith) (c .before .before .before .before .before .before .before .block-count .ensures) (c .before .before .before .before .before .unpack .ensures)
+    (c .before .before .wide .ensures) (c .before .word-part .ensures) (c .class-rows .ensures)
 
 pub class-sheet-refusal-spec : {M : Type 1} → statement M
 class-sheet-refusal-spec =
     tie.close
     (tie.spec
-    shape-ok-requires
+    block-refusal-requires
     returns
-    cast-n
-    checks-ok-requires
-    returns-2
+    block-count-requires
     slice-aggregate-unpack
     unpack-requires
     slice-aggregate-word-part
@@ -83,4 +64,4 @@ class-sheet-refusal-spec =
     mul-word-part
     word-part-requires
     class-rows-requires
-    returns-3)
+    returns-2)

@@ -1,0 +1,46 @@
+//! `corpus SEED N FILE` writes a corpus; `corpus replay FILE` replays one on the model.
+
+use std::fs;
+use std::process::ExitCode;
+
+use harness::corpus;
+use harness::model::Model;
+
+fn main() -> ExitCode {
+    let arguments: Vec<String> = std::env::args().skip(1).collect();
+    let arguments: Vec<&str> = arguments.iter().map(String::as_str).collect();
+    let result = match arguments.as_slice() {
+        ["replay", file] => replay(file),
+        [seed, count, file] => match (seed.parse(), count.parse()) {
+            (Ok(seed), Ok(count)) => write(seed, count, file),
+            _ => Err("SEED and N are numbers".to_owned()),
+        },
+        _ => Err("usage: corpus SEED N FILE, or corpus replay FILE".to_owned()),
+    };
+    match result {
+        Ok(message) => {
+            println!("{message}");
+            ExitCode::SUCCESS
+        }
+        Err(message) => {
+            eprintln!("{message}");
+            ExitCode::FAILURE
+        }
+    }
+}
+
+fn write(seed: u64, count: usize, file: &str) -> Result<String, String> {
+    let (words, summary) = corpus::make(seed, count);
+    let bytes: Vec<u8> = words.iter().flat_map(|word| word.to_le_bytes()).collect();
+    fs::write(file, &bytes).map_err(|error| format!("{file}: {error}"))?;
+    let corpus::Summary { cases, calls, reached, buckets } = summary;
+    let message = format!("{file}: {} bytes, seed {seed}, {cases} cases, {calls} calls, {reached} of {buckets} buckets", bytes.len());
+    if reached == buckets { Ok(message) } else { Err(message) }
+}
+
+fn replay(file: &str) -> Result<String, String> {
+    let bytes = fs::read(file).map_err(|error| format!("{file}: {error}"))?;
+    let words: Vec<u32> = bytes.chunks_exact(4).map(|word| u32::from_le_bytes(word.try_into().unwrap())).collect();
+    let calls = corpus::replay(&words, &mut Model)?;
+    Ok(format!("{file}: {calls} calls replayed on the model, all as stored"))
+}

@@ -1,0 +1,83 @@
+//! The comparison: both sides get the same words, call by call; every answer and every word
+//! of lent memory must agree.
+
+use crate::case::{Call, Case};
+use crate::oracle::Oracle;
+use crate::side::{Answer, Linker};
+
+/// The memory of a case as its calls hand it on.
+#[derive(Clone, Debug, PartialEq, Eq)]
+pub struct State {
+    pub set: Vec<u32>,
+    pub area: Vec<u32>,
+}
+
+/// One call as it was made: what was lent, what came back.
+pub struct Step<'a> {
+    pub case: &'a Case,
+    pub call: Call,
+    pub before: &'a State,
+    pub answer: Answer,
+    pub after: &'a State,
+}
+
+/// The first disagreement of a case.
+#[derive(Debug)]
+pub struct Disagreement {
+    pub call: usize,
+    pub oracle: Answer,
+    pub other: Answer,
+    /// What differs, in words.
+    pub difference: String,
+}
+
+/// Runs a case on both sides. `observe` sees every step on which they agree. Answers the
+/// memory after the last.
+pub fn compare(
+    oracle: &mut Oracle,
+    other: &mut dyn Linker,
+    case: &Case,
+    observe: &mut dyn FnMut(&Step),
+) -> Result<State, Box<Disagreement>> {
+    oracle.new_case(case.rebuilds);
+    let mut before = State { set: case.set.clone(), area: case.area.clone() };
+    let mut expected = before.clone();
+    let mut found = before.clone();
+    for (number, &call) in case.calls.iter().enumerate() {
+        let oracle_answer = perform(oracle, case, call, &mut expected);
+        let other_answer = perform(other, case, call, &mut found);
+        if let Some(difference) = difference(&before, oracle_answer, &expected, other_answer, &found) {
+            return Err(Box::new(Disagreement { call: number, oracle: oracle_answer, other: other_answer, difference }));
+        }
+        observe(&Step { case, call, before: &before, answer: oracle_answer, after: &expected });
+        if oracle_answer.refusal == 0 {
+            before.set.clone_from(&expected.set);
+            before.area.clone_from(&expected.area);
+        }
+    }
+    Ok(before)
+}
+
+/// Makes one call on a side.
+pub fn perform(side: &mut dyn Linker, case: &Case, call: Call, state: &mut State) -> Answer {
+    let stubs = &case.stubs[call.stubs()];
+    match call {
+        Call::Link { class, .. } => side.link(&mut state.set, &case.abi, class, &mut state.area, stubs),
+        Call::Ask { class, interface, .. } => side.ask(&mut state.set, &case.abi, class, interface, &mut state.area, stubs),
+    }
+}
+
+fn difference(before: &State, oracle: Answer, expected: &State, other: Answer, found: &State) -> Option<String> {
+    if oracle.refusal != 0 && expected != before {
+        return Some("the oracle changed memory in a refused call".to_owned());
+    }
+    if oracle != other {
+        return Some(format!("answers: oracle {oracle:?}, other {other:?}"));
+    }
+    first_difference("class words", &expected.set, &found.set).or_else(|| first_difference("area", &expected.area, &found.area))
+}
+
+fn first_difference(what: &str, expected: &[u32], found: &[u32]) -> Option<String> {
+    let at = expected.iter().zip(found).position(|(expected, found)| expected != found)?;
+    Some(format!("{what}: word {at} is {} by the oracle, {} by the other", expected[at], found[at]))
+}

@@ -1,0 +1,228 @@
+//! The corpus: cases with the oracle's answers, as little-endian words that a program
+//! without any Rust can replay. README.md sets the format out.
+
+mod format;
+
+use crate::buckets::Counts;
+use crate::case::{Call, Case};
+use crate::compare::{State, Step, perform};
+use crate::generate;
+use crate::oracle::Oracle;
+use crate::random::Random;
+use crate::readings;
+use crate::side::{Answer, Linker};
+
+use format::{Reader, Writer};
+
+/// "LGTC", lowest byte first.
+const MAGIC: u32 = u32::from_le_bytes(*b"LGTC");
+const VERSION: u32 = 1;
+/// How many of a seed's cases are looked at.
+const LOOKED_AT: u64 = 60_000;
+/// How many readings and descriptors are stored.
+const READINGS: u64 = 120;
+const DESCRIPTORS: u64 = 400;
+
+/// What a corpus covers.
+pub struct Summary {
+    pub cases: usize,
+    pub calls: usize,
+    pub reached: usize,
+    pub buckets: usize,
+}
+
+/// The corpus of `seed`: for each bucket the smallest case that reaches it, then small cases
+/// up to `count`.
+pub fn make(seed: u64, count: usize) -> (Vec<u32>, Summary) {
+    let mut oracle = Oracle::default();
+    let chosen = choose(&mut oracle, seed, count);
+    let mut writer = Writer::default();
+    let mut longest = Longest::default();
+    let mut counts = Counts::default();
+    for &number in &chosen {
+        let case = generate::case(seed, number);
+        longest.case(&case);
+        write_case(&mut writer, &mut oracle, &case, &mut counts);
+    }
+    let mut random = Random::new(seed);
+    for number in 0..READINGS {
+        let reading = readings::reading(&mut random, &generate::case(seed, number));
+        longest.reading(&reading);
+        write_reading(&mut writer, &mut oracle, &reading);
+    }
+    for _ in 0..DESCRIPTORS {
+        write_descriptor(&mut writer, &mut oracle, &mut random);
+    }
+    let reached = counts.reached().len();
+    let buckets = counts.summary().0.lines().count() - 1;
+    let mut header = Writer::default();
+    header.words(&[MAGIC, VERSION, seed as u32, (seed >> 32) as u32]);
+    header.words(&[chosen.len() as u32, READINGS as u32, DESCRIPTORS as u32]);
+    header.words(&longest.0);
+    header.append(writer);
+    (header.finish(), Summary { cases: chosen.len(), calls: counts.calls as usize, reached, buckets })
+}
+
+/// The longest of each kind, so that a replaying program knows what to set aside: class
+/// words, ABI words, area, stub list, stub lists of a case, bytes of a reading, words lent to
+/// a reading.
+#[derive(Default)]
+struct Longest([u32; 7]);
+
+impl Longest {
+    fn raise(&mut self, position: usize, length: usize) {
+        self.0[position] = self.0[position].max(length as u32);
+    }
+
+    fn case(&mut self, case: &Case) {
+        self.raise(0, case.set.len());
+        self.raise(1, case.abi.len());
+        self.raise(2, case.area.len());
+        case.stubs.iter().for_each(|stubs| self.raise(3, stubs.len()));
+        self.raise(4, case.stubs.len());
+    }
+
+    fn reading(&mut self, reading: &readings::Reading) {
+        self.raise(5, reading.bytes.len());
+        self.raise(6, reading.lent);
+    }
+}
+
+/// The numbers of the cases to store.
+fn choose(oracle: &mut Oracle, seed: u64, count: usize) -> Vec<u64> {
+    let mut smallest: Vec<Option<(usize, u64)>> = Vec::new();
+    let mut sizes = Vec::new();
+    for number in 0..LOOKED_AT {
+        let case = generate::case(seed, number);
+        let mut writer = Writer::default();
+        let mut counts = Counts::default();
+        write_case(&mut writer, oracle, &case, &mut counts);
+        let size = writer.len();
+        sizes.push((size, number));
+        for bucket in counts.reached() {
+            smallest.resize(smallest.len().max(bucket + 1), None);
+            let best = smallest[bucket].get_or_insert((size, number));
+            *best = (*best).min((size, number));
+        }
+    }
+    let mut chosen: Vec<u64> = smallest.into_iter().flatten().map(|(_, number)| number).collect();
+    // Of the rest, those of middling size: the smallest have nothing in them.
+    sizes.sort_unstable();
+    chosen.sort_unstable();
+    chosen.dedup();
+    let rest = sizes.into_iter().map(|(_, number)| number).skip(LOOKED_AT as usize / 4).step_by(7);
+    let more: Vec<u64> = rest.filter(|number| chosen.binary_search(number).is_err()).take(count.saturating_sub(chosen.len())).collect();
+    chosen.extend(more);
+    chosen.sort_unstable();
+    chosen
+}
+
+fn write_case(writer: &mut Writer, oracle: &mut Oracle, case: &Case, counts: &mut Counts) {
+    for words in [&case.set, &case.abi, &case.area] {
+        writer.list(words);
+    }
+    writer.words(&[case.stubs.len() as u32]);
+    case.stubs.iter().for_each(|stubs| writer.list(stubs));
+    writer.words(&[case.calls.len() as u32]);
+    oracle.new_case(case.rebuilds);
+    let mut state = State { set: case.set.clone(), area: case.area.clone() };
+    for &call in &case.calls {
+        let before = state.clone();
+        let answer = perform(oracle, case, call, &mut state);
+        counts.observe(&Step { case, call, before: &before, answer, after: &state });
+        writer.words(&match call {
+            Call::Link { class, stubs } => [0, class, 0, stubs as u32],
+            Call::Ask { class, interface, stubs } => [1, class, interface, stubs as u32],
+        });
+        writer.words(&[answer.refusal, answer.first, answer.second]);
+        writer.changes(&before.set, &state.set);
+        writer.changes(&before.area, &state.area);
+    }
+}
+
+fn write_reading(writer: &mut Writer, oracle: &mut Oracle, reading: &readings::Reading) {
+    let mut words = readings::lent_words(reading.lent);
+    let answer = readings::read(oracle, reading, &mut words);
+    writer.words(&[u32::from(!reading.is_class_sheet), reading.lent as u32]);
+    writer.bytes(&reading.bytes);
+    writer.words(&[answer.refusal, answer.first]);
+}
+
+fn write_descriptor(writer: &mut Writer, oracle: &mut Oracle, random: &mut Random) {
+    let (descriptor, flags) = readings::descriptor(random);
+    let answer = oracle.argument_words(&descriptor, flags);
+    writer.words(&[flags]);
+    writer.bytes(&descriptor);
+    writer.words(&[answer.refusal, answer.first]);
+}
+
+/// Replays a corpus on a side; answers the number of calls, or what differs first.
+pub fn replay(corpus: &[u32], side: &mut dyn Linker) -> Result<usize, String> {
+    let mut reader = Reader::new(corpus)?;
+    let [magic, version, _, _, cases, readings, descriptors] = reader.words()?;
+    let _longest: [u32; 7] = reader.words()?;
+    if (magic, version) != (MAGIC, VERSION) {
+        return Err("no corpus of this version".to_owned());
+    }
+    let mut calls = 0;
+    for number in 0..cases {
+        calls += replay_case(&mut reader, side).map_err(|message| format!("case {number}: {message}"))?;
+    }
+    for number in 0..readings {
+        replay_reading(&mut reader, side).map_err(|message| format!("reading {number}: {message}"))?;
+    }
+    for number in 0..descriptors {
+        replay_descriptor(&mut reader, side).map_err(|message| format!("descriptor {number}: {message}"))?;
+    }
+    reader.end()?;
+    Ok(calls + readings as usize + descriptors as usize)
+}
+
+fn replay_case(reader: &mut Reader, side: &mut dyn Linker) -> Result<usize, String> {
+    let (set, abi, area) = (reader.list()?, reader.list()?, reader.list()?);
+    let [stub_lists] = reader.words()?;
+    let stubs = (0..stub_lists).map(|_| reader.list()).collect::<Result<Vec<_>, _>>()?;
+    let [calls] = reader.words()?;
+    let mut expected = State { set: set.clone(), area: area.clone() };
+    let mut found = expected.clone();
+    let case = Case { set, abi, area, stubs, ..Case::default() };
+    for number in 0..calls {
+        let [kind, class, interface, stubs, refusal, first, second] = reader.words()?;
+        reader.change(&mut expected.set)?;
+        reader.change(&mut expected.area)?;
+        let stubs = stubs as usize;
+        let call = if kind == 0 { Call::Link { class, stubs } } else { Call::Ask { class, interface, stubs } };
+        let answer = perform(side, &case, call, &mut found);
+        let stored = Answer { refusal, first, second };
+        if answer != stored || expected != found {
+            return Err(format!("call {number} ({call}): stored {stored:?}, found {answer:?}, memory equal: {}", expected == found));
+        }
+    }
+    Ok(calls as usize)
+}
+
+fn replay_reading(reader: &mut Reader, side: &mut dyn Linker) -> Result<(), String> {
+    let [is_abi_sheet, lent] = reader.words()?;
+    let bytes = reader.bytes()?;
+    let [refusal, first] = reader.words()?;
+    let reading = readings::Reading { is_class_sheet: is_abi_sheet == 0, bytes, lent: lent as usize, damage: "" };
+    let mut expected = readings::lent_words(reading.lent);
+    let mut found = expected.clone();
+    let answer = readings::read(side, &reading, &mut found);
+    if refusal == 0 {
+        let words = reading.bytes.chunks_exact(4).enumerate().filter(|(position, _)| position % 128 != 127);
+        let words = words.map(|(_, bytes)| u32::from_le_bytes(bytes.try_into().unwrap()));
+        expected.iter_mut().zip(words).for_each(|(word, read)| *word = read);
+    }
+    let stored = Answer { refusal, first, second: 0 };
+    if answer == stored && expected == found { Ok(()) } else { Err(format!("stored {stored:?}, found {answer:?}")) }
+}
+
+fn replay_descriptor(reader: &mut Reader, side: &mut dyn Linker) -> Result<(), String> {
+    let [flags] = reader.words()?;
+    let descriptor = reader.bytes()?;
+    let [refusal, first] = reader.words()?;
+    let answer = side.argument_words(&descriptor, flags);
+    let stored = Answer { refusal, first, second: 0 };
+    if answer == stored { Ok(()) } else { Err(format!("stored {stored:?}, found {answer:?}")) }
+}

@@ -1,0 +1,17 @@
+//! The oracle: the original Rust linker as a judge, a model of document 01 beside it, and the
+//! machinery that compares them.
+
+pub mod buckets;
+pub mod case;
+pub mod compare;
+pub mod corpus;
+pub mod demand3;
+pub mod drive;
+pub mod generate;
+pub mod model;
+pub mod oracle;
+pub mod random;
+pub mod readings;
+pub mod sheet;
+pub mod shrink;
+pub mod side;

@@ -1,0 +1,201 @@
+//! The oracle: the Rust judges tables, indices, lists and rows 8, 9, 11, 12 and 16; the
+//! harness itself decides the added rows, the places and how grown sections are laid out.
+
+mod descriptors;
+mod layout;
+mod machine;
+mod rows;
+
+use crate::sheet::{Abi, MemberRecord, Set, class_word};
+use crate::side::{Answer, Linker};
+
+use machine::{Linked, Machine, Member};
+
+/// The Rust over its emulated machine, behind the rows that the harness adds.
+#[derive(Default)]
+pub struct Oracle {
+    machine: Machine,
+    rebuilds: bool,
+}
+
+impl Oracle {
+    /// Begins a case. If `rebuilds`, every call lays the linked classes out anew from the
+    /// words it is lent; else the machine keeps what the Rust itself built in the case's
+    /// calls, which must hand on their memory.
+    pub fn new_case(&mut self, rebuilds: bool) {
+        self.machine.clear();
+        self.rebuilds = rebuilds;
+    }
+
+    fn fresh_call(&mut self) {
+        if self.rebuilds {
+            self.machine.clear();
+        }
+    }
+
+    fn try_link(&mut self, words: &mut [u32], abi_words: &[u32], class: u32, area: &mut [u32], stubs: &[u32]) -> Result<Answer, u32> {
+        let (set, abi) = rows::sheets(words, abi_words)?;
+        rows::link_class(&set, class)?;
+        rows::area(&set, area)?;
+        self.fresh_call();
+        self.machine.install_abi(abi_words, &abi);
+        let (definition, linked) = self.machine.link(&set, class, area, stubs)?;
+
+        let slots = linked.table.len();
+        if slots > 1024 {
+            return Err(13);
+        }
+        let written = written_set(words, set, class, &linked, area[0])?;
+        let free = area.len() - area[0] as usize;
+        if stubs.len() < slots || free < slots + 2 || written.len() > words.len() {
+            return Err(15);
+        }
+
+        words[..written.len()].copy_from_slice(&written);
+        let place = area[0] as usize;
+        area[place] = class;
+        area[place + 1..][..slots].copy_from_slice(&linked.table);
+        area[place + 1 + slots] = 0;
+        area[0] += slots as u32 + 2;
+        self.machine.keep(class, definition);
+        Ok(Answer::accepted(place as u32, slots as u32))
+    }
+
+    fn try_ask(
+        &mut self,
+        words: &[u32],
+        abi_words: &[u32],
+        class: u32,
+        interface: u32,
+        area: &mut [u32],
+        stubs: &[u32],
+    ) -> Result<Answer, u32> {
+        let (set, abi) = rows::sheets(words, abi_words)?;
+        rows::ask_classes(&set, class, interface)?;
+        rows::area(&set, area)?;
+        let nodes = rows::nodes(&set, class, interface, area)?;
+        self.fresh_call();
+        self.machine.install_abi(abi_words, &abi);
+        let asked = self.machine.ask(&set, class, interface, area, &nodes, stubs)?;
+        let Some(table) = asked.built else {
+            return Ok(Answer::accepted(asked.found, asked.nodes));
+        };
+
+        let free = area.len() - area[0] as usize;
+        if stubs.len() < table.len() || free < table.len() + 2 {
+            self.machine.forget_built();
+            return Err(15);
+        }
+        let node = area[0];
+        let head = rows::head(&set, class);
+        area[node as usize] = area[head];
+        area[node as usize + 1] = interface;
+        area[node as usize + 2..][..table.len()].copy_from_slice(&table);
+        area[head] = node;
+        area[0] += table.len() as u32 + 2;
+        self.machine.keep_built(node + 1);
+        Ok(Answer::accepted(node + 1, asked.nodes))
+    }
+}
+
+impl Linker for Oracle {
+    fn read_class_sheet(&mut self, bytes: &[u8], words: &mut [u32]) -> Answer {
+        rows::read_class_sheet(bytes, words).map_or_else(Answer::refused, |count| Answer::accepted(count, 0))
+    }
+
+    fn read_abi_sheet(&mut self, bytes: &[u8], words: &mut [u32]) -> Answer {
+        rows::read_abi_sheet(bytes, words).map_or_else(Answer::refused, |count| Answer::accepted(count, 0))
+    }
+
+    fn link(&mut self, set: &mut [u32], abi: &[u32], class: u32, area: &mut [u32], stubs: &[u32]) -> Answer {
+        self.try_link(set, abi, class, area, stubs).unwrap_or_else(Answer::refused)
+    }
+
+    fn ask(&mut self, set: &mut [u32], abi: &[u32], class: u32, interface: u32, area: &mut [u32], stubs: &[u32]) -> Answer {
+        self.try_ask(set, abi, class, interface, area, stubs).unwrap_or_else(Answer::refused)
+    }
+
+    fn argument_words(&mut self, descriptor: &[u8], flags: u32) -> Answer {
+        descriptors::argument_words(descriptor, flags).map_or(Answer::refused(5), |words| Answer::accepted(words, 0))
+    }
+}
+
+/// The content words of the set after a link, with the lists that the Rust left; row 14.
+fn written_set(words: &[u32], mut set: Set, class: u32, linked: &Linked, place: u32) -> Result<Vec<u32>, u32> {
+    let junk = last_text_word(words, &set);
+    let mut record = *set.class(class);
+    record.0[class_word::PLACE] = place;
+    record.0[class_word::SLOTS] = linked.table.len() as u32;
+    if let Some(instance_words) = linked.instance_words {
+        record.0[class_word::INSTANCE_WORDS] = instance_words;
+    }
+    let grown_methods = write_list(&mut set.methods, &mut set.text, record.span(class_word::METHODS), &linked.methods);
+    let grown_fields = write_list(&mut set.fields, &mut set.text, record.span(class_word::FIELDS), &linked.fields);
+    for (word, list) in [(class_word::METHODS, grown_methods), (class_word::FIELDS, grown_fields)] {
+        if let Some((first, count)) = list {
+            record.0[word] = first;
+            record.0[word + 1] = count;
+        }
+    }
+    *set.class_mut(class) = record;
+    let grown = grown_methods.is_some() || grown_fields.is_some();
+    if grown && (set.methods.len() > 512 || set.fields.len() > 512 || set.text.len() > 8192) {
+        return Err(14);
+    }
+    let mut content = set.encode();
+    if let (false, Some(last), Some(junk)) = (grown, content.last_mut(), junk) {
+        *last = junk;
+    }
+    Ok(content)
+}
+
+/// The last word of the text as it is lent, with whatever follows the text in it.
+fn last_text_word(words: &[u32], set: &Set) -> Option<u32> {
+    (!set.text.is_empty()).then(|| words[set.content() - 1])
+}
+
+/// Writes the list that the Rust left: in place, or, if it is longer, whole at the end of
+/// its section with new text for what was added. Answers a grown list's place.
+fn write_list(section: &mut Vec<MemberRecord>, text: &mut Vec<u8>, (first, count): (u32, u32), list: &[Member]) -> Option<(u32, u32)> {
+    let (declared, added) = list.split_at(count as usize);
+    let old = &section[first as usize..][..count as usize];
+    let mut records: Vec<MemberRecord> =
+        old.iter().zip(declared).map(|(record, member)| MemberRecord { flags: member.flags, last: member.last, ..*record }).collect();
+    if added.is_empty() {
+        section[first as usize..][..count as usize].copy_from_slice(&records);
+        return None;
+    }
+    for member in added {
+        let mut part = |bytes: &str| {
+            let start = text.len() as u32;
+            text.extend_from_slice(bytes.as_bytes());
+            (start, bytes.len() as u32)
+        };
+        let name = part(&member.name);
+        let descriptor = part(&member.descriptor);
+        records.push(MemberRecord { name, descriptor, flags: member.flags, last: member.last });
+    }
+    let place = (section.len() as u32, records.len() as u32);
+    section.extend(records);
+    Some(place)
+}
+
+/// The ABI that the original reads, from the sheet's sections.
+fn java_abi(abi: &Abi) -> linker::runtime::java::abi::JavaAbi {
+    use linker::runtime::java::abi::{JavaAbi, JavaClassAbi, JavaFieldIndex, JavaVtableIndex};
+    let text = |part| abi.part(part).to_owned();
+    let class = abi.classes.iter().map(|class| JavaClassAbi {
+        name: text(class.name),
+        vtable_size: class.size_plus_1.checked_sub(1).map(|size| size as usize),
+        instance_field_word_count: class.words_plus_1.checked_sub(1).map(|words| words as usize),
+        vtable: abi.slots[crate::sheet::range(class.slots)]
+            .iter()
+            .map(|slot| JavaVtableIndex { name: text(slot.name), descriptor: text(slot.descriptor), index: slot.index as usize })
+            .collect(),
+        field: abi.fields[crate::sheet::range(class.fields)]
+            .iter()
+            .map(|field| JavaFieldIndex { name: text(field.name), descriptor: text(field.descriptor), index: field.index })
+            .collect(),
+    });
+    JavaAbi { class: class.collect() }
+}

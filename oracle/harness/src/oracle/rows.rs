@@ -1,0 +1,200 @@
+//! The rows that the harness adds before the Rust is asked: 1 to 7.
+
+use std::collections::HashSet;
+
+use crate::sheet::{Abi, AbiMember, ClassRecord, MemberRecord, Set, blocks, class_word};
+
+use super::descriptors;
+
+/// Rows 3 to 5 of a link or an ask, each over both sheets before the next.
+pub fn sheets(set: &[u32], abi: &[u32]) -> Result<(Set, Abi), u32> {
+    let (Some(set), Some(abi)) = (Set::decode(set), Abi::decode(abi)) else {
+        return Err(3);
+    };
+    if !set_follows_row_4(&set) || !abi_follows_row_4(&abi) {
+        return Err(4);
+    }
+    if !set_follows_row_5(&set) || !abi_follows_row_5(&abi) {
+        return Err(5);
+    }
+    Ok((set, abi))
+}
+
+/// Reads a class sheet's blocks, rows 1 to 5.
+pub fn read_class_sheet(bytes: &[u8], words: &mut [u32]) -> Result<u32, u32> {
+    let content = block_words(bytes, 92, words.len())?;
+    let set = Set::decode(&content).ok_or(3u32)?;
+    if blocks(&set.encode()) != bytes {
+        return Err(3);
+    }
+    if set.classes.iter().any(|class| class.span(class_word::PLACE) != (0, 0)) {
+        return Err(3);
+    }
+    if !set_follows_row_4(&set) {
+        return Err(4);
+    }
+    if !set_follows_row_5(&set) {
+        return Err(5);
+    }
+    words[..content.len()].copy_from_slice(&content);
+    Ok(content.len() as u32)
+}
+
+/// Reads an ABI sheet's blocks, rows 1 to 5.
+pub fn read_abi_sheet(bytes: &[u8], words: &mut [u32]) -> Result<u32, u32> {
+    let content = block_words(bytes, 51, words.len())?;
+    let abi = Abi::decode(&content).ok_or(3u32)?;
+    if blocks(&abi.encode()) != bytes {
+        return Err(3);
+    }
+    if !abi_follows_row_4(&abi) {
+        return Err(4);
+    }
+    if !abi_follows_row_5(&abi) {
+        return Err(5);
+    }
+    words[..content.len()].copy_from_slice(&content);
+    Ok(content.len() as u32)
+}
+
+/// Rows 1 and 2: the words of all blocks, less their checks.
+fn block_words(bytes: &[u8], most: usize, lent: usize) -> Result<Vec<u32>, u32> {
+    let fits = !bytes.is_empty() && bytes.len().is_multiple_of(512) && bytes.len() / 512 <= most;
+    if !fits || bytes.len() / 512 * 127 > lent {
+        return Err(1);
+    }
+    let mut content = Vec::new();
+    for (number, block) in bytes.chunks(512).enumerate() {
+        let word = |position: usize| u32::from_le_bytes(block[4 * position..][..4].try_into().unwrap());
+        let sum = (0..127).map(|position| u64::from(word(position))).sum::<u64>() + number as u64 + 1;
+        if sum as u32 != word(127) {
+            return Err(2);
+        }
+        content.extend((0..127).map(word));
+    }
+    Ok(content)
+}
+
+/// A text part of 1 to 255 bytes, all printable.
+fn is_name(text: &[u8], (start, length): (u32, u32)) -> bool {
+    let (start, length) = (start as usize, length as usize);
+    let part = text.get(start..).and_then(|tail| tail.get(..length));
+    part.is_some_and(|part| !part.is_empty() && part.len() <= 255 && part.iter().all(u8::is_ascii_graphic))
+}
+
+fn lies_inside(span: (u32, u32), size: usize) -> bool {
+    span.0 as usize + span.1 as usize <= size
+}
+
+/// Counts each record's owners: none may have two.
+fn lists_are_apart(set: &Set, word: usize, size: usize) -> bool {
+    let mut owned = vec![false; size];
+    set.classes.iter().all(|class| owned[class.range(word)].iter_mut().all(|taken| !std::mem::replace(taken, true)))
+}
+
+fn set_follows_row_4(set: &Set) -> bool {
+    let class_is_right = |(position, class): (usize, &ClassRecord)| {
+        let (table, compiled) = class.span(class_word::COMPILER);
+        let (place, slots) = class.span(class_word::PLACE);
+        is_name(&set.text, class.span(class_word::NAME))
+            && class.get(class_word::PARENT) as usize <= position
+            && class.get(class_word::FLAGS) <= 0xFFFF
+            && class.get(class_word::KIND) <= 2
+            && lies_inside(class.span(class_word::METHODS), set.methods.len())
+            && lies_inside(class.span(class_word::FIELDS), set.fields.len())
+            && lies_inside(class.span(class_word::INTERFACES), set.interfaces.len())
+            && class.get(class_word::LINK_STATE) <= 0xFFFF
+            && class.get(class_word::INSTANCE_WORDS) <= 0xFFFF
+            && compiled <= 1024
+            && (table != 0 || compiled == 0)
+            && (table == 0 || lies_inside((table - 1, compiled), set.compiler.len()))
+            && (place == 0 || slots <= 1024)
+    };
+    let member_is_named = |member: &MemberRecord| is_name(&set.text, member.name) && is_name(&set.text, member.descriptor);
+    if !set.classes.iter().enumerate().all(class_is_right) {
+        return false;
+    }
+    let mut names = HashSet::new();
+    set.methods.iter().all(|method| member_is_named(method) && method.flags | 0x1DFF == 0x1DFF)
+        && set.fields.iter().all(|field| member_is_named(field) && field.flags <= 0xFFFF)
+        && set.interfaces.iter().all(|&number| (1..=set.classes.len()).contains(&(number as usize)))
+        && (1..=set.classes.len() as u32).all(|number| names.insert(set.name(number)))
+        && lists_are_apart(set, class_word::METHODS, set.methods.len())
+        && lists_are_apart(set, class_word::FIELDS, set.fields.len())
+}
+
+fn abi_follows_row_4(abi: &Abi) -> bool {
+    let member_is_right =
+        |member: &AbiMember, most: u32| is_name(&abi.text, member.name) && is_name(&abi.text, member.descriptor) && member.index <= most;
+    abi.classes.iter().all(|class| {
+        is_name(&abi.text, class.name)
+            && class.size_plus_1.saturating_sub(1) <= 1024
+            && class.words_plus_1.saturating_sub(1) <= 4096
+            && lies_inside(class.slots, abi.slots.len())
+            && lies_inside(class.fields, abi.fields.len())
+    }) && abi.slots.iter().all(|slot| member_is_right(slot, 1023))
+        && abi.fields.iter().all(|field| member_is_right(field, 4095))
+}
+
+fn set_follows_row_5(set: &Set) -> bool {
+    set.methods.iter().all(|method| descriptors::is_method(set.part(method.descriptor).as_bytes()))
+        && set.fields.iter().all(|field| descriptors::is_field(set.part(field.descriptor).as_bytes()))
+}
+
+fn abi_follows_row_5(abi: &Abi) -> bool {
+    abi.slots.iter().all(|slot| descriptors::is_method(abi.part(slot.descriptor).as_bytes()))
+        && abi.fields.iter().all(|field| descriptors::is_field(abi.part(field.descriptor).as_bytes()))
+}
+
+fn linked_class(set: &Set, number: u32) -> bool {
+    number.checked_sub(1).and_then(|position| set.classes.get(position as usize)).is_some_and(ClassRecord::is_linked)
+}
+
+/// Row 6 of a link.
+pub fn link_class(set: &Set, number: u32) -> Result<(), u32> {
+    let class = number.checked_sub(1).and_then(|position| set.classes.get(position as usize)).ok_or(6u32)?;
+    let parent = class.get(class_word::PARENT);
+    let is_ready = !class.is_linked() && (parent == 0 || linked_class(set, parent));
+    let is_bare = class.span(class_word::METHODS).1 == 0 && class.span(class_word::FIELDS).1 == 0;
+    let is_array = class.get(class_word::KIND) == 2;
+    let array_is_right = is_bare && parent != 0 && set.name(parent) == "java/lang/Object";
+    if is_ready && (!is_array || array_is_right) { Ok(()) } else { Err(6) }
+}
+
+/// Row 6 of an ask.
+pub fn ask_classes(set: &Set, class: u32, interface: u32) -> Result<(), u32> {
+    if linked_class(set, class) && linked_class(set, interface) { Ok(()) } else { Err(6) }
+}
+
+/// Row 7, but for the walk.
+pub fn area(set: &Set, area: &[u32]) -> Result<(), u32> {
+    let next = *area.first().ok_or(7u32)? as usize;
+    let tables_lie_below = set.classes.iter().filter(|class| class.is_linked()).all(|class| {
+        let (place, slots) = class.span(class_word::PLACE);
+        place as usize + slots as usize + 2 <= next
+    });
+    if next != 0 && next <= area.len() && tables_lie_below { Ok(()) } else { Err(7) }
+}
+
+/// Where a linked class's list head lies in the area.
+pub fn head(set: &Set, class: u32) -> usize {
+    let (place, slots) = set.class(class).span(class_word::PLACE);
+    place as usize + slots as usize + 1
+}
+
+/// The nodes of a class's list up to the asked interface's, or all of them; row 7's walk.
+pub fn nodes(set: &Set, class: u32, interface: u32, area: &[u32]) -> Result<Vec<u32>, u32> {
+    let mut nodes = Vec::new();
+    let mut link = area[head(set, class)];
+    while link != 0 {
+        if nodes.len() == 64 || link as usize + 1 >= area[0] as usize {
+            return Err(7);
+        }
+        nodes.push(link);
+        if area[link as usize + 1] == interface {
+            break;
+        }
+        link = area[link as usize];
+    }
+    Ok(nodes)
+}

@@ -1,0 +1,36 @@
+//! What is compared: a linker as its callers see it.
+
+/// An answer's words: the refusal's number (0 if accepted), then the two result words.
+#[derive(Clone, Copy, Debug, Default, PartialEq, Eq)]
+pub struct Answer {
+    pub refusal: u32,
+    /// Link: the table's place. Ask: the interface table's place. Reading: words filled.
+    /// Argument words: their number.
+    pub first: u32,
+    /// Link: slots. Ask: nodes read. Else 0.
+    pub second: u32,
+}
+
+impl Answer {
+    pub fn accepted(first: u32, second: u32) -> Self {
+        Self { refusal: 0, first, second }
+    }
+
+    /// "a refused one gives its number, zero in every other answer word"
+    pub fn refused(refusal: u32) -> Self {
+        Self { refusal, first: 0, second: 0 }
+    }
+}
+
+/// One side of the comparison. All memory is lent; a refused call leaves it as it was.
+pub trait Linker {
+    fn read_class_sheet(&mut self, bytes: &[u8], words: &mut [u32]) -> Answer;
+
+    fn read_abi_sheet(&mut self, bytes: &[u8], words: &mut [u32]) -> Answer;
+
+    fn link(&mut self, set: &mut [u32], abi: &[u32], class: u32, area: &mut [u32], stubs: &[u32]) -> Answer;
+
+    fn ask(&mut self, set: &mut [u32], abi: &[u32], class: u32, interface: u32, area: &mut [u32], stubs: &[u32]) -> Answer;
+
+    fn argument_words(&mut self, descriptor: &[u8], flags: u32) -> Answer;
+}

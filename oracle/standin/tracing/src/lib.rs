@@ -1,0 +1,6 @@
+//! Stand-in for `tracing`: traces nothing.
+
+#[macro_export]
+macro_rules! trace {
+    ($($argument:tt)*) => {};
+}
