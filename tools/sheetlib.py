@@ -316,18 +316,15 @@ def judge(layout, data, lent=None):
 
 def judge_words(layout, words):
     """Of words already read: (0, "") or (row, where), by count limits, fit, row 4 and row 5."""
-    n = len(layout.sections) + 1
-    counts = words[:n]
-    if len(counts) < n:
-        return 3, f"there are {len(counts)} words, and the counts alone are {n}"
-    for fault in count_faults(layout, counts):
-        return 3, fault.where
-    sheet = sheet_of(layout, words)
-    if sheet is None:
-        return 3, f"the content takes {content_size(layout, counts)} words, and there are {len(words)}"
-    for fault in content_faults(sheet):
+    for fault in word_faults(layout, words):
         return fault.row, fault.where
     return 0, ""
+
+
+def judge_set(words, abi):
+    """The row that refuses both sheets' words already read, row by row over both, or 0."""
+    rows = judge_words(CLASS_SHEET, words)[0], judge_words(ABI_SHEET, abi)[0]
+    return min((row for row in rows if row), default=0)
 
 
 def faults(layout, data, lent):
@@ -340,6 +337,21 @@ def faults(layout, data, lent):
     yield from row_3(layout, words)
     sheet = sheet_of(layout, words)
     if sheet is not None:
+        yield from content_faults(sheet)
+
+
+def word_faults(layout, words):
+    """Every fault of words already read, row by row, as a link or an ask applies rows 3 to 5."""
+    n = len(layout.sections) + 1
+    counts = words[:n]
+    if len(counts) < n:
+        yield Fault(3, "counts: all there", f"there are {len(counts)} words, and the counts alone are {n}")
+        return
+    yield from count_faults(layout, counts)
+    sheet = sheet_of(layout, words)
+    if sheet is None:
+        yield Fault(3, "content: fits the words", f"the content takes {content_size(layout, counts)} words, and there are {len(words)}")
+    else:
         yield from content_faults(sheet)
 
 
@@ -538,11 +550,28 @@ def said(sheet, section, i, word):
 def clauses(layout):
     """Each clause of rows 1 to 5 that reading can answer, as (row, clause)."""
     out = [(1, c) for c in ("no bytes", "whole blocks", "most blocks", "lent words")] + [(2, "check word")]
-    out += [(3, f"{s.plural}: at most {s.limit}") for s in layout.sections]
-    out += [(3, f"text bytes: at most {layout.text_limit}"), (3, "blocks: enough"), (3, "blocks: none too many"),
-            (3, "bytes after the text: zero"), (3, "words after the content: zero")]
+    out += count_clauses(layout)
+    out += [(3, c) for c in ("blocks: enough", "blocks: none too many", "bytes after the text: zero", "words after the content: zero")]
     if layout is CLASS_SHEET:
         out += [(3, "table place: zero"), (3, "slot count: zero")]
+    return out + record_clauses(layout)
+
+
+def link_clauses(layout):
+    """Each clause of rows 3 to 5 that a link or an ask can answer."""
+    out = [(3, "counts: all there"), *count_clauses(layout), (3, "content: fits the words"), *record_clauses(layout)]
+    if layout is CLASS_SHEET:
+        out.append((4, "class linked slot count: at most 1024"))
+    return out
+
+
+def count_clauses(layout):
+    return [(3, f"{s.plural}: at most {s.limit}") for s in layout.sections] + [(3, f"text bytes: at most {layout.text_limit}")]
+
+
+def record_clauses(layout):
+    """The clauses of rows 4 and 5 that both readings and links can answer."""
+    out = []
     for s in layout.sections:
         for part in s.parts:
             out += [(4, f"{s.name} {part}: {c}") for c in

@@ -15,10 +15,12 @@ sys.dont_write_bytecode = True
 HERE = os.path.dirname(os.path.realpath(__file__))
 sys.path.insert(0, HERE)
 
+import setvectors  # noqa: E402
 import sheetform  # noqa: E402
 import sheetlib  # noqa: E402
+import sheetvectors  # noqa: E402
 import vectors  # noqa: E402
-from sheetlib import ABI_SHEET, CLASS_SHEET, WORD, Sheet, blocks, judge, judge_words, layout_of  # noqa: E402
+from sheetlib import ABI_SHEET, CLASS_SHEET, WORD, Sheet, blocks, judge, judge_set, judge_words, layout_of  # noqa: E402
 
 TOP = WORD - 1
 vectors.make_all()
@@ -125,7 +127,7 @@ class RoundTrips(unittest.TestCase):
             self.assertNotIn("raw", shown.split("\n")[0])
 
     def test_accepted_vectors(self):
-        good = [name for name in vectors.vectors if "-ok-" in name]
+        good = [name for name in sheetvectors.vectors if "-ok-" in name]
         self.assertGreater(len(good), 300)
         for name in good:
             with self.subTest(name):
@@ -207,7 +209,7 @@ class Descriptors(unittest.TestCase):
             self.agree(bs)
 
     def test_argument_words(self):
-        """The desk's examples, and any bytes and flags."""
+        """The examples of document 01, and any bytes and flags."""
         for text, flags, want in (("(IJ)V", 1, (0, 4)), ("(IJ)V", 9, (0, 3)), ("(V)V", 1, (5, 0)), ("", 0, (5, 0)),
                                   ("()V", 0xFFFFFFF7, (0, 1)), ("()V", TOP, (0, 0)), ("([J[[DLa;D)J", 0, (0, 6)),
                                   ("(" + "J" * 200 + ")V", 8, (0, 400)), ("(" + "[" * 3000 + "I)V", 8, (0, 1))):
@@ -219,7 +221,7 @@ class OpenPoints(unittest.TestCase):
     """The judge on the inputs that tell the readings of document 01 apart."""
 
     def one(self, **words):
-        return vectors.but(form("class A\n"), "class", 1, **words)
+        return sheetvectors.but(form("class A\n"), "class", 1, **words)
 
     def test_words_already_read(self):
         """Of rows 1 to 3 only count limits and fit apply to words already read."""
@@ -232,6 +234,15 @@ class OpenPoints(unittest.TestCase):
         self.assertEqual(judge_words(CLASS_SHEET, [65] + [0] * 20000)[0], 3)
         self.assertEqual(judge_words(CLASS_SHEET, self.one(kind=3).words())[0], 4)
 
+    def test_both_sheets(self):
+        """Row by row over both sheets' words: the lower row counts."""
+        good, abi = sheetvectors.CLASSES.words(), sheetvectors.ABI.words()
+        row_5 = form("class A\n field x V 0\n").words()
+        row_4 = form("abi class A\n slot m ()V 1024\n").words()
+        for words, abi_words, want in ((good, abi, 0), (row_5, abi, 5), (good, row_4, 4), (row_5, row_4, 4), (row_5, [], 3),
+                                       (self.one(kind=3).words(), abi[:-1], 3), ([], row_4, 3), ([], [], 3)):
+            self.assertEqual(judge_set(words, abi_words), want)
+
     def test_linked_slot_count(self):
         """At most 1,024 where the class is linked; any number where it is not."""
         for place, slots, want in ((0, 1025, 0), (1, 1024, 0), (1, 1025, 4), (0, TOP, 0)):
@@ -241,8 +252,8 @@ class OpenPoints(unittest.TestCase):
     def test_what_is_written(self):
         """127 words a block are written, and the rest of the lent words stays."""
         self.assertEqual(judge(CLASS_SHEET, Sheet(CLASS_SHEET).blocks(), 128), (0, 127))
-        self.assertEqual(vectors.answer("class-x-lent-128.bin", Sheet(CLASS_SHEET).blocks()), "class-x-lent-128.bin accepted 127 7")
-        self.assertEqual(vectors.answer("abi-x-lent-126.bin", Sheet(ABI_SHEET).blocks()), f"abi-x-lent-126.bin refused 1 {7 * 126}")
+        self.assertEqual(vectors.answer("class-x-lent-128.bin", Sheet(CLASS_SHEET).blocks()), "class-x-lent-128.bin accepted 127 896")
+        self.assertEqual(vectors.answer("abi-x-lent-126.bin", Sheet(ABI_SHEET).blocks()), f"abi-x-lent-126.bin refused 1 {7 * 126 * 127 // 2}")
 
     def test_after_the_content(self):
         made = Sheet(CLASS_SHEET, text=b"A")
@@ -292,10 +303,10 @@ class OpenPoints(unittest.TestCase):
 
     def test_overlaps(self):
         made = form("class A\n method m ()V 1\n method n ()V 2\nclass B\n")
-        self.assertEqual(row(vectors.but(made, "class", 2, first_method=1, method_count=0)), 0)
-        self.assertEqual(row(vectors.but(made, "class", 2, first_method=1, method_count=1)), 4)
+        self.assertEqual(row(sheetvectors.but(made, "class", 2, first_method=1, method_count=0)), 0)
+        self.assertEqual(row(sheetvectors.but(made, "class", 2, first_method=1, method_count=1)), 4)
         abi = form("abi class A\n slot m ()V 1\nabi class B\n")
-        self.assertEqual(row(vectors.but(abi, "class", 2, first_slot=0, slot_count=1)), 0)
+        self.assertEqual(row(sheetvectors.but(abi, "class", 2, first_slot=0, slot_count=1)), 0)
 
     def test_method_flags(self):
         for flags, want in ((0x1DFF, 0), (0x0200, 4), (0x2000, 4), (0, 0)):
@@ -327,7 +338,7 @@ class OpenPoints(unittest.TestCase):
     def test_damaged(self):
         """Whatever the bytes are, the judge answers."""
         pick = random.Random(7)
-        good = [vectors.CLASSES.blocks(), vectors.ABI.blocks(), vectors.vectors["abi-ok-two-blocks.bin"]]
+        good = [sheetvectors.CLASSES.blocks(), sheetvectors.ABI.blocks(), vectors.vectors["abi-ok-two-blocks.bin"]]
         rows = set()
         for _ in range(600):
             words = sheetlib.block_words(pick.choice(good))
@@ -344,8 +355,38 @@ class Vectors(unittest.TestCase):
 
     def test_rows_by_name(self):
         for name, data in vectors.vectors.items():
-            told = re.match(r"(?:abi|class)-(?:ok|r(\d))-", name)
-            self.assertEqual(judge(layout_of(name), data, vectors.lent_words(name))[0], int(told.group(1) or 0), name)
+            kind, row = vectors.told(name)
+            line = vectors.answer(name, data)[len(name):]
+            good = {"set": " set 0", "args": " words "}.get(kind, " accepted ")
+            self.assertTrue(line.startswith((f" set {row}" if kind == "set" else f" refused {row}") if row else good), name)
+
+    def test_answers(self):
+        """The lines of the three kinds of files; a path's last part tells the kind."""
+        words, abi = sheetvectors.CLASSES.words(), sheetvectors.ABI.words()
+        self.assertEqual(setvectors.parted(setvectors.joined(words, abi)), (words, abi))
+        for path, data, want in (("x/set-1", setvectors.joined(words, abi), "set 0"), ("set-1", setvectors.joined(words, []), "set 3"),
+                                 ("x/args-1", b"\x08\0\0\0(IJ)V", "words 3"), ("args-1", b"\x01\0\0\0(IJ)V", "words 4"),
+                                 ("args-1", b"\0\0\0\0(V)V", "refused 5"), ("args-1", b"", "refused 5")):
+            self.assertEqual(vectors.answer(path, data), f"{path} {want}")
+
+    def test_weighed(self):
+        """The check of lent memory tells the words' order."""
+        self.assertEqual(vectors.weighed([5, 0, 7]), 26)
+        self.assertNotEqual(vectors.weighed([1, 2]), vectors.weighed([2, 1]))
+        self.assertEqual(vectors.weighed([TOP, TOP]), WORD - 3)
+
+    def test_front_page(self):
+        """What README.md says that `./judge examples/card` prints."""
+        root = os.path.join(HERE, "..")
+        with open(os.path.join(root, "README.md"), encoding="utf-8") as file:
+            said = re.findall(r"^    (examples/card/\S+ (?:accepted|refused) .*)$", file.read(), re.M)
+        if not said:
+            self.skipTest("README.md has no such lines")
+        lines = []
+        for path in ("examples/card/abi.bin", "examples/card/classes.bin"):
+            with open(os.path.join(root, path), "rb") as file:
+                lines.append(vectors.answer(path, file.read()))
+        self.assertEqual(said, lines)
 
 
 class Commands(unittest.TestCase):
@@ -411,7 +452,7 @@ class Commands(unittest.TestCase):
         self.assertIn("No such file", err)
 
     def test_damaged_is_not_shown(self):
-        data = bytearray(vectors.CARD.blocks())
+        data = bytearray(sheetvectors.CARD.blocks())
         data[20] ^= 1
         status, out, err = sheet("show", self.file("classes.bin", bytes(data)))
         self.assertEqual((status, out), (1, ""))

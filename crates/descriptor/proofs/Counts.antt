@@ -10,15 +10,15 @@ use Rattle.words.proofs.Bools.{by}
 use Rattle.descriptor.specs.declared.FieldState.{FieldState}
 use Rattle.descriptor.specs.declared.FieldState.the-variants.{Open, Done}
 use Rattle.descriptor.specs.declared.MethodState.the-variants.{Begin, Parameters, Return, Returned}
-use Rattle.descriptor.specs.Grammar.{FieldType, fieldSpelling, ParameterDescriptor, parameterSpelling, resultSpelling}
-use Rattle.descriptor.specs.Grammar.{MethodDescriptor, methodSpelling}
+use Rattle.descriptor.specs.Grammar.{FieldType, typeSpelling, FieldDescriptor, field, fieldSpelling, ParameterDescriptor, parameter}
+use Rattle.descriptor.specs.Grammar.{parameterSpelling, parametersSpelling, resultSpelling, MethodDescriptor, methodSpelling}
 use Rattle.descriptor.specs.Machine.{fieldNext, methodNext}
-use Rattle.descriptor.specs.Words.{fieldWords, parameterWords, byteWidth, width, begunWords, begunFrom}
-use Rattle.descriptor.proofs.Fields.{Steps, field-read, headed}
+use Rattle.descriptor.specs.Words.{typeWords, fieldWords, parameterWords, parametersWords, byteWidth, width, begunWords, begunFrom}
+use Rattle.descriptor.proofs.Fields.{Steps, type-read, headed}
 
-pub width-is : (t : FieldType) → width (fieldSpelling t) ≡ fieldWords t
-unfolding width
-width-is t = let h = headed t in rw (h .is) (h .words)
+pub width-is : (d : FieldDescriptor) → width (fieldSpelling d) ≡ fieldWords d
+unfolding width fieldSpelling fieldWords
+width-is (field t) = let h = headed t in rw (h .is) (h .words)
 
 -- ---- none begin in the return descriptor
 
@@ -44,20 +44,20 @@ another-begins : (b : ℕ) (s : List ℕ) → eqb b 41 ≡ false → begunFrom (
 unfolding begunFrom begunWords methodNext
 another-begins b s e = rw (e, begunFrom) (omega arith)
 
-field-begins : (t : FieldType) (k : List ℕ) → begunFrom (Parameters Done) (fieldSpelling t ++ k) ≡ fieldWords t + begunFrom (Parameters Done) k
-field-begins t k =
+type-begins : (t : FieldType) (k : List ℕ) → begunFrom (Parameters Done) (typeSpelling t ++ k) ≡ typeWords t + begunFrom (Parameters Done) k
+type-begins t k =
     let h = headed t in
-    let r = field-read (λ (q : FieldState) (s : List ℕ). begunFrom (Parameters q) s) begun-steps t k in
+    let r = type-read (λ (q : FieldState) (s : List ℕ). begunFrom (Parameters q) s) begun-steps t k in
     rw (← r, h .is, ← (h .words)) (another-begins (h .byte) (h .rest ++ k) (h .no-close))
 
-parameters-begin : (ts : List ParameterDescriptor) (k : List ℕ) → begunFrom (Parameters Done) (parameterSpelling ts ++ (41 ∷ k)) ≡ parameterWords ts
-unfolding parameterSpelling parameterWords begunFrom begunWords methodNext
+parameters-begin : (ts : List ParameterDescriptor) (k : List ℕ) → begunFrom (Parameters Done) (parametersSpelling ts ++ (41 ∷ k)) ≡ parametersWords ts
+unfolding parameterSpelling parametersSpelling parameterWords parametersWords begunFrom begunWords methodNext
 parameters-begin [] k = omega (arith, return-begins k)
-parameters-begin (t ∷ ts) k =
-    rw (append-assoc (fieldSpelling t) (parameterSpelling ts) (41 ∷ k))
-    (field-begins t (parameterSpelling ts ++ (41 ∷ k)) ∙ ap (λ (n : ℕ). fieldWords t + n) (parameters-begin ts k))
+parameters-begin (parameter t ∷ ts) k =
+    rw (append-assoc (typeSpelling t) (parametersSpelling ts) (41 ∷ k))
+    (type-begins t (parametersSpelling ts ++ (41 ∷ k)) ∙ ap (λ (n : ℕ). typeWords t + n) (parameters-begin ts k))
 
-pub method-begins : (d : MethodDescriptor) → begunFrom Begin (methodSpelling d) ≡ parameterWords (d .parameters)
+pub method-begins : (d : MethodDescriptor) → begunFrom Begin (methodSpelling d) ≡ parametersWords (d .parameters)
 unfolding methodSpelling begunFrom begunWords methodNext
 method-begins d = omega (arith, parameters-begin (d .parameters) (resultSpelling (d .result)))
 
@@ -67,14 +67,14 @@ byte-small : (b : ℕ) → byteWidth b ≤ 2
 unfolding byteWidth
 byte-small b = by (eqb b 74 || eqb b 68) (λ e. rw e (omega arith)) (λ e. rw e (omega arith))
 
-parameters-small : (ts : List ParameterDescriptor) → parameterWords ts ≤ 2 * length (parameterSpelling ts)
-unfolding parameterWords parameterSpelling
+parameters-small : (ts : List ParameterDescriptor) → parametersWords ts ≤ 2 * length (parametersSpelling ts)
+unfolding parameterWords parametersWords parameterSpelling parametersSpelling
 parameters-small [] = omega arith
-parameters-small (t ∷ ts) =
+parameters-small (parameter t ∷ ts) =
     let h = headed t in
-    omega (arith, parameters-small ts, length-append (fieldSpelling t) (parameterSpelling ts), ap length (h .is), h .words, byte-small (h .byte))
+    omega (arith, parameters-small ts, length-append (typeSpelling t) (parametersSpelling ts), ap length (h .is), h .words, byte-small (h .byte))
 
-pub method-small : (d : MethodDescriptor) → parameterWords (d .parameters) ≤ 2 * length (methodSpelling d)
+pub method-small : (d : MethodDescriptor) → parametersWords (d .parameters) ≤ 2 * length (methodSpelling d)
 unfolding methodSpelling
 method-small d =
-    omega (arith, parameters-small (d .parameters), length-append (parameterSpelling (d .parameters)) (41 ∷ resultSpelling (d .result)))
+    omega (arith, parameters-small (d .parameters), length-append (parametersSpelling (d .parameters)) (41 ∷ resultSpelling (d .result)))

@@ -3,25 +3,26 @@ use mathlib.Core.Path.{_≡_, refl}
 use mathlib.Core.Bool.{true, false, So}
 use mathlib.Core.List.{[], _∷_}
 use Prim.Native.Nat.{ℕ}
-use Rattle.descriptor.specs.Bytes.{byte, text, member, isBaseByte, isNameByte}
-use Rattle.descriptor.specs.Grammar.{UnqualifiedName, I, J, L, base, object, array, of, component, FieldDescriptor, «V», void}
-use Rattle.descriptor.specs.Grammar.{MethodDescriptor, nameBytes, nameSpelling, restSpelling, classSpelling, baseByte}
-use Rattle.descriptor.specs.Grammar.{objectSpelling}
-use Rattle.descriptor.specs.Grammar.{fieldSpelling, parameterSpelling, voidSpelling, resultSpelling, methodSpelling}
-use Rattle.descriptor.specs.Machine.{run, fieldNext, isFieldDescriptor, methodNext, isMethodDescriptor}
-use Rattle.descriptor.specs.Words.{fieldWords, parameterWords, argumentWords, byteWidth, width, begunWords, begunFrom, counted}
-use Rattle.descriptor.specs.Words.{refused, fieldAnswer, argumentAnswer}
+use Rattle.words.specs.Lists.{fold, some}
+use Rattle.descriptor.specs.Bytes.{byte, text, isBaseByte, isNameByte}
+use Rattle.descriptor.specs.Grammar.{UnqualifiedName, I, J, L, base, object, array, of, component, FieldDescriptor, field, parameter}
+use Rattle.descriptor.specs.Grammar.{«V», void, MethodDescriptor, nameBytes, nameSpelling, restSpelling, classSpelling, baseByte}
+use Rattle.descriptor.specs.Grammar.{objectSpelling, typeSpelling, fieldSpelling, parameterSpelling, parametersSpelling}
+use Rattle.descriptor.specs.Grammar.{voidSpelling, resultSpelling, methodSpelling}
+use Rattle.descriptor.specs.Machine.{fieldNext, isFieldDescriptor, methodNext, isMethodDescriptor}
+use Rattle.descriptor.specs.Words.{typeWords, fieldWords, parameterWords, parametersWords, argumentWords, byteWidth, width, begunWords}
+use Rattle.descriptor.specs.Words.{begunFrom, counted, refused, fieldAnswer, argumentAnswer}
 
 -- ( I J ) V, and [ L a / b ;
 abbrev pub int-long-void : MethodDescriptor
-int-long-void = record { parameters = base I ∷ base J ∷ []; result = void «V» }
+int-long-void = record { parameters = parameter (base I) ∷ parameter (base J) ∷ []; result = void «V» }
 
 pub letter : (b : ℕ) → So (isNameByte b) → UnqualifiedName
 letter b h = record { first = record { code = b; allowed = h }; rest = [] }
 
 pub array-of-a-b : FieldDescriptor
-unfolding isNameByte member
-array-of-a-b = array (of (component (object (L (record { first = letter (byte "a") refl; rest = letter (byte "b") refl ∷ [] })))))
+unfolding isNameByte some
+array-of-a-b = field (array (of (component (object (L (record { first = letter (byte "a") refl; rest = letter (byte "b") refl ∷ [] }))))))
 
 pub record Rows : Type 0 where
   -- the marked examples: an instance method, a static one (0x0008), and one that is refused
@@ -33,18 +34,24 @@ pub record Rows : Type 0 where
   pub mixed : argumentAnswer (text "(Ljava/lang/String;[J)D") 0 ≡ counted 3
   pub mixed-static : argumentAnswer (text "(Ljava/lang/String;[J)D") 0x0008 ≡ counted 2
   pub only-receiver : argumentAnswer (text "()V") 0 ≡ counted 1
+  pub no-words : argumentAnswer (text "()V") 0x0008 ≡ counted 0
   pub nothing : argumentAnswer (text "") 0x0008 ≡ refused
   -- their derivations
   pub derivation : methodSpelling int-long-void ≡ text "(IJ)V"
   pub derivation-words : argumentWords int-long-void 0 ≡ 4
   pub derivation-static : argumentWords int-long-void 0x0008 ≡ 3
   pub class-derivation : fieldSpelling array-of-a-b ≡ text "[La/b;"
+  pub class-derivation-words : fieldWords array-of-a-b ≡ 1
   -- field descriptors
   pub long : fieldAnswer (text "J") ≡ counted 2
   pub longs : fieldAnswer (text "[J") ≡ counted 1
   pub arrays : isFieldDescriptor (text "[[I") ≡ true
   pub class : isFieldDescriptor (text "Ljava/lang/Object;") ≡ true
   pub any-byte : isFieldDescriptor (text "L(;") ≡ true
+  pub long-width : width (text "J") ≡ 2
+  pub any-width : width (text "D;") ≡ 2
+  pub void-width : width (text "V") ≡ 1
+  pub no-width : width (text "") ≡ 1
   pub void-field : fieldAnswer (text "V") ≡ refused
   pub void-array : isFieldDescriptor (text "[V") ≡ false
   pub no-name : isFieldDescriptor (text "L;") ≡ false
@@ -64,8 +71,9 @@ pub record Rows : Type 0 where
   pub no-open : isMethodDescriptor (text "I)V") ≡ false
 
 pub rows : Rows
-unfolding argumentAnswer fieldAnswer isMethodDescriptor isFieldDescriptor run methodNext fieldNext isBaseByte isNameByte member begunFrom
-    begunWords width byteWidth argumentWords parameterWords fieldWords methodSpelling parameterSpelling resultSpelling voidSpelling fieldSpelling
+unfolding argumentAnswer fieldAnswer isMethodDescriptor isFieldDescriptor fold methodNext fieldNext isBaseByte isNameByte some begunFrom
+    begunWords width byteWidth argumentWords parametersWords parameterWords fieldWords typeWords methodSpelling parametersSpelling
+    parameterSpelling resultSpelling voidSpelling fieldSpelling typeSpelling
     baseByte objectSpelling classSpelling restSpelling nameSpelling nameBytes array-of-a-b letter
 rows =
     record {
@@ -76,16 +84,22 @@ rows =
       mixed = refl;
       mixed-static = refl;
       only-receiver = refl;
+      no-words = refl;
       nothing = refl;
       derivation = refl;
       derivation-words = refl;
       derivation-static = refl;
       class-derivation = refl;
+      class-derivation-words = refl;
       long = refl;
       longs = refl;
       arrays = refl;
       class = refl;
       any-byte = refl;
+      long-width = refl;
+      any-width = refl;
+      void-width = refl;
+      no-width = refl;
       void-field = refl;
       void-array = refl;
       no-name = refl;

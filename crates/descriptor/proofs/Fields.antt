@@ -7,25 +7,26 @@ use mathlib.Core.List.{List, [], _∷_, _++_, append-assoc, map}
 use Prim.Native.Nat.{ℕ}
 use lib.Dec.{eqb}
 use borrow.Author.Tests.{ne-eqb, eqb-true}
+use Rattle.words.specs.Lists.{some}
 use Rattle.words.proofs.Bools.{by}
 use Rattle.descriptor.specs.declared.FieldState.{FieldState}
 use Rattle.descriptor.specs.declared.FieldState.the-variants.{Open, Start, Inside, Done, Bad}
-use Rattle.descriptor.specs.Bytes.{member, isBaseByte, isNameByte}
+use Rattle.descriptor.specs.Bytes.{isBaseByte, isNameByte}
 use Rattle.descriptor.specs.Machine.{fieldNext}
-use Rattle.descriptor.specs.Words.{byteWidth, fieldWords}
+use Rattle.descriptor.specs.Words.{byteWidth, typeWords}
 use Rattle.descriptor.specs.Grammar.{NameByte, UnqualifiedName, ClassName, BaseType, B, C, D, F, I, J, S, Z, ObjectType, L}
 use Rattle.descriptor.specs.Grammar.{FieldType, base, object, array, ArrayType, of, ComponentType, component, nameBytes}
-use Rattle.descriptor.specs.Grammar.{nameSpelling, restSpelling, classSpelling, baseByte, objectSpelling, fieldSpelling}
+use Rattle.descriptor.specs.Grammar.{nameSpelling, restSpelling, classSpelling, baseByte, objectSpelling, typeSpelling}
 use Rattle.descriptor.specs.Grammar.{arraySpelling, componentSpelling}
 
 -- ---- a step at a byte of the grammar
 
 not-semicolon : (b : NameByte) → eqb (b .code) 59 ≡ false
-unfolding isNameByte member
+unfolding isNameByte some
 not-semicolon b = let h = b .allowed in ne-eqb (b .code) 59 (λ e. false≢true (rw e at h))
 
 not-slash : (b : NameByte) → eqb (b .code) 47 ≡ false
-unfolding isNameByte member
+unfolding isNameByte some
 not-slash b = let h = b .allowed in ne-eqb (b .code) 47 (λ e. false≢true (rw e at h))
 
 start-name : (b : NameByte) → fieldNext Start (b .code) ≡ Inside
@@ -37,7 +38,7 @@ unfolding fieldNext
 inside-name b = simp (not-semicolon b, not-slash b, b .allowed)
 
 open-base : (b : BaseType) → fieldNext Open (baseByte b) ≡ Done
-unfolding fieldNext baseByte isBaseByte member
+unfolding fieldNext baseByte isBaseByte some
 open-base B = refl
 open-base C = refl
 open-base D = refl
@@ -85,18 +86,18 @@ module _ {X : Type 0} (A : FieldState → List ℕ → X) (steps : Steps A) wher
       ∙ rw (append-assoc (classSpelling c) (59 ∷ []) k) (class-read c (59 ∷ k) ∙ steps .inside-step 59 k)
 
   mutual
-    unfolding fieldSpelling fieldNext
+    unfolding typeSpelling fieldNext
 
-    pub field-read : (t : FieldType) (k : List ℕ) → A Open (fieldSpelling t ++ k) ≡ A Done k
-    field-read (base b) k = steps .open-step (baseByte b) k ∙ rw (open-base b)
-    field-read (object o) k = object-read o k
-    field-read (array a) k = array-read a k
+    pub type-read : (t : FieldType) (k : List ℕ) → A Open (typeSpelling t ++ k) ≡ A Done k
+    type-read (base b) k = steps .open-step (baseByte b) k ∙ rw (open-base b)
+    type-read (object o) k = object-read o k
+    type-read (array a) k = array-read a k
 
     array-read : (a : ArrayType) (k : List ℕ) → A Open (arraySpelling a ++ k) ≡ A Done k
     array-read (of c) k = steps .open-step 91 (componentSpelling c ++ k) ∙ component-read c k
 
     component-read : (c : ComponentType) (k : List ℕ) → A Open (componentSpelling c ++ k) ≡ A Done k
-    component-read (component t) k = field-read t k
+    component-read (component t) k = type-read t k
 
 -- ---- what is read, the grammar derives
 
@@ -108,14 +109,14 @@ pub record Accepts (A : FieldState → List ℕ → Bool) : Type 0 where
   pub inside-end : A Inside [] ≡ false
   pub bad : (s : List ℕ) → A Bad s ≡ false
 
-member-of : (b : ℕ) (ts : List BaseType) → member b (map baseByte ts) ≡ true → (t : BaseType) × (baseByte t ≡ b)
-unfolding member
-member-of b [] h = absurd (false≢true h)
-member-of b (t ∷ ts) h = by (eqb (baseByte t) b) (λ e. (t, eqb-true (baseByte t) b e)) (λ e. member-of b ts (simp e at h))
+among : (b : ℕ) (ts : List BaseType) → some (λ (x : ℕ). eqb x b) (map baseByte ts) ≡ true → (t : BaseType) × (baseByte t ≡ b)
+unfolding some
+among b [] h = absurd (false≢true h)
+among b (t ∷ ts) h = by (eqb (baseByte t) b) (λ e. (t, eqb-true (baseByte t) b e)) (λ e. among b ts (simp e at h))
 
 base-of : (b : ℕ) → isBaseByte b ≡ true → (t : BaseType) × (baseByte t ≡ b)
 unfolding isBaseByte baseByte
-base-of b h = member-of b (B ∷ C ∷ D ∷ F ∷ I ∷ J ∷ S ∷ Z ∷ []) h
+base-of b h = among b (B ∷ C ∷ D ∷ F ∷ I ∷ J ∷ S ∷ Z ∷ []) h
 
 module _ (A : FieldState → List ℕ → Bool) (reads : Accepts A) where
   -- a name goes on, and a name begins: what follows up to the semicolon, and the rest
@@ -171,19 +172,19 @@ module _ (A : FieldState → List ℕ → Bool) (reads : Accepts A) where
 
   -- a type begins: it, and the rest
   abbrev pub Type-of : List ℕ → Type 0
-  Type-of s = (t : FieldType) × (k : List ℕ) × (s ≡ fieldSpelling t ++ k) × (A Done k ≡ true)
+  Type-of s = (t : FieldType) × (k : List ℕ) × (s ≡ typeSpelling t ++ k) × (A Done k ≡ true)
 
   array-of : (s : List ℕ) → Type-of s → Type-of (91 ∷ s)
-  unfolding fieldSpelling
+  unfolding typeSpelling
   array-of s r = (array (of (component (r .0))), r .1, ap (λ (l : List ℕ). 91 ∷ l) (r .2), r .3)
 
   object-of : (s : List ℕ) → Class-of s → Type-of (76 ∷ s)
-  unfolding fieldSpelling objectSpelling
+  unfolding typeSpelling objectSpelling
   object-of s r =
       (object (L (r .0)), r .1, ap (λ (l : List ℕ). 76 ∷ l) (r .2 ∙ sym (append-assoc (classSpelling (r .0)) (59 ∷ []) (r .1))), r .3)
 
   base-type : (b : ℕ) (s : List ℕ) → isBaseByte b ≡ true → A Done s ≡ true → Type-of (b ∷ s)
-  unfolding fieldSpelling
+  unfolding typeSpelling
   base-type b s g h = let t = base-of b g in (base (t .0), s, ap (λ (x : ℕ). x ∷ s) (sym (t .1)), h)
 
   open-more : (b : ℕ) (s : List ℕ) → (A Open s ≡ true → Type-of s) → A (fieldNext Open b) s ≡ true → Type-of (b ∷ s)
@@ -202,13 +203,13 @@ module _ (A : FieldState → List ℕ → Bool) (reads : Accepts A) where
 pub record Headed (t : FieldType) : Type 0 where
   pub byte : ℕ
   pub rest : List ℕ
-  pub is : fieldSpelling t ≡ byte ∷ rest
-  pub words : byteWidth byte ≡ fieldWords t
+  pub is : typeSpelling t ≡ byte ∷ rest
+  pub words : byteWidth byte ≡ typeWords t
   pub no-close : eqb byte 41 ≡ false
   pub no-void : eqb byte 86 ≡ false
 
-base-headed : (b : BaseType) → (byteWidth (baseByte b) ≡ fieldWords (base b)) × (eqb (baseByte b) 41 ≡ false) × (eqb (baseByte b) 86 ≡ false)
-unfolding baseByte byteWidth fieldWords
+base-headed : (b : BaseType) → (byteWidth (baseByte b) ≡ typeWords (base b)) × (eqb (baseByte b) 41 ≡ false) × (eqb (baseByte b) 86 ≡ false)
+unfolding baseByte byteWidth typeWords
 base-headed B = (refl, refl, refl)
 base-headed C = (refl, refl, refl)
 base-headed D = (refl, refl, refl)
@@ -219,7 +220,7 @@ base-headed S = (refl, refl, refl)
 base-headed Z = (refl, refl, refl)
 
 pub headed : (t : FieldType) → Headed t
-unfolding fieldSpelling objectSpelling byteWidth fieldWords
+unfolding typeSpelling objectSpelling byteWidth typeWords
 headed (base b) =
     let h = base-headed b in record { byte = baseByte b; rest = []; is = refl; words = h .0; no-close = h .1; no-void = h .2 }
 headed (object (L c)) =

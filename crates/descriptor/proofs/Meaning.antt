@@ -1,5 +1,5 @@
 -- The definitions are the Specification's: the proof of `Meaning`. Assumes nothing.
-use mathlib.Core.Path.{_≡_, ap, _∙_}
+use mathlib.Core.Path.{_≡_, refl, sym, ap, _∙_}
 use mathlib.Core.List.{List}
 use Prim.Native.Nat.{ℕ, _%_, _^_, _<_}
 use native.Mathlib.Omega.{arith}
@@ -9,7 +9,9 @@ use Rattle.descriptor.specs.Grammar.{FieldDescriptor, fieldSpelling, Fie
 use Rattle.descriptor.specs.Grammar.{MethodDerivation}
 use Rattle.descriptor.specs.Machine.{isFieldDescriptor, isMethodDescriptor}
 use Rattle.descriptor.specs.Meaning.{Meaning}
-use Rattle.descriptor.specs.Words.{fieldWords, argumentWords, counted, fieldAnswer, argumentAnswer, Answer}
+use Rattle.descriptor.specs.Words.{fieldWords, argumentWords, counted, answer, fieldAnswer, argumentAnswer, Answer}
+use Rattle.descriptor.specs.declared.DescriptorWords.{DescriptorWords}
+use Rattle.descriptor.specs.declared.DescriptorWords.the-variants.{Count, Refused}
 use Rattle.descriptor.proofs.Counts.{width-is, method-begins, method-small}
 use Rattle.descriptor.proofs.Machines.{field-sound, field-complete, method-sound, method-complete}
 use Rattle.descriptor.proofs.Unique.{field-unique, method-unique}
@@ -39,6 +41,12 @@ no-method s flags n = by (isMethodDescriptor s) (λ y. absurd (n (method-sound s
 not-refused : (a : Answer) (n : ℕ) → a ≡ counted n → a .refusal ≡ 5 → ⊥
 not-refused a n e h = let z : a .refusal ≡ 0 = ap (λ (x : Answer). x .refusal) e in omega arith
 
+answers-unique : (a b : DescriptorWords) → answer a ≡ answer b → a ≡ b
+answers-unique (Count m) (Count n) e = ap Count (ap (λ (x : Answer). x .words) e)
+answers-unique (Count m) Refused e = absurd (not-refused (answer Refused) m (sym e) refl)
+answers-unique Refused (Count n) e = absurd (not-refused (answer Refused) n e refl)
+answers-unique Refused Refused e = refl
+
 pub meaning : Meaning
 meaning =
     record {
@@ -59,4 +67,5 @@ meaning =
             λ h d. not-refused (argumentAnswer s flags) (argumentWords (d .0) flags % 2 ^ 64) (rw (← (d .1)) (method-counts (d .0) flags)) h,
             no-method s flags,
           );
+      answer-unique = answers-unique;
     }

@@ -9,12 +9,14 @@ use Prim.Native.Nat.{ℕ}
 use native.Mathlib.Omega.{arith}
 use lib.Dec.{eqb}
 use borrow.Author.Tests.{eqb-false}
-use Rattle.descriptor.specs.Bytes.{member, isBaseByte, isNameByte}
+use Rattle.words.specs.Lists.{some}
+use Rattle.descriptor.specs.Bytes.{isBaseByte, isNameByte}
 use Rattle.descriptor.specs.Grammar.{NameByte, UnqualifiedName, ClassName, BaseType, B, C, D, F, I, J, S, Z, ObjectType, L}
-use Rattle.descriptor.specs.Grammar.{FieldType, base, object, array, ArrayType, of, ComponentType, component, ParameterDescriptor}
-use Rattle.descriptor.specs.Grammar.{«V», ReturnDescriptor, value, void, MethodDescriptor, nameBytes, nameSpelling, restSpelling}
-use Rattle.descriptor.specs.Grammar.{classSpelling, baseByte, objectSpelling, fieldSpelling, arraySpelling, componentSpelling}
-use Rattle.descriptor.specs.Grammar.{parameterSpelling, voidSpelling, resultSpelling, methodSpelling}
+use Rattle.descriptor.specs.Grammar.{FieldType, base, object, array, ArrayType, of, ComponentType, component, FieldDescriptor, field}
+use Rattle.descriptor.specs.Grammar.{ParameterDescriptor, parameter, «V», ReturnDescriptor, value, void, MethodDescriptor}
+use Rattle.descriptor.specs.Grammar.{nameBytes, nameSpelling, restSpelling, classSpelling, baseByte, objectSpelling, typeSpelling}
+use Rattle.descriptor.specs.Grammar.{arraySpelling, componentSpelling, fieldSpelling, parameterSpelling, parametersSpelling}
+use Rattle.descriptor.specs.Grammar.{voidSpelling, resultSpelling, methodSpelling}
 use Rattle.descriptor.proofs.Fields.{headed}
 
 head : {a b : ℕ} {s t : List ℕ} → a ∷ s ≡ b ∷ t → a ≡ b
@@ -59,7 +61,7 @@ name-unique m n k l g h e =
     (λ i. record { first = p i; rest = r .0 i }, r .1)
 
 rest-stops : (ns : List UnqualifiedName) (k : List ℕ) → stops (restSpelling ns ++ (59 ∷ k)) ≡ true
-unfolding restSpelling isNameByte member
+unfolding restSpelling isNameByte some
 rest-stops [] k = refl
 rest-stops (n ∷ ns) k = refl
 
@@ -105,7 +107,7 @@ base-back S = refl
 base-back Z = refl
 
 base-is : (b : BaseType) → isBaseByte (baseByte b) ≡ true
-unfolding isBaseByte member baseByte
+unfolding isBaseByte some baseByte
 base-is B = refl
 base-is C = refl
 base-is D = refl
@@ -130,11 +132,11 @@ object-unique (L c) (L d) k l e =
     (ap L (r .0), r .1)
 
 base-object : (b : BaseType) (o : ObjectType) (k l : List ℕ) → baseByte b ∷ k ≡ objectSpelling o ++ l → ⊥
-unfolding objectSpelling isBaseByte member
+unfolding objectSpelling isBaseByte some
 base-object b (L c) k l e = base-not b 76 refl (head e)
 
 base-array : (b : BaseType) (a : ArrayType) (k l : List ℕ) → baseByte b ∷ k ≡ arraySpelling a ++ l → ⊥
-unfolding arraySpelling isBaseByte member
+unfolding arraySpelling isBaseByte some
 base-array b (of c) k l e = base-not b 91 refl (head e)
 
 object-array : (o : ObjectType) (a : ArrayType) (k l : List ℕ) → objectSpelling o ++ k ≡ arraySpelling a ++ l → ⊥
@@ -142,9 +144,9 @@ unfolding objectSpelling arraySpelling
 object-array (L c) (of d) k l e = omega (arith, head e)
 
 mutual
-  unfolding fieldSpelling
+  unfolding typeSpelling
 
-  type-unique : (t u : FieldType) (k l : List ℕ) → fieldSpelling t ++ k ≡ fieldSpelling u ++ l → (t ≡ u) × (k ≡ l)
+  type-unique : (t u : FieldType) (k l : List ℕ) → typeSpelling t ++ k ≡ typeSpelling u ++ l → (t ≡ u) × (k ≡ l)
   type-unique (base a) (base b) k l e = (ap base (base-unique a b (head e)), tail e)
   type-unique (base a) (object p) k l e = absurd (base-object a p k l e)
   type-unique (base a) (array y) k l e = absurd (base-array a y k l e)
@@ -161,43 +163,47 @@ mutual
   component-unique : (c d : ComponentType) (k l : List ℕ) → componentSpelling c ++ k ≡ componentSpelling d ++ l → (c ≡ d) × (k ≡ l)
   component-unique (component t) (component u) k l e = let r = type-unique t u k l e in (ap component (r .0), r .1)
 
-pub field-unique : (t u : FieldType) → fieldSpelling t ≡ fieldSpelling u → t ≡ u
-field-unique t u e = (type-unique t u [] [] (ap (λ (s : List ℕ). s ++ []) e)) .0
+whole-unique : (t u : FieldType) → typeSpelling t ≡ typeSpelling u → t ≡ u
+whole-unique t u e = (type-unique t u [] [] (ap (λ (s : List ℕ). s ++ []) e)) .0
+
+pub field-unique : (c d : FieldDescriptor) → fieldSpelling c ≡ fieldSpelling d → c ≡ d
+unfolding fieldSpelling
+field-unique (field t) (field u) e = ap field (whole-unique t u e)
 
 -- ---- methods
 
 -- a byte that begins no type
-head-not : (t : FieldType) (x : ℕ) (k l : List ℕ) → eqb ((headed t) .byte) x ≡ false → x ∷ k ≡ fieldSpelling t ++ l → ⊥
+head-not : (t : FieldType) (x : ℕ) (k l : List ℕ) → eqb ((headed t) .byte) x ≡ false → x ∷ k ≡ typeSpelling t ++ l → ⊥
 head-not t x k l h e =
     let f : x ∷ k ≡ (headed t) .byte ∷ ((headed t) .rest ++ l) = rw ((headed t) .is) at e in
     eqb-false ((headed t) .byte) x h (sym (head f))
 
-parameters-unique : (ts us : List ParameterDescriptor) (k l : List ℕ) → parameterSpelling ts ++ (41 ∷ k) ≡ parameterSpelling us ++ (41 ∷ l)
+parameters-unique : (ts us : List ParameterDescriptor) (k l : List ℕ) → parametersSpelling ts ++ (41 ∷ k) ≡ parametersSpelling us ++ (41 ∷ l)
     → (ts ≡ us) × (k ≡ l)
-unfolding parameterSpelling
+unfolding parameterSpelling parametersSpelling
 parameters-unique [] [] k l e = (refl, tail e)
-parameters-unique [] (u ∷ us) k l e =
+parameters-unique [] (parameter u ∷ us) k l e =
     absurd
-    (head-not u 41 k (parameterSpelling us ++ (41 ∷ l)) ((headed u) .no-close)
-    (e ∙ append-assoc (fieldSpelling u) (parameterSpelling us) (41 ∷ l)))
-parameters-unique (t ∷ ts) [] k l e =
+    (head-not u 41 k (parametersSpelling us ++ (41 ∷ l)) ((headed u) .no-close)
+    (e ∙ append-assoc (typeSpelling u) (parametersSpelling us) (41 ∷ l)))
+parameters-unique (parameter t ∷ ts) [] k l e =
     absurd
-    (head-not t 41 l (parameterSpelling ts ++ (41 ∷ k)) ((headed t) .no-close)
-    (sym e ∙ append-assoc (fieldSpelling t) (parameterSpelling ts) (41 ∷ k)))
-parameters-unique (t ∷ ts) (u ∷ us) k l e =
+    (head-not t 41 l (parametersSpelling ts ++ (41 ∷ k)) ((headed t) .no-close)
+    (sym e ∙ append-assoc (typeSpelling t) (parametersSpelling ts) (41 ∷ k)))
+parameters-unique (parameter t ∷ ts) (parameter u ∷ us) k l e =
     let p =
-    type-unique t u (parameterSpelling ts ++ (41 ∷ k)) (parameterSpelling us ++ (41 ∷ l))
-    (sym (append-assoc (fieldSpelling t) (parameterSpelling ts) (41 ∷ k)) ∙ e
-    ∙ append-assoc (fieldSpelling u) (parameterSpelling us) (41 ∷ l)) in
+    type-unique t u (parametersSpelling ts ++ (41 ∷ k)) (parametersSpelling us ++ (41 ∷ l))
+    (sym (append-assoc (typeSpelling t) (parametersSpelling ts) (41 ∷ k)) ∙ e
+    ∙ append-assoc (typeSpelling u) (parametersSpelling us) (41 ∷ l)) in
     let r = parameters-unique ts us k l (p .1) in
-    (λ i. p .0 i ∷ r .0 i, r .1)
+    (λ i. parameter (p .0 i) ∷ r .0 i, r .1)
 
-value-void : (t : FieldType) → 86 ∷ [] ≡ fieldSpelling t → ⊥
-value-void t e = head-not t 86 [] [] ((headed t) .no-void) (e ∙ sym (append-nil (fieldSpelling t)))
+value-void : (t : FieldType) → 86 ∷ [] ≡ typeSpelling t → ⊥
+value-void t e = head-not t 86 [] [] ((headed t) .no-void) (e ∙ sym (append-nil (typeSpelling t)))
 
 result-unique : (q r : ReturnDescriptor) → resultSpelling q ≡ resultSpelling r → q ≡ r
 unfolding resultSpelling voidSpelling
-result-unique (value t) (value u) e = ap value (field-unique t u e)
+result-unique (value t) (value u) e = ap value (whole-unique t u e)
 result-unique (value t) (void «V») e = absurd (value-void t (sym e))
 result-unique (void «V») (value u) e = absurd (value-void u e)
 result-unique (void «V») (void «V») e = refl

@@ -52,14 +52,14 @@ mutual
     component : FieldType → ComponentType
 
 -- FieldDescriptor: FieldType
-abbrev pub FieldDescriptor : Type 0
-FieldDescriptor = FieldType
+pub data FieldDescriptor : Type 0 where
+  field : FieldType → FieldDescriptor
 
 -- ---- method descriptors, JVMS 4.3.3
 
 -- ParameterDescriptor: FieldType
-abbrev pub ParameterDescriptor : Type 0
-ParameterDescriptor = FieldType
+pub data ParameterDescriptor : Type 0 where
+  parameter : FieldType → ParameterDescriptor
 
 -- VoidDescriptor: V
 pub data VoidDescriptor : Type 0 where
@@ -105,35 +105,41 @@ unfoldable pub objectSpelling : ObjectType → List ℕ
 objectSpelling (L c) = byte "L" ∷ (classSpelling c ++ (byte ";" ∷ []))
 
 unfoldable mutual
-  pub fieldSpelling : FieldType → List ℕ
-  fieldSpelling (base b) = baseByte b ∷ []
-  fieldSpelling (object o) = objectSpelling o
-  fieldSpelling (array a) = arraySpelling a
+  pub typeSpelling : FieldType → List ℕ
+  typeSpelling (base b) = baseByte b ∷ []
+  typeSpelling (object o) = objectSpelling o
+  typeSpelling (array a) = arraySpelling a
 
   pub arraySpelling : ArrayType → List ℕ
   arraySpelling (of c) = byte "[" ∷ componentSpelling c
 
   pub componentSpelling : ComponentType → List ℕ
-  componentSpelling (component t) = fieldSpelling t
+  componentSpelling (component t) = typeSpelling t
 
-unfoldable pub parameterSpelling : List ParameterDescriptor → List ℕ
-parameterSpelling [] = []
-parameterSpelling (t ∷ ts) = fieldSpelling t ++ parameterSpelling ts
+unfoldable pub fieldSpelling : FieldDescriptor → List ℕ
+fieldSpelling (field t) = typeSpelling t
+
+unfoldable pub parameterSpelling : ParameterDescriptor → List ℕ
+parameterSpelling (parameter t) = typeSpelling t
+
+unfoldable pub parametersSpelling : List ParameterDescriptor → List ℕ
+parametersSpelling [] = []
+parametersSpelling (p ∷ ps) = parameterSpelling p ++ parametersSpelling ps
 
 unfoldable pub voidSpelling : VoidDescriptor → List ℕ
 voidSpelling «V» = byte "V" ∷ []
 
 unfoldable pub resultSpelling : ReturnDescriptor → List ℕ
-resultSpelling (value t) = fieldSpelling t
+resultSpelling (value t) = typeSpelling t
 resultSpelling (void v) = voidSpelling v
 
 unfoldable pub methodSpelling : MethodDescriptor → List ℕ
-methodSpelling d = byte "(" ∷ (parameterSpelling (d .parameters) ++ (byte ")" ∷ resultSpelling (d .result)))
+methodSpelling d = byte "(" ∷ (parametersSpelling (d .parameters) ++ (byte ")" ∷ resultSpelling (d .result)))
 
 -- ---- a derivation of the bytes
 
 abbrev pub FieldDerivation : List ℕ → Type 0
-FieldDerivation s = (t : FieldDescriptor) × (fieldSpelling t ≡ s)
+FieldDerivation s = (d : FieldDescriptor) × (fieldSpelling d ≡ s)
 
 abbrev pub MethodDerivation : List ℕ → Type 0
-MethodDerivation s = (t : MethodDescriptor) × (methodSpelling t ≡ s)
+MethodDerivation s = (d : MethodDescriptor) × (methodSpelling d ≡ s)

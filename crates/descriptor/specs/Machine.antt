@@ -2,20 +2,16 @@
 -- else. Assumes nothing.
 use Prim.Native.Nat.{ℕ}
 use mathlib.Core.Bool.{Bool, true, false, cond}
-use mathlib.Core.List.{List, [], _∷_}
+use mathlib.Core.List.{List}
 use lib.Dec.{eqb}
+use Rattle.words.specs.Lists.{fold}
 use Rattle.descriptor.specs.Bytes.{byte, isBaseByte, isNameByte}
 use Rattle.descriptor.specs.declared.FieldState.{FieldState}
 use Rattle.descriptor.specs.declared.FieldState.the-variants.{Open, Start, Inside, Done, Bad}
 use Rattle.descriptor.specs.declared.MethodState.{MethodState}
 use Rattle.descriptor.specs.declared.MethodState.the-variants.{Begin, Parameters, Return, Returned}
 
--- the state after the bytes, with `next` for the state after one
-unfoldable pub run : {Q : Type 0} → (Q → ℕ → Q) → Q → List ℕ → Q
-run next q [] = q
-run next q (b ∷ s) = run next (next q b) s
-
--- ---- field descriptors
+-- ---- field descriptors: the state after a byte, whether a descriptor may end in a state, and both along all the bytes
 
 unfoldable pub fieldNext : FieldState → ℕ → FieldState
 fieldNext Open b = cond (eqb b (byte "[")) Open (cond (eqb b (byte "L")) Start (cond (isBaseByte b) Done Bad))
@@ -32,7 +28,7 @@ fieldDone Done = true
 fieldDone Bad = false
 
 unfoldable pub isFieldDescriptor : List ℕ → Bool
-isFieldDescriptor s = fieldDone (run fieldNext Open s)
+isFieldDescriptor s = fieldDone (fold fieldNext Open s)
 
 -- ---- method descriptors
 
@@ -53,4 +49,4 @@ methodDone Return = false
 methodDone (Returned q) = fieldDone q
 
 unfoldable pub isMethodDescriptor : List ℕ → Bool
-isMethodDescriptor s = methodDone (run methodNext Begin s)
+isMethodDescriptor s = methodDone (fold methodNext Begin s)

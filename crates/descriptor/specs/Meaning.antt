@@ -9,7 +9,8 @@ use lib.ListN.{length}
 use Rattle.descriptor.specs.Grammar.{FieldDescriptor, fieldSpelling, FieldDerivation, MethodDescriptor, methodSpelling}
 use Rattle.descriptor.specs.Grammar.{MethodDerivation}
 use Rattle.descriptor.specs.Machine.{isFieldDescriptor, isMethodDescriptor}
-use Rattle.descriptor.specs.Words.{fieldWords, argumentWords, width, counted, fieldAnswer, argumentAnswer}
+use Rattle.descriptor.specs.Words.{fieldWords, argumentWords, width, counted, answer, fieldAnswer, argumentAnswer}
+use Rattle.descriptor.specs.declared.DescriptorWords.{DescriptorWords}
 
 pub record Meaning : Type 0 where
   -- bytes are accepted if and only if a derivation spells them
@@ -30,3 +31,5 @@ pub record Meaning : Type 0 where
   pub argument-words-exact : (t : MethodDescriptor) (flags : ℕ) → length (methodSpelling t) < 2 ^ 63
       → argumentAnswer (methodSpelling t) flags ≡ counted (argumentWords t flags)
   pub argument-words-refused : (s : List ℕ) (flags : ℕ) → ((argumentAnswer s flags) .refusal ≡ 5) ↔ (MethodDerivation s → ⊥)
+  -- different answers mean different things, so the contracts determine what the functions answer
+  pub answer-unique : (a b : DescriptorWords) → answer a ≡ answer b → a ≡ b

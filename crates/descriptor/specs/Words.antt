@@ -6,8 +6,8 @@ use mathlib.Core.List.{List, [], _∷_}
 use lib.Dec.{eqb}
 use lib.ListN.{getD}
 use Rattle.descriptor.specs.Bytes.{byte}
-use Rattle.descriptor.specs.Grammar.{BaseType, B, C, D, F, I, J, S, Z, FieldDescriptor, base, object, array, ParameterDescriptor}
-use Rattle.descriptor.specs.Grammar.{MethodDescriptor}
+use Rattle.descriptor.specs.Grammar.{BaseType, B, C, D, F, I, J, S, Z, FieldType, base, object, array, FieldDescriptor, field}
+use Rattle.descriptor.specs.Grammar.{ParameterDescriptor, parameter, MethodDescriptor}
 use Rattle.descriptor.specs.Machine.{fieldDone, isFieldDescriptor, methodNext, isMethodDescriptor}
 use Rattle.descriptor.specs.declared.MethodState.{MethodState}
 use Rattle.descriptor.specs.declared.MethodState.the-variants.{Begin, Parameters, Return, Returned}
@@ -27,21 +27,27 @@ baseWords J = 2
 baseWords S = 1
 baseWords Z = 1
 
-unfoldable pub fieldWords : FieldDescriptor → ℕ
-fieldWords (base b) = baseWords b
-fieldWords (object o) = 1
-fieldWords (array a) = 1
+unfoldable pub typeWords : FieldType → ℕ
+typeWords (base b) = baseWords b
+typeWords (object o) = 1
+typeWords (array a) = 1
 
-unfoldable pub parameterWords : List ParameterDescriptor → ℕ
-parameterWords [] = 0
-parameterWords (t ∷ ts) = fieldWords t + parameterWords ts
+unfoldable pub fieldWords : FieldDescriptor → ℕ
+fieldWords (field t) = typeWords t
+
+unfoldable pub parameterWords : ParameterDescriptor → ℕ
+parameterWords (parameter t) = typeWords t
+
+unfoldable pub parametersWords : List ParameterDescriptor → ℕ
+parametersWords [] = 0
+parametersWords (p ∷ ps) = parameterWords p + parametersWords ps
 
 -- the receiver takes a word, unless the flags have 0x0008, static
 abbrev pub receiverWords : ℕ → ℕ
 receiverWords flags = 1 - flags / 8 % 2
 
 unfoldable pub argumentWords : MethodDescriptor → ℕ → ℕ
-argumentWords d flags = receiverWords flags + parameterWords (d .parameters)
+argumentWords d flags = receiverWords flags + parametersWords (d .parameters)
 
 -- ---- the words of bytes
 
@@ -49,7 +55,7 @@ argumentWords d flags = receiverWords flags + parameterWords (d .parameters)
 unfoldable pub byteWidth : ℕ → ℕ
 byteWidth b = cond (eqb b (byte "J") || eqb b (byte "D")) 2 1
 
--- the words of a value of the descriptor; any bytes have a width
+-- the words of a value of the descriptor; bytes that are no descriptor have a width too, by their first byte, and without one it is 1
 unfoldable pub width : List ℕ → ℕ
 width s = byteWidth (getD s 0 0)
 
@@ -69,7 +75,7 @@ unfoldable pub begunFrom : MethodState → List ℕ → ℕ
 begunFrom q [] = 0
 begunFrom q (b ∷ s) = begunWords q b + begunFrom (methodNext q b) s
 
--- ---- what the functions answer: a refusal, 0 for none, and words modulo 2^64, 0 where refused
+-- ---- what the functions answer: a refusal, 0 for none and 5 where the bytes are no descriptor, and words modulo 2^64, 0 where refused
 
 pub record Answer : Type 0 where
   pub refusal : ℕ
@@ -83,7 +89,7 @@ refused = record { refusal = 5; words = 0 }
 
 abbrev pub answer : DescriptorWords → Answer
 answer (Count n) = counted n
-answer (Refused k) = record { refusal = k; words = 0 }
+answer Refused = refused
 
 unfoldable pub fieldAnswer : List ℕ → Answer
 fieldAnswer s = cond (isFieldDescriptor s) (counted (width s)) refused

@@ -2,7 +2,9 @@
 // function takes any bytes. specs/Grammar.antt has the grammar, and specs/Meaning.antt says what the definitions cited here mean.
 ghost use mathlib.Core.Path.{_≡_};
 ghost use Prim.Native.Nat.{_%_, _^_};
-ghost use Rattle.descriptor.specs.Bytes.{member, isBaseByte, isNameByte};
+ghost use lib.Dec.{eqb};
+ghost use Rattle.words.specs.Lists.{some};
+ghost use Rattle.descriptor.specs.Bytes.{isBaseByte, isNameByte};
 ghost use Rattle.descriptor.specs.Machine.{
   fieldNext,
   fieldDone,
@@ -42,15 +44,15 @@ enum MethodState {
     Returned(FieldState),
 }
 
-// The words of a descriptor, modulo 2^64, or the number by which it is refused.
+// The words of a descriptor, modulo 2^64, or that the bytes are no descriptor, which is refusal 5.
 pub enum DescriptorWords {
     Count(u64),
-    Refused(u32),
+    Refused,
 }
 
 // Whether b is among the bytes.
 fn contains(s: &[u8], b: u8) -> bool
-    ensures { λ r. ⌜ r ≡ member b (now (s .entry)) ⌝ }
+    ensures { λ r. ⌜ r ≡ some (λ x. eqb x b) (now (s .entry)) ⌝ }
 {
     let mut i: usize = 0;
     while i < s.len() {
@@ -141,7 +143,7 @@ fn field_done(q: FieldState) -> bool
     }
 }
 
-// Whether the bytes are a field descriptor.
+// Whether the bytes are a field descriptor. Any bytes are taken, and only the grammar counts: there is no limit on dimensions.
 pub fn is_field_descriptor(s: &[u8]) -> bool
     ensures { λ r. ⌜ r ≡ isFieldDescriptor (now (s .entry)) ⌝ }
 {
@@ -221,7 +223,7 @@ fn method_done(q: MethodState) -> bool
     }
 }
 
-// Whether the bytes are a method descriptor.
+// Whether the bytes are a method descriptor. Any bytes are taken, and only the grammar counts: there is no limit on argument words.
 pub fn is_method_descriptor(s: &[u8]) -> bool
     ensures { λ r. ⌜ r ≡ isMethodDescriptor (now (s .entry)) ⌝ }
 {
@@ -244,21 +246,23 @@ fn byte_width(b: u8) -> u32
     1
 }
 
-// The words of a value of the field descriptor: 2 where its first byte is J or D, else 1.
+// The words of a value of the field descriptor: of bytes that a derivation spells, the derivation's words. The papers are silent on
+// bytes that are no descriptor. Any are taken: 2 where the first byte is J or D, else 1, and 1 where there is no byte.
 pub fn width(s: &[u8]) -> u32
     ensures { λ r. ⌜ r ≡ width (now (s .entry)) ⌝ }
 {
     byte_width(words::byte_at(s, 0))
 }
 
-// The words of a field, or refusal 5 where the bytes are no field descriptor.
+// The words of a field, or refusal 5 where the bytes are no field descriptor. Where the papers are silent: any bytes are taken, also
+// those that no sheet may hold. A count is 1 or 2, so that nothing is lost modulo 2^64.
 pub fn field_words(s: &[u8]) -> DescriptorWords
     ensures { λ r. ⌜ answer r ≡ fieldAnswer (now (s .entry)) ⌝ }
 {
     if is_field_descriptor(s) {
         return DescriptorWords::Count(width(s) as u64);
     }
-    DescriptorWords::Refused(5)
+    DescriptorWords::Refused
 }
 
 // Whether a parameter or the closing parenthesis is next.
@@ -306,7 +310,9 @@ fn receiver_words(flags: u32) -> u64
     (1 - flags / 8 % 2) as u64
 }
 
-// The words of a method's arguments, the receiver's among them, or refusal 5 where the bytes are no method descriptor.
+// The words of a method's arguments, the receiver's among them, or refusal 5 where the bytes are no method descriptor. Where the papers
+// are silent: any bytes are taken; the words are counted modulo 2^64, which fewer than 2^63 bytes cannot reach; and any flags are
+// taken, of which only the bit 0x0008, static, counts.
 pub fn argument_words(s: &[u8], flags: u32) -> DescriptorWords
     ensures { λ r. ⌜ answer r ≡ argumentAnswer (now (s .entry)) flags ⌝ }
 {
@@ -316,5 +322,5 @@ pub fn argument_words(s: &[u8], flags: u32) -> DescriptorWords
             parameter_words(s),
         ));
     }
-    DescriptorWords::Refused(5)
+    DescriptorWords::Refused
 }

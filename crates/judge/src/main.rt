@@ -1,11 +1,20 @@
-// Judges the sheets that its arguments name, and writes a line for each: its name, `accepted` and the words answered or
-// `refused` and the row, then the sum of all lent words after the call, each of which was 7 before it. A file whose name
-// starts with `abi` is an ABI sheet, any other a class sheet. `-lent-N` before `.bin` in a name has N words lent.
+// Judges the files that its arguments name, and writes a line for each, by what the file's name starts with:
+// - `set`: words already read, as a link takes them. The file's words are the number of class words, these, then the ABI
+//   words. Written: its name, `set`, and the row of 3 to 5 that refuses or 0.
+// - `args`: a word of flags, then the bytes of a method descriptor. Written: its name, `words` and the argument words, or
+//   `refused 5`.
+// - `abi`, an ABI sheet, or anything else, a class sheet. Written: its name, `accepted` and the words answered or `refused`
+//   and the row, then the weighed sum of all lent words after the call, each of which was 7 before it. `-lent-N` before
+//   `.bin` in a name has N words lent.
+// Of a file its first 131,072 bytes count, more than any sheet has.
 ghost use mathlib.Core.Path.{_≡_};
 ghost use lib.ListN.{length};
 use libc::STDOUT_FILENO;
 use words::byte_at;
+use words::le_word;
 use words::part;
+use words::put_word;
+use words::wide;
 use words::word_at;
 use words::word_part;
 
@@ -32,17 +41,22 @@ fn name_place(path: &[u8]) -> usize {
 
 // Whether a file of this name is an ABI sheet.
 fn is_abi(name: &[u8]) -> bool {
-    byte_at(name, 0) == b'a' && byte_at(name, 1) == b'b' && byte_at(name, 2) == b'i'
+    text::same(part(name, 0, 3), b"abi")
 }
 
-// Whether the bytes start with `-lent-`.
+// Whether a file of this name holds words already read.
+fn is_set(name: &[u8]) -> bool {
+    text::same(part(name, 0, 3), b"set")
+}
+
+// Whether a file of this name holds flags and a method descriptor.
+fn is_arguments(name: &[u8]) -> bool {
+    text::same(part(name, 0, 4), b"args")
+}
+
+// Whether the bytes are `-lent-`.
 fn is_lent(bytes: &[u8]) -> bool {
-    byte_at(bytes, 0) == b'-'
-        && byte_at(bytes, 1) == b'l'
-        && byte_at(bytes, 2) == b'e'
-        && byte_at(bytes, 3) == b'n'
-        && byte_at(bytes, 4) == b't'
-        && byte_at(bytes, 5) == b'-'
+    text::same(bytes, b"-lent-")
 }
 
 // The place after the first byte of the last `-lent-` in a name, or 0 where it has none.
@@ -91,12 +105,17 @@ fn lent_words(name: &[u8]) -> u32 {
     if is_abi(name) { ABI_WORDS } else { CLASS_WORDS }
 }
 
-// The sum of the words modulo 2^32.
-fn sum(words: &[u32]) -> u32 {
+// The product modulo 2^32.
+fn product(a: usize, b: u32) -> u32 {
+    ((a as u64 % 4294967296) * (b as u64) % 4294967296) as u32
+}
+
+// The sum of each word times its place from 1, modulo 2^32: it tells the words' order, too.
+fn weighed_sum(words: &[u32]) -> u32 {
     let mut total: u32 = 0;
     let mut i: usize = 0;
     while i < words.len() {
-        total = std::num::wrapping_add_u32(total, word_at(words, i));
+        total = std::num::wrapping_add_u32(total, product(i + 1, word_at(words, i)));
         i += 1;
     }
     total
@@ -142,20 +161,90 @@ fn read_lent(name: &[u8], bytes: &[u8], words: &mut [u32], n: usize) -> sheet::R
 }
 
 // Reads the sheet in bytes, and writes its line.
-fn print_line(path: &[u8], bytes: &[u8], words: &mut [u32]) {
-    let name = part(path, name_place(path), path.len());
+fn print_sheet(path: &[u8], name: &[u8], bytes: &[u8], words: &mut [u32]) {
     let n = lent_words(name) as usize;
     let answer = read_lent(name, bytes, words, n);
-    let total = sum(word_part(words, 0, n));
+    let total = weighed_sum(word_part(words, 0, n));
     io::write_all(STDOUT_FILENO, path);
     print_answer(answer);
     io::print_decimal(STDOUT_FILENO, total as u64);
     io::write_all(STDOUT_FILENO, b"\n");
 }
 
-// Whether the input ended after the n bytes that were read. A buffer that is full holds more than any sheet.
+// Room for the words of a file.
+fn file_words() -> [u32; 32768]
+    ensures { λ r. ⌜ 32768 ≡ length r ⌝ }
+{
+    [0; 32768]
+}
+
+// The whole words of the bytes, as many as there is room for.
+fn load_words(bytes: &[u8], words: &mut [u32]) {
+    let mut i: usize = 0;
+    while i < bytes.len() / 4 {
+        put_word(words, i, le_word(bytes, 4 * i));
+        i += 1;
+    }
+}
+
+// Judges the class words and the ABI words that stand, after the number of class words, in a file's words.
+fn set_row(words: &[u32]) -> u32 {
+    let n = wide(word_at(words, 0));
+    set_rules::set_refusal(word_part(words, 1, n), word_part(words, 1 + n, words.len()))
+}
+
+// Judges the set in bytes, and writes its line.
+fn print_set(path: &[u8], bytes: &[u8], words: &mut [u32]) {
+    load_words(bytes, words);
+    let row = set_row(word_part(words, 0, bytes.len() / 4));
+    io::write_all(STDOUT_FILENO, path);
+    io::write_all(STDOUT_FILENO, b" set ");
+    io::print_decimal(STDOUT_FILENO, row as u64);
+    io::write_all(STDOUT_FILENO, b"\n");
+}
+
+// Writes ` words N` or ` refused 5`.
+fn print_words(answer: descriptor::DescriptorWords) {
+    if let descriptor::DescriptorWords::Count(n) = answer {
+        io::write_all(STDOUT_FILENO, b" words ");
+        io::print_decimal(STDOUT_FILENO, n);
+    } else {
+        io::write_all(STDOUT_FILENO, b" refused 5");
+    }
+}
+
+// Counts the argument words of the flags and the descriptor in bytes, and writes their line.
+fn print_arguments(path: &[u8], bytes: &[u8]) {
+    let answer = descriptor::argument_words(part(bytes, 4, bytes.len()), le_word(bytes, 0));
+    io::write_all(STDOUT_FILENO, path);
+    print_words(answer);
+    io::write_all(STDOUT_FILENO, b"\n");
+}
+
+// Judges the bytes of a file by what its name tells.
+fn print_line(path: &[u8], bytes: &[u8]) {
+    let name = part(path, name_place(path), path.len());
+    if is_set(name) {
+        let mut words = file_words();
+        print_set(path, bytes, &mut words);
+    } else if is_arguments(name) {
+        print_arguments(path, bytes);
+    } else {
+        let mut words = fresh_words();
+        print_sheet(path, name, bytes, &mut words);
+    }
+}
+
+// Room for the bytes of a file that count.
+fn file_bytes() -> [u8; 131072]
+    ensures { λ r. ⌜ 131072 ≡ length r ⌝ }
+{
+    [0; 131072]
+}
+
+// Whether the n bytes that were read are all of the input, or all that count.
 fn is_whole(fd: i32, n: usize) -> bool {
-    if n == 65536 {
+    if n == 131072 {
         return true;
     }
     let mut one = [0u8; 1];
@@ -164,11 +253,10 @@ fn is_whole(fd: i32, n: usize) -> bool {
 
 // Reads an open file and judges it, or says on standard error why it cannot be read.
 fn judge_open(path: &[u8], fd: i32) {
-    let mut bytes = io::large_buffer();
+    let mut bytes = file_bytes();
     let n = io::read_full(fd, &mut bytes);
     if is_whole(fd, n) {
-        let mut words = fresh_words();
-        print_line(path, &bytes[..n], &mut words);
+        print_line(path, &bytes[..n]);
     } else {
         os::fail(path);
     }

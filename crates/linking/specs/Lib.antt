@@ -1,5 +1,6 @@
 pub mod Abi
 pub mod Ask
+pub mod Assemble
 pub mod Chain
 pub mod Compiler
 pub mod Fields

@@ -5,8 +5,9 @@ use Prim.Native.Nat.{ℕ, _-_, _^_}
 use Rattle.words.specs.Folds.{allOf, table}
 use Rattle.words.specs.Words.{byteOf, inside}
 use Rattle.text.specs.Text.{textByte, textOfWords, nameAt, sameBytes, printable, partOk}
-use Rattle.descriptor.specs.Bytes.{member, isBaseByte, isNameByte}
-use Rattle.descriptor.specs.Machine.{run, fieldNext, isFieldDescriptor, methodNext, isMethodDescriptor}
+use Rattle.words.specs.Lists.{fold, some}
+use Rattle.descriptor.specs.Bytes.{isBaseByte, isNameByte}
+use Rattle.descriptor.specs.Machine.{fieldNext, isFieldDescriptor, methodNext, isMethodDescriptor}
 use Rattle.class_sheet.specs.ClassSheet.{countAt, methodsAt, fieldsAt, interfacesAt, compilersAt, textAt, contentEnd, classWord, methodWord, fieldWord, interfaceWord}
 use Rattle.abi_sheet.specs.AbiSheet.{abiCountAt, abiSlotsAt, abiFieldsAt, abiTextAt, abiContentEnd, abiClassWord, abiSlotWord, abiFieldWord}
 use Rattle.class_rules.specs.ClassRules.{classLimits, classFits, compilerOk, classNumbers, classLists, classRecord, methodFlagsOk, methodRecord, fieldRecord, interfaceNames, apart, methodsApart, fieldsApart, classesApart, apartBefore, classRecords}
@@ -69,7 +70,7 @@ pub record Rows : Type 0 where
   pub one-name : setRefusal (two (class 0 0 0 1 0) (class 0 1 1 1 0)) none ≡ 4
 
 pub rows : Rows
-unfolding setRefusal setFits recordsRefusal classFits classLimits contentEnd textAt compilersAt interfacesAt fieldsAt methodsAt countAt abiFits abiLimits abiContentEnd abiTextAt abiFieldsAt abiSlotsAt abiCountAt textOfWords table textByte byteOf classRecords allOf classRecord partOk nameAt printable classNumbers classWord classLists inside compilerOk methodRecord methodWord methodFlagsOk fieldRecord fieldWord interfaceNames interfaceWord apartBefore classesApart sameBytes methodsApart fieldsApart apart abiRecords abiClassRecord abiClassWord abiSlotRecord abiSlotWord abiFieldRecord abiFieldWord classDescriptors methodTyped isMethodDescriptor run methodNext fieldNext isBaseByte isNameByte member fieldTyped isFieldDescriptor abiDescriptors abiSlotTyped abiFieldTyped
+unfolding setRefusal setFits recordsRefusal classFits classLimits contentEnd textAt compilersAt interfacesAt fieldsAt methodsAt countAt abiFits abiLimits abiContentEnd abiTextAt abiFieldsAt abiSlotsAt abiCountAt textOfWords table textByte byteOf classRecords allOf classRecord partOk nameAt printable classNumbers classWord classLists inside compilerOk methodRecord methodWord methodFlagsOk fieldRecord fieldWord interfaceNames interfaceWord apartBefore classesApart sameBytes methodsApart fieldsApart apart abiRecords abiClassRecord abiClassWord abiSlotRecord abiSlotWord abiFieldRecord abiFieldWord classDescriptors methodTyped isMethodDescriptor fold methodNext fieldNext isBaseByte isNameByte some fieldTyped isFieldDescriptor abiDescriptors abiSlotTyped abiFieldTyped
 rows =
     record {
       plain = refl;

@@ -1,25 +1,26 @@
 -- A sheet that is read holds a valid set, none of whose classes is linked. Assumes nothing.
 use mathlib.Core.Path.{_≡_, refl, sym, _∙_}
 use mathlib.Core.Bool.{Bool, true, false, cond, not, _&&_}
-use mathlib.Core.List.{List}
+use mathlib.Core.List.{List, _++_}
 use Prim.Native.Nat.{ℕ, _+_, _*_, _-_, _≤_, _<_}
 use native.Mathlib.Omega.{arith}
-use lib.ListN.{length}
+use lib.ListN.{length, drop}
 use lib.Dec.{eqb, leb, ltb}
 use borrow.Author.Tests.{not-false, eqb-true, eqb-false}
 use Rattle.words.specs.Folds.{allOf}
 use Rattle.words.proofs.Bools.{by, and-both, and-3, and-4, passed}
 use Rattle.words.proofs.FoldLaws.{all-each}
-use Rattle.block.specs.Block.{sheetWords, leastFit}
+use Rattle.block.specs.Block.{blockCount, sheetWords, leastFit}
 use Rattle.text.specs.Text.{zeroRest}
 use Rattle.class_sheet.specs.ClassSheet.{classCount, textLength, textAt, contentEnd, textOf, classTablePlace, classSlotCount}
 use Rattle.abi_sheet.specs.AbiSheet.{abiTextLength, abiTextAt, abiContentEnd, abiTextOf}
 use Rattle.class_rules.specs.ClassRules.{classLimits, classFits, unlinked, classForm, classRecords}
 use Rattle.abi_rules.specs.AbiRules.{abiLimits, abiFits, abiForm, abiRecords}
-use Rattle.set_rules.specs.SetRules.{classDescriptors, classRefusal, abiDescriptors, abiRefusal}
+use Rattle.set_rules.specs.SetRules.{classDescriptors, classRefusal, abiDescriptors, abiRefusal, setRefusal}
 use Rattle.set_rules.specs.Valid.{IsClass, Valid, ValidAbi}
+use Rattle.set_rules.proofs.Kept.{accepted-longer}
 use Rattle.set_rules.proofs.Valid.{valid-class, valid-abi}
-use Rattle.sheet.specs.Sheet.{blockRefusal, sheetRefusal, classRows, classSheetRefusal, abiRows, abiSheetRefusal}
+use Rattle.sheet.specs.Sheet.{blockRefusal, sheetRefusal, readSheet, classRows, classSheetRefusal, readClassSheet, abiRows, abiSheetRefusal, readAbiSheet}
 
 -- rows 1 and 2 passed, the others remain
 rows-passed : (limit : ℕ) (rows : List ℕ → ℕ) (bs : List ℕ) (room : ℕ) → sheetRefusal limit rows bs room ≡ 0 → rows (sheetWords bs) ≡ 0
@@ -47,12 +48,15 @@ module _ (bs : List ℕ) (room : ℕ) (e : classSheetRefusal bs room ≡ 0) wher
       and-4 (classLimits ws) (leastFit (contentEnd ws) (length ws)) (zeroRest ws (4 * textAt ws + textLength ws))
       (allOf (classCount ws) (λ i. unlinked ws (i + 1))) (class-passed .0)
 
-  pub class-sheet-valid : Valid ws
+  class-tests : (classFits ws ≡ true) × (classRecords ws (textOf ws) ≡ true) × (classDescriptors ws (textOf ws) ≡ true)
   unfolding classRefusal classFits
-  class-sheet-valid =
+  class-tests =
       let p = passed (not (classRecords ws (textOf ws))) 4 _ (omega arith) (class-passed .1) in
       let q = passed (not (classDescriptors ws (textOf ws))) 5 _ (omega arith) (p .1) in
-      valid-class ws (fitted (classLimits ws) (contentEnd ws) (length ws) (formed .0) (formed .1)) (not-false _ (p .0)) (not-false _ (q .0))
+      (fitted (classLimits ws) (contentEnd ws) (length ws) (formed .0) (formed .1), not-false _ (p .0), not-false _ (q .0))
+
+  pub class-sheet-valid : Valid ws
+  class-sheet-valid = valid-class ws (class-tests .0) (class-tests .1) (class-tests .2)
 
   pub class-sheet-unlinked : (c : ℕ) → IsClass ws c → (classTablePlace ws c ≡ 0) × (classSlotCount ws c ≡ 0)
   unfolding unlinked
@@ -69,10 +73,34 @@ module _ (bs : List ℕ) (room : ℕ) (e : abiSheetRefusal bs room ≡ 0) where
   unfolding abiSheetRefusal abiRows
   abi-passed = let p = passed (not (abiForm abi)) 3 _ (omega arith) (rows-passed 51 abiRows bs room e) in (not-false _ (p .0), p .1)
 
-  pub abi-sheet-valid : ValidAbi abi
+  abi-tests : (abiFits abi ≡ true) × (abiRecords abi (abiTextOf abi) ≡ true) × (abiDescriptors abi (abiTextOf abi) ≡ true)
   unfolding abiRefusal abiFits abiForm
-  abi-sheet-valid =
+  abi-tests =
       let f = and-3 (abiLimits abi) (leastFit (abiContentEnd abi) (length abi)) (zeroRest abi (4 * abiTextAt abi + abiTextLength abi)) (abi-passed .0) in
       let p = passed (not (abiRecords abi (abiTextOf abi))) 4 _ (omega arith) (abi-passed .1) in
       let q = passed (not (abiDescriptors abi (abiTextOf abi))) 5 _ (omega arith) (p .1) in
-      valid-abi abi (fitted (abiLimits abi) (abiContentEnd abi) (length abi) (f .0) (f .1)) (not-false _ (p .0)) (not-false _ (q .0))
+      (fitted (abiLimits abi) (abiContentEnd abi) (length abi) (f .0) (f .1), not-false _ (p .0), not-false _ (q .0))
+
+  pub abi-sheet-valid : ValidAbi abi
+  abi-sheet-valid = valid-abi abi (abi-tests .0) (abi-tests .1) (abi-tests .2)
+
+-- ---- what a reading leaves is what a link takes
+
+read-memory : (refusal : List ℕ → ℕ → ℕ) (bs out : List ℕ) → (readSheet refusal bs out) .refusal ≡ 0
+    → (refusal bs (length out) ≡ 0) × ((readSheet refusal bs out) .memory ≡ sheetWords bs ++ drop (127 * blockCount bs) out)
+unfolding readSheet
+read-memory refusal bs out e =
+    by (eqb (refusal bs (length out)) 0) (λ q. (eqb-true _ _ q, rw q)) (λ q. absurd (eqb-false _ _ q (rw q at e)))
+
+-- rows 3 to 5 of a link accept the lent words that two accepted readings left, whatever follows the sheets in them
+pub read-accepted : (bs out labels out′ : List ℕ) → (readClassSheet bs out) .refusal ≡ 0 → (readAbiSheet labels out′) .refusal ≡ 0
+    → setRefusal ((readClassSheet bs out) .memory) ((readAbiSheet labels out′) .memory) ≡ 0
+unfolding readClassSheet readAbiSheet
+read-accepted bs out labels out′ e f =
+    let m = read-memory classSheetRefusal bs out e in
+    let n = read-memory abiSheetRefusal labels out′ f in
+    let t = class-tests bs (length out) (m .0) in
+    let u = abi-tests labels (length out′) (n .0) in
+    rw (m .1, n .1)
+    (accepted-longer (sheetWords bs) (sheetWords labels) (drop (127 * blockCount bs) out) (drop (127 * blockCount labels) out′)
+    (t .0) (u .0) (t .1) (u .1) (t .2) (u .2))

@@ -1,4 +1,5 @@
 pub mod Bools
 pub mod FoldLaws
 pub mod Laws
+pub mod ListLaws
 pub mod Lists

@@ -1,5 +1,5 @@
 -- `descriptor::argument_words` meets its contract. Assumes nothing.
-use Rattle.descriptor.proofs.Laws.{argument-counted, argument-refused}
+use Rattle.descriptor.proofs.Turns.{argument-counted, argument-refused}
 use borrow.Author.Needs.{needs}
 use Rattle.descriptor.proofs.argument_words.Statement.{statement}
 use Rattle.descriptor.proofs.argument_words.Tie as tie

@@ -3,20 +3,22 @@ use native.Mathlib.Omega.{arith}
 use mathlib.Core.Path.{_≡_, sym, _∙_}
 use Prim.Native.Nat.{_-_, _≤_}
 use lib.ListN.{length}
-use Rattle.descriptor.specs.Bytes.{member}
-use Rattle.descriptor.proofs.Laws.{memberFrom, member-start, member-turn, member-found, member-end}
+use lib.Dec.{eqb}
+use borrow.Author.Tests.{eq-eqb, ne-eqb}
+use Rattle.words.specs.Lists.{some}
+use Rattle.words.proofs.ListLaws.{someFrom, some-start, some-turn, some-found, some-end}
 use borrow.Author.Needs.{needs}
 use Rattle.descriptor.proofs.contains.Statement.{statement}
 use Rattle.descriptor.proofs.contains.Tie as tie
 
 abbrev Inv-loop : tie.InvT-loop
-Inv-loop s b i₀ i = (i ≤ length s) × (member b s ≡ memberFrom b s i)
+Inv-loop s b i₀ i = (i ≤ length s) × (some (λ x. eqb x b) s ≡ someFrom (λ x. eqb x b) s i)
 
 abbrev μ-loop : tie.MeasureT-loop
 μ-loop s b i₀ i = length s - i
 
 loop-holds : tie.Need-loop-holds Inv-loop μ-loop
-loop-holds c = (omega arith, member-start _ _)
+loop-holds c = (omega arith, some-start _ _)
 
 byte-at-requires : tie.Need-byte-at-requires Inv-loop μ-loop
 byte-at-requires c κs = search needs
@@ -25,7 +27,7 @@ returns : tie.Need-returns Inv-loop μ-loop
 returns c =
     sym
     (c .before .before .before .loop .inv .1
-    ∙ member-found _ _ _ (c .before .before .loop-test .taken) (c .before .byte-at .ensures) (c .if1 .taken))
+    ∙ some-found _ _ 0 _ (c .before .before .loop-test .taken) (c .before .byte-at .ensures) (eq-eqb _ _ (c .if1 .taken)))
 
 add-i : tie.Need-add-i Inv-loop μ-loop
 add-i c = search needs
@@ -37,11 +39,11 @@ loop-again : tie.Need-loop-again Inv-loop μ-loop
 loop-again c = (
   omega arith,
   c .before .before .before .loop .inv .1
-      ∙ member-turn _ _ _ (c .before .before .loop-test .taken) (c .before .byte-at .ensures) (c .if1 .left),
+      ∙ some-turn _ _ 0 _ (c .before .before .loop-test .taken) (c .before .byte-at .ensures) (ne-eqb _ _ (c .if1 .left)),
 )
 
 returns-2 : tie.Need-returns-2 Inv-loop μ-loop
-returns-2 c = sym (c .before .loop .inv .1 ∙ member-end _ _ _ (c .loop-test .left))
+returns-2 c = sym (c .before .loop .inv .1 ∙ some-end _ _ _ (c .loop-test .left))
 
 pub contains-spec : {M : Type 1} → statement M
 contains-spec =

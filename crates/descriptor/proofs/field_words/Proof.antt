@@ -1,5 +1,5 @@
 -- `descriptor::field_words` meets its contract. Assumes nothing.
-use Rattle.descriptor.proofs.Laws.{field-counted, field-refused}
+use Rattle.descriptor.proofs.Turns.{field-counted, field-refused}
 use borrow.Author.Needs.{needs}
 use Rattle.descriptor.proofs.field_words.Statement.{statement}
 use Rattle.descriptor.proofs.field_words.Tie as tie

@@ -1,5 +1,5 @@
 -- `descriptor::method_next` meets its contract. Assumes nothing.
-use Rattle.descriptor.proofs.Laws.{returned-next}
+use Rattle.descriptor.proofs.Turns.{returned-next}
 use borrow.Author.Needs.{needs}
 use Rattle.descriptor.proofs.method_next.Statement.{statement}
 use Rattle.descriptor.proofs.method_next.Tie as tie

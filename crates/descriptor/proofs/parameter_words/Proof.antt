@@ -2,11 +2,10 @@
 use Prim.Native.Nat.{_+_, _-_, _%_, _^_, _≤_, _<_}
 use native.Mathlib.Omega.{arith}
 use mathlib.Core.Path.{_≡_}
-use Prim.Native.Nat.{_+_, _-_, _%_, _^_, _≤_}
 use lib.ListN.{length}
 use Rattle.descriptor.specs.Words.{begunFrom}
 use Rattle.descriptor.specs.declared.MethodState.the-variants.{Begin}
-use Rattle.descriptor.proofs.Laws.{begunAt, begun-start, begun-turn, begun-end}
+use Rattle.descriptor.proofs.Turns.{begunAt, begun-start, begun-turn, begun-end}
 use borrow.Author.Needs.{needs}
 use Rattle.descriptor.proofs.parameter_words.Statement.{statement}
 use Rattle.descriptor.proofs.parameter_words.Tie as tie

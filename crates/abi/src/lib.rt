@@ -1,0 +1,302 @@
+// The ABI sheet's lookups: the first ABI class of a name, and in it the first match, counts. Every function is total: a list that runs
+// past its section's limit is cut there, and an index or a size above its limit counts as the limit.
+use words::Found;
+ghost use mathlib.Core.Path.{_≡_};
+ghost use Prim.Native.Nat.{min, max};
+ghost use mathlib.Core.List.{_∷_, [], _++_};
+ghost use lib.ListN.{take};
+ghost use lib.Dec.{eqb};
+ghost use Rattle.words.specs.Lists.{find, allFound};
+ghost use Rattle.text.specs.Text.{sameBytes};
+ghost use Rattle.abi_sheet.specs.AbiSheet.{abiClassName, abiClassFirstSlot, abiClassSlotCount, abiClassFirstField, abiClassFieldCount};
+ghost use Rattle.linking.specs.Chain.{listCount, chain};
+ghost use Rattle.linking.specs.Abi.{abiNamed, abiSlots, slotIndex, fixedFieldIndex, slotIs, vtableIndex, slotAt, fieldIs, fixedField, classSize, givenWords, classAbi, chainAbi, fixedIndex, minimumSize};
+ghost use Rattle.abi.specs.Abis.{abisOf};
+
+// The ABI classes that a chain names, nearest first: the first n of the array.
+pub struct AbiChain {
+    pub at: [u32; 64],
+    pub n: u32,
+}
+
+fn smaller(a: u32, b: u32) -> u32
+    ensures { λ r. ⌜ r ≡ min a b ⌝ }
+{
+    if a < b { a } else { b }
+}
+
+fn larger(a: u32, b: u32) -> u32
+    ensures { λ r. ⌜ r ≡ max a b ⌝ }
+{
+    if a < b { b } else { a }
+}
+
+// Whether ABI class a has this name.
+fn name_is(abi: &[u32], labels: &[u8], a: u32, name: &[u8]) -> bool
+    ensures { λ r. ⌜ r ≡ sameBytes (abiClassName (now (abi .entry)) (now (labels .entry)) a) (now (name .entry)) ⌝ }
+{
+    text::same(abi_sheet::class_name(abi, labels, a), name)
+}
+
+// The first ABI class of this name.
+pub fn abi_named(abi: &[u32], labels: &[u8], name: &[u8]) -> Found
+    ensures { λ r. ⌜ r ≡ abiNamed (now (abi .entry)) (now (labels .entry)) (now (name .entry)) ⌝ }
+{
+    let n = abi_sheet::class_count(abi);
+    let mut a: u32 = 0;
+    while a < n {
+        if name_is(abi, labels, a, name) {
+            return Found::At(a);
+        }
+        a += 1;
+    }
+    Found::Nothing
+}
+
+// How many slot records ABI class a has.
+pub fn slot_count(abi: &[u32], a: u32) -> u32
+    ensures { λ r. ⌜ r ≡ listCount (abiClassFirstSlot (now (abi .entry)) a) (abiClassSlotCount (now (abi .entry)) a) 512 ⌝ }
+{
+    chain::list_count(
+        abi_sheet::class_first_slot(abi, a),
+        abi_sheet::class_slot_count(abi, a),
+        512,
+    )
+}
+
+// How many field records ABI class a has.
+pub fn field_count(abi: &[u32], a: u32) -> u32
+    ensures { λ r. ⌜ r ≡ listCount (abiClassFirstField (now (abi .entry)) a) (abiClassFieldCount (now (abi .entry)) a) 256 ⌝ }
+{
+    chain::list_count(
+        abi_sheet::class_first_field(abi, a),
+        abi_sheet::class_field_count(abi, a),
+        256,
+    )
+}
+
+// The index that slot record s fixes.
+pub fn slot_index(abi: &[u32], s: u32) -> u32
+    ensures { λ r. ⌜ r ≡ slotIndex (now (abi .entry)) s ⌝ }
+{
+    smaller(abi_sheet::slot_index(abi, s), 1023)
+}
+
+// The index that field record f fixes.
+pub fn fixed_field_index(abi: &[u32], f: u32) -> u32
+    ensures { λ r. ⌜ r ≡ fixedFieldIndex (now (abi .entry)) f ⌝ }
+{
+    smaller(abi_sheet::field_index(abi, f), 4095)
+}
+
+// Whether slot record s has this signature.
+pub fn slot_is(abi: &[u32], labels: &[u8], s: u32, name: &[u8], descriptor: &[u8]) -> bool
+    ensures { λ r. ⌜ r ≡ slotIs (now (abi .entry)) (now (labels .entry)) s (now (name .entry)) (now (descriptor .entry)) ⌝ }
+{
+    text::same(abi_sheet::slot_name(abi, labels, s), name)
+        & text::same(abi_sheet::slot_descriptor(abi, labels, s), descriptor)
+}
+
+// ABI class a's first slot record of this signature.
+fn slot_of(abi: &[u32], labels: &[u8], name: &[u8], descriptor: &[u8], a: u32) -> Found
+    ensures { λ r. ⌜ r ≡ find (λ s. slotIs (now (abi .entry)) (now (labels .entry)) s (now (name .entry)) (now (descriptor .entry))) (abiSlots (now (abi .entry)) a) ⌝ }
+{
+    let first = abi_sheet::class_first_slot(abi, a);
+    let n = slot_count(abi, a);
+    let mut i: u32 = 0;
+    while i < n {
+        if slot_is(abi, labels, first + i, name, descriptor) {
+            return Found::At(first + i);
+        }
+        i += 1;
+    }
+    Found::Nothing
+}
+
+// The index that ABI class a fixes for this signature.
+pub fn vtable_index(abi: &[u32], labels: &[u8], name: &[u8], descriptor: &[u8], a: u32) -> Found
+    ensures { λ r. ⌜ r ≡ vtableIndex (now (abi .entry)) (now (labels .entry)) (now (name .entry)) (now (descriptor .entry)) a ⌝ }
+{
+    match slot_of(abi, labels, name, descriptor, a) {
+        Found::At(s) => Found::At(slot_index(abi, s)),
+        Found::Nothing => Found::Nothing,
+    }
+}
+
+// Whether slot record s fixes index i.
+fn index_is(abi: &[u32], s: u32, i: u32) -> bool
+    ensures { λ r. ⌜ r ≡ eqb (slotIndex (now (abi .entry)) s) i ⌝ }
+{
+    slot_index(abi, s) == i
+}
+
+// ABI class a's first slot record that fixes index i.
+pub fn slot_at(abi: &[u32], i: u32, a: u32) -> Found
+    ensures { λ r. ⌜ r ≡ slotAt (now (abi .entry)) i a ⌝ }
+{
+    let first = abi_sheet::class_first_slot(abi, a);
+    let n = slot_count(abi, a);
+    let mut k: u32 = 0;
+    while k < n {
+        if index_is(abi, first + k, i) {
+            return Found::At(first + k);
+        }
+        k += 1;
+    }
+    Found::Nothing
+}
+
+// Whether field record f has this signature.
+pub fn field_is(abi: &[u32], labels: &[u8], f: u32, name: &[u8], descriptor: &[u8]) -> bool
+    ensures { λ r. ⌜ r ≡ fieldIs (now (abi .entry)) (now (labels .entry)) f (now (name .entry)) (now (descriptor .entry)) ⌝ }
+{
+    text::same(abi_sheet::field_name(abi, labels, f), name)
+        & text::same(abi_sheet::field_descriptor(abi, labels, f), descriptor)
+}
+
+// ABI class a's first field record of this signature.
+pub fn fixed_field(abi: &[u32], labels: &[u8], name: &[u8], descriptor: &[u8], a: u32) -> Found
+    ensures { λ r. ⌜ r ≡ fixedField (now (abi .entry)) (now (labels .entry)) (now (name .entry)) (now (descriptor .entry)) a ⌝ }
+{
+    let first = abi_sheet::class_first_field(abi, a);
+    let n = field_count(abi, a);
+    let mut i: u32 = 0;
+    while i < n {
+        if field_is(abi, labels, first + i, name, descriptor) {
+            return Found::At(first + i);
+        }
+        i += 1;
+    }
+    Found::Nothing
+}
+
+// How many slots ABI class a asks for: its table size, and its largest fixed index + 1.
+pub fn class_size(abi: &[u32], a: u32) -> u32
+    ensures { λ r. ⌜ r ≡ classSize (now (abi .entry)) a ⌝ }
+{
+    let first = abi_sheet::class_first_slot(abi, a);
+    let n = slot_count(abi, a);
+    let mut size = words::before(smaller(abi_sheet::class_table_size_plus_one(abi, a), 1025));
+    let mut i: u32 = 0;
+    while i < n {
+        size = larger(size, slot_index(abi, first + i) + 1);
+        i += 1;
+    }
+    size
+}
+
+// How many instance words ABI class a gives, plus 1; 0 if it gives none.
+pub fn given_words(abi: &[u32], a: u32) -> u32
+    ensures { λ r. ⌜ r ≡ givenWords (now (abi .entry)) a ⌝ }
+{
+    smaller(abi_sheet::class_instance_words_plus_one(abi, a), 4097)
+}
+
+// The ABI class of class c's name.
+pub fn class_abi(ws: &[u32], text: &[u8], abi: &[u32], labels: &[u8], c: u32) -> Found
+    ensures { λ r. ⌜ r ≡ classAbi (now (ws .entry)) (now (text .entry)) (now (abi .entry)) (now (labels .entry)) c ⌝ }
+{
+    abi_named(abi, labels, class_sheet::class_name(ws, text, c))
+}
+
+// The chain with one ABI class more, as far as there is room.
+fn push(abis: AbiChain, a: u32) -> AbiChain
+    ensures { λ r. ⌜ abisOf r ≡ take 64 (abisOf abis ++ (a ∷ [])) ⌝ }
+{
+    let n = abis.n;
+    if 64 <= n {
+        return abis;
+    }
+    let mut at = abis.at;
+    at[n as usize] = a;
+    AbiChain { at: at, n: n + 1 }
+}
+
+// The chain with the ABI classes of class c and its ancestors after it, as far as there is room.
+fn push_chain(
+    ws: &[u32],
+    text: &[u8],
+    abi: &[u32],
+    labels: &[u8],
+    c: u32,
+    abis: AbiChain,
+) -> AbiChain
+    ensures { λ r. ⌜ abisOf r ≡ take 64 (abisOf abis ++ allFound (classAbi (now (ws .entry)) (now (text .entry)) (now (abi .entry)) (now (labels .entry))) (chain (now (ws .entry)) c)) ⌝ }
+{
+    if c == 0 {
+        return abis;
+    }
+    match class_abi(ws, text, abi, labels, c) {
+        Found::At(a) => push_chain(
+            ws,
+            text,
+            abi,
+            labels,
+            chain::parent_of(ws, c),
+            push(abis, a),
+        ),
+        Found::Nothing => push_chain(ws, text, abi, labels, chain::parent_of(ws, c), abis),
+    }
+}
+
+// The ABI classes that the chain of class c names, nearest first.
+pub fn chain_abi(ws: &[u32], text: &[u8], abi: &[u32], labels: &[u8], c: u32) -> AbiChain
+    ensures { λ r. ⌜ abisOf r ≡ chainAbi (now (ws .entry)) (now (text .entry)) (now (abi .entry)) (now (labels .entry)) c ⌝ }
+{
+    push_chain(ws, text, abi, labels, c, AbiChain { at: [0; 64], n: 0 })
+}
+
+// The index that the first of the ABI classes fixes that fixes one for this signature.
+fn first_fixed(abi: &[u32], labels: &[u8], abis: &[u32], name: &[u8], descriptor: &[u8]) -> Found
+    ensures { λ r. ⌜ r ≡ fixedIndex (now (abi .entry)) (now (labels .entry)) (now (abis .entry)) (now (name .entry)) (now (descriptor .entry)) ⌝ }
+{
+    let mut i: usize = 0;
+    while i < abis.len() {
+        match vtable_index(abi, labels, name, descriptor, words::word_at(abis, i)) {
+            Found::At(k) => {
+                return Found::At(k);
+            }
+            Found::Nothing => {
+                i += 1;
+            }
+        }
+    }
+    Found::Nothing
+}
+
+// The fixed index of a signature: that of the first ABI class of the chain that fixes one.
+pub fn fixed_index(
+    abi: &[u32],
+    labels: &[u8],
+    abis: AbiChain,
+    name: &[u8],
+    descriptor: &[u8],
+) -> Found
+    ensures { λ r. ⌜ r ≡ fixedIndex (now (abi .entry)) (now (labels .entry)) (abisOf abis) (now (name .entry)) (now (descriptor .entry)) ⌝ }
+{
+    let at = abis.at;
+    let n = words::wide(abis.n);
+    first_fixed(abi, labels, words::word_part(&at, 0, n), name, descriptor)
+}
+
+// The largest size that one of the ABI classes asks for.
+fn largest_size(abi: &[u32], abis: &[u32]) -> u32
+    ensures { λ r. ⌜ r ≡ minimumSize (now (abi .entry)) (now (abis .entry)) ⌝ }
+{
+    let mut size: u32 = 0;
+    let mut i: usize = 0;
+    while i < abis.len() {
+        size = larger(size, class_size(abi, words::word_at(abis, i)));
+        i += 1;
+    }
+    size
+}
+
+// How many slots a table has at least: the largest fixed index + 1 or table size among the chain's ABI classes.
+pub fn minimum_size(abi: &[u32], abis: AbiChain) -> u32
+    ensures { λ r. ⌜ r ≡ minimumSize (now (abi .entry)) (abisOf abis) ⌝ }
+{
+    let at = abis.at;
+    let n = words::wide(abis.n);
+    largest_size(abi, words::word_part(&at, 0, n))
+}

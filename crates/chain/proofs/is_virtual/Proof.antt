@@ -1,0 +1,13 @@
+use mathlib.Core.Path.{refl}
+use Rattle.linking.specs.Chain.{isVirtual}
+use Rattle.chain.proofs.is_virtual.Statement.{statement}
+use Rattle.chain.proofs.is_virtual.Tie as tie
+use Rattle.chain.proofs.is_virtual.Reads as reads
+use Rattle.chain.proofs.is_virtual.Lts as lts
+
+returns : tie.Need-returns
+unfolding isVirtual
+returns c = refl
+
+pub is-virtual-spec : {M : Type 1} → statement M
+is-virtual-spec = tie.close (tie.spec returns)
