@@ -21,7 +21,7 @@ use native.Mathlib.Omega.{arith}''', {
     }, inv='(%s ≤ %s) × (allOf %s (%s) ≡ true) × (%s ≡ %s)' % (var, n, var, pred, n, count), mu='%s - %s' % (n, var))
 
 
-def find_loop(crate, fn, callee, pred, whole, limit, uses, unf, laws='Rattle.chain.proofs.ListLaws', var='i', first='first'):
+def find_loop(crate, fn, callee, pred, whole, limit, uses, unf, laws='Rattle.words.proofs.ListLaws', var='i', first='first'):
     """`let first = ..; let n = ..; while i < n { if F(.., first + i, ..) { return Found::At(first + i); } i += 1; } Found::Nothing`
     whose contract is `r ≡ WHOLE`, and WHOLE unfolds (UNF) to `find PRED (numbers first n)`. A search from 0 has FIRST '0'."""
     room, om = ('(n ≤ %s - first) × ' % limit, 'omega arith, ') if limit else ('', '')

@@ -1,5 +1,5 @@
 //! What the original does where document 01 asks for something else: each entry of
-//! FINDINGS.md that can be shown, shown on the original alone.
+//! docs/DIFFERENCES.md that can be shown, shown on the original alone.
 
 use std::pin::pin;
 use std::task::{Context, Poll, Waker};
