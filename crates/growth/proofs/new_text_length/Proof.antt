@@ -1,0 +1,102 @@
+use Rattle.growth.specs.News.{newCount}
+use Rattle.growth.proofs.NewsLaws.{textTo, length-none, length-turn, length-done}
+use lib.ListN.{length}
+use mathlib.Core.Path.{_≡_}
+use Prim.Native.Nat.{_*_, _-_, _≤_, _<_}
+use native.Mathlib.Omega.{arith}
+use borrow.Author.Needs.{needs}
+use Rattle.growth.proofs.new_text_length.Statement.{statement}
+use Rattle.growth.proofs.new_text_length.Tie as tie
+use Rattle.growth.proofs.new_text_length.Reads as reads
+use Rattle.growth.proofs.new_text_length.Lts as lts
+use Rattle.growth.proofs.new_count.Reads as new-count-reads
+use Rattle.growth.proofs.ref_descriptor.Reads as ref-descriptor-reads
+use Rattle.growth.proofs.ref_name.Reads as ref-name-reads
+use Rattle.words.proofs.wide.Reads as wide-reads
+use Rattle.words.proofs.word_at.Reads as word-at-reads
+
+abbrev Inv-loop : tie.InvT-loop
+Inv-loop ws text abi labels refs n sum₀ i₀ sum i = (i ≤ n) × (n ≡ newCount refs) × (n < 1025) × (sum ≡ length (textTo ws text abi labels refs i)) × (sum ≤ 8589934592 * i)
+
+abbrev μ-loop : tie.MeasureT-loop
+μ-loop ws text abi labels refs n sum₀ i₀ sum i = n - i
+
+new-count-requires : tie.Need-new-count-requires Inv-loop μ-loop
+new-count-requires c κs = search needs
+
+wide-requires : tie.Need-wide-requires Inv-loop μ-loop
+wide-requires c κs = search needs
+
+loop-holds : tie.Need-loop-holds Inv-loop μ-loop
+loop-holds c =
+    let entry = c .before .before .before .before .before .before .before in
+    let a = entry .args in (
+      omega arith,
+      omega arith,
+      omega arith,
+      length-none (a .ws .now) (a .text .now) (a .abi .now) (a .labels .now) (a .refs .now),
+      omega arith,
+    )
+
+word-at-requires : tie.Need-word-at-requires Inv-loop μ-loop
+word-at-requires c κs = search needs
+
+ref-name-requires : tie.Need-ref-name-requires Inv-loop μ-loop
+ref-name-requires c κs = search needs
+
+ref-descriptor-requires : tie.Need-ref-descriptor-requires Inv-loop μ-loop
+ref-descriptor-requires c κs = search needs
+
+add-sum : tie.Need-add-sum Inv-loop μ-loop
+add-sum c = omega (arith, c .ref-descriptor .ensures .1, c .before .ref-name .ensures .1)
+
+add-sum-2 : tie.Need-add-sum-2 Inv-loop μ-loop
+add-sum-2 c = omega (arith, c .ref-descriptor .ensures .1, c .before .ref-name .ensures .1)
+
+add-i : tie.Need-add-i Inv-loop μ-loop
+add-i c = search needs
+
+loop-less : tie.Need-loop-less Inv-loop μ-loop
+loop-less c = search needs
+
+loop-again : tie.Need-loop-again Inv-loop μ-loop
+loop-again c =
+    let at-ref-name = c .before in
+    let at-word-at = at-ref-name .before in
+    let at-loop = at-word-at .before .before in
+    let entry = at-loop .before .before .before .before .before .before .before .before in
+    let a = entry .args in
+    let t = length-turn (a .ws .now) (a .text .now) (a .abi .now) (a .labels .now) (a .refs .now) (at-loop .loop .i)
+    (at-word-at .word-at .ensures) (at-ref-name .ref-name .ensures .0) (c .ref-descriptor .ensures .0) in
+    let p = c .ref-descriptor .ensures .1 in
+    let q = at-ref-name .ref-name .ensures .1 in
+    (omega arith, omega arith, omega arith, omega arith, omega arith)
+
+returns : tie.Need-returns Inv-loop μ-loop
+returns c =
+    let at-loop = c .before in
+    let entry = at-loop .before .before .before .before .before .before .before .before in
+    let a = entry .args in (
+      length-done (a .ws .now) (a .text .now) (a .abi .now) (a .labels .now) (a .refs .now) (at-loop .loop .i) (omega arith)
+          (at-loop .loop .inv .3),
+      omega arith,
+    )
+
+pub new-text-length-spec : {M : Type 1} → statement M
+new-text-length-spec =
+    tie.close
+    (tie.spec
+    Inv-loop
+    μ-loop
+    new-count-requires
+    wide-requires
+    loop-holds
+    word-at-requires
+    ref-name-requires
+    ref-descriptor-requires
+    add-sum
+    add-sum-2
+    add-i
+    loop-less
+    loop-again
+    returns)
