@@ -1,0 +1,31 @@
+-- A table as the code holds it: two arrays, the slots' words and their methods' marks, and a count. Assumes nothing.
+use Prim.Native.Nat.{ℕ, zero, suc, _+_, _-_}
+use mathlib.Core.Bool.{Bool, cond}
+use mathlib.Core.List.{List}
+use lib.ListN.{getD}
+use lib.Dec.{eqb, ltb}
+use Rattle.words.specs.Lists.{listFrom}
+use Rattle.words.specs.declared.Found.{Found}
+use Rattle.words.specs.declared.Found.the-variants.{At, Nothing}
+use Rattle.linking.specs.Vtable.{Entry, Built, built, refused}
+use Rattle.vtable.specs.declared.Table.{Table}
+
+-- a method's mark: its number plus 1; 0 for none, and for a number that is no method of a sheet
+abbrev pub markOf : Found → ℕ
+markOf (At m) = cond (ltb m 512) (m + 1) 0
+markOf Nothing = 0
+
+abbrev pub marked : ℕ → Found
+marked k = cond (eqb k 0) Nothing (At (k - 1))
+
+-- slot i of the two arrays
+unfoldable pub entryAt : List ℕ → List ℕ → ℕ → Entry
+entryAt ts ms i = record { word = getD ts i 0; method = marked (getD ms i 0) }
+
+-- the first n slots
+unfoldable pub entriesOf : List ℕ → List ℕ → ℕ → List Entry
+entriesOf ts ms n = listFrom (entryAt ts ms) 0 n
+
+-- the table that the struct stands for, or the row that refuses it
+abbrev pub builtOf : Table → Built
+builtOf t = cond (eqb (t .row) 0) (built (entriesOf (t .words) (t .marks) (t .n))) (refused (t .row))

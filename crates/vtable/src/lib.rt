@@ -1,0 +1,160 @@
+// Virtual tables (vtable.rs): Reading, `build_methods`, `build_interface_methods`.
+use words::Found;
+ghost use mathlib.Core.Path.{_≡_};
+ghost use Prim.Native.Nat.{_≤_, min};
+ghost use lib.ListN.{length};
+ghost use Rattle.class_sheet.specs.ClassSheet.{classSlotCount};
+ghost use mathlib.Core.List.{[]};
+ghost use Rattle.linking.specs.Vtable.{ownFixed, findByIndex, readEntry, tableEntries, parentEntries, built};
+ghost use Rattle.vtable.specs.Arrays.{markOf, entriesOf, builtOf};
+
+// A table: its slots' words, 0 where empty, and the marks of their methods, or the row that refuses it.
+pub struct Table {
+    pub words: [u32; 3584],
+    pub marks: [u32; 3584],
+    pub n: u32,
+    pub row: u32,
+}
+
+// The mark of what a search found.
+fn mark(f: Found) -> u32
+    ensures { λ r. ⌜ r ≡ markOf f ⌝ }
+{
+    match f {
+        Found::At(m) => { if m < 512 { m + 1 } else { 0 } }
+        Found::Nothing => 0,
+    }
+}
+
+// Class c's own method of the signature that its ABI entry fixes at index i.
+fn own_fixed(ws: &[u32], text: &[u8], abi: &[u32], labels: &[u8], i: u32, c: u32) -> Found
+    ensures { λ r. ⌜ r ≡ ownFixed (now (ws .entry)) (now (text .entry)) (now (abi .entry)) (now (labels .entry)) i c ⌝ }
+{
+    match abi::class_abi(ws, text, abi, labels, c) {
+        Found::At(a) => match abi::slot_at(abi, i, a) {
+            Found::At(s) => chain::own_method(
+                ws,
+                text,
+                abi_sheet::slot_name(abi, labels, s),
+                abi_sheet::slot_descriptor(abi, labels, s),
+                c,
+            ),
+            Found::Nothing => Found::Nothing,
+        },
+        Found::Nothing => Found::Nothing,
+    }
+}
+
+// The same of the first class of c's chain that has one.
+fn find_by_index(ws: &[u32], text: &[u8], abi: &[u32], labels: &[u8], c: u32, i: u32) -> Found
+    ensures { λ r. ⌜ r ≡ findByIndex (now (ws .entry)) (now (text .entry)) (now (abi .entry)) (now (labels .entry)) c i ⌝ }
+{
+    if c == 0 {
+        return Found::Nothing;
+    }
+    match own_fixed(ws, text, abi, labels, i, c) {
+        Found::At(m) => Found::At(m),
+        Found::Nothing => find_by_index(ws, text, abi, labels, chain::parent_of(ws, c), i),
+    }
+}
+
+// The mark of slot i of class c's table, which holds w.
+fn read_mark(ws: &[u32], text: &[u8], abi: &[u32], labels: &[u8], c: u32, i: u32, w: u32) -> u32
+    ensures { λ r. ⌜ r ≡ markOf ((readEntry (now (ws .entry)) (now (text .entry)) (now (abi .entry)) (now (labels .entry)) c i w) .method) ⌝ }
+{
+    match chain::find_by_target(ws, c, w) {
+        Found::At(m) => mark(Found::At(m)),
+        Found::Nothing => mark(find_by_index(ws, text, abi, labels, c, i)),
+    }
+}
+
+// How many slots class c's table has.
+fn slot_count(ws: &[u32], c: u32) -> u32
+    ensures { λ r. ⌜ r ≡ min (classSlotCount (now (ws .entry)) c) 1024 ⌝ }
+{
+    let n = class_sheet::class_slot_count(ws, c);
+    if n < 1024 {
+        return n;
+    }
+    1024
+}
+
+// Fills the arrays with class c's slots, and answers how many there are.
+fn read_table(
+    ws: &[u32],
+    text: &[u8],
+    abi: &[u32],
+    labels: &[u8],
+    area: &[u32],
+    c: u32,
+    ts: &mut [u32],
+    ms: &mut [u32],
+) -> u32
+    requires { ⌜ (1024 ≤ length (now ts)) × (1024 ≤ length (now ms)) ⌝ }
+    ensures is { λ r. ⌜ entriesOf (now (ts .exit)) (now (ms .exit)) r ≡ tableEntries (now (ws .entry)) (now (text .entry)) (now (abi .entry)) (now (labels .entry)) (now (area .entry)) c ⌝ }
+    ensures count { λ r. ⌜ r ≤ 1024 ⌝ }
+{
+    let n = slot_count(ws, c);
+    let place = words::wide(class_sheet::class_table_place(ws, c));
+    let mut i: u32 = 0;
+    while i < n {
+        let w = words::word_at(area, place + 1 + words::wide(i));
+        let k = read_mark(ws, text, abi, labels, c, i, w);
+        words::put_word(ts, words::wide(i), w);
+        words::put_word(ms, words::wide(i), k);
+        i += 1;
+    }
+    n
+}
+
+// A table of no slots.
+fn no_slots() -> Table
+    ensures { λ r. ⌜ builtOf r ≡ built [] ⌝ }
+{
+    Table {
+        words: [0; 3584],
+        marks: [0; 3584],
+        n: 0,
+        row: 0,
+    }
+}
+
+// The entries of class c's table, each as Reading finds it.
+pub fn table_entries(
+    ws: &[u32],
+    text: &[u8],
+    abi: &[u32],
+    labels: &[u8],
+    area: &[u32],
+    c: u32,
+) -> Table
+    ensures { λ r. ⌜ builtOf r ≡ built (tableEntries (now (ws .entry)) (now (text .entry)) (now (abi .entry)) (now (labels .entry)) (now (area .entry)) c) ⌝ }
+{
+    let mut ts = [0u32; 3584];
+    let mut ms = [0u32; 3584];
+    let n = read_table(ws, text, abi, labels, area, c, &mut ts, &mut ms);
+    Table {
+        words: ts,
+        marks: ms,
+        n,
+        row: 0,
+    }
+}
+
+// The entries of the table of class c's parent, read along the parent's own chain; none without a parent.
+pub fn parent_entries(
+    ws: &[u32],
+    text: &[u8],
+    abi: &[u32],
+    labels: &[u8],
+    area: &[u32],
+    c: u32,
+) -> Table
+    ensures { λ r. ⌜ builtOf r ≡ built (parentEntries (now (ws .entry)) (now (text .entry)) (now (abi .entry)) (now (labels .entry)) (now (area .entry)) c) ⌝ }
+{
+    let parent = chain::parent_of(ws, c);
+    if parent == 0 {
+        return no_slots();
+    }
+    table_entries(ws, text, abi, labels, area, parent)
+}
