@@ -1,2 +1,3 @@
 pub mod ArrayLaws
 pub mod ReadLaws
+pub mod SlotLaws

@@ -1,12 +1,13 @@
 -- A table as the code holds it: two arrays, the slots' words and their methods' marks, and a count. Assumes nothing.
 use Prim.Native.Nat.{ℕ, zero, suc, _+_, _-_}
-use mathlib.Core.Bool.{Bool, cond}
+use mathlib.Core.Bool.{Bool, false, cond}
 use mathlib.Core.List.{List}
 use lib.ListN.{getD}
 use lib.Dec.{eqb, ltb}
-use Rattle.words.specs.Lists.{listFrom}
+use Rattle.words.specs.Lists.{listFrom, numbers, find}
 use Rattle.words.specs.declared.Found.{Found}
 use Rattle.words.specs.declared.Found.the-variants.{At, Nothing}
+use Rattle.linking.specs.Chain.{onFound, methodIs}
 use Rattle.linking.specs.Vtable.{Entry, Built, built, refused}
 use Rattle.vtable.specs.declared.Table.{Table}
 
@@ -25,6 +26,14 @@ entryAt ts ms i = record { word = getD ts i 0; method = marked (getD ms i 0) }
 -- the first n slots
 unfoldable pub entriesOf : List ℕ → List ℕ → ℕ → List Entry
 entriesOf ts ms n = listFrom (entryAt ts ms) 0 n
+
+-- the method with this mark has the name and descriptor; no for mark 0
+unfoldable pub markIs : List ℕ → List ℕ → List ℕ → List ℕ → ℕ → Bool
+markIs ws text name descriptor k = onFound (marked k) (λ m. methodIs ws text m name descriptor) false
+
+-- the first of n slots whose mark is of the signature
+unfoldable pub slotIn : List ℕ → List ℕ → List ℕ → List ℕ → List ℕ → ℕ → Found
+slotIn ws text name descriptor ms n = find (λ i. markIs ws text name descriptor (getD ms i 0)) (numbers 0 n)
 
 -- the table that the struct stands for, or the row that refuses it
 abbrev pub builtOf : Table → Built

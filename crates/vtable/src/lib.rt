@@ -2,11 +2,11 @@
 use words::Found;
 ghost use mathlib.Core.Path.{_≡_};
 ghost use Prim.Native.Nat.{_≤_, min};
-ghost use lib.ListN.{length};
+ghost use lib.ListN.{length, getD};
 ghost use Rattle.class_sheet.specs.ClassSheet.{classSlotCount};
 ghost use mathlib.Core.List.{[]};
 ghost use Rattle.linking.specs.Vtable.{ownFixed, findByIndex, readEntry, tableEntries, parentEntries, built};
-ghost use Rattle.vtable.specs.Arrays.{markOf, entriesOf, builtOf};
+ghost use Rattle.vtable.specs.Arrays.{markOf, entriesOf, markIs, slotIn, builtOf};
 
 // A table: its slots' words, 0 where empty, and the marks of their methods, or the row that refuses it.
 pub struct Table {
@@ -105,6 +105,43 @@ fn read_table(
         i += 1;
     }
     n
+}
+
+// Whether the method with mark k has this name and descriptor.
+fn mark_is(ws: &[u32], text: &[u8], name: &[u8], descriptor: &[u8], k: u32) -> bool
+    ensures { λ r. ⌜ r ≡ markIs (now (ws .entry)) (now (text .entry)) (now (name .entry)) (now (descriptor .entry)) k ⌝ }
+{
+    if k == 0 {
+        return false;
+    }
+    chain::method_is(ws, text, k - 1, name, descriptor)
+}
+
+// Whether slot i has this signature.
+fn slot_is(ws: &[u32], text: &[u8], name: &[u8], descriptor: &[u8], ms: &[u32], i: u32) -> bool
+    ensures { λ r. ⌜ r ≡ markIs (now (ws .entry)) (now (text .entry)) (now (name .entry)) (now (descriptor .entry)) (getD (now (ms .entry)) i 0) ⌝ }
+{
+    mark_is(
+        ws,
+        text,
+        name,
+        descriptor,
+        words::word_at(ms, words::wide(i)),
+    )
+}
+
+// The first of n slots that has this signature.
+fn find_slot(ws: &[u32], text: &[u8], name: &[u8], descriptor: &[u8], ms: &[u32], n: u32) -> Found
+    ensures { λ r. ⌜ r ≡ slotIn (now (ws .entry)) (now (text .entry)) (now (name .entry)) (now (descriptor .entry)) (now (ms .entry)) n ⌝ }
+{
+    let mut i: u32 = 0;
+    while i < n {
+        if slot_is(ws, text, name, descriptor, ms, i) {
+            return Found::At(i);
+        }
+        i += 1;
+    }
+    Found::Nothing
 }
 
 // A table of no slots.

@@ -1,0 +1,22 @@
+-- Laws of signatures in a table that is held in two arrays. Assumes nothing.
+use mathlib.Core.Path.{_≡_, refl, sym, ap, _∙_}
+use mathlib.Core.Bool.{Bool, true, false, cond}
+use mathlib.Core.List.{List, [], _∷_, _++_}
+use Prim.Native.Nat.{ℕ, zero, suc, _+_}
+use lib.ListN.{getD}
+use Rattle.words.specs.Lists.{listFrom, numbers, find, position}
+use Rattle.words.specs.declared.Found.{Found}
+use Rattle.linking.specs.Vtable.{Entry, entryIs, slotOf}
+use Rattle.vtable.specs.Arrays.{entryAt, entriesOf, markIs, slotIn}
+
+-- the place of the first element that passes, in a list by a count
+position-is {ℓ} : {A : Type ℓ} (p : A → Bool) (f : ℕ → A) (m n : ℕ) → position p m (listFrom f m n) ≡ find (λ i. p (f i)) (numbers m n)
+unfolding position find listFrom
+position-is p f m zero = refl
+position-is p f m (suc n) = rw (position-is p f (m + 1) n)
+
+-- the slot of a signature does not depend on the words
+pub slot-in : (ws text abi labels name descriptor ts ms : List ℕ) (n : ℕ)
+    → slotOf ws text abi labels name descriptor (entriesOf ts ms n) ≡ slotIn ws text name descriptor ms n
+unfolding slotOf entriesOf slotIn markIs entryIs entryAt
+slot-in ws text abi labels name descriptor ts ms n = position-is (entryIs ws text abi labels name descriptor) (entryAt ts ms) 0 n
