@@ -2,10 +2,10 @@
 use mathlib.Core.Path.{_≡_, refl, sym, ap, _∙_}
 use mathlib.Core.Bool.{Bool, true, false, cond}
 use mathlib.Core.Logic.{_≢_}
-use mathlib.Core.List.{List, [], _∷_, _++_}
-use Prim.Native.Nat.{ℕ, zero, suc, _+_, _-_, _≤_, _<_}
+use mathlib.Core.List.{List, [], _∷_, _++_, append-assoc, append-nil}
+use Prim.Native.Nat.{ℕ, zero, suc, _+_, _-_, _≤_, _<_, max}
 use native.Mathlib.Omega.{arith}
-use lib.ListN.{length, getD, set, take, drop, length-append, length-set, List·getD-append}
+use lib.ListN.{length, getD, set, replicate, length-append, length-set, replicate-append-replicate, List·getD-append}
 use lib.Seq.{ext-getD, getD-set-same, getD-set-other, getD-at}
 use lib.Dec.{eqb, ltb}
 use borrow.Author.Tests.{ltb-true, ltb-false, lt-ltb, eq-eqb, ne-eqb, eqb-true}
@@ -99,3 +99,19 @@ push-slot ts ms n w k r s =
 
     at-end : (j n : ℕ) → ltb j n ≡ false → j < n + 1 → j ≡ n
     at-end j n q g = omega (arith, ltb-false j n q)
+
+-- ---- a table that is extended with empty slots
+
+pub extend-start : (ts ms : List ℕ) (n : ℕ) → entriesOf ts ms n ≡ entriesOf ts ms n ++ replicate (n - n) empty
+extend-start ts ms n = let e : n - n ≡ 0 = omega arith in rw e (sym (append-nil (entriesOf ts ms n)))
+
+pub extend-turn : (E : List Entry) (n j : ℕ) (ts ms us ns : List ℕ) {i l : ℕ} → n ≤ j → j < length ts → j < length ms
+    → entriesOf ts ms j ≡ E ++ replicate (j - n) empty → us ≡ set ts i 0 → i ≡ j → ns ≡ set ms l 0 → l ≡ j
+    → entriesOf us ns (j + 1) ≡ E ++ replicate (j + 1 - n) empty
+extend-turn E n j ts ms us ns h r s e f g o q =
+    let z : j + 1 - n ≡ j - n + 1 = omega arith in
+    rw (f, g, o, q, push-slot ts ms j 0 0 r s, e, z, ← (replicate-append-replicate (j - n) 1 empty), append-assoc)
+
+pub extend-end : (E T : List Entry) (n j size : ℕ) → n ≤ j → j ≤ max n size → size ≤ j → T ≡ E ++ replicate (j - n) empty
+    → T ≡ E ++ replicate (size - n) empty
+extend-end E T n j size a b c e = let z : size - n ≡ j - n = omega arith in rw z e

@@ -1,11 +1,11 @@
 // Virtual tables (vtable.rs): Reading, `build_methods`, `build_interface_methods`.
 use words::Found;
 ghost use mathlib.Core.Path.{_≡_};
-ghost use Prim.Native.Nat.{_≤_, min};
-ghost use lib.ListN.{length, getD};
+ghost use Prim.Native.Nat.{_≤_, _-_, min};
+ghost use lib.ListN.{length, getD, replicate};
 ghost use Rattle.class_sheet.specs.ClassSheet.{classSlotCount};
-ghost use mathlib.Core.List.{[]};
-ghost use Rattle.linking.specs.Vtable.{ownFixed, findByIndex, readEntry, tableEntries, parentEntries, built};
+ghost use mathlib.Core.List.{[], _++_};
+ghost use Rattle.linking.specs.Vtable.{ownFixed, findByIndex, readEntry, tableEntries, parentEntries, empty, built};
 ghost use Rattle.vtable.specs.Arrays.{markOf, entriesOf, markIs, slotIn, builtOf};
 
 // A table: its slots' words, 0 where empty, and the marks of their methods, or the row that refuses it.
@@ -142,6 +142,21 @@ fn find_slot(ws: &[u32], text: &[u8], name: &[u8], descriptor: &[u8], ms: &[u32]
         i += 1;
     }
     Found::Nothing
+}
+
+// Extends the n slots with empty ones to `size`, and answers how many there are.
+fn extend(ts: &mut [u32], ms: &mut [u32], n: u32, size: u32) -> u32
+    requires { ⌜ (n ≤ 1024) × (size ≤ 1024) × (1024 ≤ length (now ts)) × (1024 ≤ length (now ms)) ⌝ }
+    ensures is { λ r. ⌜ entriesOf (now (ts .exit)) (now (ms .exit)) r ≡ entriesOf (now (ts .entry)) (now (ms .entry)) n ++ replicate (size - n) empty ⌝ }
+    ensures count { λ r. ⌜ r ≤ 1024 ⌝ }
+{
+    let mut j: u32 = n;
+    while j < size {
+        words::put_word(ts, words::wide(j), 0);
+        words::put_word(ms, words::wide(j), 0);
+        j += 1;
+    }
+    j
 }
 
 // A table of no slots.
