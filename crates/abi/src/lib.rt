@@ -247,7 +247,13 @@ pub fn chain_abi(ws: &[u32], text: &[u8], abi: &[u32], labels: &[u8], c: u32) ->
 }
 
 // The index that the first of the ABI classes fixes that fixes one for this signature.
-fn first_fixed(abi: &[u32], labels: &[u8], abis: &[u32], name: &[u8], descriptor: &[u8]) -> Found
+pub fn first_fixed(
+    abi: &[u32],
+    labels: &[u8],
+    abis: &[u32],
+    name: &[u8],
+    descriptor: &[u8],
+) -> Found
     ensures { λ r. ⌜ r ≡ fixedIndex (now (abi .entry)) (now (labels .entry)) (now (abis .entry)) (now (name .entry)) (now (descriptor .entry)) ⌝ }
 {
     let mut i: usize = 0;
@@ -280,7 +286,7 @@ pub fn fixed_index(
 }
 
 // The largest size that one of the ABI classes asks for.
-fn largest_size(abi: &[u32], abis: &[u32]) -> u32
+pub fn largest_size(abi: &[u32], abis: &[u32]) -> u32
     ensures { λ r. ⌜ r ≡ minimumSize (now (abi .entry)) (now (abis .entry)) ⌝ }
 {
     let mut size: u32 = 0;

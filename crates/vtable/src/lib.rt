@@ -5,7 +5,7 @@ ghost use Prim.Native.Nat.{_≤_, _-_, min};
 ghost use lib.ListN.{length, getD, replicate};
 ghost use Rattle.class_sheet.specs.ClassSheet.{classSlotCount};
 ghost use mathlib.Core.List.{[], _++_};
-ghost use Rattle.linking.specs.Vtable.{ownFixed, findByIndex, readEntry, tableEntries, parentEntries, empty, built};
+ghost use Rattle.linking.specs.Vtable.{ownFixed, findByIndex, readEntry, tableEntries, parentEntries, fixedOf, empty, built};
 ghost use Rattle.vtable.specs.Arrays.{markOf, entriesOf, markIs, slotIn, builtOf};
 
 // A table: its slots' words, 0 where empty, and the marks of their methods, or the row that refuses it.
@@ -142,6 +142,19 @@ fn find_slot(ws: &[u32], text: &[u8], name: &[u8], descriptor: &[u8], ms: &[u32]
         i += 1;
     }
     Found::Nothing
+}
+
+// The index that the first of the ABI classes fixes for method m's signature.
+pub fn fixed_of(ws: &[u32], text: &[u8], abi: &[u32], labels: &[u8], abis: &[u32], m: u32) -> Found
+    ensures { λ r. ⌜ r ≡ fixedOf (now (ws .entry)) (now (text .entry)) (now (abi .entry)) (now (labels .entry)) (now (abis .entry)) m ⌝ }
+{
+    abi::first_fixed(
+        abi,
+        labels,
+        abis,
+        class_sheet::method_name(ws, text, m),
+        class_sheet::method_descriptor(ws, text, m),
+    )
 }
 
 // Extends the n slots with empty ones to `size`, and answers how many there are.
