@@ -1,3 +1,4 @@
 pub mod ArrayLaws
+pub mod BuildLaws
 pub mod ReadLaws
 pub mod SlotLaws

@@ -1,12 +1,14 @@
 // Virtual tables (vtable.rs): Reading, `build_methods`, `build_interface_methods`.
 use words::Found;
 ghost use mathlib.Core.Path.{_≡_};
-ghost use Prim.Native.Nat.{_≤_, _-_, min};
-ghost use lib.ListN.{length, getD, replicate};
+ghost use Prim.Native.Nat.{_≤_, _<_, _+_, _-_, min};
+ghost use lib.ListN.{length, getD, set, replicate};
 ghost use Rattle.class_sheet.specs.ClassSheet.{classSlotCount};
 ghost use mathlib.Core.List.{[], _++_};
-ghost use Rattle.linking.specs.Vtable.{ownFixed, findByIndex, readEntry, tableEntries, parentEntries, fixedOf, empty, built};
-ghost use Rattle.vtable.specs.Arrays.{markOf, entriesOf, markIs, slotIn, builtOf};
+ghost use Rattle.words.specs.Lists.{fold};
+ghost use Rattle.linking.specs.Abi.{chainAbi};
+ghost use Rattle.linking.specs.Vtable.{ownFixed, findByIndex, readEntry, tableEntries, parentEntries, fixedOf, relayStep, relayed, extended, inheritedTable, empty, built};
+ghost use Rattle.vtable.specs.Arrays.{markOf, marked, entriesOf, markIs, slotIn, builtOf};
 
 // A table: its slots' words, 0 where empty, and the marks of their methods, or the row that refuses it.
 pub struct Table {
@@ -222,4 +224,162 @@ pub fn parent_entries(
         return no_slots();
     }
     table_entries(ws, text, abi, labels, area, parent)
+}
+
+// Stores word w and mark k as slot i.
+fn put_slot(ts: &mut [u32], ms: &mut [u32], i: u32, w: u32, k: u32)
+    ensures words { λ _. ⌜ now (ts .exit) ≡ set (now (ts .entry)) i w ⌝ }
+    ensures marks { λ _. ⌜ now (ms .exit) ≡ set (now (ms .entry)) i k ⌝ }
+{
+    words::put_word(ts, words::wide(i), w);
+    words::put_word(ms, words::wide(i), k);
+}
+
+// Puts an inherited entry, of word w and mark k, at its fixed index, or after the n slots; an unknown one goes. Answers how many there are.
+fn relay_entry(
+    ws: &[u32],
+    text: &[u8],
+    abi: &[u32],
+    labels: &[u8],
+    abis: &[u32],
+    w: u32,
+    k: u32,
+    ts: &mut [u32],
+    ms: &mut [u32],
+    n: u32,
+) -> u32
+    requires { ⌜ (n < length (now ts)) × (n < length (now ms)) × (n < 3584) ⌝ }
+    ensures is { λ r. ⌜ entriesOf (now (ts .exit)) (now (ms .exit)) r ≡ relayStep (now (ws .entry)) (now (text .entry)) (now (abi .entry)) (now (labels .entry)) (now (abis .entry)) (entriesOf (now (ts .entry)) (now (ms .entry)) n) (record { word = w; method = marked k }) ⌝ }
+    ensures count { λ r. ⌜ r ≤ n + 1 ⌝ }
+{
+    if k == 0 {
+        return n;
+    }
+    match fixed_of(ws, text, abi, labels, abis, k - 1) {
+        Found::At(i) => {
+            put_slot(ts, ms, i, w, k);
+            n
+        }
+        Found::Nothing => {
+            put_slot(ts, ms, n, w, k);
+            n + 1
+        }
+    }
+}
+
+// Puts each of the m inherited entries so, in their order.
+fn relay(
+    ws: &[u32],
+    text: &[u8],
+    abi: &[u32],
+    labels: &[u8],
+    abis: &[u32],
+    ps: &[u32],
+    qs: &[u32],
+    m: u32,
+    ts: &mut [u32],
+    ms: &mut [u32],
+    n: u32,
+) -> u32
+    requires { ⌜ (m ≤ 1024) × (n ≤ 1024) × (3584 ≤ length (now ts)) × (3584 ≤ length (now ms)) ⌝ }
+    ensures is { λ r. ⌜ entriesOf (now (ts .exit)) (now (ms .exit)) r ≡ fold (relayStep (now (ws .entry)) (now (text .entry)) (now (abi .entry)) (now (labels .entry)) (now (abis .entry))) (entriesOf (now (ts .entry)) (now (ms .entry)) n) (entriesOf (now (ps .entry)) (now (qs .entry)) m) ⌝ }
+    ensures count { λ r. ⌜ r ≤ 2048 ⌝ }
+{
+    let mut k: u32 = n;
+    let mut i: u32 = 0;
+    while i < m {
+        let w = words::word_at(ps, words::wide(i));
+        let q = words::word_at(qs, words::wide(i));
+        k = relay_entry(ws, text, abi, labels, abis, w, q, ts, ms, k);
+        i += 1;
+    }
+    k
+}
+
+// Fills the arrays with the slots of class c's parent, and answers how many there are.
+fn read_parent(
+    ws: &[u32],
+    text: &[u8],
+    abi: &[u32],
+    labels: &[u8],
+    area: &[u32],
+    c: u32,
+    ts: &mut [u32],
+    ms: &mut [u32],
+) -> u32
+    requires { ⌜ (1024 ≤ length (now ts)) × (1024 ≤ length (now ms)) ⌝ }
+    ensures is { λ r. ⌜ entriesOf (now (ts .exit)) (now (ms .exit)) r ≡ parentEntries (now (ws .entry)) (now (text .entry)) (now (abi .entry)) (now (labels .entry)) (now (area .entry)) c ⌝ }
+    ensures count { λ r. ⌜ r ≤ 1024 ⌝ }
+{
+    let parent = chain::parent_of(ws, c);
+    if parent == 0 {
+        return 0;
+    }
+    read_table(ws, text, abi, labels, area, parent, ts, ms)
+}
+
+// Fills the arrays with the parent's entries, relayed by the ABI classes of the chain.
+fn relay_parent(
+    ws: &[u32],
+    text: &[u8],
+    abi: &[u32],
+    labels: &[u8],
+    area: &[u32],
+    abis: &[u32],
+    c: u32,
+    ts: &mut [u32],
+    ms: &mut [u32],
+) -> u32
+    requires { ⌜ (3584 ≤ length (now ts)) × (3584 ≤ length (now ms)) ⌝ }
+    ensures is { λ r. ⌜ entriesOf (now (ts .exit)) (now (ms .exit)) r ≡ relayed (now (ws .entry)) (now (text .entry)) (now (abi .entry)) (now (labels .entry)) (now (abis .entry)) (parentEntries (now (ws .entry)) (now (text .entry)) (now (abi .entry)) (now (labels .entry)) (now (area .entry)) c) ⌝ }
+    ensures count { λ r. ⌜ r ≤ 2048 ⌝ }
+{
+    let mut ps = [0u32; 1024];
+    let mut qs = [0u32; 1024];
+    let m = read_parent(ws, text, abi, labels, area, c, &mut ps, &mut qs);
+    let size = abi::largest_size(abi, abis);
+    let n = extend(ts, ms, 0, size);
+    relay(ws, text, abi, labels, abis, &ps, &qs, m, ts, ms, n)
+}
+
+// Fills the arrays with the parent's entries, extended to the minimum size.
+fn extend_parent(
+    ws: &[u32],
+    text: &[u8],
+    abi: &[u32],
+    labels: &[u8],
+    area: &[u32],
+    abis: &[u32],
+    c: u32,
+    ts: &mut [u32],
+    ms: &mut [u32],
+) -> u32
+    requires { ⌜ (1024 ≤ length (now ts)) × (1024 ≤ length (now ms)) ⌝ }
+    ensures is { λ r. ⌜ entriesOf (now (ts .exit)) (now (ms .exit)) r ≡ extended (now (ws .entry)) (now (text .entry)) (now (abi .entry)) (now (labels .entry)) (now (abis .entry)) (parentEntries (now (ws .entry)) (now (text .entry)) (now (abi .entry)) (now (labels .entry)) (now (area .entry)) c) ⌝ }
+    ensures count { λ r. ⌜ r ≤ 1024 ⌝ }
+{
+    let n = read_parent(ws, text, abi, labels, area, c, ts, ms);
+    extend(ts, ms, n, abi::largest_size(abi, abis))
+}
+
+// Fills the arrays with class c's table before its own methods.
+fn inherited_table(
+    ws: &[u32],
+    text: &[u8],
+    abi: &[u32],
+    labels: &[u8],
+    area: &[u32],
+    abis: &[u32],
+    c: u32,
+    ts: &mut [u32],
+    ms: &mut [u32],
+) -> u32
+    requires { ⌜ (now abis ≡ chainAbi (now ws) (now text) (now abi) (now labels) c) × (3584 ≤ length (now ts)) × (3584 ≤ length (now ms)) ⌝ }
+    ensures is { λ r. ⌜ entriesOf (now (ts .exit)) (now (ms .exit)) r ≡ inheritedTable (now (ws .entry)) (now (text .entry)) (now (abi .entry)) (now (labels .entry)) (now (area .entry)) c ⌝ }
+    ensures count { λ r. ⌜ r ≤ 2048 ⌝ }
+{
+    match abi::class_abi(ws, text, abi, labels, c) {
+        Found::At(a) => relay_parent(ws, text, abi, labels, area, abis, c, ts, ms),
+        Found::Nothing => extend_parent(ws, text, abi, labels, area, abis, c, ts, ms),
+    }
 }
