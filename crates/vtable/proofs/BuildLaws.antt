@@ -5,8 +5,8 @@ use mathlib.Core.Logic.{_≢_}
 use mathlib.Core.List.{List, [], _∷_, _++_}
 use Prim.Native.Nat.{ℕ, zero, suc, _+_, _-_, _≤_, _<_}
 use native.Mathlib.Omega.{arith}
-use lib.ListN.{length, getD, set, replicate, length-set}
-use lib.Seq.{ext-getD, getD-set-other}
+use lib.ListN.{length, getD, set, replicate}
+use lib.Seq.{ext-getD, set-out}
 use lib.Dec.{eqb, ltb}
 use borrow.Author.Tests.{ltb-true, ltb-false, eq-eqb, ne-eqb}
 use Rattle.words.proofs.Bools.{by}
@@ -20,14 +20,6 @@ use Rattle.vtable.specs.Arrays.{marked, entryAt, entriesOf}
 use Rattle.vtable.proofs.ArrayLaws.{length-entries, entry-is, stored-other, put-slot, push-slot}
 
 -- ---- a store to any slot
-
-set-past : (T : List Entry) (i : ℕ) (e : Entry) → length T ≤ i → set T i e ≡ T
-set-past T i e h =
-    ext-getD empty (set T i e) T (length-set T i e)
-    (λ j l.
-    let g = length-set T i e in
-    let n : j ≢ i = (λ (z : j ≡ i). omega arith) in
-    getD-set-other T i j e empty n)
 
 put-past : (ts ms : List ℕ) (n i w k : ℕ) → n ≤ i → entriesOf (set ts i w) (set ms i k) n ≡ entriesOf ts ms n
 put-past ts ms n i w k h =
@@ -46,7 +38,7 @@ put-any ts ms n i w k r s =
     (λ q.
     let h : n ≤ i = above i n q in
     let g : length (entriesOf ts ms n) ≤ i = rw (length-entries ts ms n) h in
-    put-past ts ms n i w k h ∙ sym (set-past (entriesOf ts ms n) i (record { word = w; method = marked k }) g))
+    put-past ts ms n i w k h ∙ sym (set-out (entriesOf ts ms n) i (record { word = w; method = marked k }) g))
   where
     below : (i n : ℕ) → ltb i n ≡ true → i < n
     below i n q = omega (arith, ltb-true i n q)

@@ -1,3 +1,4 @@
+pub mod AddLaws
 pub mod ArrayLaws
 pub mod BuildLaws
 pub mod ReadLaws

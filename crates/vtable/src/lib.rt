@@ -5,10 +5,14 @@ ghost use Prim.Native.Nat.{_≤_, _<_, _+_, _-_, min};
 ghost use lib.ListN.{length, getD, set, replicate};
 ghost use Rattle.class_sheet.specs.ClassSheet.{classSlotCount};
 ghost use mathlib.Core.List.{[], _++_};
+ghost use mathlib.Core.Bool.{not, false};
+ghost use lib.Dec.{eqb};
 ghost use Rattle.words.specs.Lists.{fold};
+ghost use Rattle.words.specs.declared.Found.the-variants.{At, Nothing};
+ghost use Rattle.linking.specs.Chain.{onFound, ownMethods};
 ghost use Rattle.linking.specs.Abi.{chainAbi};
-ghost use Rattle.linking.specs.Vtable.{ownFixed, findByIndex, readEntry, tableEntries, parentEntries, fixedOf, relayStep, relayed, extended, inheritedTable, empty, built};
-ghost use Rattle.vtable.specs.Arrays.{markOf, marked, entriesOf, markIs, slotIn, builtOf};
+ghost use Rattle.linking.specs.Vtable.{ownFixed, findByIndex, readEntry, tableEntries, parentEntries, fixedOf, relayStep, relayed, extended, inheritedTable, putMethod, addMethod, addMethods, empty, built};
+ghost use Rattle.vtable.specs.Arrays.{markOf, marked, entriesOf, markIs, slotIn, otherIn, builtOf, stepOf, stepCount};
 
 // A table: its slots' words, 0 where empty, and the marks of their methods, or the row that refuses it.
 pub struct Table {
@@ -16,6 +20,14 @@ pub struct Table {
     pub marks: [u32; 3584],
     pub n: u32,
     pub row: u32,
+}
+
+// What adding a method comes to: so many slots, or row 11 (its fixed index differs from the inherited one), or row 12 (its fixed slot
+// holds another signature).
+pub enum Step {
+    Next(u32),
+    Moved,
+    Taken,
 }
 
 // The mark of what a search found.
@@ -382,4 +394,156 @@ fn inherited_table(
         Found::At(a) => relay_parent(ws, text, abi, labels, area, abis, c, ts, ms),
         Found::Nothing => extend_parent(ws, text, abi, labels, area, abis, c, ts, ms),
     }
+}
+
+// Whether a slot was found that is not slot i.
+fn is_elsewhere(slot: Found, i: u32) -> bool
+    ensures { λ r. ⌜ r ≡ onFound slot (λ j. not (eqb j i)) false ⌝ }
+{
+    match slot {
+        Found::At(j) => j != i,
+        Found::Nothing => false,
+    }
+}
+
+// Whether slot i of n holds a method of another signature than method m's.
+fn holds_other(ws: &[u32], text: &[u8], m: u32, ms: &[u32], n: u32, i: u32) -> bool
+    ensures { λ r. ⌜ r ≡ otherIn (now (ws .entry)) (now (text .entry)) m (now (ms .entry)) n i ⌝ }
+{
+    if n <= i {
+        return false;
+    }
+    let k = words::word_at(ms, words::wide(i));
+    if k == 0 {
+        return false;
+    }
+    !mark_is(
+        ws,
+        text,
+        class_sheet::method_name(ws, text, m),
+        class_sheet::method_descriptor(ws, text, m),
+        k,
+    )
+}
+
+// Puts method m, whose fixed index is i and whose signature has this slot, at its fixed index.
+fn put_fixed(
+    ws: &[u32],
+    text: &[u8],
+    m: u32,
+    i: u32,
+    slot: Found,
+    ts: &mut [u32],
+    ms: &mut [u32],
+    n: u32,
+) -> Step
+    requires { ⌜ (m < 512) × (n ≤ length (now ts)) × (n ≤ length (now ms)) ⌝ }
+    ensures is { λ r. ⌜ stepOf r (now (ts .exit)) (now (ms .exit)) ≡ putMethod (now (ws .entry)) (now (text .entry)) [] [] (At i) slot m (entriesOf (now (ts .entry)) (now (ms .entry)) n) ⌝ }
+    ensures count { λ r. ⌜ stepCount r ≤ n ⌝ }
+{
+    if is_elsewhere(slot, i) {
+        return Step::Moved;
+    }
+    if holds_other(ws, text, m, ms, n, i) {
+        return Step::Taken;
+    }
+    put_slot(ts, ms, i, class_sheet::method_target(ws, m), m + 1);
+    Step::Next(n)
+}
+
+// Puts method m, which has no fixed index, at the slot of its signature, or after the n slots.
+fn put_found(
+    ws: &[u32],
+    text: &[u8],
+    m: u32,
+    slot: Found,
+    ts: &mut [u32],
+    ms: &mut [u32],
+    n: u32,
+) -> Step
+    requires { ⌜ (m < 512) × (n < 3584) × (n < length (now ts)) × (n < length (now ms)) ⌝ }
+    ensures is { λ r. ⌜ stepOf r (now (ts .exit)) (now (ms .exit)) ≡ putMethod (now (ws .entry)) (now (text .entry)) [] [] Nothing slot m (entriesOf (now (ts .entry)) (now (ms .entry)) n) ⌝ }
+    ensures count { λ r. ⌜ stepCount r ≤ n + 1 ⌝ }
+{
+    let target = class_sheet::method_target(ws, m);
+    match slot {
+        Found::At(j) => {
+            put_slot(ts, ms, j, target, m + 1);
+            Step::Next(n)
+        }
+        Found::Nothing => {
+            put_slot(ts, ms, n, target, m + 1);
+            Step::Next(n + 1)
+        }
+    }
+}
+
+// Gives method m its slot, if it is eligible.
+fn add_method(
+    ws: &[u32],
+    text: &[u8],
+    abi: &[u32],
+    labels: &[u8],
+    abis: &[u32],
+    m: u32,
+    ts: &mut [u32],
+    ms: &mut [u32],
+    n: u32,
+) -> Step
+    requires { ⌜ (m < 512) × (n < 3584) × (n < length (now ts)) × (n < length (now ms)) ⌝ }
+    ensures is { λ r. ⌜ stepOf r (now (ts .exit)) (now (ms .exit)) ≡ addMethod (now (ws .entry)) (now (text .entry)) (now (abi .entry)) (now (labels .entry)) (now (abis .entry)) m (entriesOf (now (ts .entry)) (now (ms .entry)) n) ⌝ }
+    ensures count { λ r. ⌜ stepCount r ≤ n + 1 ⌝ }
+{
+    if !chain::eligible(ws, text, m) {
+        return Step::Next(n);
+    }
+    let slot = find_slot(
+        ws,
+        text,
+        class_sheet::method_name(ws, text, m),
+        class_sheet::method_descriptor(ws, text, m),
+        ms,
+        n,
+    );
+    match fixed_of(ws, text, abi, labels, abis, m) {
+        Found::At(i) => put_fixed(ws, text, m, i, slot, ts, ms, n),
+        Found::Nothing => put_found(ws, text, m, slot, ts, ms, n),
+    }
+}
+
+// Gives each of class c's own methods its slot, in their order, or the row that refuses the first that is refused.
+fn add_methods(
+    ws: &[u32],
+    text: &[u8],
+    abi: &[u32],
+    labels: &[u8],
+    abis: &[u32],
+    c: u32,
+    ts: &mut [u32],
+    ms: &mut [u32],
+    n: u32,
+) -> Step
+    requires { ⌜ (n ≤ 2048) × (3584 ≤ length (now ts)) × (3584 ≤ length (now ms)) ⌝ }
+    ensures is { λ r. ⌜ stepOf r (now (ts .exit)) (now (ms .exit)) ≡ addMethods (now (ws .entry)) (now (text .entry)) (now (abi .entry)) (now (labels .entry)) (now (abis .entry)) (ownMethods (now (ws .entry)) c) (entriesOf (now (ts .entry)) (now (ms .entry)) n) ⌝ }
+    ensures count { λ r. ⌜ stepCount r ≤ 2560 ⌝ }
+{
+    let first = class_sheet::class_first_method(ws, c);
+    let count = chain::method_count(ws, c);
+    let mut k: u32 = n;
+    let mut i: u32 = 0;
+    while i < count {
+        match add_method(ws, text, abi, labels, abis, first + i, ts, ms, k) {
+            Step::Next(j) => {
+                k = j;
+                i += 1;
+            }
+            Step::Moved => {
+                return Step::Moved;
+            }
+            Step::Taken => {
+                return Step::Taken;
+            }
+        }
+    }
+    Step::Next(k)
 }
