@@ -111,7 +111,7 @@ module _ (ws text : List ℕ) (m : ℕ) where
     unfolding addMethod
     add-put {f = f} {s = s} X h g p q l x =
         let y : s ≡ slotOf ws text abi labels (methodName ws text m) (methodDescriptor ws text m) (entriesOf ts ms n)
-              = l ∙ rw (p, q) (sym (slot-in ws text abi labels (methodName ws text m) (methodDescriptor ws text m) ts ms n)) in
+        = l ∙ rw (p, q) (sym (slot-in ws text abi labels (methodName ws text m) (methodDescriptor ws text m) ts ms n)) in
         x ∙ put-same abi labels f s (entriesOf ts ms n) ∙ rw (← able, h, g, y)
 
 -- ---- all of a class's own methods

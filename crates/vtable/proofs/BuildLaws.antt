@@ -46,7 +46,7 @@ put-any ts ms n i w k r s =
     above : (i n : ℕ) → ltb i n ≡ false → n ≤ i
     above i n q = omega (arith, ltb-false i n q)
 
-no-entries : (ts ms : List ℕ) → entriesOf ts ms 0 ≡ []
+pub no-entries : (ts ms : List ℕ) → entriesOf ts ms 0 ≡ []
 unfolding entriesOf listFrom
 no-entries ts ms = refl
 

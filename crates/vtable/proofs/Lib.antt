@@ -3,3 +3,4 @@ pub mod ArrayLaws
 pub mod BuildLaws
 pub mod ReadLaws
 pub mod SlotLaws
+pub mod TableLaws

@@ -4,14 +4,14 @@ ghost use mathlib.Core.Path.{_≡_};
 ghost use Prim.Native.Nat.{_≤_, _<_, _+_, _-_, min};
 ghost use lib.ListN.{length, getD, set, replicate};
 ghost use Rattle.class_sheet.specs.ClassSheet.{classSlotCount};
-ghost use mathlib.Core.List.{[], _++_};
+ghost use mathlib.Core.List.{[], _∷_, _++_};
 ghost use mathlib.Core.Bool.{not, false};
 ghost use lib.Dec.{eqb};
-ghost use Rattle.words.specs.Lists.{fold};
+ghost use Rattle.words.specs.Lists.{fold, keep};
 ghost use Rattle.words.specs.declared.Found.the-variants.{At, Nothing};
-ghost use Rattle.linking.specs.Chain.{onFound, ownMethods};
+ghost use Rattle.linking.specs.Chain.{onFound, ownMethods, eligible};
 ghost use Rattle.linking.specs.Abi.{chainAbi};
-ghost use Rattle.linking.specs.Vtable.{ownFixed, findByIndex, readEntry, tableEntries, parentEntries, fixedOf, relayStep, relayed, extended, inheritedTable, putMethod, addMethod, addMethods, empty, built};
+ghost use Rattle.linking.specs.Vtable.{ownFixed, findByIndex, readEntry, tableEntries, parentEntries, fixedOf, relayStep, relayed, extended, inheritedTable, putMethod, addMethod, addMethods, buildMethods, methodEntries, buildInterfaceMethods, empty, built, refused};
 ghost use Rattle.vtable.specs.Arrays.{markOf, marked, entriesOf, markIs, slotIn, otherIn, builtOf, stepOf, stepCount};
 
 // A table: its slots' words, 0 where empty, and the marks of their methods, or the row that refuses it.
@@ -546,4 +546,107 @@ fn add_methods(
         }
     }
     Step::Next(k)
+}
+
+// No table, but the row that refuses it.
+fn refused_table(row: u32) -> Table
+    requires { ⌜ 0 < row ⌝ }
+    ensures { λ r. ⌜ builtOf r ≡ refused row ⌝ }
+{
+    Table {
+        words: [0; 3584],
+        marks: [0; 3584],
+        n: 0,
+        row,
+    }
+}
+
+// Class c's table by these ABI classes, those of its chain.
+fn build_with(
+    ws: &[u32],
+    text: &[u8],
+    abi: &[u32],
+    labels: &[u8],
+    area: &[u32],
+    abis: &[u32],
+    c: u32,
+) -> Table
+    requires { ⌜ now abis ≡ chainAbi (now ws) (now text) (now abi) (now labels) c ⌝ }
+    ensures { λ r. ⌜ builtOf r ≡ buildMethods (now (ws .entry)) (now (text .entry)) (now (abi .entry)) (now (labels .entry)) (now (area .entry)) c ⌝ }
+{
+    let mut ts = [0u32; 3584];
+    let mut ms = [0u32; 3584];
+    let n = inherited_table(ws, text, abi, labels, area, abis, c, &mut ts, &mut ms);
+    match add_methods(ws, text, abi, labels, abis, c, &mut ts, &mut ms, n) {
+        Step::Next(k) => Table {
+            words: ts,
+            marks: ms,
+            n: k,
+            row: 0,
+        },
+        Step::Moved => refused_table(11),
+        Step::Taken => refused_table(12),
+    }
+}
+
+// Class c's table: the parent's entries, relayed or extended as the chain's ABI classes ask, and its own methods.
+pub fn build_methods(
+    ws: &[u32],
+    text: &[u8],
+    abi: &[u32],
+    labels: &[u8],
+    area: &[u32],
+    c: u32,
+) -> Table
+    ensures { λ r. ⌜ builtOf r ≡ buildMethods (now (ws .entry)) (now (text .entry)) (now (abi .entry)) (now (labels .entry)) (now (area .entry)) c ⌝ }
+{
+    let chain = abi::chain_abi(ws, text, abi, labels, c);
+    let at = chain.at;
+    let abis = words::word_part(&at, 0, words::wide(chain.n));
+    build_with(ws, text, abi, labels, area, abis, c)
+}
+
+// Puts method m after the n slots, if it is eligible.
+fn add_eligible(ws: &[u32], text: &[u8], m: u32, ts: &mut [u32], ms: &mut [u32], n: u32) -> u32
+    requires { ⌜ (m < 512) × (n < 3584) × (n < length (now ts)) × (n < length (now ms)) ⌝ }
+    ensures is { λ r. ⌜ entriesOf (now (ts .exit)) (now (ms .exit)) r ≡ entriesOf (now (ts .entry)) (now (ms .entry)) n ++ methodEntries (now (ws .entry)) (now (text .entry)) [] [] (keep (eligible (now (ws .entry)) (now (text .entry))) (m ∷ [])) ⌝ }
+    ensures count { λ r. ⌜ r ≤ n + 1 ⌝ }
+{
+    if !chain::eligible(ws, text, m) {
+        return n;
+    }
+    put_slot(ts, ms, n, class_sheet::method_target(ws, m), m + 1);
+    n + 1
+}
+
+// Fills the arrays with class c's own eligible methods, and answers how many there are.
+fn eligible_methods(ws: &[u32], text: &[u8], c: u32, ts: &mut [u32], ms: &mut [u32]) -> u32
+    requires { ⌜ (512 ≤ length (now ts)) × (512 ≤ length (now ms)) ⌝ }
+    ensures is { λ r. ⌜ entriesOf (now (ts .exit)) (now (ms .exit)) r ≡ buildInterfaceMethods (now (ws .entry)) (now (text .entry)) [] [] c ⌝ }
+    ensures count { λ r. ⌜ r ≤ 512 ⌝ }
+{
+    let first = class_sheet::class_first_method(ws, c);
+    let count = chain::method_count(ws, c);
+    let mut n: u32 = 0;
+    let mut i: u32 = 0;
+    while i < count {
+        n = add_eligible(ws, text, first + i, ts, ms, n);
+        i += 1;
+    }
+    n
+}
+
+// The table of a built interface: its eligible methods in order, whatever the ABI sheet.
+pub fn build_interface_methods(ws: &[u32], text: &[u8], c: u32) -> Table
+    ensures { λ r. ⌜ builtOf r ≡ built (buildInterfaceMethods (now (ws .entry)) (now (text .entry)) [] [] c) ⌝ }
+{
+    let mut ts = [0u32; 3584];
+    let mut ms = [0u32; 3584];
+    let n = eligible_methods(ws, text, c, &mut ts, &mut ms);
+    Table {
+        words: ts,
+        marks: ms,
+        n,
+        row: 0,
+    }
 }

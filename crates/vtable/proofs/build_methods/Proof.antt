@@ -1,0 +1,40 @@
+use Rattle.abi.specs.Abis.{abisOf}
+use borrow.Author.Needs.{needs}
+use Rattle.vtable.proofs.build_methods.Statement.{statement}
+use Rattle.vtable.proofs.build_methods.Tie as tie
+use Rattle.vtable.proofs.build_methods.Reads as reads
+use Rattle.vtable.proofs.build_methods.Lts as lts
+use Rattle.abi.proofs.chain_abi.Reads as chain-abi-reads
+use Rattle.vtable.proofs.build_with.Reads as build-with-reads
+use Rattle.words.proofs.wide.Reads as wide-reads
+use Rattle.words.proofs.word_part.Reads as word-part-reads
+
+chain-abi-requires : tie.Need-chain-abi-requires
+chain-abi-requires c κs = search needs
+
+slice-aggregate-word-part : tie.Need-slice-aggregate-word-part
+slice-aggregate-word-part c = search needs
+
+wide-requires : tie.Need-wide-requires
+wide-requires c κs = search needs
+
+word-part-requires : tie.Need-word-part-requires
+word-part-requires c κs = search needs
+
+build-with-requires : tie.Need-build-with-requires
+unfolding abisOf
+build-with-requires c κs = cc
+
+returns : tie.Need-returns
+returns c = search needs
+
+pub build-methods-spec : {M : Type 1} → statement M
+build-methods-spec =
+    tie.close
+    (tie.spec
+    chain-abi-requires
+    slice-aggregate-word-part
+    wide-requires
+    word-part-requires
+    build-with-requires
+    returns)
