@@ -15,7 +15,7 @@ use Rattle.linking.specs.Chain.{parentOf, chain, ownMethod, findByTarget}
 use Rattle.linking.specs.Abi.{slotAt, classAbi}
 use Rattle.linking.specs.Vtable.{Entry, ownFixed, findByIndex, readEntry, readSlot, tableEntries, parentEntries}
 use Rattle.chain.proofs.ChainLaws.{along-none, along-hit, along-up, target-room, found-method-room}
-use Rattle.vtable.specs.Arrays.{markOf, marked, entriesOf}
+use Rattle.vtable.specs.Arrays.{markOf, marked, entriesOf, slotRead}
 use Rattle.vtable.proofs.ArrayLaws.{marked-found, push-slot}
 
 -- one element more at the end
@@ -105,25 +105,27 @@ module _ (ws text abi labels : List ℕ) where
 
   -- ---- the loop that reads a table
 
-  module _ (area : List ℕ) (c : ℕ) where
-    pub read-start : (ts ms : List ℕ) → entriesOf ts ms 0 ≡ listFrom (readSlot ws text abi labels area c) 0 0
+  module _ (area : List ℕ) (place c : ℕ) where
+    pub read-start : (ts ms : List ℕ) → entriesOf ts ms 0 ≡ listFrom (slotRead ws text abi labels area place c) 0 0
     unfolding entriesOf listFrom
     read-start ts ms = refl
 
-    pub read-turn : (i a : ℕ) (ts ms us ns : List ℕ) {j l w k : ℕ} → a ≡ classTablePlace ws c + 1 + i → entriesOf ts ms i ≡ listFrom (readSlot ws text abi labels area c) 0 i
+    pub read-turn : (i a : ℕ) (ts ms us ns : List ℕ) {j l w k : ℕ} → a ≡ place + 1 + i → entriesOf ts ms i ≡ listFrom (slotRead ws text abi labels area place c) 0 i
         → i < length ts → i < length ms → us ≡ set ts j w → j ≡ i → ns ≡ set ms l k → l ≡ i → w ≡ getD area a 0
-        → k ≡ markOf ((readEntry ws text abi labels c i w) .method) → entriesOf us ns (i + 1) ≡ listFrom (readSlot ws text abi labels area c) 0 (i + 1)
-    unfolding readSlot
+        → k ≡ markOf ((readEntry ws text abi labels c i w) .method) → entriesOf us ns (i + 1) ≡ listFrom (slotRead ws text abi labels area place c) 0 (i + 1)
+    unfolding slotRead
     read-turn i a ts ms us ns {w = w} {k = k} e h r s f g o q v u =
         let x : _≡_ {A = Entry} (record { word = w; method = marked k }) (readEntry ws text abi labels c i w) = rw u (read-back c i w) in
         let z : 0 + i ≡ i = omega arith in
-        let y = rw z at (list-snoc (readSlot ws text abi labels area c) 0 i) in
+        let y = rw z at (list-snoc (slotRead ws text abi labels area place c) 0 i) in
         rw (f, g, o, q, push-slot ts ms i w k r s, h, x, v, e) (sym y)
 
-    pub read-end : (ts ms : List ℕ) (n i : ℕ) → n ≡ min (classSlotCount ws c) 1024 → i ≡ n → entriesOf ts ms i ≡ listFrom (readSlot ws text abi labels area c) 0 i
-        → entriesOf ts ms n ≡ tableEntries ws text abi labels area c
-    unfolding tableEntries
-    read-end ts ms n i e f h = rw (← e) (rw f at h)
+  module _ (area : List ℕ) (c : ℕ) where
+    -- what is read at class c's place is its table
+    pub table-is : {p n : ℕ} {T : List Entry} → p ≡ classTablePlace ws c → n ≡ min (classSlotCount ws c) 1024
+        → T ≡ listFrom (slotRead ws text abi labels area p c) 0 n → T ≡ tableEntries ws text abi labels area c
+    unfolding tableEntries readSlot slotRead
+    table-is e f t = t ∙ rw (e, f)
 
     -- ---- the parent's entries
 

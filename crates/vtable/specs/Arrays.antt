@@ -9,7 +9,7 @@ use Rattle.words.specs.declared.Found.{Found}
 use Rattle.words.specs.declared.Found.the-variants.{At, Nothing}
 use Rattle.class_sheet.specs.ClassSheet.{methodName, methodDescriptor}
 use Rattle.linking.specs.Chain.{onFound, methodIs}
-use Rattle.linking.specs.Vtable.{Entry, Built, built, refused}
+use Rattle.linking.specs.Vtable.{Entry, Built, built, refused, readEntry}
 use Rattle.vtable.specs.declared.Step.{Step}
 use Rattle.vtable.specs.declared.Step.the-variants.{Next, Moved, Taken}
 use Rattle.vtable.specs.declared.Table.{Table}
@@ -29,6 +29,10 @@ entryAt ts ms i = record { word = getD ts i 0; method = marked (getD ms i 0) }
 -- the first n slots
 unfoldable pub entriesOf : List ℕ → List ℕ → ℕ → List Entry
 entriesOf ts ms n = listFrom (entryAt ts ms) 0 n
+
+-- slot i of the table at a place, as the area holds it and Reading finds it along class c's chain
+unfoldable pub slotRead : List ℕ → List ℕ → List ℕ → List ℕ → List ℕ → ℕ → ℕ → ℕ → Entry
+slotRead ws text abi labels area place c i = readEntry ws text abi labels c i (getD area (place + 1 + i) 0)
 
 -- the method with this mark has the name and descriptor; no for mark 0
 unfoldable pub markIs : List ℕ → List ℕ → List ℕ → List ℕ → ℕ → Bool

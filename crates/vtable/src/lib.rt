@@ -7,12 +7,12 @@ ghost use Rattle.class_sheet.specs.ClassSheet.{classSlotCount};
 ghost use mathlib.Core.List.{[], _∷_, _++_};
 ghost use mathlib.Core.Bool.{not, false};
 ghost use lib.Dec.{eqb};
-ghost use Rattle.words.specs.Lists.{fold, keep};
+ghost use Rattle.words.specs.Lists.{listFrom, fold, keep};
 ghost use Rattle.words.specs.declared.Found.the-variants.{At, Nothing};
 ghost use Rattle.linking.specs.Chain.{onFound, ownMethods, eligible};
 ghost use Rattle.linking.specs.Abi.{chainAbi};
 ghost use Rattle.linking.specs.Vtable.{ownFixed, findByIndex, readEntry, tableEntries, parentEntries, fixedOf, relayStep, relayed, extended, inheritedTable, putMethod, addMethod, addMethods, buildMethods, methodEntries, buildInterfaceMethods, empty, built, refused};
-ghost use Rattle.vtable.specs.Arrays.{markOf, marked, entriesOf, markIs, slotIn, otherIn, builtOf, stepOf, stepCount};
+ghost use Rattle.vtable.specs.Arrays.{markOf, marked, entriesOf, markIs, slotIn, otherIn, slotRead, builtOf, stepOf, stepCount};
 
 // A table: its slots' words, 0 where empty, and the marks of their methods, or the row that refuses it.
 pub struct Table {
@@ -87,10 +87,33 @@ fn slot_count(ws: &[u32], c: u32) -> u32
     ensures { λ r. ⌜ r ≡ min (classSlotCount (now (ws .entry)) c) 1024 ⌝ }
 {
     let n = class_sheet::class_slot_count(ws, c);
-    if n < 1024 {
-        return n;
+    if n < 1024 { n } else { 1024 }
+}
+
+// Fills the arrays with the n slots of the table at `place`, read along class c's chain.
+fn read_slots(
+    ws: &[u32],
+    text: &[u8],
+    abi: &[u32],
+    labels: &[u8],
+    area: &[u32],
+    place: u32,
+    n: u32,
+    c: u32,
+    ts: &mut [u32],
+    ms: &mut [u32],
+)
+    requires { ⌜ (n ≤ 1024) × (1024 ≤ length (now ts)) × (1024 ≤ length (now ms)) ⌝ }
+    ensures { λ _. ⌜ entriesOf (now (ts .exit)) (now (ms .exit)) n ≡ listFrom (slotRead (now (ws .entry)) (now (text .entry)) (now (abi .entry)) (now (labels .entry)) (now (area .entry)) place c) 0 n ⌝ }
+{
+    let mut i: u32 = 0;
+    while i < n {
+        let w = words::word_at(area, words::wide(place) + 1 + words::wide(i));
+        let k = read_mark(ws, text, abi, labels, c, i, w);
+        words::put_word(ts, words::wide(i), w);
+        words::put_word(ms, words::wide(i), k);
+        i += 1;
     }
-    1024
 }
 
 // Fills the arrays with class c's slots, and answers how many there are.
@@ -109,15 +132,8 @@ fn read_table(
     ensures count { λ r. ⌜ r ≤ 1024 ⌝ }
 {
     let n = slot_count(ws, c);
-    let place = words::wide(class_sheet::class_table_place(ws, c));
-    let mut i: u32 = 0;
-    while i < n {
-        let w = words::word_at(area, place + 1 + words::wide(i));
-        let k = read_mark(ws, text, abi, labels, c, i, w);
-        words::put_word(ts, words::wide(i), w);
-        words::put_word(ms, words::wide(i), k);
-        i += 1;
-    }
+    let place = class_sheet::class_table_place(ws, c);
+    read_slots(ws, text, abi, labels, area, place, n, c, ts, ms);
     n
 }
 
@@ -186,18 +202,6 @@ fn extend(ts: &mut [u32], ms: &mut [u32], n: u32, size: u32) -> u32
     j
 }
 
-// A table of no slots.
-fn no_slots() -> Table
-    ensures { λ r. ⌜ builtOf r ≡ built [] ⌝ }
-{
-    Table {
-        words: [0; 3584],
-        marks: [0; 3584],
-        n: 0,
-        row: 0,
-    }
-}
-
 // The entries of class c's table, each as Reading finds it.
 pub fn table_entries(
     ws: &[u32],
@@ -220,7 +224,32 @@ pub fn table_entries(
     }
 }
 
-// The entries of the table of class c's parent, read along the parent's own chain; none without a parent.
+// Fills the arrays with the slots of class c's parent, read along the parent's own chain, and answers how many there are.
+fn read_parent(
+    ws: &[u32],
+    text: &[u8],
+    abi: &[u32],
+    labels: &[u8],
+    area: &[u32],
+    c: u32,
+    ts: &mut [u32],
+    ms: &mut [u32],
+) -> u32
+    requires { ⌜ (1024 ≤ length (now ts)) × (1024 ≤ length (now ms)) ⌝ }
+    ensures is { λ r. ⌜ entriesOf (now (ts .exit)) (now (ms .exit)) r ≡ parentEntries (now (ws .entry)) (now (text .entry)) (now (abi .entry)) (now (labels .entry)) (now (area .entry)) c ⌝ }
+    ensures count { λ r. ⌜ r ≤ 1024 ⌝ }
+{
+    let parent = chain::parent_of(ws, c);
+    if parent == 0 {
+        return 0;
+    }
+    let n = slot_count(ws, parent);
+    let place = class_sheet::class_table_place(ws, parent);
+    read_slots(ws, text, abi, labels, area, place, n, parent, ts, ms);
+    n
+}
+
+// The entries of the table of class c's parent; none without a parent.
 pub fn parent_entries(
     ws: &[u32],
     text: &[u8],
@@ -231,11 +260,15 @@ pub fn parent_entries(
 ) -> Table
     ensures { λ r. ⌜ builtOf r ≡ built (parentEntries (now (ws .entry)) (now (text .entry)) (now (abi .entry)) (now (labels .entry)) (now (area .entry)) c) ⌝ }
 {
-    let parent = chain::parent_of(ws, c);
-    if parent == 0 {
-        return no_slots();
+    let mut ts = [0u32; 3584];
+    let mut ms = [0u32; 3584];
+    let n = read_parent(ws, text, abi, labels, area, c, &mut ts, &mut ms);
+    Table {
+        words: ts,
+        marks: ms,
+        n,
+        row: 0,
     }
-    table_entries(ws, text, abi, labels, area, parent)
 }
 
 // Stores word w and mark k as slot i.
@@ -306,28 +339,6 @@ fn relay(
         i += 1;
     }
     k
-}
-
-// Fills the arrays with the slots of class c's parent, and answers how many there are.
-fn read_parent(
-    ws: &[u32],
-    text: &[u8],
-    abi: &[u32],
-    labels: &[u8],
-    area: &[u32],
-    c: u32,
-    ts: &mut [u32],
-    ms: &mut [u32],
-) -> u32
-    requires { ⌜ (1024 ≤ length (now ts)) × (1024 ≤ length (now ms)) ⌝ }
-    ensures is { λ r. ⌜ entriesOf (now (ts .exit)) (now (ms .exit)) r ≡ parentEntries (now (ws .entry)) (now (text .entry)) (now (abi .entry)) (now (labels .entry)) (now (area .entry)) c ⌝ }
-    ensures count { λ r. ⌜ r ≤ 1024 ⌝ }
-{
-    let parent = chain::parent_of(ws, c);
-    if parent == 0 {
-        return 0;
-    }
-    read_table(ws, text, abi, labels, area, parent, ts, ms)
 }
 
 // Fills the arrays with the parent's entries, relayed by the ABI classes of the chain.
@@ -441,10 +452,12 @@ fn put_fixed(
     ensures is { λ r. ⌜ stepOf r (now (ts .exit)) (now (ms .exit)) ≡ putMethod (now (ws .entry)) (now (text .entry)) [] [] (At i) slot m (entriesOf (now (ts .entry)) (now (ms .entry)) n) ⌝ }
     ensures count { λ r. ⌜ stepCount r ≤ n ⌝ }
 {
-    if is_elsewhere(slot, i) {
+    let moved = is_elsewhere(slot, i);
+    let taken = holds_other(ws, text, m, ms, n, i);
+    if moved {
         return Step::Moved;
     }
-    if holds_other(ws, text, m, ms, n, i) {
+    if taken {
         return Step::Taken;
     }
     put_slot(ts, ms, i, class_sheet::method_target(ws, m), m + 1);
@@ -612,11 +625,11 @@ fn add_eligible(ws: &[u32], text: &[u8], m: u32, ts: &mut [u32], ms: &mut [u32],
     ensures is { λ r. ⌜ entriesOf (now (ts .exit)) (now (ms .exit)) r ≡ entriesOf (now (ts .entry)) (now (ms .entry)) n ++ methodEntries (now (ws .entry)) (now (text .entry)) [] [] (keep (eligible (now (ws .entry)) (now (text .entry))) (m ∷ [])) ⌝ }
     ensures count { λ r. ⌜ r ≤ n + 1 ⌝ }
 {
-    if !chain::eligible(ws, text, m) {
-        return n;
+    if chain::eligible(ws, text, m) {
+        put_slot(ts, ms, n, class_sheet::method_target(ws, m), m + 1);
+        return n + 1;
     }
-    put_slot(ts, ms, n, class_sheet::method_target(ws, m), m + 1);
-    n + 1
+    n
 }
 
 // Fills the arrays with class c's own eligible methods, and answers how many there are.

@@ -1,9 +1,8 @@
-use Rattle.vtable.specs.Arrays.{entriesOf}
 use native.Mathlib.Omega.{arith}
 use denote.Ref.{now}
 use mathlib.Core.List.{[]}
 use mathlib.Core.Path.{_∙_}
-use borrow.Author.Tests.{not-true, not-false}
+use Rattle.vtable.specs.Arrays.{entriesOf}
 use Rattle.vtable.proofs.AddLaws.{mark-entry}
 use Rattle.vtable.proofs.ArrayLaws.{push-slot}
 use Rattle.vtable.proofs.TableLaws.{eligible-no, eligible-yes}
@@ -18,9 +17,6 @@ use Rattle.vtable.proofs.put_slot.Reads as put-slot-reads
 
 eligible-requires : tie.Need-eligible-requires
 eligible-requires c κs = search needs
-
-returns : tie.Need-returns
-returns c = (eligible-no _ _ _ _ (c .before .eligible .ensures) (not-true _ (c .if1 .taken)), omega arith)
 
 method-target-requires : tie.Need-method-target-requires
 method-target-requires c κs = search needs
@@ -40,19 +36,22 @@ same-length c = search needs
 same-length-2 : tie.Need-same-length-2
 same-length-2 c = search needs
 
+returns : tie.Need-returns
+returns c = let a = c .before .before .before .before .before .before .before .before .before .before .before .before .before .before .args in let s = c .before .before .before .before .put-slot .ensures in (eligible-yes _ _ _ (entriesOf (now (a .ts)) (now (a .ms)) (a .n)) (c .before .before .before .before .before .before .before .before .before .eligible .ensures) (c .before .before .before .before .before .before .before .before .if1 .taken) (rw (s .0, s .1) (push-slot (now (a .ts)) (now (a .ms)) _ _ _ (omega arith) (omega arith) ∙ rw (mark-entry (now (a .ws)) (now (a .text)) [] [] (a .m) (c .before .before .before .before .before .method-target .ensures)))), omega arith)
+
 returns-2 : tie.Need-returns-2
-returns-2 c = let a = c .before .before .before .before .before .before .before .before .before .before .before .before .before .before .args in let s = c .before .before .before .before .put-slot .ensures in (eligible-yes _ _ _ (entriesOf (now (a .ts)) (now (a .ms)) (a .n)) (c .before .before .before .before .before .before .before .before .before .eligible .ensures) (not-false _ (c .before .before .before .before .before .before .before .before .if1 .left)) (rw (s .0, s .1) (push-slot (now (a .ts)) (now (a .ms)) _ _ _ (omega arith) (omega arith) ∙ rw (mark-entry (now (a .ws)) (now (a .text)) [] [] (a .m) (c .before .before .before .before .before .method-target .ensures)))), omega arith)
+returns-2 c = (eligible-no _ _ _ _ (c .before .eligible .ensures) (c .if1 .left), omega arith)
 
 pub add-eligible-spec : {M : Type 1} → statement M
 add-eligible-spec =
     tie.close
     (tie.spec
     eligible-requires
-    returns
     method-target-requires
     add-put-slot
     put-slot-requires
     add-result
     same-length
     same-length-2
+    returns
     returns-2)

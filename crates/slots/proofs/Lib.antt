@@ -1,0 +1,11 @@
+pub mod ListFacts
+pub mod PlaceFacts
+pub mod ChainFacts
+pub mod FixedFacts
+pub mod EntryFacts
+pub mod AddFacts
+pub mod StartFacts
+pub mod ReadFacts
+pub mod Tables
+pub mod LinkFacts
+pub mod Examples

@@ -1,0 +1,124 @@
+-- What demand 3 says of one class's table, and what a table that the linker made is made of. Tables are lists of slot words, one for each
+-- class number; methods, chains and Reading go by one sheet. Assumes nothing.
+use Prim.Native.Nat.{ℕ, _+_, _<_, _≤_}
+use mathlib.Core.Path.{_≡_}
+use mathlib.Core.Logic.{_≢_, _⊎_}
+use mathlib.Core.Bool.{Bool, true, false, cond}
+use mathlib.Core.List.{List, [], _∷_}
+use lib.ListN.{length, getD}
+use lib.Dec.{eqb}
+use Rattle.words.specs.Lists.{listFrom}
+use Rattle.words.specs.declared.Found.{Found}
+use Rattle.words.specs.declared.Found.the-variants.{At, Nothing}
+use Rattle.class_sheet.specs.ClassSheet.{classKind, methodName, methodDescriptor, methodTarget}
+use Rattle.abi_sheet.specs.AbiSheet.{abiSlotName, abiSlotDescriptor}
+use Rattle.linking.specs.Chain.{onFound, ownMethods, parentOf, chain, eligible}
+use Rattle.linking.specs.Abi.{abiSlots, slotIndex, classAbi, chainAbi}
+use Rattle.linking.specs.Vtable.{Entry, Built, built, readEntry, relayed, extended, addMethods, slotWords}
+
+-- x is an element of the list
+pub data In (x : ℕ) : List ℕ → Type 0 where
+  here : {xs : List ℕ} → In x (x ∷ xs)
+  there : {y : ℕ} {xs : List ℕ} → In x xs → In x (y ∷ xs)
+
+module _ (ws text abi labels : List ℕ) where
+  -- ---- slots of a class's table, by Reading
+
+  -- the entries of a table of these words, read along class c's chain
+  unfoldable pub readWords : ℕ → List ℕ → List Entry
+  readWords c t = listFrom (λ i. readEntry ws text abi labels c i (getD t i 0)) 0 (length t)
+
+  -- "a slot is known where Reading finds a method": slot i of class c's table holds method m
+  pub record Known (c : ℕ) (t : List ℕ) (i m : ℕ) : Type 0 where
+    pub slot : i < length t
+    pub reads : readEntry ws text abi labels c i (getD t i 0) .method ≡ At m
+
+  -- "and has its signature"
+  pub record SameSignature (m k : ℕ) : Type 0 where
+    pub name : methodName ws text m ≡ methodName ws text k
+    pub descriptor : methodDescriptor ws text m ≡ methodDescriptor ws text k
+
+  -- "no two known slots in a class's table have one signature"
+  abbrev pub Unique : ℕ → List ℕ → Type 0
+  Unique c t = (i j m k : ℕ) → Known c t i m → Known c t j k → SameSignature m k → i ≡ j
+
+  -- "an eligible method of that signature which the child declares", and its target
+  pub record Declares (c m target : ℕ) : Type 0 where
+    pub method : ℕ
+    pub own : In method (ownMethods ws c)
+    pub eligible : eligible ws text method ≡ true
+    pub signature : SameSignature method m
+    pub target-is : methodTarget ws method ≡ target
+
+  -- "each known slot of its parent's table is known at the same index with the same signature, and the child's target there is the
+  -- parent's or that of an eligible method of that signature which the child declares"
+  pub record Keeps (c : ℕ) (t p : List ℕ) (i m : ℕ) : Type 0 where
+    pub method : ℕ
+    pub known : Known c t i method
+    pub signature : SameSignature method m
+    pub target : (getD t i 0 ≡ getD p i 0) ⊎ Declares c m (getD t i 0)
+
+  abbrev pub Kept : ℕ → List ℕ → List ℕ → Type 0
+  Kept c t p = (i m : ℕ) → Known (parentOf ws c) p i m → Keeps c t p i m
+
+  -- ---- the conditions on a chain
+
+  -- m is a method of the chain of class c, of any flags
+  pub record ChainMethod (c m : ℕ) : Type 0 where
+    pub owner : ℕ
+    pub along : In owner (chain ws c)
+    pub own : In m (ownMethods ws owner)
+
+  -- s is a slot record of an ABI class that the chain of class c names
+  pub record ChainSlot (c s : ℕ) : Type 0 where
+    pub class : ℕ
+    pub along : In class (chain ws c)
+    pub entry : ℕ
+    pub named : classAbi ws text abi labels class ≡ At entry
+    pub own : In s (abiSlots abi entry)
+
+  -- "An ABI sheet is orderly for a chain if, over the ABI classes the chain names, each signature (name and descriptor) has one index and
+  -- each index one signature."
+  pub record Orderly (c : ℕ) : Type 0 where
+    pub one-index : (s z : ℕ) → ChainSlot c s → ChainSlot c z → abiSlotName abi labels s ≡ abiSlotName abi labels z
+        → abiSlotDescriptor abi labels s ≡ abiSlotDescriptor abi labels z → slotIndex abi s ≡ slotIndex abi z
+    pub one-name : (s z : ℕ) → ChainSlot c s → ChainSlot c z → slotIndex abi s ≡ slotIndex abi z
+        → abiSlotName abi labels s ≡ abiSlotName abi labels z
+    pub one-descriptor : (s z : ℕ) → ChainSlot c s → ChainSlot c z → slotIndex abi s ≡ slotIndex abi z
+        → abiSlotDescriptor abi labels s ≡ abiSlotDescriptor abi labels z
+
+  -- ---- what the linker made: the table of a built or array class from its parent's entries
+
+  unfoldable pub startFrom : ℕ → List Entry → List Entry
+  startFrom c P =
+      onFound (classAbi ws text abi labels c) (λ a. relayed ws text abi labels (chainAbi ws text abi labels c) P)
+      (extended ws text abi labels (chainAbi ws text abi labels c) P)
+
+  -- "Array: the parent's entries."
+  unfoldable pub tableFrom : ℕ → List Entry → Built
+  tableFrom c P =
+      cond (eqb (classKind ws c) 2) (built P)
+      (addMethods ws text abi labels (chainAbi ws text abi labels c) (ownMethods ws c) (startFrom c P))
+
+  -- the parent's entries, where each class d has the table `tables d`
+  unfoldable pub inheritedFrom : (ℕ → List ℕ) → ℕ → List Entry
+  inheritedFrom tables c = cond (eqb (parentOf ws c) 0) [] (readWords (parentOf ws c) (tables (parentOf ws c)))
+
+  -- class c's table is what a link makes of its parent's, with some list of stubs that P holds of
+  pub record Made (tables : ℕ → List ℕ) (P : ℕ → Type 0) (c : ℕ) : Type 0 where
+    pub entries : List Entry
+    pub stubs : List ℕ
+    pub enough : length entries ≤ length stubs
+    pub lent : (i : ℕ) → i < length stubs → P (getD stubs i 0)
+    pub bare : classKind ws c ≡ 2 → ownMethods ws c ≡ []
+    pub from : tableFrom c (inheritedFrom tables c) ≡ built entries
+    pub words : tables c ≡ slotWords stubs 0 entries
+
+  -- "under an orderly ABI sheet, where the chain's method targets and all stubs lent are nonzero, the targets all different and none of
+  -- them a stub"
+  pub record Conditions (P : ℕ → Type 0) (c : ℕ) : Type 0 where
+    pub orderly : Orderly c
+    pub targets-nonzero : (m : ℕ) → ChainMethod c m → methodTarget ws m ≢ 0
+    pub targets-different : (m k : ℕ) → ChainMethod c m → ChainMethod c k → methodTarget ws m ≡ methodTarget ws k → m ≡ k
+    pub stubs-nonzero : (x : ℕ) → P x → x ≢ 0
+    pub no-stub : (x m : ℕ) → P x → ChainMethod c m → methodTarget ws m ≢ x
