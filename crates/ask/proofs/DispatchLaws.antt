@@ -1,0 +1,132 @@
+-- Laws of implementations and of a class's table for an interface, as the code goes through them. Assumes nothing.
+use mathlib.Core.Path.{_≡_, refl, sym, ap, _∙_}
+use mathlib.Core.Bool.{true, false, _&&_}
+use mathlib.Core.List.{List, [], _∷_, _++_, append-assoc, append-nil}
+use Prim.Native.Nat.{ℕ, _+_, _-_, _≤_, _<_, min}
+use native.Mathlib.Omega.{arith}
+use lib.ListN.{length, getD, set}
+use borrow.Author.Tests.{ne-eqb}
+use Rattle.words.specs.Lists.{listFrom}
+use Rattle.words.specs.declared.Found.{Found}
+use Rattle.words.specs.declared.Found.the-variants.{At, Nothing}
+use Rattle.words.proofs.ListLaws.{restFrom, rest-start, rest-turn, rest-end, length-list-from, find-member, found-by}
+use Rattle.class_sheet.specs.ClassSheet.{classSlotCount, methodName, methodDescriptor, methodFlags, methodTarget}
+use Rattle.linking.specs.Chain.{ownMethods, parentOf, chain, isVirtual, methodIs}
+use Rattle.linking.specs.Vtable.{Entry, Built, built, refused, readSlot, tableEntries}
+use Rattle.linking.specs.Ask.{ownImplementation, implementation, consEntry, dispatchEntries}
+use Rattle.chain.proofs.ChainLaws.{along-none, along-hit, along-up, own-method-room}
+use Rattle.vtable.specs.Arrays.{marked, entryAt, entriesOf, builtOf}
+use Rattle.vtable.specs.declared.Table.{Table}
+use Rattle.vtable.proofs.ArrayLaws.{length-entries, push-slot}
+use Rattle.area.proofs.AreaLaws.{built-rows}
+use Rattle.ask.specs.Dispatch.{slotBuilt, dispatched}
+use Rattle.ask.specs.declared.Slot.{Slot}
+
+module _ (ws text : List ℕ) where
+  -- ---- implementations
+
+  module _ (c m : ℕ) where
+    pub implementation-none : c ≡ 0 → Nothing ≡ implementation ws text c m
+    unfolding implementation
+    implementation-none e = sym (along-none (ownImplementation ws text (methodName ws text m) (methodDescriptor ws text m)) ws c e)
+
+    module _ {name descriptor : List ℕ} {r : Found} (h : 0 < c) (named : name ≡ methodName ws text m)
+        (described : descriptor ≡ methodDescriptor ws text m) (own : r ≡ ownImplementation ws text name descriptor c) where
+      own-is : ownImplementation ws text (methodName ws text m) (methodDescriptor ws text m) c ≡ r
+      own-is = rw (← named, ← described) (sym own)
+
+      pub implementation-hit : (k : ℕ) → r ≡ At k → At k ≡ implementation ws text c m
+      unfolding implementation
+      implementation-hit k e = sym (along-hit (ownImplementation ws text (methodName ws text m) (methodDescriptor ws text m)) ws c k h (own-is ∙ e))
+
+      pub implementation-up : r ≡ Nothing → implementation ws text (parentOf ws c) m ≡ implementation ws text c m
+      unfolding implementation
+      implementation-up e = sym (along-up (ownImplementation ws text (methodName ws text m) (methodDescriptor ws text m)) ws c h (own-is ∙ e))
+
+  own-room : (name descriptor : List ℕ) (c k : ℕ) → ownImplementation ws text name descriptor c ≡ At k → k < 512
+  unfolding ownImplementation
+  own-room name descriptor c k e =
+      own-method-room ws c k (find-member (λ m. isVirtual (methodFlags ws m) && methodIs ws text m name descriptor) (ownMethods ws c) k e)
+
+  -- an implementation is one of the sheet's methods
+  pub implementation-room : (c m k : ℕ) → implementation ws text c m ≡ At k → k < 512
+  unfolding implementation
+  implementation-room c m k e =
+      found-by (ownImplementation ws text (methodName ws text m) (methodDescriptor ws text m)) (chain ws c) k
+      (λ d t q. own-room (methodName ws text m) (methodDescriptor ws text m) d k q) e
+
+  -- ---- one slot
+
+  module _ (c w k : ℕ) where
+    pub slot-kept : k ≡ 0 → built (record { word = w; method = Nothing } ∷ []) ≡ dispatched ws text c (record { word = w; method = marked k })
+    unfolding dispatched
+    slot-kept e = rw e
+
+    module _ {r : Found} (some : k ≡ 0 → ⊥) (found : r ≡ implementation ws text c (k - 1)) where
+      pub slot-takes : (m t : ℕ) → r ≡ At m → t ≡ methodTarget ws m
+          → built (record { word = t; method = marked (m + 1) } ∷ []) ≡ dispatched ws text c (record { word = w; method = marked k })
+      unfolding dispatched
+      slot-takes m t e f =
+          let g : m + 1 - 1 ≡ m = omega arith in
+          rw (ne-eqb k 0 some, ← found, e, f, ne-eqb (m + 1) 0 (λ (z : m + 1 ≡ 0). omega arith), g)
+
+      pub slot-missing : r ≡ Nothing → refused 16 ≡ dispatched ws text c (record { word = w; method = marked k })
+      unfolding dispatched
+      slot-missing e = rw (ne-eqb k 0 some, ← found, e)
+
+  -- ---- the loop over the slots
+
+  cons-none : (B : Built) → consEntry ws text (built []) B ≡ B
+  cons-none (built T) = refl
+  cons-none (refused n) = refl
+
+  cons-two : (T U : List Entry) (B : Built) → consEntry ws text (built T) (consEntry ws text (built U) B) ≡ consEntry ws text (built (T ++ U)) B
+  cons-two T U (built S) = ap built (sym (append-assoc T U S))
+  cons-two T U (refused n) = refl
+
+  module _ (c : ℕ) (ts ms : List ℕ) (n : ℕ) where
+    -- the slots so far, and what comes of those from turn i on
+    unfoldable pub soFar : List ℕ → List ℕ → ℕ → Built
+    soFar us ns i = consEntry ws text (built (entriesOf us ns i)) (dispatchEntries ws text c (restFrom (entryAt ts ms) 0 n i))
+
+    pub dispatch-start : (us ns : List ℕ) → soFar us ns 0 ≡ dispatchEntries ws text c (entriesOf ts ms n)
+    unfolding soFar entriesOf listFrom
+    dispatch-start us ns = rw (rest-start (entryAt ts ms) 0 n) (cons-none (dispatchEntries ws text c (listFrom (entryAt ts ms) 0 n)))
+
+    module _ (i w k : ℕ) (s : Slot) {j : ℕ} (h : i < n) (at : j ≡ i) (word : w ≡ getD ts j 0) (mark : k ≡ getD ms j 0)
+        (slot : slotBuilt s ≡ dispatched ws text c (record { word = w; method = marked k })) where
+      here : dispatched ws text c (entryAt ts ms (0 + i)) ≡ slotBuilt s
+      unfolding entryAt
+      here = let z : 0 + i ≡ j = omega arith in rw (z, ← word, ← mark) (sym slot)
+
+      turn : (us ns : List ℕ) → soFar us ns i ≡ consEntry ws text (built (entriesOf us ns i))
+          (consEntry ws text (slotBuilt s) (dispatchEntries ws text c (restFrom (entryAt ts ms) 0 n (i + 1))))
+      unfolding soFar dispatchEntries dispatched
+      turn us ns = rw (rest-turn (entryAt ts ms) 0 n i h, ← here)
+
+      pub dispatch-stop : (us ns : List ℕ) → s .missing ≡ true → refused 16 ≡ soFar us ns i
+      dispatch-stop us ns t = let e = turn us ns in sym (e ∙ rw t)
+
+      pub dispatch-turn : (us ns us₂ ns₂ : List ℕ) → i < length us → i < length ns → s .missing ≡ false
+          → us₂ ≡ set us j (s .word) → ns₂ ≡ set ns j (s .mark) → soFar us₂ ns₂ (i + 1) ≡ soFar us ns i
+      unfolding soFar
+      dispatch-turn us ns us₂ ns₂ r q f o p =
+          let t = turn us ns in
+          rw (o, p, at, push-slot us ns i (s .word) (s .mark) r q)
+          (sym (t ∙ rw f (cons-two (entriesOf us ns i) (record { word = s .word; method = marked (s .mark) } ∷ []) (dispatchEntries ws text c (restFrom (entryAt ts ms) 0 n (i + 1))))))
+
+    pub dispatch-end : (us ns : List ℕ) (i : ℕ) → i ≡ n → built (entriesOf us ns n) ≡ soFar us ns i
+    unfolding soFar dispatchEntries
+    dispatch-end us ns i e = rw (rest-end (entryAt ts ms) 0 n i (omega arith), append-nil, e)
+
+-- ---- a table that was read
+
+-- it has at most 1,024 slots
+pub read-few : (ws text abi labels area : List ℕ) (i : ℕ) (t : Table) → builtOf t ≡ built (tableEntries ws text abi labels area i) → t .n ≤ 1024
+unfolding tableEntries
+read-few ws text abi labels area i t e =
+    let p = built-rows t (tableEntries ws text abi labels area i) e in
+    let l = length-entries (t .words) (t .marks) (t .n) in
+    let k = length-list-from (readSlot ws text abi labels area i) 0 (min (classSlotCount ws i) 1024) in
+    let q : length (entriesOf (t .words) (t .marks) (t .n)) ≡ length (tableEntries ws text abi labels area i) = ap length (p .1) in
+    omega arith

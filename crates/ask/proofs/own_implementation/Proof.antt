@@ -1,0 +1,74 @@
+use native.Mathlib.Omega.{arith}
+use mathlib.Core.Path.{_≡_, _∙_}
+use Prim.Native.Nat.{_-_, _≤_}
+use Rattle.words.proofs.ListLaws.{findFrom, find-start, find-hit, find-miss, find-end}
+use Rattle.linking.specs.Ask.{ownImplementation}
+use Rattle.linking.specs.Chain.{isVirtual, methodIs, ownMethods}
+use Rattle.class_sheet.specs.ClassSheet.{methodFlags}
+use mathlib.Core.Bool.{_&&_}
+use borrow.Author.Needs.{needs}
+use Rattle.ask.proofs.own_implementation.Statement.{statement}
+use Rattle.ask.proofs.own_implementation.Tie as tie
+use Rattle.ask.proofs.own_implementation.Reads as reads
+use Rattle.ask.proofs.own_implementation.Lts as lts
+use Rattle.ask.proofs.implements.Reads as implements-reads
+use Rattle.chain.proofs.method_count.Reads as method-count-reads
+use Rattle.class_sheet.proofs.class_first_method.Reads as class-first-method-reads
+
+abbrev Inv-loop : tie.InvT-loop
+Inv-loop ws text name descriptor c first n i₀ i = (i ≤ n) × (n ≤ 512 - first) × (findFrom (λ m. isVirtual (methodFlags ws m) && methodIs ws text m name descriptor) first n i ≡ ownImplementation ws text name descriptor c)
+
+abbrev μ-loop : tie.MeasureT-loop
+μ-loop ws text name descriptor c first n i₀ i = n - i
+
+class-first-method-requires : tie.Need-class-first-method-requires Inv-loop μ-loop
+class-first-method-requires c κs = search needs
+
+method-count-requires : tie.Need-method-count-requires Inv-loop μ-loop
+method-count-requires c κs = search needs
+
+loop-holds : tie.Need-loop-holds Inv-loop μ-loop
+unfolding ownImplementation ownMethods
+loop-holds c = (omega arith, omega arith, find-start _ _ _ ∙ cc)
+
+add-implements : tie.Need-add-implements Inv-loop μ-loop
+add-implements c = search needs
+
+implements-requires : tie.Need-implements-requires Inv-loop μ-loop
+implements-requires c κs = search needs
+
+add-t12 : tie.Need-add-t12 Inv-loop μ-loop
+add-t12 c = search needs
+
+returns : tie.Need-returns Inv-loop μ-loop
+returns c = find-hit _ _ _ _ (c .before .before .loop-test .taken) (c .before .implements .ensures) (c .if1 .taken) ∙ c .before .before .before .loop .inv .2
+
+add-i : tie.Need-add-i Inv-loop μ-loop
+add-i c = search needs
+
+loop-less : tie.Need-loop-less Inv-loop μ-loop
+loop-less c = search needs
+
+loop-again : tie.Need-loop-again Inv-loop μ-loop
+loop-again c = (omega arith, omega arith, find-miss _ _ _ _ (c .before .before .loop-test .taken) (c .before .implements .ensures) (c .if1 .left) ∙ c .before .before .before .loop .inv .2)
+
+returns-2 : tie.Need-returns-2 Inv-loop μ-loop
+returns-2 c = find-end _ _ _ _ (c .loop-test .left) ∙ c .before .loop .inv .2
+
+pub own-implementation-spec : {M : Type 1} → statement M
+own-implementation-spec =
+    tie.close
+    (tie.spec
+    Inv-loop
+    μ-loop
+    class-first-method-requires
+    method-count-requires
+    loop-holds
+    add-implements
+    implements-requires
+    add-t12
+    returns
+    add-i
+    loop-less
+    loop-again
+    returns-2)

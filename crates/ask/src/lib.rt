@@ -1,0 +1,245 @@
+// `interface_dispatch_table` (class_definition.rs): a class's table for an interface, found in the class's list or built in front of it.
+use area::Answer;
+use area::Walked;
+use vtable::Table;
+use words::Found;
+ghost use mathlib.Core.Path.{_≡_};
+ghost use mathlib.Core.Bool.{_&&_, false};
+ghost use Prim.Native.Nat.{_≤_};
+ghost use lib.ListN.{length};
+ghost use Rattle.class_sheet.specs.ClassSheet.{methodFlags, textLength, textOf};
+ghost use Rattle.abi_sheet.specs.AbiSheet.{abiTextLength, abiTextOf};
+ghost use Rattle.set_rules.specs.SetRules.{setRefusal};
+ghost use Rattle.linking.specs.Chain.{isVirtual, methodIs};
+ghost use Rattle.linking.specs.Vtable.{tableEntries};
+ghost use Rattle.linking.specs.Link.{badArea};
+ghost use Rattle.linking.specs.Ask.{headPlace, ownImplementation, implementation, dispatchEntries, buildNode, askDef};
+ghost use Rattle.vtable.specs.Arrays.{marked, entriesOf, builtOf};
+ghost use Rattle.area.specs.Area.{outcome};
+ghost use Rattle.ask.specs.Dispatch.{slotBuilt, dispatched, tableBuilt, askRefusal, finishAsk};
+
+// Whether method m is neither static nor private and has this name and descriptor.
+fn implements(ws: &[u32], text: &[u8], m: u32, name: &[u8], descriptor: &[u8]) -> bool
+    ensures { λ r. ⌜ r ≡ (isVirtual (methodFlags (now (ws .entry)) m) && methodIs (now (ws .entry)) (now (text .entry)) m (now (name .entry)) (now (descriptor .entry))) ⌝ }
+{
+    chain::is_virtual(class_sheet::method_flags(ws, m))
+        & chain::method_is(ws, text, m, name, descriptor)
+}
+
+// Class c's first such method.
+fn own_implementation(ws: &[u32], text: &[u8], name: &[u8], descriptor: &[u8], c: u32) -> Found
+    ensures { λ r. ⌜ r ≡ ownImplementation (now (ws .entry)) (now (text .entry)) (now (name .entry)) (now (descriptor .entry)) c ⌝ }
+{
+    let first = class_sheet::class_first_method(ws, c);
+    let n = chain::method_count(ws, c);
+    let mut i: u32 = 0;
+    while i < n {
+        if implements(ws, text, first + i, name, descriptor) {
+            return Found::At(first + i);
+        }
+        i += 1;
+    }
+    Found::Nothing
+}
+
+// The first such method of method m's signature: class c's, then its ancestors'.
+fn implementation(ws: &[u32], text: &[u8], c: u32, m: u32) -> Found
+    ensures { λ r. ⌜ r ≡ implementation (now (ws .entry)) (now (text .entry)) c m ⌝ }
+{
+    if c == 0 {
+        return Found::Nothing;
+    }
+    let name = class_sheet::method_name(ws, text, m);
+    let descriptor = class_sheet::method_descriptor(ws, text, m);
+    match own_implementation(ws, text, name, descriptor, c) {
+        Found::At(k) => Found::At(k),
+        Found::Nothing => implementation(ws, text, chain::parent_of(ws, c), m),
+    }
+}
+
+// A slot's word and its method's mark, or that its method has no implementation.
+struct Slot {
+    word: u32,
+    mark: u32,
+    missing: bool,
+}
+
+// Class c's slot for an interface's, whose word is w and whose method's mark is k.
+fn dispatch_slot(ws: &[u32], text: &[u8], c: u32, w: u32, k: u32) -> Slot
+    ensures { λ r. ⌜ slotBuilt r ≡ dispatched (now (ws .entry)) (now (text .entry)) c (record { word = w; method = marked k }) ⌝ }
+{
+    if k == 0 {
+        return Slot {
+            word: w,
+            mark: 0,
+            missing: false,
+        };
+    }
+    match implementation(ws, text, c, k - 1) {
+        Found::At(m) => Slot {
+            word: class_sheet::method_target(ws, m),
+            mark: m + 1,
+            missing: false,
+        },
+        Found::Nothing => Slot {
+            word: 0,
+            mark: 0,
+            missing: true,
+        },
+    }
+}
+
+// Class c's slots for the n of an interface, into other arrays; answers the row that refuses them, or 0.
+fn dispatch_slots(
+    ws: &[u32],
+    text: &[u8],
+    c: u32,
+    ts: &[u32],
+    ms: &[u32],
+    n: u32,
+    us: &mut [u32],
+    ns: &mut [u32],
+) -> u32
+    requires { ⌜ (n ≤ length (now us)) × (n ≤ length (now ns)) ⌝ }
+    ensures { λ r. ⌜ tableBuilt (now (us .exit)) (now (ns .exit)) n r ≡ dispatchEntries (now (ws .entry)) (now (text .entry)) c (entriesOf (now (ts .entry)) (now (ms .entry)) n) ⌝ }
+{
+    let mut i: u32 = 0;
+    while i < n {
+        let at = words::wide(i);
+        let s = dispatch_slot(ws, text, c, words::word_at(ts, at), words::word_at(ms, at));
+        if s.missing {
+            return 16;
+        }
+        words::put_word(us, at, s.word);
+        words::put_word(ns, at, s.mark);
+        i += 1;
+    }
+    0
+}
+
+// Class c's table for an interface's.
+fn dispatch(ws: &[u32], text: &[u8], c: u32, t: Table) -> Table
+    requires { ⌜ t .n ≤ 3584 ⌝ }
+    ensures { λ r. ⌜ builtOf r ≡ dispatchEntries (now (ws .entry)) (now (text .entry)) c (entriesOf (t .words) (t .marks) (t .n)) ⌝ }
+{
+    let mut us = [0u32; 3584];
+    let mut ns = [0u32; 3584];
+    let ts = t.words;
+    let ms = t.marks;
+    let row = dispatch_slots(ws, text, c, &ts, &ms, t.n, &mut us, &mut ns);
+    Table {
+        words: us,
+        marks: ns,
+        n: t.n,
+        row,
+    }
+}
+
+// Class c's table for interface i, with the sheets' texts unpacked.
+fn dispatch_table(ws: &[u32], abi: &[u32], area: &[u32], c: u32, i: u32) -> Table
+    requires { ⌜ (textLength (now ws) ≤ 8192) × (abiTextLength (now abi) ≤ 8192) ⌝ }
+    ensures { λ r. ⌜ builtOf r ≡ dispatchEntries (now (ws .entry)) (textOf (now (ws .entry))) c (tableEntries (now (ws .entry)) (textOf (now (ws .entry))) (now (abi .entry)) (abiTextOf (now (abi .entry))) (now (area .entry)) i) ⌝ }
+{
+    let mut bytes = [0u8; 8192];
+    class_sheet::unpack_text(ws, &mut bytes);
+    let mut abi_bytes = [0u8; 8192];
+    abi_sheet::unpack_text(abi, &mut abi_bytes);
+    let text = text::name_at(&bytes, 0, class_sheet::text_length(ws));
+    let labels = text::name_at(&abi_bytes, 0, abi_sheet::text_length(abi));
+    let t = vtable::table_entries(ws, text, abi, labels, area, i);
+    dispatch(ws, text, c, t)
+}
+
+// The place of class c's list head.
+fn head_place(ws: &[u32], c: u32) -> usize
+    ensures { λ r. ⌜ r ≡ headPlace (now (ws .entry)) c ⌝ }
+{
+    words::wide(class_sheet::class_table_place(ws, c))
+        + words::wide(class_sheet::class_slot_count(ws, c))
+        + 1
+}
+
+// Rows 16 and 15, and then the node of interface i in front of class c's list.
+fn finish_ask(
+    ws: &[u32],
+    c: u32,
+    i: u32,
+    area: &mut [u32],
+    stubs: &[u32],
+    nodes: u32,
+    t: Table,
+) -> Answer
+    requires { ⌜ badArea (now ws) (now area) ≡ false ⌝ }
+    ensures { λ r. ⌜ outcome r (now (ws .entry)) (now (area .exit)) ≡ finishAsk (now (ws .entry)) c i (now (area .entry)) (now (stubs .entry)) nodes (builtOf t) ⌝ }
+{
+    if t.row != 0 {
+        return Answer::Refused(t.row);
+    }
+    if area::no_room(area, stubs, t.n) {
+        return Answer::Refused(15);
+    }
+    let node = words::word_at(area, 0);
+    let ts = t.words;
+    area::write_node(area, head_place(ws, c), i, &ts, t.n, stubs);
+    Answer::Done(node + 1, nodes)
+}
+
+// Builds the node of interface i for class c, whose list has none; `nodes` have been read.
+fn build_node(
+    ws: &[u32],
+    abi: &[u32],
+    c: u32,
+    i: u32,
+    area: &mut [u32],
+    stubs: &[u32],
+    nodes: u32,
+) -> Answer
+    requires { ⌜ (setRefusal (now ws) (now abi) ≡ 0) × (badArea (now ws) (now area) ≡ false) ⌝ }
+    ensures { λ r. ⌜ outcome r (now (ws .entry)) (now (area .exit)) ≡ buildNode (now (ws .entry)) (now (abi .entry)) c i (now (area .entry)) (now (stubs .entry)) nodes ⌝ }
+{
+    let t = dispatch_table(ws, abi, area, c, i);
+    finish_ask(ws, c, i, area, stubs, nodes, t)
+}
+
+// Rows 3 to 7 of an ask, but for the walk: the number that refuses, or 0.
+fn ask_refusal(ws: &[u32], abi: &[u32], c: u32, i: u32, area: &[u32]) -> u32
+    ensures { λ r. ⌜ r ≡ askRefusal (now (ws .entry)) (now (abi .entry)) c i (now (area .entry)) ⌝ }
+{
+    let row = set_rules::set_refusal(ws, abi);
+    if row != 0 {
+        return row;
+    }
+    if call_rules::bad_ask(ws, c, i) {
+        return 6;
+    }
+    if call_rules::bad_area(ws, area) {
+        return 7;
+    }
+    0
+}
+
+// Asks for the class's table of the interface. The answer is the place after its node's link word, where interface number and slots
+// follow, and how many nodes were read on the way; or the row that refuses. Where the class's list has a node of the interface, nothing is
+// written. Else a new node goes in front of the list, from the area's next free word on, and word 0 of the area moves past it. A refused
+// ask writes nothing, and no ask changes the set. The document leaves nothing of this open.
+pub fn interface_dispatch_table(
+    set: &mut [u32],
+    abi: &[u32],
+    class: u32,
+    interface: u32,
+    area: &mut [u32],
+    stubs: &[u32],
+) -> Answer
+    ensures { λ r. ⌜ outcome r (now (set .exit)) (now (area .exit)) ≡ askDef (now (set .entry)) (now (abi .entry)) class interface (now (area .entry)) (now (stubs .entry)) ⌝ }
+{
+    let row = ask_refusal(set, abi, class, interface, area);
+    if row != 0 {
+        return Answer::Refused(row);
+    }
+    let head = words::word_at(area, head_place(set, class));
+    match area::walk(area, interface, head) {
+        Walked::Hit(n, nodes) => Answer::Done(n + 1, nodes),
+        Walked::Missed(nodes) => build_node(set, abi, class, interface, area, stubs, nodes),
+        Walked::Broken => Answer::Refused(7),
+    }
+}

@@ -1,0 +1,2 @@
+pub mod FinishLaws
+pub mod StoreLaws

@@ -1,0 +1,58 @@
+-- What a link stores in the class words, as the code goes: what grows, then the record, then the indices. Assumes nothing.
+use Prim.Native.Nat.{ℕ}
+use mathlib.Core.Bool.{cond, _||_}
+use mathlib.Core.List.{List, []}
+use lib.Dec.{eqb}
+use Rattle.class_sheet.specs.ClassSheet.{classKind, classFirstField, fieldsAt}
+use Rattle.linking.specs.Compiler.{New}
+use Rattle.linking.specs.Set.{putIndices}
+use Rattle.linking.specs.Link.{Plan, isNone, linkedRecord, nextFree, listsFull, setShort, noRoom, Outcome, refusedCall}
+use Rattle.growth.specs.Growth.{methodsGrown, fieldsGrown}
+use Rattle.area.specs.Area.{tableWritten}
+
+-- ---- new members: a built class adds fields, any other methods
+
+abbrev pub methodsOf : List ℕ → ℕ → List New → List New
+methodsOf ws c new = cond (eqb (classKind ws c) 0) [] new
+
+abbrev pub fieldsOf : List ℕ → ℕ → List New → List New
+fieldsOf ws c new = cond (eqb (classKind ws c) 0) new []
+
+-- a plan by its new members alone: what row 14 and the set's part of row 15 ask for
+abbrev pub membersPlan : List ℕ → ℕ → List New → Plan
+membersPlan ws c new = record { table = []; indices = []; newMethods = methodsOf ws c new; newFields = fieldsOf ws c new }
+
+-- ---- the class words
+
+-- the record and the indices of the class's own fields, where they now stand
+unfoldable pub numbered : List ℕ → ℕ → ℕ → ℕ → ℕ → List ℕ → List ℕ
+numbered ws c place slots words indices =
+    putIndices (fieldsAt ws) (classFirstField ws c) indices (linkedRecord ws c place slots words)
+
+unfoldable pub withMethods : List ℕ → ℕ → List New → List ℕ
+withMethods ws c new = cond (isNone new) ws (methodsGrown ws c new)
+
+unfoldable pub stored : List ℕ → ℕ → ℕ → ℕ → ℕ → List ℕ → List New → List New → List ℕ
+stored ws c place slots words indices methods fields =
+    cond (isNone fields)
+    (numbered (withMethods ws c methods) c place slots words indices)
+    (linkedRecord (fieldsGrown ws c indices fields) c place slots words)
+
+abbrev pub storedNews : List ℕ → ℕ → ℕ → ℕ → ℕ → List ℕ → List New → List ℕ
+storedNews ws c place slots words indices new = stored ws c place slots words indices (methodsOf ws c new) (fieldsOf ws c new)
+
+-- ---- rows 14 and 15, then the effect, of a table by the words of its n slots
+
+unfoldable pub finished : List ℕ → ℕ → List ℕ → List ℕ → List ℕ → ℕ → ℕ → List ℕ → List New → Outcome
+finished ws c area stubs slots n words indices new =
+    cond (listsFull ws c (membersPlan ws c new))
+    (refusedCall 14 ws area)
+    (cond (noRoom area stubs n || setShort ws c (membersPlan ws c new))
+    (refusedCall 15 ws area)
+    (record {
+      refusal = 0;
+      first = nextFree area;
+      second = n;
+      set = storedNews ws c (nextFree area) n words indices new;
+      area = tableWritten area c slots n stubs;
+    }))

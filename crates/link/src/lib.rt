@@ -1,0 +1,165 @@
+// `link`: rows 3 to 15 in the table's order, and what an accepted link leaves in the class words and the area.
+use area::Answer;
+ghost use mathlib.Core.Path.{_≡_};
+ghost use Rattle.linking.specs.Link.{linkedRecord, listsFull, setShort};
+ghost use Rattle.growth.specs.News.{news, named};
+ghost use Rattle.link.specs.Stored.{membersPlan, numbered, withMethods, storedNews, finished};
+ghost use Rattle.area.specs.Area.{outcome};
+
+// Stores what a link answers in class c's record: its place and slot count and, unless the class is generated, its instance words.
+fn record_link(set: &mut [u32], c: u32, place: u32, slots: u32, words: u32)
+    ensures { λ _. ⌜ now (set .exit) ≡ linkedRecord (now (set .entry)) c place slots words ⌝ }
+{
+    let kind = class_sheet::class_kind(set, c);
+    growth::put_class(set, c, 15, place);
+    growth::put_class(set, c, 16, slots);
+    if kind != 1 {
+        growth::put_class(set, c, 12, words);
+    }
+}
+
+// Stores the record, and the indices of the class's own fields.
+fn store_indices(set: &mut [u32], c: u32, place: u32, slots: u32, words: u32, indices: &[u32])
+    ensures { λ _. ⌜ now (set .exit) ≡ numbered (now (set .entry)) c place slots words (now (indices .entry)) ⌝ }
+{
+    let at = class_sheet::fields_at(set);
+    let first = class_sheet::class_first_field(set, c);
+    record_link(set, c, place, slots, words);
+    growth::put_indices(set, at, first, indices);
+}
+
+// Adds the new methods, if there are any.
+fn store_methods<'a>(
+    set: &mut [u32],
+    c: u32,
+    text: &'a [u8],
+    abi: &[u32],
+    labels: &'a [u8],
+    refs: &[u32],
+    flags: &[u32],
+    lasts: &[u32],
+)
+    ensures { λ _. ⌜ now (set .exit) ≡ withMethods (now (set .entry)) c (news (now (set .entry)) (now (text .entry)) (now (abi .entry)) (now (labels .entry)) (now (refs .entry)) (now (flags .entry)) (now (lasts .entry))) ⌝ }
+{
+    if refs.len() != 0 {
+        growth::grow_methods(set, c, text, abi, labels, refs, flags, lasts);
+    }
+}
+
+// Stores what an accepted link leaves in the class words: new fields of a built class or new methods of another, the record, and the
+// indices of the class's own fields.
+fn store_link<'a>(
+    set: &mut [u32],
+    c: u32,
+    place: u32,
+    slots: u32,
+    words: u32,
+    indices: &[u32],
+    text: &'a [u8],
+    abi: &[u32],
+    labels: &'a [u8],
+    refs: &[u32],
+    flags: &[u32],
+    lasts: &[u32],
+)
+    ensures { λ _. ⌜ now (set .exit) ≡ storedNews (now (set .entry)) c place slots words (now (indices .entry)) (news (now (set .entry)) (now (text .entry)) (now (abi .entry)) (now (labels .entry)) (now (refs .entry)) (now (flags .entry)) (now (lasts .entry))) ⌝ }
+{
+    if (class_sheet::class_kind(set, c) == 0) & (refs.len() != 0) {
+        growth::grow_fields(set, c, indices, text, abi, labels, refs, flags, lasts);
+        record_link(set, c, place, slots, words);
+        return;
+    }
+    store_methods(set, c, text, abi, labels, refs, flags, lasts);
+    store_indices(set, c, place, slots, words, indices);
+}
+
+// Row 14: whether the list that grows, or the text, would exceed its limit.
+fn lists_full<'a>(
+    ws: &[u32],
+    c: u32,
+    text: &'a [u8],
+    abi: &[u32],
+    labels: &'a [u8],
+    refs: &[u32],
+) -> bool
+    ensures { λ r. ⌜ r ≡ listsFull (now (ws .entry)) c (membersPlan (now (ws .entry)) c (named (now (ws .entry)) (now (text .entry)) (now (abi .entry)) (now (labels .entry)) (now (refs .entry)))) ⌝ }
+{
+    if refs.len() == 0 {
+        return false;
+    }
+    if class_sheet::class_kind(ws, c) == 0 {
+        let count = class_sheet::field_count(ws);
+        let own = class_sheet::class_field_count(ws, c);
+        return growth::section_full(ws, count, own, text, abi, labels, refs);
+    }
+    let count = class_sheet::method_count(ws);
+    let own = class_sheet::class_method_count(ws, c);
+    growth::section_full(ws, count, own, text, abi, labels, refs)
+}
+
+// Row 15, of the set: whether its slice has too few words for the grown sections.
+fn set_short<'a>(
+    ws: &[u32],
+    c: u32,
+    text: &'a [u8],
+    abi: &[u32],
+    labels: &'a [u8],
+    refs: &[u32],
+) -> bool
+    ensures { λ r. ⌜ r ≡ setShort (now (ws .entry)) c (membersPlan (now (ws .entry)) c (named (now (ws .entry)) (now (text .entry)) (now (abi .entry)) (now (labels .entry)) (now (refs .entry)))) ⌝ }
+{
+    if refs.len() == 0 {
+        return false;
+    }
+    if class_sheet::class_kind(ws, c) == 0 {
+        let own = class_sheet::class_field_count(ws, c);
+        return ws.len() < growth::grown_end(ws, own, text, abi, labels, refs);
+    }
+    let own = class_sheet::class_method_count(ws, c);
+    ws.len() < growth::grown_end(ws, own, text, abi, labels, refs)
+}
+
+// Rows 14 and 15, then the effect of a link whose table has n slots with these words. Nothing is written before the last refusal.
+fn finish_link<'a>(
+    set: &mut [u32],
+    c: u32,
+    text: &'a [u8],
+    abi: &[u32],
+    labels: &'a [u8],
+    area: &mut [u32],
+    stubs: &[u32],
+    slots: &[u32],
+    n: u32,
+    words: u32,
+    indices: &[u32],
+    refs: &[u32],
+    flags: &[u32],
+    lasts: &[u32],
+) -> Answer
+    ensures { λ r. ⌜ outcome r (now (set .exit)) (now (area .exit)) ≡ finished (now (set .entry)) c (now (area .entry)) (now (stubs .entry)) (now (slots .entry)) n words (now (indices .entry)) (news (now (set .entry)) (now (text .entry)) (now (abi .entry)) (now (labels .entry)) (now (refs .entry)) (now (flags .entry)) (now (lasts .entry))) ⌝ }
+{
+    if lists_full(set, c, text, abi, labels, refs) {
+        return Answer::Refused(14);
+    }
+    let short = set_short(set, c, text, abi, labels, refs);
+    if area::no_room(area, stubs, n) | short {
+        return Answer::Refused(15);
+    }
+    let place = words::word_at(area, 0);
+    area::write_table(area, c, slots, n, stubs);
+    store_link(
+        set,
+        c,
+        place,
+        n,
+        words,
+        indices,
+        text,
+        abi,
+        labels,
+        refs,
+        flags,
+        lasts,
+    );
+    Answer::Done(place, n)
+}
