@@ -1,0 +1,185 @@
+-- Laws of the ABI fields that are added to a class: which are, how far they raise the running word, and their records. Assumes nothing.
+use mathlib.Core.Path.{_≡_, refl, sym, _∙_}
+use mathlib.Core.Bool.{Bool, true, false, cond, not}
+use mathlib.Core.List.{List, [], _∷_, _++_, append-assoc, append-nil}
+use Prim.Native.Nat.{ℕ, zero, suc, _+_, _-_, _≤_, _<_}
+use native.Mathlib.Omega.{arith}
+use lib.ListN.{length, getD, take, drop, set, replicate, getD-replicate, List·getD-append}
+use lib.Seq.{take-suc-set, length-take-le}
+use native.Mathlib.Numerals.{add-one}
+use borrow.Author.Tests.{eq-eqb, ne-eqb, le-ltb}
+use Rattle.words.specs.Lists.{listFrom, numbers, keep}
+use Rattle.words.specs.Folds.{table, stores}
+use Rattle.words.specs.declared.Found.{Found}
+use Rattle.words.specs.declared.Found.the-variants.{At, Nothing}
+use Rattle.words.proofs.Bools.{by}
+use Rattle.words.proofs.FoldLaws.{length-table, getD-table, stores-is}
+use Rattle.words.proofs.ListLaws.{restFrom, rest-start, rest-turn, rest-end, someFrom, some-start, some-turn, some-found, some-end}
+use Rattle.class_sheet.specs.ClassSheet.{classFirstField, classFieldCount}
+use Rattle.abi_sheet.specs.AbiSheet.{abiClassFirstField, abiClassFieldCount, abiFieldName, abiFieldDescriptor}
+use Rattle.chain.proofs.ChainLaws.{own-fields-length, own-field-at}
+use Rattle.linking.specs.Chain.{onFound, listCount, ownFields}
+use Rattle.linking.specs.Abi.{abiFields, fixedFieldIndex, givenWords, classAbi}
+use Rattle.linking.specs.Fields.{declaresField, addedFields, raised}
+use Rattle.linking.specs.Compiler.{New}
+use Rattle.linking.specs.Link.{newFieldsOf}
+use Rattle.growth.specs.News.{refName, refDescriptor, newAt, firstNews}
+use Rattle.field.specs.Numbers.{declaredBy, Small, wordsFrom}
+
+-- ---- whether a class declares an ABI field
+
+module _ (ws text abi labels : List ℕ) (g c : ℕ) where
+  -- the search at turn i
+  unfoldable pub declaresAt : ℕ → Bool
+  declaresAt i = someFrom (declaredBy ws text abi labels g) (ownFields ws c) i
+
+  pub declares-start : declaresAt 0 ≡ declaresField ws text abi labels Nothing c g
+  unfolding declaresAt declaresField declaredBy
+  declares-start = sym (some-start (declaredBy ws text abi labels g) (ownFields ws c))
+
+  module _ (i : ℕ) {m n : ℕ} (first : m ≡ classFirstField ws c) (count : n ≡ listCount (classFirstField ws c) (classFieldCount ws c) 512) where
+    room : i < n → i < length (ownFields ws c)
+    room h = omega (arith, own-fields-length ws c)
+
+    here : i < n → m + i ≡ getD (ownFields ws c) i 0
+    here h = omega (arith, own-field-at ws c i (room h))
+
+    pub declares-hit : {b : Bool} → i < n → b ≡ declaredBy ws text abi labels g (m + i) → b ≡ true → true ≡ declaresAt i
+    unfolding declaresAt
+    declares-hit h e t = sym (some-found (declaredBy ws text abi labels g) (ownFields ws c) 0 i (room h) (here h) (sym e ∙ t))
+
+    pub declares-miss : {b : Bool} → i < n → b ≡ declaredBy ws text abi labels g (m + i) → b ≡ false → declaresAt (i + 1) ≡ declaresAt i
+    unfolding declaresAt
+    declares-miss h e t = sym (some-turn (declaredBy ws text abi labels g) (ownFields ws c) 0 i (room h) (here h) (sym e ∙ t))
+
+    pub declares-end : n ≤ i → false ≡ declaresAt i
+    unfolding declaresAt
+    declares-end h = sym (some-end (declaredBy ws text abi labels g) (ownFields ws c) i (omega (arith, own-fields-length ws c)))
+
+-- ---- those that it does not declare
+
+module _ (ws text abi labels : List ℕ) (c : ℕ) where
+  -- an ABI field is added or not, after others
+  pub keep-none : (k g : ℕ) (l : List ℕ) {b : Bool} → b ≡ declaresField ws text abi labels Nothing c g → b ≡ true
+      → take k l ≡ take k l ++ cond (declaresField ws text abi labels Nothing c g) [] (g ∷ [])
+  keep-none k g l e t = rw (← e, t) (sym (append-nil (take k l)))
+
+  pub keep-one : (k g : ℕ) (l l′ : List ℕ) {b : Bool} {j : ℕ} → b ≡ declaresField ws text abi labels Nothing c g → b ≡ false → k < length l
+      → l′ ≡ set l j g → j ≡ k → take (k + 1) l′ ≡ take k l ++ cond (declaresField ws text abi labels Nothing c g) [] (g ∷ [])
+  keep-one k g l l′ e t h f q = rw (← e, t, f, q, add-one) (take-suc-set l k g h)
+
+  -- what is there after turn i of the n fields from m on, k of them, and what is to come
+  unfoldable pub keptAt : ℕ → ℕ → List ℕ → ℕ → ℕ → List ℕ
+  keptAt m n l k i = take k l ++ keep (λ g. not (declaresField ws text abi labels Nothing c g)) (restFrom (λ j. j) m n i)
+
+  pub kept-start : (a : ℕ) (l : List ℕ) {m n : ℕ} → m ≡ abiClassFirstField abi a
+      → n ≡ listCount (abiClassFirstField abi a) (abiClassFieldCount abi a) 256 → keptAt m n l 0 0 ≡ addedFields ws text abi labels (At a) c
+  unfolding keptAt addedFields abiFields declaresField
+  kept-start a l {m = m} {n = n} e f = rw (rest-start (λ (j : ℕ). j) m n, f, e)
+
+  pub kept-turn : (m n i k r : ℕ) (l l′ : List ℕ) → i < n
+      → take r l′ ≡ take k l ++ cond (declaresField ws text abi labels Nothing c (m + i)) [] ((m + i) ∷ []) → keptAt m n l′ r (i + 1) ≡ keptAt m n l k i
+  unfolding keptAt keep
+  kept-turn m n i k r l l′ h e =
+      let rest : List ℕ = keep (λ g. not (declaresField ws text abi labels Nothing c g)) (restFrom (λ j. j) m n (i + 1)) in
+      rw (e, rest-turn (λ (j : ℕ). j) m n i h)
+      (by (declaresField ws text abi labels Nothing c (m + i)) (λ t. rw (t, append-nil (take k l)))
+      (λ t. rw t (append-assoc (take k l) ((m + i) ∷ []) rest)))
+
+  pub kept-end : (m n i k : ℕ) (l : List ℕ) → n ≤ i → take k l ≡ keptAt m n l k i
+  unfolding keptAt keep
+  kept-end m n i k l h = rw (rest-end (λ (j : ℕ). j) m n i h) (sym (append-nil (take k l)))
+
+  pub added-none : (l : List ℕ) → take 0 l ≡ addedFields ws text abi labels Nothing c
+  unfolding addedFields
+  added-none l = refl
+
+  -- they are numbers of ABI fields
+  kept-small : (p : ℕ → Bool) (m n i : ℕ) → n ≤ 256 - m → getD (keep p (numbers m n)) i 0 < 256
+  unfolding keep listFrom
+  kept-small p m zero i h = omega arith
+  kept-small p m (suc n) zero h =
+      by (p m) (λ t. rw t (omega arith)) (λ t. rw t (kept-small p (m + 1) n 0 (omega arith)))
+  kept-small p m (suc n) (suc i) h =
+      by (p m) (λ t. rw t (kept-small p (m + 1) n i (omega arith))) (λ t. rw t (kept-small p (m + 1) n (suc i) (omega arith)))
+
+  added-small : (own : Found) (i : ℕ) → getD (addedFields ws text abi labels own c) i 0 < 256
+  unfolding addedFields abiFields
+  added-small (At a) i =
+      kept-small (λ g. not (declaresField ws text abi labels (At a) c g)) (abiClassFirstField abi a)
+      (listCount (abiClassFirstField abi a) (abiClassFieldCount abi a) 256) i (omega arith)
+  added-small Nothing i = omega arith
+
+  pub added-part : (own : Found) (l s : List ℕ) {n m : ℕ} → take n l ≡ addedFields ws text abi labels own c → m ≡ n → s ≡ take m (drop 0 l)
+      → s ≡ addedFields ws text abi labels own c
+  added-part own l s e f g = rw f at g ∙ e
+
+  pub part-small : (own : Found) (s : List ℕ) → s ≡ addedFields ws text abi labels own c → Small s
+  part-small own s e i = rw e (added-small own i)
+
+  -- ---- the instance words
+
+  module _ (own : Found) (running : ℕ) {g : ℕ} (given : g ≡ onFound own (givenWords abi) 0) where
+    pub words-given : (g ≡ 0 → ⊥) → g - 1 ≡ wordsFrom ws text abi labels own c running
+    unfolding wordsFrom
+    words-given n = rw (← given, ne-eqb g 0 n)
+
+    pub words-raised : (s : List ℕ) {r : ℕ} → g ≡ 0 → r ≡ raised [] [] abi labels Nothing running s → s ≡ addedFields ws text abi labels own c
+        → r ≡ wordsFrom ws text abi labels own c running
+    unfolding wordsFrom raised
+    words-raised s z f e = rw (← given, eq-eqb g 0 z, ← e) f
+
+-- ---- their records
+
+pub getD-stores : (n : ℕ) (f : ℕ → ℕ) (d : List ℕ) (i : ℕ) → i < n → n ≤ length d → getD (stores n f d) i 0 ≡ f i
+getD-stores n f d i h k =
+    rw (stores-is n f d k)
+    (List·getD-append (table n f) (drop n d) 0 i (omega (arith, length-table n f)) ∙ getD-table n f i h)
+
+module _ (ws text abi labels : List ℕ) where
+  -- the area does not matter
+  pub any-area : (area gs : List ℕ) → newFieldsOf ws text abi labels area gs ≡ newFieldsOf ws text abi labels [] gs
+  unfolding newFieldsOf
+  any-area area [] = refl
+  any-area area (g ∷ gs) = rw (any-area area gs)
+
+  abbrev newField : ℕ → New
+  newField g =
+      record { name = abiFieldName abi labels g; descriptor = abiFieldDescriptor abi labels g; flags = 2; last = fixedFieldIndex abi g }
+
+  news-from : (f : ℕ → New) (m : ℕ) (gs : List ℕ) → ((i : ℕ) → i < length gs → f (m + i) ≡ newField (getD gs i 0))
+      → listFrom f m (length gs) ≡ newFieldsOf ws text abi labels [] gs
+  unfolding newFieldsOf listFrom
+  news-from f m [] h = refl
+  news-from f m (g ∷ gs) h =
+      let z : m + 0 ≡ m = omega arith in
+      let e : f m ≡ newField g = rw z at (h 0 (omega arith)) in
+      rw (e, news-from f (m + 1) gs (λ i l. let y : m + 1 + i ≡ m + suc i = omega arith in rw y (h (suc i) (omega arith))))
+
+  -- a record is that of its ABI field
+  new-at : (refs flags lasts : List ℕ) (i g : ℕ) → getD refs i 0 ≡ 1024 + g → getD flags i 0 ≡ 2 → getD lasts i 0 ≡ fixedFieldIndex abi g
+      → newAt ws text abi labels refs flags lasts i ≡ newField g
+  unfolding newAt refName refDescriptor
+  new-at refs flags lasts i g e f h =
+      let z : 1024 + g - 1024 ≡ g = omega arith in
+      rw (e, f, h) (simp (le-ltb (1024 + g) 512 (omega arith), le-ltb (1024 + g) 1024 (omega arith), z))
+
+  -- what the arrays hold, if s is the part of l with the numbers of the fields
+  pub members-are : (own : Found) (c : ℕ) (l s refs lasts a b : List ℕ) {n m : ℕ} → own ≡ classAbi ws text abi labels c
+      → take n l ≡ addedFields ws text abi labels own c → n ≤ 256 → length l ≡ 256 → m ≡ n → s ≡ take m (drop 0 l)
+      → refs ≡ stores (length s) (λ i. 1024 + getD s i 0) a → lasts ≡ stores (length s) (λ i. fixedFieldIndex abi (getD s i 0)) b
+      → length a ≡ 1024 → length b ≡ 1024
+      → firstNews ws text abi labels refs (replicate 1024 2) lasts n
+      ≡ newFieldsOf ws text abi labels [] (addedFields ws text abi labels (classAbi ws text abi labels c) c)
+  unfolding firstNews
+  members-are own c l s refs lasts a b {n = n} entry e k o f g p q t u =
+      let x : s ≡ addedFields ws text abi labels own c = added-part ws text abi labels c own l s e f g in
+      let y : length s ≡ n = rw (g, f) (length-take-le n l (omega arith)) in
+      rw (← entry, ← x, ← y)
+      (news-from (newAt ws text abi labels refs (replicate 1024 2) lasts) 0 s
+      (λ i h.
+      let z : 0 + i ≡ i = omega arith in
+      rw z
+      (new-at refs (replicate 1024 2) lasts i (getD s i 0) (rw p (getD-stores (length s) (λ i. 1024 + getD s i 0) a i h (omega arith)))
+      (getD-replicate 1024 i 2 0 (omega arith))
+      (rw q (getD-stores (length s) (λ i. fixedFieldIndex abi (getD s i 0)) b i h (omega arith))))))

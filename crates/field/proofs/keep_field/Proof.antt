@@ -1,0 +1,44 @@
+use Rattle.field.proofs.AddedLaws.{keep-none, keep-one}
+use native.Mathlib.Omega.{arith}
+use borrow.Author.Needs.{needs}
+use Rattle.field.proofs.keep_field.Statement.{statement}
+use Rattle.field.proofs.keep_field.Tie as tie
+
+declares-field-requires : tie.Need-declares-field-requires
+declares-field-requires c κs = search needs
+
+returns : tie.Need-returns
+returns c = let a = c .before .before .before .before .before .before .before .args in (keep-none _ _ _ _ _ (a .k) _ (a .gs .now) (c .before .declares-field .ensures) (c .if1 .taken), omega arith)
+
+wide-requires : tie.Need-wide-requires
+wide-requires c κs = search needs
+
+put-word-requires : tie.Need-put-word-requires
+put-word-requires c κs = search needs
+
+add-result : tie.Need-add-result
+add-result c = search needs
+
+same-length : tie.Need-same-length
+same-length c = search needs
+
+returns-2 : tie.Need-returns-2
+returns-2 c =
+    let at-put-word = c .before .before in
+    let at-wide = at-put-word .before in
+    let at-if1 = at-wide .before .before in
+    let at-declares-field = at-if1 .before in
+    let entry = at-declares-field .before .before .before .before .before .before in
+    let a = entry .args in (keep-one _ _ _ _ _ (a .k) _ (a .gs .now) _ (at-declares-field .declares-field .ensures) (at-if1 .if1 .left) (omega arith) (at-put-word .put-word .ensures) (at-wide .wide .ensures), omega arith)
+
+pub keep-field-spec : {M : Type 1} → statement M
+keep-field-spec =
+    tie.close
+    (tie.spec
+    declares-field-requires
+    returns
+    wide-requires
+    put-word-requires
+    add-result
+    same-length
+    returns-2)

@@ -1,0 +1,145 @@
+-- What the code stores and answers is what `finishLink` says, for an accepted set and a sound area. Assumes nothing.
+use mathlib.Core.Path.{_≡_, refl, sym, ap, _∙_}
+use mathlib.Core.Bool.{Bool, true, false, cond, not, _&&_, _||_}
+use mathlib.Core.List.{List, [], _∷_}
+use Prim.Native.Nat.{ℕ, _+_, _≤_, _<_}
+use native.Mathlib.Omega.{arith}
+use lib.ListN.{length}
+use lib.Dec.{eqb, ltb}
+use Rattle.words.proofs.Bools.{by, or-neither}
+use Rattle.class_sheet.specs.ClassSheet.{classCount, classKind, methodCount, fieldCount, textOf, classMethodCount, classFirstMethod, classFirstField, classFieldCount}
+use Rattle.abi_sheet.specs.AbiSheet.{abiTextOf}
+use Rattle.set_rules.specs.Valid.{Valid}
+use Rattle.linking.specs.Compiler.{New}
+use Rattle.linking.specs.Vtable.{Entry, slotWords}
+use Rattle.linking.specs.Set.{sectionFull, grownEnd}
+use Rattle.linking.specs.Link.{Plan, isNone, nextFree, listsFull, setShort, noRoom, linkedArea, linkedWords, newWords, finishLink, Outcome, refusedCall}
+use Rattle.growth.specs.Growth.{canGrow, methodsGrown, fieldsGrown}
+use Rattle.growth.proofs.Linked.{linked-methods, linked-fields, can-grow, methods-end, fields-end}
+use Rattle.vtable.specs.Arrays.{entriesOf}
+use Rattle.vtable.proofs.ArrayLaws.{length-entries}
+use Rattle.area.specs.Area.{tableWritten}
+use Rattle.area.proofs.AreaLaws.{table-linked}
+use Rattle.link.specs.Stored.{methodsOf, fieldsOf, membersPlan, numbered, withMethods, stored, storedNews, finished}
+
+-- the words written depend on a table's words alone
+linked-same : (area : List ℕ) (c : ℕ) (T U : List Entry) (stubs : List ℕ) → slotWords stubs 0 T ≡ slotWords stubs 0 U → length T ≡ length U
+    → linkedArea area c U stubs ≡ linkedArea area c T stubs
+unfolding linkedArea
+linked-same area c T U stubs e f = rw (e, f)
+
+module _ (ws : List ℕ) (c : ℕ) (p : Plan) (new : List New) (methods : p .newMethods ≡ methodsOf ws c new) (fields : p .newFields ≡ fieldsOf ws c new) where
+  -- ---- rows 14 and 15
+
+  pub full-plan : listsFull ws c (membersPlan ws c new) ≡ listsFull ws c p
+  unfolding listsFull
+  full-plan = rw (methods, fields)
+
+  pub short-plan : setShort ws c (membersPlan ws c new) ≡ setShort ws c p
+  unfolding setShort
+  short-plan = rw (methods, fields)
+
+  module _ (valid : Valid ws) (some : 1 ≤ c) (among : c ≤ classCount ws) (full : listsFull ws c p ≡ false) (short : setShort ws c p ≡ false) where
+    -- ---- what grows has room
+
+    room-fields : isNone (p .newFields) ≡ false → canGrow ws (fieldCount ws) (classFirstField ws c) (classFieldCount ws c) (p .newFields) ≡ true
+    unfolding listsFull setShort
+    room-fields n =
+        let f = or-neither (not (isNone (p .newMethods)) && sectionFull ws (methodCount ws) (classMethodCount ws c) (p .newMethods))
+        (not (isNone (p .newFields)) && sectionFull ws (fieldCount ws) (classFieldCount ws c) (p .newFields)) full in
+        let s = or-neither (not (isNone (p .newMethods)) && ltb (length ws) (grownEnd ws (classMethodCount ws c) (p .newMethods)))
+        (not (isNone (p .newFields)) && ltb (length ws) (grownEnd ws (classFieldCount ws c) (p .newFields))) short in
+        let a : sectionFull ws (fieldCount ws) (classFieldCount ws c) (p .newFields) ≡ false = rw n at (f .1) in
+        let b : ltb (length ws) (grownEnd ws (classFieldCount ws c) (p .newFields)) ≡ false = rw n at (s .1) in
+        can-grow ws (p .newFields) (fieldCount ws) (classFirstField ws c) (classFieldCount ws c) (valid .class c (some, among) .fields) a
+        (fields-end ws (p .newFields) (valid .class-count) (valid .interface-count) (valid .compiler-count) (classFieldCount ws c) (valid .method-count) a)
+        b
+
+    room-methods : isNone (p .newMethods) ≡ false
+        → canGrow ws (methodCount ws) (classFirstMethod ws c) (classMethodCount ws c) (p .newMethods) ≡ true
+    unfolding listsFull setShort
+    room-methods n =
+        let f = or-neither (not (isNone (p .newMethods)) && sectionFull ws (methodCount ws) (classMethodCount ws c) (p .newMethods))
+        (not (isNone (p .newFields)) && sectionFull ws (fieldCount ws) (classFieldCount ws c) (p .newFields)) full in
+        let s = or-neither (not (isNone (p .newMethods)) && ltb (length ws) (grownEnd ws (classMethodCount ws c) (p .newMethods)))
+        (not (isNone (p .newFields)) && ltb (length ws) (grownEnd ws (classFieldCount ws c) (p .newFields))) short in
+        let a : sectionFull ws (methodCount ws) (classMethodCount ws c) (p .newMethods) ≡ false = rw n at (f .0) in
+        let b : ltb (length ws) (grownEnd ws (classMethodCount ws c) (p .newMethods)) ≡ false = rw n at (s .0) in
+        can-grow ws (p .newMethods) (methodCount ws) (classFirstMethod ws c) (classMethodCount ws c) (valid .class c (some, among) .methods) a
+        (methods-end ws (p .newMethods) (valid .class-count) (valid .interface-count) (valid .compiler-count) (classMethodCount ws c) (valid .field-count) a)
+        b
+
+    -- ---- the class words
+
+    module _ (place words : ℕ) (indices : classFirstField ws c + length (p .indices) ≤ fieldCount ws) where
+      numbered-none : isNone (p .newFields) ≡ true → isNone (p .newMethods) ≡ true
+          → numbered (withMethods ws c (p .newMethods)) c place (length (p .table)) words (p .indices) ≡ linkedWords ws c place words p
+      unfolding linkedWords withMethods numbered
+      numbered-none n q = rw (n, q)
+
+      numbered-some : isNone (p .newFields) ≡ true → isNone (p .newMethods) ≡ false
+          → numbered (withMethods ws c (p .newMethods)) c place (length (p .table)) words (p .indices) ≡ linkedWords ws c place words p
+      unfolding withMethods numbered
+      numbered-some n q = rw q (sym (linked-methods ws c place words p some among n q (room-methods q) indices refl))
+
+      stored-linked : stored ws c place (length (p .table)) words (p .indices) (p .newMethods) (p .newFields) ≡ linkedWords ws c place words p
+      unfolding stored
+      stored-linked =
+          by (isNone (p .newFields))
+          (λ q. rw q (by (isNone (p .newMethods)) (numbered-none q) (numbered-some q)))
+          (λ q. rw q (sym (linked-fields ws c place words p some among q (room-fields q) refl)))
+
+      pub words-linked : storedNews ws c place (length (p .table)) words (p .indices) new ≡ linkedWords ws c place words p
+      words-linked = rw (← methods, ← fields) stored-linked
+
+-- ---- the whole
+
+-- what the code has at a link's end, and what it stands for
+pub record Finish (ws abi : List ℕ) (c : ℕ) (area stubs slots : List ℕ) (n words : ℕ) (new : List New) (p : Plan) : Type 0 where
+  pub valid : Valid ws
+  pub some : 1 ≤ c
+  pub among : c ≤ classCount ws
+  pub short-area : length area ≤ 4294967295
+  pub methods : p .newMethods ≡ methodsOf ws c new
+  pub fields : p .newFields ≡ fieldsOf ws c new
+  pub slot-count : length (p .table) ≡ n
+  pub slot-words : slotWords stubs 0 (p .table) ≡ slotWords stubs 0 (entriesOf slots [] n)
+  pub words-are : words ≡ newWords ws (textOf ws) abi (abiTextOf abi) area c
+  pub indices-fit : classFirstField ws c + length (p .indices) ≤ fieldCount ws
+
+module _ (ws abi : List ℕ) (c : ℕ) (area stubs slots : List ℕ) (n words : ℕ) (new : List New) (p : Plan)
+    (f : Finish ws abi c area stubs slots n words new p) where
+  done : (full : listsFull ws c p ≡ false) (room : noRoom area stubs n ≡ false) (short : setShort ws c p ≡ false)
+      → _≡_ {A = Outcome}
+      (record {
+        refusal = 0;
+        first = nextFree area;
+        second = n;
+        set = storedNews ws c (nextFree area) n words (p .indices) new;
+        area = tableWritten area c slots n stubs;
+      })
+      (record {
+        refusal = 0;
+        first = nextFree area;
+        second = length (p .table);
+        set = linkedWords ws c (nextFree area) (newWords ws (textOf ws) abi (abiTextOf abi) area c) p;
+        area = linkedArea area c (p .table) stubs;
+      })
+  done full room short =
+      let w = words-linked ws c p new (f .methods) (f .fields) (f .valid) (f .some) (f .among) full short (nextFree area) words (f .indices-fit) in
+      let t = table-linked area slots [] stubs n room (f .short-area) c
+      ∙ linked-same area c (p .table) (entriesOf slots [] n) stubs (f .slot-words) (f .slot-count ∙ sym (length-entries slots [] n)) in
+      rw (← (f .words-are), ← w, t, f .slot-count)
+
+  pub finished-is : finished ws c area stubs slots n words (p .indices) new ≡ finishLink ws abi c area stubs p
+  unfolding finished finishLink
+  finished-is =
+      rw (full-plan ws c p new (f .methods) (f .fields), short-plan ws c p new (f .methods) (f .fields), f .slot-count)
+      (by (listsFull ws c p)
+      (λ q. rw q)
+      (λ q. rw q
+      (by (noRoom area stubs n || setShort ws c p)
+      (λ r. rw r)
+      (λ r.
+      let o = or-neither (noRoom area stubs n) (setShort ws c p) r in
+      rw r (rw (f .slot-count) at (done q (o .0) (o .1)))))))

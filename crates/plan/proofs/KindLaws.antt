@@ -1,0 +1,84 @@
+-- Laws of the plans of each kind of class. Assumes nothing.
+use mathlib.Core.Path.{_≡_, refl, sym, ap, _∙_}
+use mathlib.Core.Bool.{Bool, true, false, cond}
+use mathlib.Core.Logic.{_≢_}
+use mathlib.Core.List.{List, [], _∷_}
+use Prim.Native.Nat.{ℕ, _/_, _%_, _≤_, _<_}
+use native.Mathlib.Omega.{arith}
+use lib.ListN.{take}
+use lib.Dec.{eqb}
+use borrow.Author.Tests.{eq-eqb, ne-eqb}
+use Rattle.class_sheet.specs.ClassSheet.{classKind, classFlags}
+use Rattle.linking.specs.Vtable.{Built, built, buildInterfaceMethods, buildMethods}
+use Rattle.linking.specs.Abi.{classAbi}
+use Rattle.linking.specs.Compiler.{New}
+use Rattle.linking.specs.Fields.{numberFields, addedFields, builtWords, tooManyWords}
+use Rattle.linking.specs.Link as L
+use Rattle.vtable.specs.Arrays.{entriesOf, builtOf}
+use Rattle.vtable.specs.declared.Table.{Table}
+use Rattle.vtable.proofs.TableLaws.{interface-same}
+use Rattle.field.specs.Numbers.{outcomeOf, builtFields, generatedFields}
+use Rattle.field.specs.declared.Numbered.{Numbered}
+use Rattle.field.proofs.OutcomeLaws.{built-accepted, built-refused}
+use Rattle.field.proofs.AddedLaws.{any-area}
+use Rattle.growth.specs.News.{firstNews, membersOf}
+use Rattle.growth.specs.declared.Members.{Members}
+use Rattle.plan.specs.declared.Plan.{Plan}
+use Rattle.plan.specs.Plans.{bare, barePlan, barePlanned, methodsOf, fieldsOf, newsOf, planOf, plannedOf, tableRow}
+use Rattle.plan.proofs.TableLaws.{row-passes, planning, table-stops, table-passes}
+
+module _ (ws text abi labels area : List ℕ) (c : ℕ) where
+  -- a plan that is refused
+  pub no-plan : (r : Plan) {row : ℕ} {Q : L.Planned} → r .row ≡ row → row ≢ 0 → L.unplanned row ≡ Q → plannedOf ws text abi labels c r ≡ Q
+  no-plan r {row = row} e h q = rw e (simp (ne-eqb row 0 h) q)
+
+  -- ---- the table of a built class
+
+  module _ {f : ℕ} (flags : f ≡ classFlags ws c) {B : Built} where
+    pub table-interface : f / 512 % 2 ≡ 1 → B ≡ built (buildInterfaceMethods ws text [] [] c) → B ≡ L.builtTable ws text abi labels area c
+    unfolding L.builtTable
+    table-interface h e = e ∙ rw (← flags) (simp (eq-eqb (f / 512 % 2) 1 h) (ap built (interface-same ws text abi labels c)))
+
+    pub table-class : f / 512 % 2 ≢ 1 → B ≡ buildMethods ws text abi labels area c → B ≡ L.builtTable ws text abi labels area c
+    unfolding L.builtTable
+    table-class h e = e ∙ rw (← flags) (simp (ne-eqb (f / 512 % 2) 1 h))
+
+  -- ---- a built class
+
+  module _ (r : Numbered) (numbers : outcomeOf r ≡ builtFields ws text abi labels c) where
+    pub built-row : r .row ≢ 0 → L.unplanned (r .row) ≡ barePlanned (L.planBuilt ws text abi labels area c)
+    unfolding L.planBuilt
+    built-row h = let p = built-refused ws text abi labels c r numbers h in rw (p .1, p .0)
+
+    module _ (zero : r .row ≡ 0) (t : Table) (table : builtOf t ≡ L.builtTable ws text abi labels area c) where
+      plan-table : barePlanned (planning t (take (r .n) (r .indices)) [] (L.newFieldsOf ws text abi labels area (addedFields ws text abi labels (classAbi ws text abi labels c) c)) (builtOf t))
+          ≡ barePlanned (L.planBuilt ws text abi labels area c)
+      unfolding L.planBuilt
+      plan-table = let p = built-accepted ws text abi labels c r numbers zero in rw (p .0, p .1, table)
+
+      pub built-stops : {row : ℕ} → row ≡ tableRow (t .row) (t .n) → row ≢ 0 → L.unplanned row ≡ barePlanned (L.planBuilt ws text abi labels area c)
+      built-stops e h =
+          table-stops t (take (r .n) (r .indices)) [] (L.newFieldsOf ws text abi labels area (addedFields ws text abi labels (classAbi ws text abi labels c) c)) e h
+          ∙ plan-table
+
+      pub built-planned : (m : Members) (slots : List ℕ) {row : ℕ} → classKind ws c ≡ 0 → row ≡ tableRow (t .row) (t .n) → row ≡ 0
+          → entriesOf slots [] (t .n) ≡ entriesOf (t .words) [] (t .n)
+          → membersOf ws text abi labels m ≡ L.newFieldsOf ws text abi labels [] (addedFields ws text abi labels (classAbi ws text abi labels c) c)
+          → L.planned
+          (record {
+            table = entriesOf slots [] (t .n);
+            indices = take (r .n) (r .indices);
+            newMethods = methodsOf ws c (membersOf ws text abi labels m);
+            newFields = fieldsOf ws c (membersOf ws text abi labels m);
+          })
+          ≡ barePlanned (L.planBuilt ws text abi labels area c)
+      built-planned m slots kind e z s n =
+          let p = row-passes (t .row) (t .n) (sym e ∙ z) in
+          let a = any-area ws text abi labels area (addedFields ws text abi labels (classAbi ws text abi labels c) c) in
+          rw (kind, s, n, ← a)
+          (table-passes t (take (r .n) (r .indices)) [] (L.newFieldsOf ws text abi labels area (addedFields ws text abi labels (classAbi ws text abi labels c) c)) (p .0) (p .1)
+          ∙ plan-table)
+
+    pub built-instance : r .row ≡ 0 → classKind ws c ≡ 0 → r .words ≡ L.newWords ws text abi labels area c
+    unfolding L.newWords
+    built-instance z kind = built-accepted ws text abi labels c r numbers z .2 ∙ rw kind
