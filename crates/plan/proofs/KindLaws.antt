@@ -8,18 +8,19 @@ use native.Mathlib.Omega.{arith}
 use lib.ListN.{take}
 use lib.Dec.{eqb}
 use borrow.Author.Tests.{eq-eqb, ne-eqb}
-use Rattle.class_sheet.specs.ClassSheet.{classKind, classFlags}
-use Rattle.linking.specs.Vtable.{Built, built, buildInterfaceMethods, buildMethods}
+use Rattle.words.specs.Lists.{listFrom}
+use Rattle.class_sheet.specs.ClassSheet.{classKind, classFlags, classCompilerTable}
+use Rattle.linking.specs.Vtable.{Built, built, parentEntries, buildInterfaceMethods, buildMethods}
 use Rattle.linking.specs.Abi.{classAbi}
 use Rattle.linking.specs.Compiler.{New}
-use Rattle.linking.specs.Fields.{numberFields, addedFields, builtWords, tooManyWords}
+use Rattle.linking.specs.Fields.{numberFields, addedFields, builtWords, tooManyWords, generatedRefusal}
 use Rattle.linking.specs.Link as L
 use Rattle.vtable.specs.Arrays.{entriesOf, builtOf}
 use Rattle.vtable.specs.declared.Table.{Table}
 use Rattle.vtable.proofs.TableLaws.{interface-same}
 use Rattle.field.specs.Numbers.{outcomeOf, builtFields, generatedFields}
 use Rattle.field.specs.declared.Numbered.{Numbered}
-use Rattle.field.proofs.OutcomeLaws.{built-accepted, built-refused}
+use Rattle.field.proofs.OutcomeLaws.{built-accepted, built-refused, generated-accepted, generated-refused}
 use Rattle.field.proofs.AddedLaws.{any-area}
 use Rattle.growth.specs.News.{firstNews, membersOf}
 use Rattle.growth.specs.declared.Members.{Members}
@@ -82,3 +83,54 @@ module _ (ws text abi labels area : List ℕ) (c : ℕ) where
     pub built-instance : r .row ≡ 0 → classKind ws c ≡ 0 → r .words ≡ L.newWords ws text abi labels area c
     unfolding L.newWords
     built-instance z kind = built-accepted ws text abi labels c r numbers z .2 ∙ rw kind
+
+  -- ---- a plan that adds nothing
+
+  no-news : (refs flags lasts : List ℕ) → firstNews ws text abi labels refs flags lasts 0 ≡ []
+  unfolding firstNews listFrom
+  no-news refs flags lasts = refl
+
+  either : (b : Bool) {l : List New} → l ≡ [] → (cond b [] l ≡ []) × (cond b l [] ≡ [])
+  either true e = (refl, e)
+  either false e = (e, refl)
+
+  pub plain-planned : (r : Plan) (is : List ℕ) (t : Table) {row : ℕ} → entriesOf (r .words) [] (r .n) ≡ entriesOf (t .words) [] (t .n)
+      → take (r .own) (r .indices) ≡ is → r .added ≡ 0 → r .row ≡ 0 → row ≡ tableRow (t .row) (t .n) → row ≡ 0
+      → plannedOf ws text abi labels c r ≡ barePlanned (planning t is [] [] (builtOf t))
+  plain-planned r is t s i a z e f =
+      let p = row-passes (t .row) (t .n) (sym e ∙ f) in
+      let n : newsOf ws text abi labels c r ≡ [] = rw a (no-news (r .refs) (r .flags) (r .lasts)) in
+      let g = either (eqb (classKind ws c) 0) n in
+      simp (eq-eqb (r .row) 0 z) (rw (s, i, g .0, g .1) (table-passes t is [] [] (p .0) (p .1)))
+
+  no-words : classKind ws c ≢ 0 → 0 ≡ L.newWords ws text abi labels area c
+  unfolding L.newWords
+  no-words h = simp (ne-eqb (classKind ws c) 0 h)
+
+  pub plain-instance : (r : Plan) → classKind ws c ≢ 0 → r .instance ≡ 0 → r .instance ≡ L.newWords ws text abi labels area c
+  plain-instance r h e = e ∙ no-words h
+
+  -- ---- an array class
+
+  module _ (t : Table) (table : builtOf t ≡ built (parentEntries ws text abi labels area c)) where
+    pub array-table : barePlanned (planning t [] [] [] (builtOf t)) ≡ barePlanned (L.planArray ws text abi labels area c)
+    unfolding L.planArray
+    array-table = rw table
+
+  -- ---- a generated class
+
+  module _ (r : Numbered) (numbers : outcomeOf r ≡ generatedFields ws text c) where
+    pub generated-row : r .row ≢ 0 → L.unplanned (r .row) ≡ barePlanned (L.planGenerated ws text abi labels area c)
+    unfolding L.planGenerated
+    generated-row h =
+        let e = generated-refused ws text c r numbers h in
+        let n : generatedRefusal ws text c ≢ 0 = (λ z. h (e ∙ z)) in
+        rw e (simp (ne-eqb (generatedRefusal ws text c) 0 n))
+
+    module _ (zero : r .row ≡ 0) where
+      pub methods-table : (t : Table) → classCompilerTable ws c ≡ 0 → builtOf t ≡ buildMethods ws text abi labels area c
+          → barePlanned (planning t (take (r .n) (r .indices)) [] [] (builtOf t)) ≡ barePlanned (L.planGenerated ws text abi labels area c)
+      unfolding L.planGenerated L.generatedTable L.generatedMethods
+      methods-table t k e =
+          let p = generated-accepted ws text c r numbers zero in
+          rw (k, p .0, p .1, e)

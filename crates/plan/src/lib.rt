@@ -1,11 +1,13 @@
 // What a link comes to before anything is written: rows 8 to 13, by the class's kind.
 ghost use mathlib.Core.Path.{_≡_};
+ghost use mathlib.Core.Logic.{_≢_};
 ghost use mathlib.Core.List.{[]};
 ghost use Prim.Native.Nat.{_≤_, _<_};
-ghost use lib.ListN.{length};
-ghost use Rattle.class_sheet.specs.ClassSheet.{classKind};
+ghost use lib.ListN.{length, take};
+ghost use Rattle.class_sheet.specs.ClassSheet.{classKind, classCompilerTable};
 ghost use Rattle.linking.specs.Link.{builtTable, planBuilt, planGenerated, planArray, plan, newWords};
 ghost use Rattle.vtable.specs.Arrays.{entriesOf, builtOf};
+ghost use Rattle.field.specs.Numbers.{outcomeOf, generatedFields};
 ghost use Rattle.plan.specs.Plans.{barePlanned, plannedOf, tableRow};
 
 // The words of the table's n slots; the indices of the class's own fields; its instance words; what names the members to add, their
@@ -118,4 +120,74 @@ fn plan_built(ws: &[u32], text: &[u8], abi: &[u32], labels: &[u8], area: &[u32],
         added: m.n,
         row: 0,
     }
+}
+
+// A plan that adds nothing: a table of n slots with these words, and the class's own indices.
+fn plain_plan(ts: &[u32], n: u32, f: field::Numbered) -> Plan
+    requires { ⌜ n ≤ 1024 ⌝ }
+    ensures table { λ r. ⌜ entriesOf (r .words) [] (r .n) ≡ entriesOf (now (ts .entry)) [] n ⌝ }
+    ensures indices { λ r. ⌜ take (r .own) (r .indices) ≡ take (f .n) (f .indices) ⌝ }
+    ensures none { λ r. ⌜ (r .added ≡ 0) × (r .instance ≡ 0) × (r .row ≡ 0) ⌝ }
+{
+    let mut slots = [0u32; 1024];
+    copy_slots(ts, n, &mut slots);
+    let indices = f.indices;
+    Plan {
+        words: slots,
+        n,
+        indices,
+        own: f.n,
+        instance: 0,
+        refs: [0; 1024],
+        flags: [0; 1024],
+        lasts: [0; 1024],
+        added: 0,
+        row: 0,
+    }
+}
+
+// An array class: the parent's entries.
+fn plan_array(ws: &[u32], text: &[u8], abi: &[u32], labels: &[u8], area: &[u32], c: u32) -> Plan
+    requires { ⌜ classKind (now ws) c ≢ 0 ⌝ }
+    ensures is { λ r. ⌜ plannedOf (now (ws .entry)) (now (text .entry)) (now (abi .entry)) (now (labels .entry)) c r ≡ barePlanned (planArray (now (ws .entry)) (now (text .entry)) (now (abi .entry)) (now (labels .entry)) (now (area .entry)) c) ⌝ }
+    ensures words { λ r. ⌜ (r .row ≡ 0 → r .instance ≡ newWords (now (ws .entry)) (now (text .entry)) (now (abi .entry)) (now (labels .entry)) (now (area .entry)) c) ⌝ }
+    ensures members { λ r. ⌜ r .added ≤ 1024 ⌝ }
+{
+    let t = vtable::parent_entries(ws, text, abi, labels, area, c);
+    let row = table_row(t.row, t.n);
+    if row != 0 {
+        return no_plan(row);
+    }
+    let ts = t.words;
+    let no_fields = field::Numbered {
+        indices: [0; 512],
+        n: 0,
+        words: 0,
+        row: 0,
+    };
+    plain_plan(&ts, t.n, no_fields)
+}
+
+// A generated class without a compiler table, whose own indices are these.
+fn plan_methods(
+    ws: &[u32],
+    text: &[u8],
+    abi: &[u32],
+    labels: &[u8],
+    area: &[u32],
+    c: u32,
+    f: field::Numbered,
+) -> Plan
+    requires { ⌜ (classKind (now ws) c ≢ 0) × (classCompilerTable (now ws) c ≡ 0) × (f .row ≡ 0) × (outcomeOf f ≡ generatedFields (now ws) (now text) c) ⌝ }
+    ensures is { λ r. ⌜ plannedOf (now (ws .entry)) (now (text .entry)) (now (abi .entry)) (now (labels .entry)) c r ≡ barePlanned (planGenerated (now (ws .entry)) (now (text .entry)) (now (abi .entry)) (now (labels .entry)) (now (area .entry)) c) ⌝ }
+    ensures words { λ r. ⌜ (r .row ≡ 0 → r .instance ≡ newWords (now (ws .entry)) (now (text .entry)) (now (abi .entry)) (now (labels .entry)) (now (area .entry)) c) ⌝ }
+    ensures members { λ r. ⌜ r .added ≤ 1024 ⌝ }
+{
+    let t = vtable::build_methods(ws, text, abi, labels, area, c);
+    let row = table_row(t.row, t.n);
+    if row != 0 {
+        return no_plan(row);
+    }
+    let ts = t.words;
+    plain_plan(&ts, t.n, f)
 }
