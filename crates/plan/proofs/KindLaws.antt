@@ -12,7 +12,7 @@ use Rattle.words.specs.Lists.{listFrom}
 use Rattle.class_sheet.specs.ClassSheet.{classKind, classFlags, classCompilerTable}
 use Rattle.linking.specs.Vtable.{Built, built, parentEntries, buildInterfaceMethods, buildMethods}
 use Rattle.linking.specs.Abi.{classAbi}
-use Rattle.linking.specs.Compiler.{New}
+use Rattle.linking.specs.Compiler.{New, addedMethods, compilerTable}
 use Rattle.linking.specs.Fields.{numberFields, addedFields, builtWords, tooManyWords, generatedRefusal}
 use Rattle.linking.specs.Link as L
 use Rattle.vtable.specs.Arrays.{entriesOf, builtOf}
@@ -103,7 +103,7 @@ module _ (ws text abi labels area : List ℕ) (c : ℕ) where
       let g = either (eqb (classKind ws c) 0) n in
       simp (eq-eqb (r .row) 0 z) (rw (s, i, g .0, g .1) (table-passes t is [] [] (p .0) (p .1)))
 
-  no-words : classKind ws c ≢ 0 → 0 ≡ L.newWords ws text abi labels area c
+  pub no-words : classKind ws c ≢ 0 → 0 ≡ L.newWords ws text abi labels area c
   unfolding L.newWords
   no-words h = simp (ne-eqb (classKind ws c) 0 h)
 
@@ -134,3 +134,42 @@ module _ (ws text abi labels area : List ℕ) (c : ℕ) where
       methods-table t k e =
           let p = generated-accepted ws text c r numbers zero in
           rw (k, p .0, p .1, e)
+
+      -- with a compiler table
+      module _ (ts ms : List ℕ) (n : ℕ) (E : List New) (some : classCompilerTable ws c ≢ 0)
+          (table : entriesOf ts ms n ≡ compilerTable ws text abi labels area c) (added : E ≡ addedMethods ws text abi labels area c) where
+        abbrev prepared : Table
+        prepared = record { words = ts; marks = ms; n = n; row = 0 }
+
+        compiled-table : barePlanned (planning prepared (take (r .n) (r .indices)) E [] (builtOf prepared)) ≡ barePlanned (L.planGenerated ws text abi labels area c)
+        unfolding L.planGenerated L.generatedTable L.generatedMethods
+        compiled-table =
+            let p = generated-accepted ws text c r numbers zero in
+            rw (p .0, p .1, table, added) (simp (ne-eqb (classCompilerTable ws c) 0 some))
+
+        pub compiled-stops : {row : ℕ} → row ≡ tableRow 0 n → row ≢ 0 → L.unplanned row ≡ barePlanned (L.planGenerated ws text abi labels area c)
+        compiled-stops e h = table-stops prepared (take (r .n) (r .indices)) E [] e h ∙ compiled-table
+
+        pub compiled-planned : (slots : List ℕ) {row : ℕ} → classKind ws c ≢ 0 → row ≡ tableRow 0 n → row ≡ 0
+            → entriesOf slots [] n ≡ entriesOf ts [] n
+            → L.planned
+            (record { table = entriesOf slots [] n; indices = take (r .n) (r .indices); newMethods = methodsOf ws c E; newFields = fieldsOf ws c E })
+            ≡ barePlanned (L.planGenerated ws text abi labels area c)
+        compiled-planned slots kind e z s =
+            let p = row-passes 0 n (sym e ∙ z) in
+            simp (ne-eqb (classKind ws c) 0 kind) (rw s (table-passes prepared (take (r .n) (r .indices)) E [] refl (p .1) ∙ compiled-table))
+
+  -- ---- by the kind
+
+  module _ {k : ℕ} (kind : k ≡ classKind ws c) where
+    pub kind-built : k ≡ 0 → barePlanned (L.planBuilt ws text abi labels area c) ≡ barePlanned (L.plan ws text abi labels area c)
+    unfolding L.plan
+    kind-built e = rw (← kind) (simp (eq-eqb k 0 e))
+
+    pub kind-generated : k ≢ 0 → k ≡ 1 → barePlanned (L.planGenerated ws text abi labels area c) ≡ barePlanned (L.plan ws text abi labels area c)
+    unfolding L.plan
+    kind-generated h e = rw (← kind) (simp (ne-eqb k 0 h, eq-eqb k 1 e))
+
+    pub kind-array : k ≢ 0 → k ≢ 1 → barePlanned (L.planArray ws text abi labels area c) ≡ barePlanned (L.plan ws text abi labels area c)
+    unfolding L.plan
+    kind-array h e = rw (← kind) (simp (ne-eqb k 0 h, ne-eqb k 1 e))

@@ -191,3 +191,91 @@ fn plan_methods(
     let ts = t.words;
     plain_plan(&ts, t.n, f)
 }
+
+// A generated class with a compiler table, whose own indices are these: its table, and the methods that it adds.
+fn plan_compiled<'a>(
+    ws: &[u32],
+    text: &'a [u8],
+    abi: &[u32],
+    labels: &'a [u8],
+    area: &[u32],
+    c: u32,
+    f: field::Numbered,
+) -> Plan
+    requires { ⌜ (classKind (now ws) c ≢ 0) × (classCompilerTable (now ws) c ≢ 0) × (f .row ≡ 0) × (outcomeOf f ≡ generatedFields (now ws) (now text) c) ⌝ }
+    ensures is { λ r. ⌜ plannedOf (now (ws .entry)) (now (text .entry)) (now (abi .entry)) (now (labels .entry)) c r ≡ barePlanned (planGenerated (now (ws .entry)) (now (text .entry)) (now (abi .entry)) (now (labels .entry)) (now (area .entry)) c) ⌝ }
+    ensures words { λ r. ⌜ (r .row ≡ 0 → r .instance ≡ newWords (now (ws .entry)) (now (text .entry)) (now (abi .entry)) (now (labels .entry)) (now (area .entry)) c) ⌝ }
+    ensures members { λ r. ⌜ r .added ≤ 1024 ⌝ }
+{
+    let p = compiler::prepare_generated(ws, text, abi, labels, area, c);
+    let row = table_row(0, p.n);
+    if row != 0 {
+        return no_plan(row);
+    }
+    let ts = p.words;
+    let mut slots = [0u32; 1024];
+    copy_slots(&ts, p.n, &mut slots);
+    let indices = f.indices;
+    let refs = p.refs;
+    let flags = p.flags;
+    let lasts = p.lasts;
+    Plan {
+        words: slots,
+        n: p.n,
+        indices,
+        own: f.n,
+        instance: 0,
+        refs,
+        flags,
+        lasts,
+        added: p.added,
+        row: 0,
+    }
+}
+
+// A generated class: rows 8 and 9, and its table.
+fn plan_generated<'a>(
+    ws: &[u32],
+    text: &'a [u8],
+    abi: &[u32],
+    labels: &'a [u8],
+    area: &[u32],
+    c: u32,
+) -> Plan
+    requires { ⌜ classKind (now ws) c ≢ 0 ⌝ }
+    ensures is { λ r. ⌜ plannedOf (now (ws .entry)) (now (text .entry)) (now (abi .entry)) (now (labels .entry)) c r ≡ barePlanned (planGenerated (now (ws .entry)) (now (text .entry)) (now (abi .entry)) (now (labels .entry)) (now (area .entry)) c) ⌝ }
+    ensures words { λ r. ⌜ (r .row ≡ 0 → r .instance ≡ newWords (now (ws .entry)) (now (text .entry)) (now (abi .entry)) (now (labels .entry)) (now (area .entry)) c) ⌝ }
+    ensures members { λ r. ⌜ r .added ≤ 1024 ⌝ }
+{
+    let f = field::generated_fields(ws, text, c);
+    if f.row != 0 {
+        return no_plan(f.row);
+    }
+    if class_sheet::class_compiler_table(ws, c) == 0 {
+        return plan_methods(ws, text, abi, labels, area, c, f);
+    }
+    plan_compiled(ws, text, abi, labels, area, c, f)
+}
+
+// What a link of class c comes to before anything is written.
+pub fn plan_link<'a>(
+    ws: &[u32],
+    text: &'a [u8],
+    abi: &[u32],
+    labels: &'a [u8],
+    area: &[u32],
+    c: u32,
+) -> Plan
+    ensures is { λ r. ⌜ plannedOf (now (ws .entry)) (now (text .entry)) (now (abi .entry)) (now (labels .entry)) c r ≡ barePlanned (plan (now (ws .entry)) (now (text .entry)) (now (abi .entry)) (now (labels .entry)) (now (area .entry)) c) ⌝ }
+    ensures words { λ r. ⌜ (r .row ≡ 0 → r .instance ≡ newWords (now (ws .entry)) (now (text .entry)) (now (abi .entry)) (now (labels .entry)) (now (area .entry)) c) ⌝ }
+    ensures members { λ r. ⌜ r .added ≤ 1024 ⌝ }
+{
+    let kind = class_sheet::class_kind(ws, c);
+    if kind == 0 {
+        return plan_built(ws, text, abi, labels, area, c);
+    }
+    if kind == 1 {
+        return plan_generated(ws, text, abi, labels, area, c);
+    }
+    plan_array(ws, text, abi, labels, area, c)
+}

@@ -1,0 +1,224 @@
+-- Laws of methods that are appended to a table. Assumes nothing.
+use mathlib.Core.Path.{_≡_, refl, sym, ap, _∙_}
+use mathlib.Core.Bool.{Bool, true, false, cond, and-false}
+use mathlib.Core.List.{List, [], _∷_, _++_}
+use Prim.Native.Nat.{ℕ, zero, suc, _+_, _-_, _≤_, _<_}
+use native.Mathlib.Omega.{arith}
+use lib.ListN.{length, getD, set}
+use lib.Dec.{eqb}
+use borrow.Author.Tests.{eq-eqb, ne-eqb, lt-ltb, le-ltb}
+use Rattle.words.specs.Lists.{listFrom, numbers, consFound, allFound, fold, some}
+use Rattle.words.specs.declared.Found.{Found}
+use Rattle.words.specs.declared.Found.the-variants.{At, Nothing}
+use Rattle.words.proofs.Bools.{by}
+use Rattle.words.proofs.ListLaws.{restFrom, rest-start, rest-turn, rest-end, foldFrom, fold-start, fold-turn}
+use Rattle.class_sheet.specs.ClassSheet.{classFirstMethod, classMethodCount}
+use Rattle.linking.specs.Chain.{onFound, listCount, ownMethods, isEligible}
+use Rattle.linking.specs.Vtable.{Entry}
+use Rattle.linking.specs.Compiler.{New, nameOf, flagsOf, sameSignature, hasSlot, appendMethod}
+use Rattle.growth.specs.News.{firstNews}
+use Rattle.vtable.specs.Arrays.{marked, entryAt, entriesOf}
+use Rattle.vtable.proofs.ArrayLaws.{push-slot}
+use Rattle.compiler.specs.Methods.{nameIn, descriptorIn, markSame, someSame, flagsIn, targetIn, methodNumber}
+use Rattle.native_view.specs.Native.{markMethods}
+use Rattle.growth.proofs.Lists.{list-ext}
+use Rattle.compiler.proofs.MethodLaws.{name-is, descriptor-is, flags-is, target-is}
+
+-- ---- folds and tests, in general
+
+pub fold-append {ℓ ℓ′} : {A : Type ℓ} {S : Type ℓ′} (f : S → A → S) (s : S) (xs ys : List A) → fold f s (xs ++ ys) ≡ fold f (fold f s xs) ys
+unfolding fold
+fold-append f s [] ys = refl
+fold-append f s (x ∷ xs) ys = fold-append f (f s x) xs ys
+
+pub some-list {ℓ} : {A : Type ℓ} (p : A → Bool) (q : ℕ → Bool) (e : ℕ → A) (m n : ℕ) → ((i : ℕ) → p (e i) ≡ q i)
+    → some p (listFrom e m n) ≡ some q (numbers m n)
+unfolding some listFrom
+some-list p q e m zero h = refl
+some-list p q e m (suc n) h = rw (h m, some-list p q e (m + 1) n h)
+
+-- ---- the signature in a table
+
+module _ (ws text abi labels refs : List ℕ) (n : ℕ) (name descriptor ms : List ℕ) (size : ℕ) where
+  -- the search at slot i
+  unfoldable pub sameRest : ℕ → Bool
+  sameRest i = some (λ j. markSame ws text abi labels refs n name descriptor (getD ms j 0)) (restFrom (λ j. j) 0 size i)
+
+  pub same-all : sameRest 0 ≡ someSame ws text abi labels refs n name descriptor ms size
+  unfolding sameRest someSame
+  same-all = rw (rest-start (λ (j : ℕ). j) 0 size)
+
+  module _ (i : ℕ) {a k : ℕ} {b : Bool} (h : i < size) (e : a ≡ i) (f : k ≡ getD ms a 0)
+      (g : b ≡ markSame ws text abi labels refs n name descriptor k) where
+    same-more : sameRest i ≡ cond b true (sameRest (i + 1))
+    unfolding sameRest some
+    same-more =
+        let z : 0 + i ≡ i = omega arith in
+        let w : getD ms i 0 ≡ k = sym (f ∙ ap (λ (x : ℕ). getD ms x 0) e) in
+        rw (rest-turn (λ (j : ℕ). j) 0 size i h, z, w, ← g) (by b (λ q. rw q) (λ q. rw q))
+
+    pub same-hit : (W : Bool) → b ≡ true → sameRest i ≡ W → true ≡ W
+    same-hit W q r = sym (sym r ∙ same-more ∙ rw q)
+
+    pub same-miss : (W : Bool) → b ≡ false → sameRest i ≡ W → sameRest (i + 1) ≡ W
+    same-miss W q r = sym (sym r ∙ same-more ∙ rw q)
+
+  pub same-end : (W : Bool) (i : ℕ) → size ≤ i → sameRest i ≡ W → false ≡ W
+  unfolding sameRest some
+  same-end W i h r = rw (rest-end (λ (j : ℕ). j) 0 size i h) at r
+
+module _ (ws text abi labels refs flags lasts : List ℕ) (n : ℕ) where
+  abbrev new : List New
+  new = firstNews ws text abi labels refs flags lasts n
+
+  -- ---- one method
+
+  module _ (m : ℕ) (ts ms : List ℕ) (size : ℕ) where
+    same-is : (k : ℕ) → onFound (marked k) (sameSignature ws text abi labels new m) false
+        ≡ markSame ws text abi labels refs n (nameIn ws text abi labels refs n m) (descriptorIn ws text abi labels refs n m) k
+    unfolding sameSignature markSame
+    same-is k =
+        by (eqb k 0) (λ q. rw q)
+        (λ q.
+        rw (
+          q,
+          name-is ws text abi labels refs flags lasts n m,
+          name-is ws text abi labels refs flags lasts n (k - 1),
+          descriptor-is ws text abi labels refs flags lasts n m,
+          descriptor-is ws text abi labels refs flags lasts n (k - 1),
+        ))
+
+    has-is : hasSlot ws text abi labels new m (entriesOf ts ms size)
+        ≡ someSame ws text abi labels refs n (nameIn ws text abi labels refs n m) (descriptorIn ws text abi labels refs n m) ms size
+    unfolding hasSlot someSame entriesOf entryAt
+    has-is =
+        some-list (λ e. onFound (e .method) (sameSignature ws text abi labels new m) false)
+        (λ i. markSame ws text abi labels refs n (nameIn ws text abi labels refs n m) (descriptorIn ws text abi labels refs n m) (getD ms i 0))
+        (entryAt ts ms) 0 size (λ i. same-is (getD ms i 0))
+
+    module _ {name descriptor : List ℕ} {f : ℕ} {b : Bool} (en : name ≡ nameIn ws text abi labels refs n m)
+        (ed : descriptor ≡ descriptorIn ws text abi labels refs n m) (ef : f ≡ flagsIn ws flags n m) (eb : b ≡ isEligible f name) where
+      eligible-is : isEligible (flagsOf ws text abi labels new m) (nameOf ws text abi labels new m) ≡ b
+      eligible-is = rw (flags-is ws text abi labels refs flags lasts n m, name-is ws text abi labels refs flags lasts n m, ← ef, ← en) (sym eb)
+
+      pub append-ineligible : b ≡ false → entriesOf ts ms size ≡ appendMethod ws text abi labels new (entriesOf ts ms size) m
+      unfolding appendMethod
+      append-ineligible q = rw (eligible-is, q)
+
+      module _ {h : Bool} (eh : h ≡ someSame ws text abi labels refs n name descriptor ms size) where
+        held-is : hasSlot ws text abi labels new m (entriesOf ts ms size) ≡ h
+        held-is = has-is ∙ rw (← en, ← ed) (sym eh)
+
+        pub append-held : h ≡ true → entriesOf ts ms size ≡ appendMethod ws text abi labels new (entriesOf ts ms size) m
+        unfolding appendMethod
+        append-held q = rw (held-is, q, and-false)
+
+        pub append-new : (us ns : List ℕ) {w a a′ : ℕ} → b ≡ true → h ≡ false → size < length ts → size < length ms → w ≡ targetIn ws lasts n m
+            → a ≡ size → us ≡ set ts a w → a′ ≡ size → ns ≡ set ms a′ (m + 1)
+            → entriesOf us ns (size + 1) ≡ appendMethod ws text abi labels new (entriesOf ts ms size) m
+        unfolding appendMethod
+        append-new us ns {w = w} q r l l′ ew ea eu ea′ en′ =
+            let e : m + 1 - 1 ≡ m = omega arith in
+            let k : marked (m + 1) ≡ At m = simp (ne-eqb (m + 1) 0 (λ (z : m + 1 ≡ 0). omega arith), e) in
+            rw (eu, ea, en′, ea′, push-slot ts ms size w (m + 1) l l′, k, eligible-is, held-is, q, r, target-is ws text abi labels refs flags lasts n m, ← ew)
+
+  -- ---- by mark
+
+  module _ (k : ℕ) (E : List Entry) where
+    pub append-none : k ≡ 0 → E ≡ fold (appendMethod ws text abi labels new) E (consFound (marked k) [])
+    unfolding fold
+    append-none e = simp (eq-eqb k 0 e)
+
+    pub append-known : {F : List Entry} {j : ℕ} → (k ≡ 0 → ⊥) → j ≡ k - 1 → F ≡ appendMethod ws text abi labels new E j
+        → F ≡ fold (appendMethod ws text abi labels new) E (consFound (marked k) [])
+    unfolding fold
+    append-known z e f = simp (ne-eqb k 0 z) (f ∙ rw e)
+
+  -- ---- the loop along marks
+
+  module _ (known : List ℕ) (count : ℕ) where
+    unfoldable pub knownRest : List Entry → ℕ → List Entry
+    knownRest E i = fold (appendMethod ws text abi labels new) E (allFound (λ j. marked (getD known j 0)) (restFrom (λ j. j) 0 count i))
+
+    pub known-all : (E : List Entry) → knownRest E 0 ≡ fold (appendMethod ws text abi labels new) E (markMethods known count)
+    unfolding knownRest markMethods
+    known-all E = rw (rest-start (λ (j : ℕ). j) 0 count)
+
+    fold-cons : (E : List Entry) (f : Found) (xs : List ℕ) → fold (appendMethod ws text abi labels new) E (consFound f xs)
+        ≡ fold (appendMethod ws text abi labels new) (fold (appendMethod ws text abi labels new) E (consFound f [])) xs
+    unfolding fold
+    fold-cons E (At k) xs = refl
+    fold-cons E Nothing xs = refl
+
+    pub known-turn : (E F A : List Entry) (i : ℕ) {a k : ℕ} → i < count → a ≡ i → k ≡ getD known a 0
+        → F ≡ fold (appendMethod ws text abi labels new) E (consFound (marked k) []) → knownRest E i ≡ A → knownRest F (i + 1) ≡ A
+    unfolding knownRest allFound
+    known-turn E F A i {k = k} h e f g r =
+        let z : 0 + i ≡ i = omega arith in
+        let w : getD known i 0 ≡ k = sym (f ∙ ap (λ (x : ℕ). getD known x 0) e) in
+        let q : fold (appendMethod ws text abi labels new) E (allFound (λ j. marked (getD known j 0)) (restFrom (λ j. j) 0 count i))
+        ≡ fold (appendMethod ws text abi labels new) E (consFound (marked k) (allFound (λ j. marked (getD known j 0)) (restFrom (λ j. j) 0 count (i + 1)))) =
+        rw (rest-turn (λ (j : ℕ). j) 0 count i h, z, w) in
+        rw g (sym (fold-cons E (marked k) (allFound (λ j. marked (getD known j 0)) (restFrom (λ j. j) 0 count (i + 1))))) ∙ sym q ∙ r
+
+    pub known-end : (E A : List Entry) (i : ℕ) → count ≤ i → knownRest E i ≡ A → E ≡ A
+    unfolding knownRest allFound fold
+    known-end E A i h r = rw (rest-end (λ (j : ℕ). j) 0 count i h) at r
+
+  -- ---- declared, added and parent methods
+
+  pub append-all : (E F : List Entry) (xs ys : List ℕ) {T : List Entry} → F ≡ fold (appendMethod ws text abi labels new) E xs
+      → T ≡ fold (appendMethod ws text abi labels new) F ys → T ≡ fold (appendMethod ws text abi labels new) E (xs ++ ys)
+  append-all E F xs ys p q = rw (fold-append (appendMethod ws text abi labels new) E xs ys, ← p) q
+
+-- ---- declared and added methods, in order
+
+list-shift {ℓ} : {A : Type ℓ} (f : ℕ → A) (m k n : ℕ) → listFrom f (m + k) n ≡ listFrom (λ j. f (m + j)) k n
+unfolding listFrom
+list-shift f m k zero = refl
+list-shift f m k (suc n) = let e : m + k + 1 ≡ m + (k + 1) = omega arith in rw (e, list-shift f m (k + 1) n)
+
+list-split {ℓ} : {A : Type ℓ} (f : ℕ → A) (m a b : ℕ) → listFrom f m (a + b) ≡ listFrom f m a ++ listFrom f (m + a) b
+unfolding listFrom
+list-split f m zero b = let e : m + 0 ≡ m = omega arith in let z : 0 + b ≡ b = omega arith in rw (e, z)
+list-split {A = A} f m (suc a) b =
+    let e : m + 1 + a ≡ m + suc a = omega arith in
+    let g : suc a + b ≡ suc (a + b) = omega arith in
+    rw g (ap (λ (l : List A). f m ∷ l) (rw e at (list-split f (m + 1) a b)))
+
+pub number-own : (first own j : ℕ) → j < own → first + j ≡ methodNumber first own j
+unfolding methodNumber
+number-own first own j h = simp (lt-ltb j own h)
+
+pub number-added : (first own j : ℕ) → own ≤ j → 512 + (j - own) ≡ methodNumber first own j
+unfolding methodNumber
+number-added first own j h = simp (le-ltb j own h)
+
+numbers-are : (first own n : ℕ) → listFrom (methodNumber first own) 0 (own + n) ≡ numbers first own ++ numbers 512 n
+numbers-are first own n =
+    let z : first + 0 ≡ first = omega arith in
+    let o : numbers first own ≡ listFrom (methodNumber first own) 0 own =
+    (rw z at (list-shift (λ k. k) first 0 own)) ∙ list-ext (λ j. first + j) (methodNumber first own) 0 own (λ j l. number-own first own j (omega arith)) in
+    let a : numbers 512 n ≡ listFrom (methodNumber first own) (0 + own) n =
+    list-shift (λ k. k) 512 0 n ∙ list-same own n ∙ sym (list-shift (methodNumber first own) own 0 n) ∙ ap (λ (k : ℕ). listFrom (methodNumber first own) k n) (omega arith) in
+    rw (o, a) (list-split (methodNumber first own) 0 own n)
+  where
+    list-same : (own n : ℕ) → listFrom (λ j. 512 + j) 0 n ≡ listFrom (λ j. methodNumber first own (own + j)) 0 n
+    list-same own n =
+        list-ext (λ j. 512 + j) (λ j. methodNumber first own (own + j)) 0 n
+        (λ j l. let e : own + j - own ≡ j = omega arith in rw e at (number-added first own (own + j) (omega arith)))
+
+pub methods-in : (ws : List ℕ) (c n : ℕ) {first own total : ℕ} → first ≡ classFirstMethod ws c
+    → own ≡ listCount (classFirstMethod ws c) (classMethodCount ws c) 512 → total ≡ own + n
+    → listFrom (methodNumber first own) 0 total ≡ ownMethods ws c ++ numbers 512 n
+unfolding ownMethods
+methods-in ws c n {first = first} {own = own} e f g = rw g (numbers-are first own n ∙ rw (f, e))
+
+-- the loop along them
+
+module _ {ℓ} {S : Type ℓ} (f : ℕ → ℕ) (g : S → ℕ → S) (n : ℕ) where
+  pub numbers-start : (xs : List ℕ) (s : S) → listFrom f 0 n ≡ xs → foldFrom f g s 0 n 0 ≡ fold g s xs
+  numbers-start xs s e = fold-start f g 0 n s ∙ ap (fold g s) e
+
+  pub numbers-turn : (j : ℕ) {s t : S} {m : ℕ} → j < n → m ≡ f j → t ≡ g s m → foldFrom f g t 0 n (j + 1) ≡ foldFrom f g s 0 n j
+  numbers-turn j h e p = let z : 0 + j ≡ j = omega arith in fold-turn f g 0 n j h (p ∙ rw (e, z))

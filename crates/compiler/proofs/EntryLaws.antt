@@ -1,0 +1,228 @@
+-- Laws of the slots of a compiler table: methods found by target, and the slots one after the other. Assumes nothing.
+use mathlib.Core.Path.{_≡_, refl, sym, ap, _∙_}
+use mathlib.Core.Bool.{Bool, true, false, cond}
+use mathlib.Core.List.{List, [], _∷_, _++_}
+use Prim.Native.Nat.{ℕ, zero, suc, _+_, _-_, _≤_, _<_, min}
+use native.Mathlib.Omega.{arith}
+use lib.ListN.{length, getD, set}
+use lib.Dec.{eqb}
+use borrow.Author.Tests.{eq-eqb, ne-eqb, eqb-true}
+use Rattle.words.specs.Lists.{listFrom, numbers, orElse, find, firstFound, fold}
+use Rattle.words.specs.declared.Found.{Found}
+use Rattle.words.specs.declared.Found.the-variants.{At, Nothing}
+use Rattle.words.proofs.Bools.{by}
+use Rattle.words.proofs.ListLaws.{restFrom, rest-start, rest-turn, rest-end, find-within}
+use Rattle.growth.proofs.Lists.{list-more, list-ext}
+use Rattle.growth.proofs.NewsLaws.{length-first}
+use Rattle.class_sheet.specs.ClassSheet.{classFirstMethod, classMethodCount, classCompilerTable, classCompilerSlots, compilerWord}
+use Rattle.linking.specs.Chain.{listCount, ownMethods}
+use Rattle.linking.specs.Vtable.{Entry, parentEntries}
+use Rattle.linking.specs.Compiler.{New, targetOf, classMethods, entryTarget, matchTarget, compilerEntry, compilerEntries, compilerTargets, appendMethod, entryMethods, nativeView, addedMethods, compilerTable}
+use Rattle.growth.specs.News.{firstNews}
+use Rattle.vtable.specs.Arrays.{marked, entryAt, entriesOf}
+use Rattle.vtable.proofs.ArrayLaws.{push-slot}
+use Rattle.native_view.specs.Native.{below, markMethods}
+use Rattle.native_view.proofs.ViewLaws.{slot-below}
+use Rattle.compiler.specs.Methods.{targetIn, markTarget, viewTarget, matchIn, methodAt, tableSlot, slotsIn}
+use Rattle.compiler.proofs.MethodLaws.{target-is}
+
+-- ---- searches, in general
+
+pub find-append : (p : ℕ → Bool) (xs ys : List ℕ) → find p (xs ++ ys) ≡ orElse (find p xs) (find p ys)
+unfolding find
+find-append p [] ys = refl
+find-append p (x ∷ xs) ys = by (p x) (λ q. rw q) (λ q. rw q (find-append p xs ys))
+
+pub find-ext : (p q : ℕ → Bool) (xs : List ℕ) → ((x : ℕ) → p x ≡ q x) → find p xs ≡ find q xs
+unfolding find
+find-ext p q [] h = refl
+find-ext p q (x ∷ xs) h = rw (h x, find-ext p q xs h)
+
+pub found-list {ℓ} : {A : Type ℓ} (f : A → Found) (g : ℕ → Found) (e : ℕ → A) (m n : ℕ) → ((i : ℕ) → f (e i) ≡ g i)
+    → firstFound f (listFrom e m n) ≡ firstFound g (numbers m n)
+unfolding firstFound listFrom
+found-list f g e m zero h = refl
+found-list f g e m (suc n) h = rw (h m, found-list f g e (m + 1) n h)
+
+or-assoc : (a b c : Found) → orElse (orElse a b) c ≡ orElse a (orElse b c)
+or-assoc (At k) b c = refl
+or-assoc Nothing b c = refl
+
+marked-suc : (m : ℕ) → marked (m + 1) ≡ At m
+marked-suc m = let e : m + 1 - 1 ≡ m = omega arith in simp (ne-eqb (m + 1) 0 (λ (z : m + 1 ≡ 0). omega arith), e)
+
+-- ---- by target
+
+module _ (ws lasts : List ℕ) (n : ℕ) where
+  module _ (t k : ℕ) where
+    pub has-none : k ≡ 0 → markTarget ws lasts n t k ≡ Nothing
+    unfolding markTarget
+    has-none e = simp (eq-eqb k 0 e)
+
+    pub has-known : {j : ℕ} {b : Bool} → (k ≡ 0 → ⊥) → j ≡ k - 1 → b ≡ eqb (targetIn ws lasts n j) t
+        → markTarget ws lasts n t k ≡ cond b (At (k - 1)) Nothing
+    unfolding markTarget
+    has-known z e f = simp (ne-eqb k 0 z) (rw (f, e))
+
+    -- a mark that has a target is not 0
+    has-marked : markTarget ws lasts n t k ≡ At (k - 1) → marked k ≡ At (k - 1)
+    has-marked h =
+        by (eqb k 0)
+        (λ q. let b : _≡_ {A = Found} Nothing (At (k - 1)) = sym (has-none (eqb-is k q)) ∙ h in absurd (let z : _≡_ {A = ℕ} 0 1 = cc in omega arith))
+        (λ q. rw q)
+      where
+        eqb-is : (k : ℕ) → eqb k 0 ≡ true → k ≡ 0
+        eqb-is k q = eqb-true k 0 q
+
+  module _ (vm : List ℕ) (size t : ℕ) where
+    -- the search at slot i
+    unfoldable pub viewRest : ℕ → Found
+    viewRest i = firstFound (λ j. markTarget ws lasts n t (getD vm j 0)) (restFrom (λ j. j) 0 size i)
+
+    pub view-all : viewRest 0 ≡ viewTarget ws lasts n vm size t
+    unfolding viewRest viewTarget
+    view-all = rw (rest-start (λ (j : ℕ). j) 0 size)
+
+    view-more : (i : ℕ) → i < size → viewRest i ≡ orElse (markTarget ws lasts n t (getD vm i 0)) (viewRest (i + 1))
+    unfolding viewRest firstFound
+    view-more i h = let z : 0 + i ≡ i = omega arith in rw (rest-turn (λ (j : ℕ). j) 0 size i h, z)
+
+    module _ (i : ℕ) {a k : ℕ} {b : Bool} (h : i < size) (e : a ≡ i) (f : k ≡ getD vm a 0)
+        (g : markTarget ws lasts n t k ≡ cond b (At (k - 1)) Nothing) where
+      pub view-hit : (W : Found) → b ≡ true → viewRest i ≡ W → marked k ≡ W
+      view-hit W q r =
+          let m : markTarget ws lasts n t k ≡ At (k - 1) = rw q at g in
+          let w : getD vm i 0 ≡ k = sym (f ∙ ap (λ (x : ℕ). getD vm x 0) e) in
+          has-marked t k m ∙ sym (sym r ∙ view-more i h ∙ rw (w, m))
+
+      pub view-miss : (W : Found) → b ≡ false → viewRest i ≡ W → viewRest (i + 1) ≡ W
+      view-miss W q r =
+          let m : markTarget ws lasts n t k ≡ Nothing = rw q at g in
+          let w : getD vm i 0 ≡ k = sym (f ∙ ap (λ (x : ℕ). getD vm x 0) e) in
+          sym (sym r ∙ view-more i h ∙ rw (w, m))
+
+    pub view-none : (W : Found) (i : ℕ) → size ≤ i → viewRest i ≡ W → marked 0 ≡ W
+    unfolding viewRest firstFound
+    view-none W i h r = rw (rest-end (λ (j : ℕ). j) 0 size i h) at r
+
+    -- declared, added, native
+    module _ (c : ℕ) {first count : ℕ} (ef : first ≡ classFirstMethod ws c)
+        (ec : count ≡ listCount (classFirstMethod ws c) (classMethodCount ws c) 512) {r : Found}
+        (er : r ≡ find (λ m. eqb (targetIn ws lasts n m) t) (numbers first count)) where
+      own-is : r ≡ find (λ m. eqb (targetIn ws lasts n m) t) (ownMethods ws c)
+      unfolding ownMethods
+      own-is = er ∙ rw (ef, ec)
+
+      pub own-room : (m : ℕ) → r ≡ At m → m < 512
+      own-room m q = omega (arith, find-within (λ m. eqb (targetIn ws lasts n m) t) first count m (sym er ∙ q))
+
+      pub match-own : (m : ℕ) → r ≡ At m → marked (m + 1) ≡ matchIn ws lasts n c vm size t
+      unfolding matchIn
+      match-own m q = marked-suc m ∙ rw (← own-is, q)
+
+      module _ (z : r ≡ Nothing) {s : Found} (es : s ≡ find (λ m. eqb (targetIn ws lasts n m) t) (numbers 512 n)) where
+        pub match-added : (m : ℕ) → s ≡ At m → marked (m + 1) ≡ matchIn ws lasts n c vm size t
+        unfolding matchIn
+        match-added m q = marked-suc m ∙ rw (← own-is, z) (rw (← es, q))
+
+        pub match-view : (k : ℕ) → s ≡ Nothing → marked k ≡ viewTarget ws lasts n vm size t → marked k ≡ matchIn ws lasts n c vm size t
+        unfolding matchIn
+        match-view k q v = v ∙ rw (← own-is, z) (rw (← es, q))
+
+    pub added-room : (m : ℕ) {s : Found} → n ≤ 1024 → s ≡ find (λ m. eqb (targetIn ws lasts n m) t) (numbers 512 n) → s ≡ At m → m < 1536
+    added-room m h e q = omega (arith, find-within (λ m. eqb (targetIn ws lasts n m) t) 512 n m (sym e ∙ q))
+
+  -- ---- the slots
+
+  module _ (c : ℕ) (vm : List ℕ) (size i t k : ℕ) where
+    pub method-zero : t ≡ 0 → k ≡ below vm size i → marked k ≡ methodAt ws lasts n c vm size i t
+    unfolding methodAt
+    method-zero z e = simp (eq-eqb t 0 z) (ap marked e)
+
+    pub method-match : (t ≡ 0 → ⊥) → marked k ≡ matchIn ws lasts n c vm size t → marked k ≡ methodAt ws lasts n c vm size i t
+    unfolding methodAt
+    method-match z e = simp (ne-eqb t 0 z) e
+
+  module _ (c : ℕ) (vs vm : List ℕ) (size : ℕ) where
+    pub slots-start : (ts ms : List ℕ) → entriesOf ts ms 0 ≡ slotsIn ws lasts n c vs vm size 0
+    unfolding entriesOf slotsIn listFrom
+    slots-start ts ms = refl
+
+    pub slots-turn : (i k : ℕ) (ts ms us ns : List ℕ) {t w a b : ℕ} → i < length ts → i < length ms
+        → entriesOf ts ms i ≡ slotsIn ws lasts n c vs vm size i → t ≡ compilerWord ws (classCompilerTable ws c - 1 + i)
+        → w ≡ cond (eqb t 0) (below vs size i) t → marked k ≡ methodAt ws lasts n c vm size i t → a ≡ i → us ≡ set ts a w → b ≡ i → ns ≡ set ms b k
+        → entriesOf us ns (i + 1) ≡ slotsIn ws lasts n c vs vm size (i + 1)
+    unfolding slotsIn tableSlot
+    slots-turn i k ts ms us ns {t = t} {w = w} h l e et ew ek ea eu eb en =
+        let x : _≡_ {A = Entry} (record { word = w; method = marked k }) (tableSlot ws lasts n c vs vm size i) = rw (ew, ek, et) in
+        rw (eu, ea, en, eb, push-slot ts ms i w k h l, e, x) (sym (list-more (tableSlot ws lasts n c vs vm size) i))
+
+-- ---- they are those of the definitions
+
+module _ (ws text abi labels refs flags lasts : List ℕ) (n c : ℕ) (vs vm : List ℕ) (size : ℕ) where
+  abbrev new : List New
+  new = firstNews ws text abi labels refs flags lasts n
+
+  entry-target : (t k w : ℕ) → entryTarget ws text abi labels new t (record { word = w; method = marked k }) ≡ markTarget ws lasts n t k
+  unfolding entryTarget markTarget
+  entry-target t k w = by (eqb k 0) (λ q. rw q) (λ q. rw (q, target-is ws text abi labels refs flags lasts n (k - 1)))
+
+  match-is : (t : ℕ) → matchTarget ws text abi labels new c (entriesOf vs vm size) t ≡ matchIn ws lasts n c vm size t
+  unfolding matchTarget classMethods matchIn viewTarget entriesOf entryAt
+  match-is t =
+      let p : ℕ → Bool = λ m. eqb (targetIn ws lasts n m) t in
+      let e : find (λ m. eqb (targetOf ws text abi labels new m) t) (ownMethods ws c ++ numbers 512 (length new))
+      ≡ orElse (find p (ownMethods ws c)) (find p (numbers 512 n)) =
+      rw (length-first ws text abi labels refs flags lasts n)
+      (find-ext (λ m. eqb (targetOf ws text abi labels new m) t) p (ownMethods ws c ++ numbers 512 n)
+      (λ m. rw (target-is ws text abi labels refs flags lasts n m))
+      ∙ find-append p (ownMethods ws c) (numbers 512 n)) in
+      rw (
+        e,
+        found-list (entryTarget ws text abi labels new t) (λ i. markTarget ws lasts n t (getD vm i 0)) (entryAt vs vm) 0 size
+            (λ i. entry-target t (getD vm i 0) (getD vs i 0)),
+      )
+      (or-assoc (find p (ownMethods ws c)) (find p (numbers 512 n)) (firstFound (λ i. markTarget ws lasts n t (getD vm i 0)) (numbers 0 size)))
+
+  entry-is : (i : ℕ) → compilerEntry ws text abi labels new c (entriesOf vs vm size) i (compilerWord ws (classCompilerTable ws c - 1 + i))
+      ≡ tableSlot ws lasts n c vs vm size i
+  unfolding compilerEntry tableSlot methodAt
+  entry-is i =
+      by (eqb (compilerWord ws (classCompilerTable ws c - 1 + i)) 0) (λ q. rw q (slot-below vs vm size i))
+      (λ q. rw (q, match-is (compilerWord ws (classCompilerTable ws c - 1 + i))))
+
+  entries-from : (f : ℕ → ℕ) (i k : ℕ) → compilerEntries ws text abi labels new c (entriesOf vs vm size) i (listFrom f i k)
+      ≡ listFrom (λ j. compilerEntry ws text abi labels new c (entriesOf vs vm size) j (f j)) i k
+  unfolding compilerEntries listFrom
+  entries-from f i zero = refl
+  entries-from f i (suc k) = rw (entries-from f (i + 1) k)
+
+  pub entries-are : {count : ℕ} → count ≡ min (classCompilerSlots ws c) 1024 → slotsIn ws lasts n c vs vm size count
+      ≡ compilerEntries ws text abi labels new c (entriesOf vs vm size) 0 (compilerTargets ws text abi labels c)
+  unfolding slotsIn compilerTargets
+  entries-are {count = count} e =
+      rw (← e)
+      (sym (entries-from (λ i. compilerWord ws (classCompilerTable ws c - 1 + i)) 0 count
+      ∙ list-ext (λ j. compilerEntry ws text abi labels new c (entriesOf vs vm size) j (compilerWord ws (classCompilerTable ws c - 1 + j)))
+      (tableSlot ws lasts n c vs vm size) 0 count (λ i l. entry-is i)))
+
+  -- ---- the whole table
+
+  pub table-is : (xs : List ℕ) {count : ℕ} {E T : List Entry} → count ≡ min (classCompilerSlots ws c) 1024
+      → E ≡ slotsIn ws lasts n c vs vm size count
+      → T ≡ fold (appendMethod ws text abi labels new) E ((ownMethods ws c ++ numbers 512 n) ++ xs)
+      → T ≡ fold (appendMethod ws text abi labels new)
+      (compilerEntries ws text abi labels new c (entriesOf vs vm size) 0 (compilerTargets ws text abi labels c))
+      (classMethods ws text abi labels new c ++ xs)
+  unfolding classMethods
+  table-is xs e f g = g ∙ rw (f, entries-are e, length-first ws text abi labels refs flags lasts n)
+
+  pub prepared-is : (area known : List ℕ) {T : List Entry} → entriesOf vs vm size ≡ nativeView ws text abi labels area c
+      → new ≡ addedMethods ws text abi labels area c
+      → ((more : List New) → markMethods known size ≡ entryMethods ws text abi labels more (parentEntries ws text abi labels area c))
+      → T ≡ fold (appendMethod ws text abi labels new)
+      (compilerEntries ws text abi labels new c (entriesOf vs vm size) 0 (compilerTargets ws text abi labels c))
+      (classMethods ws text abi labels new c ++ markMethods known size)
+      → T ≡ compilerTable ws text abi labels area c
+  unfolding compilerTable
+  prepared-is area known view added parent e = rw (← added, ← view, ← (parent new)) e

@@ -1,0 +1,4 @@
+pub mod AppendLaws
+pub mod EntryLaws
+pub mod Examples
+pub mod MethodLaws

@@ -1,0 +1,63 @@
+use denote.Ref.{now}
+use Rattle.compiler.proofs.EntryLaws.{prepared-is}
+use borrow.Author.Needs.{needs}
+use Rattle.compiler.proofs.prepare_generated.Statement.{statement}
+use Rattle.compiler.proofs.prepare_generated.Tie as tie
+use Rattle.compiler.proofs.prepare_generated.Reads as reads
+use Rattle.compiler.proofs.prepare_generated.Lts as lts
+use Rattle.compiler.proofs.compiler_table.Reads as compiler-table-reads
+use Rattle.native_view.proofs.native_view.Reads as native-view-reads
+
+native-view-requires : tie.Need-native-view-requires
+native-view-requires c κs = search needs
+
+slice-aggregate-compiler-table : tie.Need-slice-aggregate-compiler-table
+slice-aggregate-compiler-table c = search needs
+
+slice-aggregate-compiler-table-2 : tie.Need-slice-aggregate-compiler-table-2
+slice-aggregate-compiler-table-2 c = search needs
+
+slice-aggregate-compiler-table-3 : tie.Need-slice-aggregate-compiler-table-3
+slice-aggregate-compiler-table-3 c = search needs
+
+slice-aggregate-compiler-table-4 : tie.Need-slice-aggregate-compiler-table-4
+slice-aggregate-compiler-table-4 c = search needs
+
+slice-aggregate-compiler-table-5 : tie.Need-slice-aggregate-compiler-table-5
+slice-aggregate-compiler-table-5 c = search needs
+
+slice-aggregate-compiler-table-6 : tie.Need-slice-aggregate-compiler-table-6
+slice-aggregate-compiler-table-6 c = search needs
+
+slice-aggregate-compiler-table-7 : tie.Need-slice-aggregate-compiler-table-7
+slice-aggregate-compiler-table-7 c = search needs
+
+slice-aggregate-compiler-table-8 : tie.Need-slice-aggregate-compiler-table-8
+slice-aggregate-compiler-table-8 c = search needs
+
+compiler-table-requires : tie.Need-compiler-table-requires
+compiler-table-requires c κs = search needs
+
+returns : tie.Need-returns
+returns c =
+    let a = c .before .before .before .before .before .before .before .before .before .before .before .before .before .before .before .before .before .before .before .before .before .before .before .args in
+    let v = c .before .before .before .before .before .before .before .before .before .before .before .before .before .before .before .before .before .native-view in
+    let e = v .ensures in
+    let t = c .before .before .compiler-table .ensures in
+    (prepared-is (now (a .ws)) (now (a .text)) (now (a .abi)) (now (a .labels)) (v .result .refs) (v .result .flags) (v .result .lasts) (v .result .added) (a .c) (v .result .words) (v .result .marks) (v .result .n) (now (a .area)) (v .result .known) (e .0) (e .1 .1 .0) (e .1 .0) (t .0), (e .1 .1 .0, (t .1, e .1 .1 .1 .1)))
+
+pub prepare-generated-spec : {M : Type 1} → statement M
+prepare-generated-spec =
+    tie.close
+    (tie.spec
+    native-view-requires
+    slice-aggregate-compiler-table
+    slice-aggregate-compiler-table-2
+    slice-aggregate-compiler-table-3
+    slice-aggregate-compiler-table-4
+    slice-aggregate-compiler-table-5
+    slice-aggregate-compiler-table-6
+    slice-aggregate-compiler-table-7
+    slice-aggregate-compiler-table-8
+    compiler-table-requires
+    returns)

@@ -1,0 +1,76 @@
+-- The methods of the sheet and the first n that are added, as the code reads them off arrays, and searches among them and among the marks
+-- of a table. Assumes nothing.
+use Prim.Native.Nat.{ℕ, _+_, _-_}
+use mathlib.Core.Bool.{Bool, false, cond, _&&_}
+use mathlib.Core.List.{List, []}
+use lib.ListN.{getD}
+use lib.Dec.{eqb, ltb}
+use Rattle.words.specs.Lists.{listFrom, numbers, orElse, find, firstFound, some}
+use Rattle.words.specs.declared.Found.{Found}
+use Rattle.words.specs.declared.Found.the-variants.{At, Nothing}
+use Rattle.text.specs.Text.{sameBytes}
+use Rattle.class_sheet.specs.ClassSheet.{classCompilerTable, compilerWord, methodName, methodDescriptor, methodFlags, methodTarget}
+use Rattle.linking.specs.Chain.{onFound, ownMethods}
+use Rattle.linking.specs.Vtable.{Entry}
+use Rattle.growth.specs.News.{refName, refDescriptor}
+use Rattle.vtable.specs.Arrays.{marked}
+use Rattle.native_view.specs.Native.{below}
+
+-- ---- method m: below 512 one of the sheet, from 512 on an added one
+
+module _ (ws text abi labels refs : List ℕ) (n : ℕ) where
+  unfoldable pub nameIn : ℕ → List ℕ
+  nameIn m = cond (ltb m 512) (methodName ws text m) (cond (ltb (m - 512) n) (refName ws text abi labels (getD refs (m - 512) 0)) [])
+
+  unfoldable pub descriptorIn : ℕ → List ℕ
+  descriptorIn m =
+      cond (ltb m 512) (methodDescriptor ws text m) (cond (ltb (m - 512) n) (refDescriptor ws text abi labels (getD refs (m - 512) 0)) [])
+
+  -- the method with mark k has this name and descriptor; no for mark 0
+  unfoldable pub markSame : List ℕ → List ℕ → ℕ → Bool
+  markSame name descriptor k = onFound (marked k) (λ m. sameBytes name (nameIn m) && sameBytes descriptor (descriptorIn m)) false
+
+  -- one of the first `size` marks is of this signature
+  unfoldable pub someSame : List ℕ → List ℕ → List ℕ → ℕ → Bool
+  someSame name descriptor ms size = some (λ i. markSame name descriptor (getD ms i 0)) (numbers 0 size)
+
+unfoldable pub flagsIn : List ℕ → List ℕ → ℕ → ℕ → ℕ
+flagsIn ws flags n m = cond (ltb m 512) (methodFlags ws m) (below flags n (m - 512))
+
+module _ (ws lasts : List ℕ) (n : ℕ) where
+  unfoldable pub targetIn : ℕ → ℕ
+  targetIn m = cond (ltb m 512) (methodTarget ws m) (below lasts n (m - 512))
+
+  -- ---- "matched by target in declared and added, then native methods"
+
+  -- the method with mark k, where it has target t
+  unfoldable pub markTarget : ℕ → ℕ → Found
+  markTarget t k = onFound (marked k) (λ m. cond (eqb (targetIn m) t) (At m) Nothing) Nothing
+
+  -- the first with target t among the first `size` marks of the native view
+  unfoldable pub viewTarget : List ℕ → ℕ → ℕ → Found
+  viewTarget vm size t = firstFound (λ i. markTarget t (getD vm i 0)) (numbers 0 size)
+
+  unfoldable pub matchIn : ℕ → List ℕ → ℕ → ℕ → Found
+  matchIn c vm size t =
+      orElse (find (λ m. eqb (targetIn m) t) (ownMethods ws c))
+      (orElse (find (λ m. eqb (targetIn m) t) (numbers 512 n)) (viewTarget vm size t))
+
+  -- ---- slot i of the compiler table: its method where its target is t, and the slot; and the first `count` of them
+
+  unfoldable pub methodAt : ℕ → List ℕ → ℕ → ℕ → ℕ → Found
+  methodAt c vm size i t = cond (eqb t 0) (marked (below vm size i)) (matchIn c vm size t)
+
+  unfoldable pub tableSlot : ℕ → List ℕ → List ℕ → ℕ → ℕ → Entry
+  tableSlot c vs vm size i =
+      let t : ℕ = compilerWord ws (classCompilerTable ws c - 1 + i) in
+      record { word = cond (eqb t 0) (below vs size i) t; method = methodAt c vm size i t }
+
+  unfoldable pub slotsIn : ℕ → List ℕ → List ℕ → ℕ → ℕ → List Entry
+  slotsIn c vs vm size count = listFrom (tableSlot c vs vm size) 0 count
+
+-- ---- declared and added methods, in order
+
+-- the j-th of `own` methods from `first` on, or the (j - own)-th added one
+unfoldable pub methodNumber : ℕ → ℕ → ℕ → ℕ
+methodNumber first own j = cond (ltb j own) (first + j) (512 + (j - own))

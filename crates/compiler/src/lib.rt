@@ -1,0 +1,539 @@
+// A generated class with a compiler table: its virtual table (`build_from_compiler_vtable`) and the methods that are added to it.
+// Methods are numbered on: below 512 those of the sheet, 512 + j the j-th that is added. A slot's mark is its method's number plus 1.
+use words::Found;
+ghost use mathlib.Core.Path.{_≡_};
+ghost use mathlib.Core.Bool.{cond};
+ghost use mathlib.Core.List.{[], _++_};
+ghost use Prim.Native.Nat.{_+_, _-_, _≤_, _<_, min};
+ghost use lib.ListN.{length};
+ghost use lib.Dec.{eqb};
+ghost use Rattle.words.specs.Lists.{numbers, find, fold, consFound};
+ghost use Rattle.class_sheet.specs.ClassSheet.{classCompilerSlots};
+ghost use Rattle.words.specs.declared.Found.the-variants.{At, Nothing};
+ghost use Rattle.linking.specs.Chain.{ownMethods};
+ghost use Rattle.linking.specs.Compiler.{compilerTable, compilerEntries, compilerTargets, classMethods, addedMethods, appendMethod};
+ghost use Rattle.vtable.specs.Arrays.{marked, entriesOf};
+ghost use Rattle.growth.specs.News.{firstNews};
+ghost use Rattle.native_view.specs.Native.{below, markMethods};
+ghost use Rattle.compiler.specs.Methods.{nameIn, descriptorIn, markSame, someSame, flagsIn, targetIn, markTarget, viewTarget, matchIn, methodAt, slotsIn, methodNumber};
+
+// The table, the first n slots of two arrays, and the first `added` methods that are added to the class.
+pub struct Prepared {
+    pub words: [u32; 3584],
+    pub marks: [u32; 3584],
+    pub n: u32,
+    pub refs: [u32; 1024],
+    pub flags: [u32; 1024],
+    pub lasts: [u32; 1024],
+    pub added: u32,
+}
+
+// The name of method m, of the sheet or of the first n added ones.
+fn name_of<'a>(
+    ws: &[u32],
+    text: &'a [u8],
+    abi: &[u32],
+    labels: &'a [u8],
+    refs: &[u32],
+    n: u32,
+    m: u32,
+) -> &'a [u8]
+    ensures { λ r. ⌜ now r ≡ nameIn (now (ws .entry)) (now (text .entry)) (now (abi .entry)) (now (labels .entry)) (now (refs .entry)) n m ⌝ }
+{
+    if m < 512 {
+        return class_sheet::method_name(ws, text, m);
+    }
+    if m - 512 < n {
+        let r = words::word_at(refs, words::wide(m - 512));
+        return growth::ref_name(ws, text, abi, labels, r);
+    }
+    words::part(text, 0, 0)
+}
+
+// The descriptor of method m, likewise.
+fn descriptor_of<'a>(
+    ws: &[u32],
+    text: &'a [u8],
+    abi: &[u32],
+    labels: &'a [u8],
+    refs: &[u32],
+    n: u32,
+    m: u32,
+) -> &'a [u8]
+    ensures { λ r. ⌜ now r ≡ descriptorIn (now (ws .entry)) (now (text .entry)) (now (abi .entry)) (now (labels .entry)) (now (refs .entry)) n m ⌝ }
+{
+    if m < 512 {
+        return class_sheet::method_descriptor(ws, text, m);
+    }
+    if m - 512 < n {
+        let r = words::word_at(refs, words::wide(m - 512));
+        return growth::ref_descriptor(ws, text, abi, labels, r);
+    }
+    words::part(text, 0, 0)
+}
+
+// The flags of method m.
+fn flags_of(ws: &[u32], flags: &[u32], n: u32, m: u32) -> u32
+    ensures { λ r. ⌜ r ≡ flagsIn (now (ws .entry)) (now (flags .entry)) n m ⌝ }
+{
+    if m < 512 {
+        return class_sheet::method_flags(ws, m);
+    }
+    native_view::word_below(flags, n, m - 512)
+}
+
+// The target of method m.
+fn target_of(ws: &[u32], lasts: &[u32], n: u32, m: u32) -> u32
+    ensures { λ r. ⌜ r ≡ targetIn (now (ws .entry)) (now (lasts .entry)) n m ⌝ }
+{
+    if m < 512 {
+        return class_sheet::method_target(ws, m);
+    }
+    native_view::word_below(lasts, n, m - 512)
+}
+
+// Whether method m has target t.
+fn target_is(ws: &[u32], lasts: &[u32], n: u32, m: u32, t: u32) -> bool
+    ensures { λ r. ⌜ r ≡ eqb (targetIn (now (ws .entry)) (now (lasts .entry)) n m) t ⌝ }
+{
+    target_of(ws, lasts, n, m) == t
+}
+
+// The first of `count` methods from `first` on that has target t.
+fn target_in(ws: &[u32], lasts: &[u32], n: u32, first: u32, count: u32, t: u32) -> Found
+    requires { ⌜ first + count ≤ 4294967295 ⌝ }
+    ensures { λ r. ⌜ r ≡ find (λ m. eqb (targetIn (now (ws .entry)) (now (lasts .entry)) n m) t) (numbers first count) ⌝ }
+{
+    let mut i: u32 = 0;
+    while i < count {
+        if target_is(ws, lasts, n, first + i, t) {
+            return Found::At(first + i);
+        }
+        i += 1;
+    }
+    Found::Nothing
+}
+
+// Whether the method with mark k has target t.
+fn mark_has(ws: &[u32], lasts: &[u32], n: u32, k: u32, t: u32) -> bool
+    ensures { λ r. ⌜ markTarget (now (ws .entry)) (now (lasts .entry)) n t k ≡ cond r (At (k - 1)) Nothing ⌝ }
+{
+    if k == 0 {
+        return false;
+    }
+    target_is(ws, lasts, n, k - 1, t)
+}
+
+// The mark of the first of `size` slots whose method has target t.
+fn view_target(ws: &[u32], lasts: &[u32], n: u32, vm: &[u32], size: u32, t: u32) -> u32
+    ensures { λ r. ⌜ marked r ≡ viewTarget (now (ws .entry)) (now (lasts .entry)) n (now (vm .entry)) size t ⌝ }
+{
+    let mut i: u32 = 0;
+    while i < size {
+        let k = words::word_at(vm, words::wide(i));
+        if mark_has(ws, lasts, n, k, t) {
+            return k;
+        }
+        i += 1;
+    }
+    0
+}
+
+// The mark of the first method with target t: declared, added, or of the native view's slots.
+fn match_target(ws: &[u32], lasts: &[u32], n: u32, c: u32, vm: &[u32], size: u32, t: u32) -> u32
+    requires { ⌜ n ≤ 1024 ⌝ }
+    ensures { λ r. ⌜ marked r ≡ matchIn (now (ws .entry)) (now (lasts .entry)) n c (now (vm .entry)) size t ⌝ }
+{
+    let first = class_sheet::class_first_method(ws, c);
+    let count = chain::method_count(ws, c);
+    match target_in(ws, lasts, n, first, count, t) {
+        Found::At(m) => m + 1,
+        Found::Nothing => match target_in(ws, lasts, n, 512, n, t) {
+            Found::At(m) => m + 1,
+            Found::Nothing => view_target(ws, lasts, n, vm, size, t),
+        },
+    }
+}
+
+// The word of slot i of the compiler table, whose target is t.
+fn entry_word(vs: &[u32], size: u32, i: u32, t: u32) -> u32
+    ensures { λ r. ⌜ r ≡ cond (eqb t 0) (below (now (vs .entry)) size i) t ⌝ }
+{
+    if t == 0 {
+        return native_view::word_below(vs, size, i);
+    }
+    t
+}
+
+// The mark of slot i of the compiler table, whose target is t.
+fn entry_mark(
+    ws: &[u32],
+    lasts: &[u32],
+    n: u32,
+    c: u32,
+    vm: &[u32],
+    size: u32,
+    i: u32,
+    t: u32,
+) -> u32
+    requires { ⌜ n ≤ 1024 ⌝ }
+    ensures { λ r. ⌜ marked r ≡ methodAt (now (ws .entry)) (now (lasts .entry)) n c (now (vm .entry)) size i t ⌝ }
+{
+    if t == 0 {
+        return native_view::word_below(vm, size, i);
+    }
+    match_target(ws, lasts, n, c, vm, size, t)
+}
+
+// Fills the arrays with the slots of class c's compiler table, and answers how many there are.
+fn compiler_entries(
+    ws: &[u32],
+    lasts: &[u32],
+    n: u32,
+    c: u32,
+    vs: &[u32],
+    vm: &[u32],
+    size: u32,
+    ts: &mut [u32],
+    ms: &mut [u32],
+) -> u32
+    requires { ⌜ (n ≤ 1024) × (1024 ≤ length (now ts)) × (1024 ≤ length (now ms)) ⌝ }
+    ensures is { λ r. ⌜ entriesOf (now (ts .exit)) (now (ms .exit)) r ≡ slotsIn (now (ws .entry)) (now (lasts .entry)) n c (now (vs .entry)) (now (vm .entry)) size r ⌝ }
+    ensures count { λ r. ⌜ r ≡ min (classCompilerSlots (now (ws .entry)) c) 1024 ⌝ }
+{
+    let count = native_view::compiler_count(ws, c);
+    let mut i: u32 = 0;
+    while i < count {
+        let t = native_view::compiler_target(ws, c, i);
+        let k = entry_mark(ws, lasts, n, c, vm, size, i, t);
+        words::put_word(ts, words::wide(i), entry_word(vs, size, i, t));
+        words::put_word(ms, words::wide(i), k);
+        i += 1;
+    }
+    count
+}
+
+// Whether the method with mark k has this name and descriptor.
+fn mark_same<'a>(
+    ws: &[u32],
+    text: &'a [u8],
+    abi: &[u32],
+    labels: &'a [u8],
+    refs: &[u32],
+    n: u32,
+    name: &[u8],
+    descriptor: &[u8],
+    k: u32,
+) -> bool
+    ensures { λ r. ⌜ r ≡ markSame (now (ws .entry)) (now (text .entry)) (now (abi .entry)) (now (labels .entry)) (now (refs .entry)) n (now (name .entry)) (now (descriptor .entry)) k ⌝ }
+{
+    if k == 0 {
+        return false;
+    }
+    text::same(name, name_of(ws, text, abi, labels, refs, n, k - 1))
+        & text::same(
+            descriptor,
+            descriptor_of(ws, text, abi, labels, refs, n, k - 1),
+        )
+}
+
+// Whether one of the first `size` slots has this name and descriptor.
+fn has_slot<'a>(
+    ws: &[u32],
+    text: &'a [u8],
+    abi: &[u32],
+    labels: &'a [u8],
+    refs: &[u32],
+    n: u32,
+    name: &[u8],
+    descriptor: &[u8],
+    ms: &[u32],
+    size: u32,
+) -> bool
+    ensures { λ r. ⌜ r ≡ someSame (now (ws .entry)) (now (text .entry)) (now (abi .entry)) (now (labels .entry)) (now (refs .entry)) n (now (name .entry)) (now (descriptor .entry)) (now (ms .entry)) size ⌝ }
+{
+    let mut i: u32 = 0;
+    while i < size {
+        let k = words::word_at(ms, words::wide(i));
+        if mark_same(ws, text, abi, labels, refs, n, name, descriptor, k) {
+            return true;
+        }
+        i += 1;
+    }
+    false
+}
+
+// Appends method m to the table where it is eligible and its signature has no slot, and answers how many slots there are.
+fn append_method<'a>(
+    ws: &[u32],
+    text: &'a [u8],
+    abi: &[u32],
+    labels: &'a [u8],
+    refs: &[u32],
+    flags: &[u32],
+    lasts: &[u32],
+    n: u32,
+    m: u32,
+    ts: &mut [u32],
+    ms: &mut [u32],
+    end: u32,
+) -> u32
+    requires { ⌜ (m < 4294967295) × (end < 4294967295) × (end < length (now ts)) × (end < length (now ms)) ⌝ }
+    ensures is { λ r. ⌜ entriesOf (now (ts .exit)) (now (ms .exit)) r ≡ appendMethod (now (ws .entry)) (now (text .entry)) (now (abi .entry)) (now (labels .entry)) (firstNews (now (ws .entry)) (now (text .entry)) (now (abi .entry)) (now (labels .entry)) (now (refs .entry)) (now (flags .entry)) (now (lasts .entry)) n) (entriesOf (now (ts .entry)) (now (ms .entry)) end) m ⌝ }
+    ensures count { λ r. ⌜ r ≤ end + 1 ⌝ }
+{
+    let name = name_of(ws, text, abi, labels, refs, n, m);
+    let descriptor = descriptor_of(ws, text, abi, labels, refs, n, m);
+    if !chain::is_eligible(flags_of(ws, flags, n, m), name) {
+        return end;
+    }
+    if has_slot(ws, text, abi, labels, refs, n, name, descriptor, ms, end) {
+        return end;
+    }
+    words::put_word(ts, words::wide(end), target_of(ws, lasts, n, m));
+    words::put_word(ms, words::wide(end), m + 1);
+    end + 1
+}
+
+// The number of the j-th of a class's methods: `own` declared ones from `first` on, then the added ones.
+fn method_number(first: u32, own: u32, j: u32) -> u32
+    requires { ⌜ (first + own ≤ 4294967295) × (j < 4096) ⌝ }
+    ensures is { λ r. ⌜ r ≡ methodNumber first own j ⌝ }
+    ensures small { λ r. ⌜ r < 4294967295 ⌝ }
+{
+    if j < own {
+        return first + j;
+    }
+    512 + (j - own)
+}
+
+// Appends class c's declared methods and the added ones.
+fn append_methods<'a>(
+    ws: &[u32],
+    text: &'a [u8],
+    abi: &[u32],
+    labels: &'a [u8],
+    refs: &[u32],
+    flags: &[u32],
+    lasts: &[u32],
+    n: u32,
+    c: u32,
+    ts: &mut [u32],
+    ms: &mut [u32],
+    end: u32,
+) -> u32
+    requires { ⌜ (n ≤ 1024) × (end ≤ 1024) × (3584 ≤ length (now ts)) × (3584 ≤ length (now ms)) ⌝ }
+    ensures is { λ r. ⌜ entriesOf (now (ts .exit)) (now (ms .exit)) r ≡ fold (appendMethod (now (ws .entry)) (now (text .entry)) (now (abi .entry)) (now (labels .entry)) (firstNews (now (ws .entry)) (now (text .entry)) (now (abi .entry)) (now (labels .entry)) (now (refs .entry)) (now (flags .entry)) (now (lasts .entry)) n)) (entriesOf (now (ts .entry)) (now (ms .entry)) end) (ownMethods (now (ws .entry)) c ++ numbers 512 n) ⌝ }
+    ensures count { λ r. ⌜ r ≤ 2560 ⌝ }
+{
+    let first = class_sheet::class_first_method(ws, c);
+    let own = chain::method_count(ws, c);
+    let total = own + n;
+    let mut r: u32 = end;
+    let mut j: u32 = 0;
+    while j < total {
+        let m = method_number(first, own, j);
+        r = append_method(ws, text, abi, labels, refs, flags, lasts, n, m, ts, ms, r);
+        j += 1;
+    }
+    r
+}
+
+// Appends the method with mark k; none for mark 0.
+fn append_mark<'a>(
+    ws: &[u32],
+    text: &'a [u8],
+    abi: &[u32],
+    labels: &'a [u8],
+    refs: &[u32],
+    flags: &[u32],
+    lasts: &[u32],
+    n: u32,
+    k: u32,
+    ts: &mut [u32],
+    ms: &mut [u32],
+    end: u32,
+) -> u32
+    requires { ⌜ (end < 4294967295) × (end < length (now ts)) × (end < length (now ms)) ⌝ }
+    ensures is { λ r. ⌜ entriesOf (now (ts .exit)) (now (ms .exit)) r ≡ fold (appendMethod (now (ws .entry)) (now (text .entry)) (now (abi .entry)) (now (labels .entry)) (firstNews (now (ws .entry)) (now (text .entry)) (now (abi .entry)) (now (labels .entry)) (now (refs .entry)) (now (flags .entry)) (now (lasts .entry)) n)) (entriesOf (now (ts .entry)) (now (ms .entry)) end) (consFound (marked k) []) ⌝ }
+    ensures count { λ r. ⌜ r ≤ end + 1 ⌝ }
+{
+    if k == 0 {
+        return end;
+    }
+    append_method(
+        ws,
+        text,
+        abi,
+        labels,
+        refs,
+        flags,
+        lasts,
+        n,
+        k - 1,
+        ts,
+        ms,
+        end,
+    )
+}
+
+// Appends the methods of the first `count` marks.
+fn append_known<'a>(
+    ws: &[u32],
+    text: &'a [u8],
+    abi: &[u32],
+    labels: &'a [u8],
+    refs: &[u32],
+    flags: &[u32],
+    lasts: &[u32],
+    n: u32,
+    known: &[u32],
+    count: u32,
+    ts: &mut [u32],
+    ms: &mut [u32],
+    end: u32,
+) -> u32
+    requires { ⌜ (end + count ≤ 3584) × (3584 ≤ length (now ts)) × (3584 ≤ length (now ms)) ⌝ }
+    ensures is { λ r. ⌜ entriesOf (now (ts .exit)) (now (ms .exit)) r ≡ fold (appendMethod (now (ws .entry)) (now (text .entry)) (now (abi .entry)) (now (labels .entry)) (firstNews (now (ws .entry)) (now (text .entry)) (now (abi .entry)) (now (labels .entry)) (now (refs .entry)) (now (flags .entry)) (now (lasts .entry)) n)) (entriesOf (now (ts .entry)) (now (ms .entry)) end) (markMethods (now (known .entry)) count) ⌝ }
+    ensures count { λ r. ⌜ r ≤ end + count ⌝ }
+{
+    let mut r: u32 = end;
+    let mut i: u32 = 0;
+    while i < count {
+        let k = words::word_at(known, words::wide(i));
+        r = append_mark(ws, text, abi, labels, refs, flags, lasts, n, k, ts, ms, r);
+        i += 1;
+    }
+    r
+}
+
+// Appends class c's declared methods, the added ones, and those of the parent's slots.
+fn append_all<'a>(
+    ws: &[u32],
+    text: &'a [u8],
+    abi: &[u32],
+    labels: &'a [u8],
+    refs: &[u32],
+    flags: &[u32],
+    lasts: &[u32],
+    n: u32,
+    c: u32,
+    known: &[u32],
+    count: u32,
+    ts: &mut [u32],
+    ms: &mut [u32],
+    end: u32,
+) -> u32
+    requires { ⌜ (n ≤ 1024) × (count ≤ 1024) × (end ≤ 1024) × (3584 ≤ length (now ts)) × (3584 ≤ length (now ms)) ⌝ }
+    ensures is { λ r. ⌜ entriesOf (now (ts .exit)) (now (ms .exit)) r ≡ fold (appendMethod (now (ws .entry)) (now (text .entry)) (now (abi .entry)) (now (labels .entry)) (firstNews (now (ws .entry)) (now (text .entry)) (now (abi .entry)) (now (labels .entry)) (now (refs .entry)) (now (flags .entry)) (now (lasts .entry)) n)) (entriesOf (now (ts .entry)) (now (ms .entry)) end) ((ownMethods (now (ws .entry)) c ++ numbers 512 n) ++ markMethods (now (known .entry)) count) ⌝ }
+    ensures count { λ r. ⌜ r ≤ 3584 ⌝ }
+{
+    let r = append_methods(ws, text, abi, labels, refs, flags, lasts, n, c, ts, ms, end);
+    append_known(
+        ws,
+        text,
+        abi,
+        labels,
+        refs,
+        flags,
+        lasts,
+        n,
+        known,
+        count,
+        ts,
+        ms,
+        r,
+    )
+}
+
+// Fills the arrays with class c's table, by the added methods, the native view and the marks of the parent's slots, and answers how many
+// slots it has.
+fn compiler_table<'a>(
+    ws: &[u32],
+    text: &'a [u8],
+    abi: &[u32],
+    labels: &'a [u8],
+    refs: &[u32],
+    flags: &[u32],
+    lasts: &[u32],
+    n: u32,
+    c: u32,
+    vs: &[u32],
+    vm: &[u32],
+    known: &[u32],
+    count: u32,
+    ts: &mut [u32],
+    ms: &mut [u32],
+) -> u32
+    requires { ⌜ (n ≤ 1024) × (count ≤ 1024) × (3584 ≤ length (now ts)) × (3584 ≤ length (now ms)) ⌝ }
+    ensures is { λ r. ⌜ entriesOf (now (ts .exit)) (now (ms .exit)) r ≡ fold (appendMethod (now (ws .entry)) (now (text .entry)) (now (abi .entry)) (now (labels .entry)) (firstNews (now (ws .entry)) (now (text .entry)) (now (abi .entry)) (now (labels .entry)) (now (refs .entry)) (now (flags .entry)) (now (lasts .entry)) n)) (compilerEntries (now (ws .entry)) (now (text .entry)) (now (abi .entry)) (now (labels .entry)) (firstNews (now (ws .entry)) (now (text .entry)) (now (abi .entry)) (now (labels .entry)) (now (refs .entry)) (now (flags .entry)) (now (lasts .entry)) n) c (entriesOf (now (vs .entry)) (now (vm .entry)) count) 0 (compilerTargets (now (ws .entry)) (now (text .entry)) (now (abi .entry)) (now (labels .entry)) c)) (classMethods (now (ws .entry)) (now (text .entry)) (now (abi .entry)) (now (labels .entry)) (firstNews (now (ws .entry)) (now (text .entry)) (now (abi .entry)) (now (labels .entry)) (now (refs .entry)) (now (flags .entry)) (now (lasts .entry)) n) c ++ markMethods (now (known .entry)) count) ⌝ }
+    ensures count { λ r. ⌜ r ≤ 3584 ⌝ }
+{
+    let size = compiler_entries(ws, lasts, n, c, vs, vm, count, ts, ms);
+    append_all(
+        ws,
+        text,
+        abi,
+        labels,
+        refs,
+        flags,
+        lasts,
+        n,
+        c,
+        known,
+        count,
+        ts,
+        ms,
+        size,
+    )
+}
+
+// The virtual table of class c, which has a compiler table, and the methods that are added to it.
+pub fn prepare_generated<'a>(
+    ws: &[u32],
+    text: &'a [u8],
+    abi: &[u32],
+    labels: &'a [u8],
+    area: &[u32],
+    c: u32,
+) -> Prepared
+    ensures table { λ r. ⌜ entriesOf (r .words) (r .marks) (r .n) ≡ compilerTable (now (ws .entry)) (now (text .entry)) (now (abi .entry)) (now (labels .entry)) (now (area .entry)) c ⌝ }
+    ensures members { λ r. ⌜ firstNews (now (ws .entry)) (now (text .entry)) (now (abi .entry)) (now (labels .entry)) (r .refs) (r .flags) (r .lasts) (r .added) ≡ addedMethods (now (ws .entry)) (now (text .entry)) (now (abi .entry)) (now (labels .entry)) (now (area .entry)) c ⌝ }
+    ensures counts { λ r. ⌜ (r .n ≤ 3584) × (r .added ≤ 1024) ⌝ }
+{
+    let native = native_view::native_view(ws, text, abi, labels, area, c);
+    let vs = native.words;
+    let vm = native.marks;
+    let known = native.known;
+    let refs = native.refs;
+    let flags = native.flags;
+    let lasts = native.lasts;
+    let mut ts = [0u32; 3584];
+    let mut ms = [0u32; 3584];
+    let n = compiler_table(
+        ws,
+        text,
+        abi,
+        labels,
+        &refs,
+        &flags,
+        &lasts,
+        native.added,
+        c,
+        &vs,
+        &vm,
+        &known,
+        native.n,
+        &mut ts,
+        &mut ms,
+    );
+    Prepared {
+        words: ts,
+        marks: ms,
+        n: n,
+        refs: refs,
+        flags: flags,
+        lasts: lasts,
+        added: native.added,
+    }
+}

@@ -1,0 +1,4 @@
+pub mod AddLaws
+pub mod Examples
+pub mod FoundLaws
+pub mod ViewLaws

@@ -1,0 +1,214 @@
+-- Laws of the native view, as the code makes it. Assumes nothing.
+use mathlib.Core.Path.{_≡_, refl, sym, ap, _∙_}
+use mathlib.Core.Bool.{Bool, true, false, cond, not, _&&_}
+use mathlib.Core.List.{List, [], _∷_, _++_}
+use Prim.Native.Nat.{ℕ, zero, suc, _+_, _-_, _≤_, _<_, min}
+use native.Mathlib.Omega.{arith}
+use lib.ListN.{length, getD, set, take, drop, List·getD-eq-default}
+use lib.Dec.{eqb, ltb}
+use borrow.Author.Tests.{eq-eqb, ne-eqb, lt-ltb, le-ltb, ltb-true, ltb-false, eqb-true}
+use Rattle.words.specs.Lists.{listFrom, numbers, allFound}
+use Rattle.words.specs.declared.Found.{Found}
+use Rattle.words.specs.declared.Found.the-variants.{At, Nothing}
+use Rattle.words.proofs.Bools.{by}
+use Rattle.words.proofs.ListLaws.{length-list-from, getD-list-from}
+use Rattle.growth.proofs.Lists.{list-more}
+use Rattle.class_sheet.specs.ClassSheet.{classTablePlace, classSlotCount}
+use Rattle.linking.specs.Chain.{onFound, parentOf}
+use Rattle.linking.specs.Abi.{chainAbi}
+use Rattle.linking.specs.Vtable.{Entry, empty, built, refused, readEntry, readSlot, tableEntries, parentEntries, fixedOf}
+use Rattle.linking.specs.Compiler.{New, ownerState, isEmptied, viewFrom, nativeView, entryMethods}
+use Rattle.vtable.specs.Arrays.{markOf, marked, entryAt, entriesOf, builtOf}
+use Rattle.abi.specs.Abis.{abisOf}
+use Rattle.abi.specs.declared.AbiChain.{AbiChain}
+use Rattle.vtable.specs.declared.Table.{Table}
+use Rattle.vtable.proofs.ArrayLaws.{length-entries, entry-is, push-slot}
+use Rattle.vtable.proofs.ReadLaws.{read-back}
+use Rattle.native_view.specs.Native.{below, SmallMarks, markMethods}
+
+-- ---- the table that the struct stands for
+
+pub table-is : (t : Table) (E : List Entry) → builtOf t ≡ built E → entriesOf (t .words) (t .marks) (t .n) ≡ E
+table-is t E h =
+    by (eqb (t .row) 0) (λ q. let b : built (entriesOf (t .words) (t .marks) (t .n)) ≡ built E = rw q at h in cc)
+    (λ q. let b : refused (t .row) ≡ built E = rw q at h in absurd (let z : _≡_ {A = ℕ} 0 1 = cc in omega arith))
+
+pub below-in : (xs : List ℕ) (n i : ℕ) {a x : ℕ} → i < n → a ≡ i → x ≡ getD xs a 0 → x ≡ below xs n i
+unfolding below
+below-in xs n i h e f = simp (lt-ltb i n h) (f ∙ ap (λ (k : ℕ). getD xs k 0) e)
+
+pub below-out : (xs : List ℕ) (n i : ℕ) → n ≤ i → 0 ≡ below xs n i
+unfolding below
+below-out xs n i h = simp (le-ltb i n h)
+
+-- slot i of the first n, empty past them
+pub slot-below : (ts ms : List ℕ) (n i : ℕ)
+    → getD (entriesOf ts ms n) i empty ≡ record { word = below ts n i; method = marked (below ms n i) }
+unfolding below entryAt
+slot-below ts ms n i =
+    by (ltb i n) (λ q. rw q (entry-is ts ms n i empty (ltb-true i n q)))
+    (λ q.
+    let l = ltb-false i n q in
+    let h : length (entriesOf ts ms n) ≤ i = omega (arith, length-entries ts ms n) in
+    rw q (List·getD-eq-default (entriesOf ts ms n) empty h))
+
+-- the ABI classes of a chain, as a part of the array that holds them
+pub abis-are : (r : AbiChain) (X : List ℕ) {l : List ℕ} {k : ℕ} → abisOf r ≡ X → k ≡ r .n → l ≡ take k (drop 0 (r .at)) → l ≡ X
+unfolding abisOf
+abis-are r X e f g = g ∙ rw f e
+
+module _ (ws text abi labels : List ℕ) where
+  -- ---- a slot that is emptied
+
+  module _ (abis : List ℕ) (i w k : ℕ) where
+    pub emptied-unknown : k ≡ 0 → false ≡ isEmptied ws text abi labels abis i (record { word = w; method = marked k })
+    unfolding isEmptied
+    emptied-unknown e = simp (eq-eqb k 0 e)
+
+    pub emptied-known : {s m : ℕ} {b : Bool} → (k ≡ 0 → ⊥) → m ≡ k - 1 → s ≡ ownerState ws text abi labels m
+        → b ≡ onFound (fixedOf ws text abi labels abis m) (eqb i) false
+        → (not (eqb s 3) && not b) ≡ isEmptied ws text abi labels abis i (record { word = w; method = marked k })
+    unfolding isEmptied
+    emptied-known n e f g = simp (ne-eqb k 0 n) (rw (f, g, e))
+
+  -- ---- the view of the slots, one more at the end
+
+  abbrev viewAt : List ℕ → ℕ → Entry → Entry
+  viewAt abis i e = cond (isEmptied ws text abi labels abis i e) empty e
+
+  module _ (abis : List ℕ) where
+    pub view-snoc : (j : ℕ) (xs : List Entry) (e : Entry)
+        → viewFrom ws text abi labels abis j (xs ++ (e ∷ [])) ≡ viewFrom ws text abi labels abis j xs ++ (viewAt abis (j + length xs) e ∷ [])
+    unfolding viewFrom
+    view-snoc j [] e = let z : j + 0 ≡ j = omega arith in rw z
+    view-snoc j (x ∷ xs) e =
+        let z : j + 1 + length xs ≡ j + suc (length xs) = omega arith in
+        ap (λ (l : List Entry). viewAt abis j x ∷ l) (rw z at (view-snoc (j + 1) xs e))
+
+    viewed : (g : Bool) (w k : ℕ) → _≡_ {A = Entry} (record { word = cond g 0 w; method = marked (cond g 0 k) }) (cond g empty (record { word = w; method = marked k }))
+    viewed true w k = refl
+    viewed false w k = refl
+
+    pub view-start : (ts ms vs vm : List ℕ) → entriesOf vs vm 0 ≡ viewFrom ws text abi labels abis 0 (entriesOf ts ms 0)
+    unfolding entriesOf listFrom viewFrom
+    view-start ts ms vs vm = refl
+
+    pub view-turn : (i : ℕ) (ts ms vs vm us um : List ℕ) {w k x y a b p q : ℕ} {g : Bool} → i < length vs → i < length vm
+        → entriesOf vs vm i ≡ viewFrom ws text abi labels abis 0 (entriesOf ts ms i) → a ≡ i → w ≡ getD ts a 0 → b ≡ i → k ≡ getD ms b 0
+        → ((v : ℕ) → g ≡ isEmptied ws text abi labels abis i (record { word = v; method = marked k })) → x ≡ cond g 0 w → y ≡ cond g 0 k
+        → p ≡ i → us ≡ set vs p x → q ≡ i → um ≡ set vm q y
+        → entriesOf us um (i + 1) ≡ viewFrom ws text abi labels abis 0 (entriesOf ts ms (i + 1))
+    unfolding entriesOf entryAt
+    view-turn i ts ms vs vm us um {w = w} {k = k} {x = x} {y = y} {g = g} h l e ea ew eb ek eg ex ey ep eu eq em =
+        let new : entriesOf us um (i + 1) ≡ entriesOf vs vm i ++ (record { word = x; method = marked y } ∷ []) =
+        rw (eu, ep, em, eq, push-slot vs vm i x y h l) in
+        let old : entriesOf ts ms (i + 1) ≡ entriesOf ts ms i ++ (record { word = w; method = marked k } ∷ []) =
+        rw (ew, ek, ea, eb) (list-more (entryAt ts ms) i) in
+        let z : 0 + length (entriesOf ts ms i) ≡ i = omega (arith, length-entries ts ms i) in
+        let v : _≡_ {A = Entry} (record { word = x; method = marked y }) (viewAt abis i (record { word = w; method = marked k })) =
+        rw (ex, ey, ← (eg w)) (viewed g w k) in
+        new ∙ rw (old, view-snoc 0 (entriesOf ts ms i) (record { word = w; method = marked k }), z, ← v, e)
+
+    -- ---- the marks of the view are those of sheet methods
+
+    view-at : (j : ℕ) (es : List Entry) (i : ℕ) → getD (viewFrom ws text abi labels abis j es) i empty ≡ viewAt abis (j + i) (getD es i empty)
+    unfolding viewFrom isEmptied
+    view-at j [] i = refl
+    view-at j (e ∷ es) zero = let z : j + 0 ≡ j = omega arith in rw z
+    view-at j (e ∷ es) (suc i) = let z : j + 1 + i ≡ j + suc i = omega arith in rw z at (view-at (j + 1) es i)
+
+    view-method : (i m : ℕ) (e : Entry) → (viewAt abis i e) .method ≡ At m → e .method ≡ At m
+    view-method i m e h =
+        by (isEmptied ws text abi labels abis i e)
+        (λ q. let b : _≡_ {A = Found} Nothing (At m) = rw q at h in absurd (let z : _≡_ {A = ℕ} 0 1 = cc in omega arith))
+        (λ q. rw q at h)
+
+    pub view-small : (E : List Entry) (vs vm : List ℕ) (n : ℕ) → ((i m : ℕ) → (getD E i empty) .method ≡ At m → m < 512)
+        → entriesOf vs vm n ≡ viewFrom ws text abi labels abis 0 E → SmallMarks vm n
+    unfolding SmallMarks
+    view-small E vs vm n h e i =
+        let g : marked (below vm n i) ≡ (viewAt abis (0 + i) (getD E i empty)) .method =
+        sym (ap (λ (x : Entry). x .method) (rw e at (slot-below vs vm n i))) ∙ ap (λ (x : Entry). x .method) (view-at 0 E i) in
+        by (eqb (below vm n i) 0) (λ q. let z = eqb-true (below vm n i) 0 q in omega arith)
+        (λ q.
+        let t : At (below vm n i - 1) ≡ (viewAt abis (0 + i) (getD E i empty)) .method = rw q at g in
+        omega (arith, h i (below vm n i - 1) (view-method (0 + i) (below vm n i - 1) (getD E i empty) (sym t))))
+
+  mark-room : (f : Found) (m : ℕ) → marked (markOf f) ≡ f → f ≡ At m → m < 512
+  mark-room (At k) m h e =
+      by (ltb k 512) (λ q. let l = ltb-true k 512 q in let z : k ≡ m = cc in omega arith)
+      (λ q. let b : _≡_ {A = Found} Nothing (At k) = rw q at h in absurd (let z : _≡_ {A = ℕ} 0 1 = cc in omega arith))
+  mark-room Nothing m h e = absurd (let z : _≡_ {A = ℕ} 0 1 = cc in omega arith)
+
+  -- what Reading finds is a method of the sheet
+  pub read-room : (c i w m : ℕ) → (readEntry ws text abi labels c i w) .method ≡ At m → m < 512
+  read-room c i w m e =
+      mark-room ((readEntry ws text abi labels c i w) .method) m (ap (λ (x : Entry). x .method) (read-back ws text abi labels c i w)) e
+
+  -- ---- the parent's entries
+
+  module _ (area : List ℕ) (c : ℕ) where
+    pub parent-length : length (parentEntries ws text abi labels area c) ≤ 1024
+    unfolding parentEntries tableEntries
+    parent-length =
+        by (eqb (parentOf ws c) 0) (λ q. rw q (omega arith))
+        (λ q.
+        rw q
+        (omega (
+          arith,
+          length-list-from (readSlot ws text abi labels area (parentOf ws c)) 0 (min (classSlotCount ws (parentOf ws c)) 1024),
+        )))
+
+    no-method : (m : ℕ) {X : Type 0} → Nothing ≡ At m → X
+    no-method m e = absurd (let z : _≡_ {A = ℕ} 0 1 = cc in omega arith)
+
+    table-room : (p i m : ℕ) → (getD (tableEntries ws text abi labels area p) i empty) .method ≡ At m → m < 512
+    unfolding tableEntries readSlot
+    table-room p i m e =
+        by (ltb i (min (classSlotCount ws p) 1024))
+        (λ q.
+        let g = getD-list-from (readSlot ws text abi labels area p) 0 (min (classSlotCount ws p) 1024) i empty (ltb-true i (min (classSlotCount ws p) 1024) q) in
+        read-room p (0 + i) (getD area (classTablePlace ws p + 1 + (0 + i)) 0) m (rw g at e))
+        (λ q.
+        let l = ltb-false i (min (classSlotCount ws p) 1024) q in
+        let h : length (listFrom (readSlot ws text abi labels area p) 0 (min (classSlotCount ws p) 1024)) ≤ i =
+        omega (arith, length-list-from (readSlot ws text abi labels area p) 0 (min (classSlotCount ws p) 1024)) in
+        no-method m (rw (List·getD-eq-default (listFrom (readSlot ws text abi labels area p) 0 (min (classSlotCount ws p) 1024)) empty h) at e))
+
+    pub parent-room : (i m : ℕ) → (getD (parentEntries ws text abi labels area c) i empty) .method ≡ At m → m < 512
+    unfolding parentEntries
+    parent-room i m e =
+        by (eqb (parentOf ws c) 0) (λ q. no-method m (rw q at e)) (λ q. table-room (parentOf ws c) i m (rw q at e))
+
+    -- the count and the marks as the code has them
+    pub parent-count : (t : Table) → builtOf t ≡ built (parentEntries ws text abi labels area c) → t .n ≤ 1024
+    parent-count t h =
+        let e = ap (λ (l : List Entry). length l) (table-is t (parentEntries ws text abi labels area c) h) in
+        omega (arith, length-entries (t .words) (t .marks) (t .n), parent-length)
+
+    pub native-is : (t : Table) (vs vm abis : List ℕ) {p : ℕ} → builtOf t ≡ built (parentEntries ws text abi labels area c) → p ≡ parentOf ws c
+        → abis ≡ chainAbi ws text abi labels p
+        → entriesOf vs vm (t .n) ≡ viewFrom ws text abi labels abis 0 (entriesOf (t .words) (t .marks) (t .n))
+        → entriesOf vs vm (t .n) ≡ nativeView ws text abi labels area c
+    unfolding nativeView
+    native-is t vs vm abis h e f g = g ∙ rw (table-is t (parentEntries ws text abi labels area c) h, f, e)
+
+    pub native-small : (t : Table) (vs vm abis : List ℕ) → builtOf t ≡ built (parentEntries ws text abi labels area c)
+        → entriesOf vs vm (t .n) ≡ viewFrom ws text abi labels abis 0 (entriesOf (t .words) (t .marks) (t .n)) → SmallMarks vm (t .n)
+    native-small t vs vm abis h g =
+        view-small abis (parentEntries ws text abi labels area c) vs vm (t .n) parent-room
+        (g ∙ rw (table-is t (parentEntries ws text abi labels area c) h))
+
+    module _ (new : List New) where
+      methods-from : (ts ms : List ℕ) (m n : ℕ) → allFound (λ i. marked (getD ms i 0)) (numbers m n)
+          ≡ entryMethods ws text abi labels new (listFrom (entryAt ts ms) m n)
+      unfolding entryMethods listFrom entryAt allFound
+      methods-from ts ms m zero = refl
+      methods-from ts ms m (suc n) = rw (methods-from ts ms (m + 1) n)
+
+      pub methods-are : (t : Table) → builtOf t ≡ built (parentEntries ws text abi labels area c)
+          → markMethods (t .marks) (t .n) ≡ entryMethods ws text abi labels new (parentEntries ws text abi labels area c)
+      unfolding entriesOf markMethods
+      methods-are t h =
+          methods-from (t .words) (t .marks) 0 (t .n)
+          ∙ ap (entryMethods ws text abi labels new) (table-is t (parentEntries ws text abi labels area c) h)

@@ -1,0 +1,47 @@
+-- The method that one compiler target adds, as the code makes it: what names its signature is a number, as in `growth`. Assumes nothing.
+use Prim.Native.Nat.{ℕ, _+_, _≤_}
+use mathlib.Core.Bool.{cond, _||_}
+use mathlib.Core.List.{List, []}
+use lib.ListN.{getD}
+use lib.Dec.{eqb, ltb}
+use Rattle.words.specs.Lists.{numbers, allFound, orElse, andThen, mapFound, firstFound}
+use Rattle.words.specs.declared.Found.{Found}
+use Rattle.class_sheet.specs.ClassSheet.{methodFlags, interfaceWord}
+use Rattle.linking.specs.Abi.{slotAt, classAbi}
+use Rattle.linking.specs.Vtable.{Entry}
+use Rattle.linking.specs.Compiler.{New, withoutAbstract, signatureSources, addFrom}
+use Rattle.vtable.specs.Arrays.{marked}
+use Rattle.growth.specs.News.{refName, refDescriptor}
+
+-- element i of the first n of an array, 0 past them
+unfoldable pub below : List ℕ → ℕ → ℕ → ℕ
+below xs n i = cond (ltb i n) (getD xs i 0) 0
+
+-- each of the first n marks is of a method of the sheet
+unfoldable pub SmallMarks : List ℕ → ℕ → Type 0
+SmallMarks ms n = (i : ℕ) → below ms n i ≤ 512
+
+-- the methods of the first n marks, in order
+unfoldable pub markMethods : List ℕ → ℕ → List ℕ
+markMethods ms n = allFound (λ i. marked (getD ms i 0)) (numbers 0 n)
+
+module _ (ws text abi labels : List ℕ) where
+  -- the slot at index i of the ABI entry of the class that interface word k names
+  unfoldable pub interfaceSlot : ℕ → ℕ → Found
+  interfaceSlot i k = andThen (classAbi ws text abi labels (interfaceWord ws k)) (slotAt abi i)
+
+  -- what a target at index i takes its signature from: the view's method there, else an ABI slot
+  unfoldable pub sourceRef : ℕ → ℕ → Found → Found
+  sourceRef c i method = orElse method (mapFound (λ s. 512 + s) (firstFound (slotAt abi i) (signatureSources ws text abi labels c)))
+
+  -- "flags without 0x0400" of a method, flags 1 of a slot
+  unfoldable pub refFlags : ℕ → ℕ
+  refFlags r = cond (ltb r 512) (withoutAbstract (methodFlags ws r)) 1
+
+  -- the method of target t that takes its signature from r
+  unfoldable pub newOf : ℕ → ℕ → New
+  newOf r t = record { name = refName ws text abi labels r; descriptor = refDescriptor ws text abi labels r; flags = refFlags r; last = t }
+
+  -- what target t at index i adds, where the native view has entry e
+  unfoldable pub addedAt : ℕ → ℕ → ℕ → Entry → List New
+  addedAt c i t e = cond (eqb t 0 || eqb t (e .word)) [] (addFrom ws text abi labels c i t (e .method) [])
