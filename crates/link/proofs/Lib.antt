@@ -1,3 +1,5 @@
 pub mod FinishLaws
+pub mod IndexLaws
 pub mod PlanLaws
+pub mod PlannedLaws
 pub mod StoreLaws

@@ -20,7 +20,8 @@ use Rattle.vtable.specs.Arrays.{entriesOf}
 use Rattle.vtable.proofs.ArrayLaws.{length-entries}
 use Rattle.area.specs.Area.{tableWritten}
 use Rattle.area.proofs.AreaLaws.{table-linked}
-use Rattle.link.specs.Stored.{methodsOf, fieldsOf, membersPlan, numbered, withMethods, stored, storedNews, finished}
+use Rattle.plan.specs.Plans.{methodsOf, fieldsOf}
+use Rattle.link.specs.Stored.{membersPlan, numbered, withMethods, stored, storedNews, finished}
 
 -- the words written depend on a table's words alone
 linked-same : (area : List ℕ) (c : ℕ) (T U : List Entry) (stubs : List ℕ) → slotWords stubs 0 T ≡ slotWords stubs 0 U → length T ≡ length U

@@ -1,22 +1,17 @@
 -- What a link stores in the class words, as the code goes: what grows, then the record, then the indices. Assumes nothing.
 use Prim.Native.Nat.{ℕ}
-use mathlib.Core.Bool.{cond, _||_}
+use mathlib.Core.Path.{_≡_}
+use mathlib.Core.Bool.{false, cond, _||_}
 use mathlib.Core.List.{List, []}
-use lib.Dec.{eqb}
-use Rattle.class_sheet.specs.ClassSheet.{classKind, classFirstField, fieldsAt}
+use Rattle.class_sheet.specs.ClassSheet.{textOf, classFirstField, fieldsAt}
+use Rattle.abi_sheet.specs.AbiSheet.{abiTextOf}
+use Rattle.set_rules.specs.SetRules.{setRefusal}
 use Rattle.linking.specs.Compiler.{New}
 use Rattle.linking.specs.Set.{putIndices}
-use Rattle.linking.specs.Link.{Plan, isNone, linkedRecord, nextFree, listsFull, setShort, noRoom, Outcome, refusedCall}
+use Rattle.linking.specs.Link.{Plan, isNone, linkedRecord, nextFree, listsFull, setShort, noRoom, badClass, badArea, Outcome, refusedCall}
 use Rattle.growth.specs.Growth.{methodsGrown, fieldsGrown}
 use Rattle.area.specs.Area.{tableWritten}
-
--- ---- new members: a built class adds fields, any other methods
-
-abbrev pub methodsOf : List ℕ → ℕ → List New → List New
-methodsOf ws c new = cond (eqb (classKind ws c) 0) [] new
-
-abbrev pub fieldsOf : List ℕ → ℕ → List New → List New
-fieldsOf ws c new = cond (eqb (classKind ws c) 0) new []
+use Rattle.plan.specs.Plans.{methodsOf, fieldsOf}
 
 -- a plan by its new members alone: what row 14 and the set's part of row 15 ask for
 abbrev pub membersPlan : List ℕ → ℕ → List New → Plan
@@ -56,3 +51,11 @@ finished ws c area stubs slots n words indices new =
       set = storedNews ws c (nextFree area) n words indices new;
       area = tableWritten area c slots n stubs;
     }))
+
+-- rows 3 to 7 accept the call, and the texts are the sheets'
+pub record Accepted (ws abi : List ℕ) (c : ℕ) (area text labels : List ℕ) : Type 0 where
+  pub set : setRefusal ws abi ≡ 0
+  pub class : badClass ws (textOf ws) c ≡ false
+  pub tables : badArea ws area ≡ false
+  pub text-is : text ≡ textOf ws
+  pub labels-are : labels ≡ abiTextOf abi

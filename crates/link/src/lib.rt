@@ -1,9 +1,9 @@
 // `link`: rows 3 to 15 in the table's order, and what an accepted link leaves in the class words and the area.
 use area::Answer;
 ghost use mathlib.Core.Path.{_≡_};
-ghost use Rattle.linking.specs.Link.{linkedRecord, listsFull, setShort};
+ghost use Rattle.linking.specs.Link.{linkedRecord, listsFull, setShort, linkDef};
 ghost use Rattle.growth.specs.News.{news, named};
-ghost use Rattle.link.specs.Stored.{membersPlan, numbered, withMethods, storedNews, finished};
+ghost use Rattle.link.specs.Stored.{membersPlan, numbered, withMethods, storedNews, finished, Accepted};
 ghost use Rattle.area.specs.Area.{outcome};
 
 // Stores what a link answers in class c's record: its place and slot count and, unless the class is generated, its instance words.
@@ -162,4 +162,45 @@ fn finish_link<'a>(
         lasts,
     );
     Answer::Done(place, n)
+}
+
+// Rows 8 to 15 and the effect, of a set, a class and an area that rows 3 to 7 accept, and the sheets' texts.
+fn link_planned<'a>(
+    set: &mut [u32],
+    c: u32,
+    text: &'a [u8],
+    abi: &[u32],
+    labels: &'a [u8],
+    area: &mut [u32],
+    stubs: &[u32],
+) -> Answer
+    requires { ⌜ Accepted (now set) (now abi) c (now area) (now text) (now labels) ⌝ }
+    ensures { λ r. ⌜ outcome r (now (set .exit)) (now (area .exit)) ≡ linkDef (now (set .entry)) (now (abi .entry)) c (now (area .entry)) (now (stubs .entry)) ⌝ }
+{
+    let p = plan::plan_link(set, text, abi, labels, area, c);
+    if p.row != 0 {
+        return Answer::Refused(p.row);
+    }
+    let slots = p.words;
+    let own = p.indices;
+    let refs = p.refs;
+    let flags = p.flags;
+    let lasts = p.lasts;
+    let n = words::wide(p.added);
+    finish_link(
+        set,
+        c,
+        text,
+        abi,
+        labels,
+        area,
+        stubs,
+        &slots,
+        p.n,
+        p.instance,
+        words::word_part(&own, 0, words::wide(p.own)),
+        words::word_part(&refs, 0, n),
+        words::word_part(&flags, 0, n),
+        words::word_part(&lasts, 0, n),
+    )
 }

@@ -1,0 +1,126 @@
+-- What the code's plan comes to is what `linkDef` says. Assumes nothing.
+use mathlib.Core.Path.{_≡_, refl, sym, ap, _∙_}
+use mathlib.Core.Bool.{Bool, true, false, cond, not, _&&_, _||_}
+use mathlib.Core.Logic.{_≢_}
+use mathlib.Core.List.{List, [], _∷_}
+use Prim.Native.Nat.{ℕ, suc, _+_, _≤_, _<_, min}
+use native.Mathlib.Omega.{arith}
+use lib.ListN.{length, getD, take, drop}
+use lib.Dec.{eqb, ltb}
+use borrow.Author.Tests.{eq-eqb, ne-eqb, eqb-true, ltb-false}
+use Rattle.words.proofs.Bools.{by, or-neither}
+use Rattle.words.specs.Lists.{listFrom, fold}
+use Rattle.class_sheet.specs.ClassSheet.{classCount, fieldCount, textOf, classFirstField, classFieldCount}
+use Rattle.abi_sheet.specs.AbiSheet.{abiTextOf}
+use Rattle.set_rules.specs.SetRules.{setRefusal}
+use Rattle.set_rules.specs.Valid.{Valid}
+use Rattle.set_rules.proofs.Valid.{valid}
+use Rattle.linking.specs.Chain.{parentOf}
+use Rattle.linking.specs.Vtable.{Entry, slotWord, slotWords}
+use Rattle.linking.specs.Compiler.{New}
+use Rattle.linking.specs.Link as L
+use Rattle.growth.specs.News.{firstNews, news}
+use Rattle.compiler.proofs.MethodLaws.{news-part}
+use Rattle.vtable.specs.Arrays.{entriesOf}
+use Rattle.vtable.proofs.ArrayLaws.{length-entries}
+use Rattle.area.proofs.AreaLaws.{sound}
+use Rattle.plan.specs.declared.Plan.{Plan}
+use Rattle.plan.specs.Plans.{bare, barePlan, barePlanned, methodsOf, fieldsOf, newsOf, planOf, plannedOf}
+use Rattle.link.specs.Stored.{finished, Accepted}
+use Rattle.link.proofs.IndexLaws.{apart, same-plan, plan-few}
+use Rattle.link.proofs.PlanLaws.{Finish, finished-is}
+
+-- ---- a table by its words
+
+bare-words : (stubs : List ℕ) (i : ℕ) (T : List Entry) → slotWords stubs i (bare T) ≡ slotWords stubs i T
+unfolding bare slotWords
+bare-words stubs i [] = refl
+bare-words stubs i (e ∷ T) = rw (bare-words stubs (i + 1) T)
+
+length-bare : (T : List Entry) → length (bare T) ≡ length T
+unfolding bare
+length-bare [] = refl
+length-bare (e ∷ T) = ap suc (length-bare T)
+
+-- ---- the parts that the code lends of a plan's arrays
+
+module _ (ws text abi labels : List ℕ) (c : ℕ) (r : Plan) where
+  pub news-lent : {refs flags lasts : List ℕ} {n : ℕ} → n ≡ r .added → refs ≡ take n (drop 0 (r .refs)) → flags ≡ take n (drop 0 (r .flags))
+      → lasts ≡ take n (drop 0 (r .lasts)) → r .added ≤ 1024 → length (r .refs) ≡ 1024
+      → news ws text abi labels refs flags lasts ≡ newsOf ws text abi labels c r
+  news-lent e f g h m l = rw (f, g, h, e) (news-part ws text abi labels (r .refs) (r .flags) (r .lasts) (r .added) m (omega arith))
+
+  pub indices-lent : {is : List ℕ} {n : ℕ} → n ≡ r .own → is ≡ take n (drop 0 (r .indices)) → is ≡ take (r .own) (r .indices)
+  indices-lent e f = f ∙ rw e
+
+-- ---- a call that rows 3 to 7 accept
+
+module _ (ws abi : List ℕ) (c : ℕ) (area stubs text labels : List ℕ) (a : Accepted ws abi c area text labels) where
+  -- the class is one of the set
+  among : (1 ≤ c) × (c ≤ classCount ws)
+  unfolding L.badClass L.noClass
+  among =
+      let h = or-neither (L.noClass ws c || L.isLinked ws c || (not (eqb (parentOf ws c) 0) && not (L.isLinked ws (parentOf ws c)))) (L.badArray ws (textOf ws) c) (a .class) in
+      let i = or-neither (L.noClass ws c || L.isLinked ws c) (not (eqb (parentOf ws c) 0) && not (L.isLinked ws (parentOf ws c))) (h .0) in
+      let j = or-neither (L.noClass ws c) (L.isLinked ws c) (i .0) in
+      let k = or-neither (eqb c 0) (ltb (classCount ws) c) (j .0) in
+      let z : c ≢ 0 = (λ e. apart (sym (eq-eqb c 0 e) ∙ k .0)) in
+      (omega arith, ltb-false (classCount ws) c (k .1))
+    where
+      apart : true ≡ false → ⊥
+      apart t = let o : _≡_ {A = ℕ} 0 1 = cc in omega arith
+
+  pub link-is : L.onPlan (L.plan ws (textOf ws) abi (abiTextOf abi) area c) (L.finishLink ws abi c area stubs) (λ n. L.refusedCall n ws area)
+      ≡ L.linkDef ws abi c area stubs
+  unfolding L.linkDef
+  link-is = rw (a .set, a .class, a .tables)
+
+  module _ (r : Plan) (planned : plannedOf ws text abi labels c r ≡ barePlanned (L.plan ws text abi labels area c)) where
+    planned-texts : plannedOf ws (textOf ws) abi (abiTextOf abi) c r ≡ barePlanned (L.plan ws (textOf ws) abi (abiTextOf abi) area c)
+    planned-texts = rw (a .text-is, a .labels-are) at planned
+
+    pub link-refused : r .row ≢ 0 → L.refusedCall (r .row) ws area ≡ L.linkDef ws abi c area stubs
+    link-refused h =
+        let e : L.unplanned (r .row) ≡ barePlanned (L.plan ws (textOf ws) abi (abiTextOf abi) area c) = rw (ne-eqb (r .row) 0 h) at planned-texts in
+        refused-by (L.plan ws (textOf ws) abi (abiTextOf abi) area c) e ∙ link-is
+      where
+        refused-by : (P : L.Planned) → L.unplanned (r .row) ≡ barePlanned P
+            → L.refusedCall (r .row) ws area ≡ L.onPlan P (L.finishLink ws abi c area stubs) (λ n. L.refusedCall n ws area)
+        refused-by (L.planned p) e = absurd (let o : _≡_ {A = ℕ} 0 1 = cc in omega arith)
+        refused-by (L.unplanned n) e = let f : r .row ≡ n = cc in rw f
+
+    module _ (zero : r .row ≡ 0) (instance : r .instance ≡ L.newWords ws text abi labels area c) where
+      finish-of : (p : L.Plan) → L.plan ws (textOf ws) abi (abiTextOf abi) area c ≡ L.planned p → planOf ws (textOf ws) abi (abiTextOf abi) c r ≡ barePlan p
+          → Finish ws abi c area stubs (r .words) (r .n) (r .instance) (newsOf ws (textOf ws) abi (abiTextOf abi) c r) p
+      finish-of p e f =
+          let v = valid ws abi (a .set) .0 in
+          let t : entriesOf (r .words) [] (r .n) ≡ bare (p .table) = ap (λ (x : L.Plan). x .table) f in
+          record {
+            valid = v;
+            some = among .0;
+            among = among .1;
+            short-area = sound ws area (a .tables) .short;
+            methods = sym (ap (λ (x : L.Plan). x .newMethods) f);
+            fields = sym (ap (λ (x : L.Plan). x .newFields) f);
+            slot-count = sym (length-bare (p .table)) ∙ (rw (← t) (length-entries (r .words) [] (r .n)));
+            slot-words = sym (bare-words stubs 0 (p .table)) ∙ (rw (← t));
+            words-are = rw (a .text-is, a .labels-are) at instance;
+            indices-fit = omega (arith, plan-few ws (textOf ws) abi (abiTextOf abi) area c p e, v .class c among .fields);
+          }
+
+      pub link-finished : {is : List ℕ} {news : List New} → is ≡ take (r .own) (r .indices) → news ≡ newsOf ws text abi labels c r
+          → finished ws c area stubs (r .words) (r .n) (r .instance) is news ≡ L.linkDef ws abi c area stubs
+      link-finished i n =
+          let e : L.planned (planOf ws (textOf ws) abi (abiTextOf abi) c r) ≡ barePlanned (L.plan ws (textOf ws) abi (abiTextOf abi) area c)
+                = rw (eq-eqb (r .row) 0 zero) at planned-texts in
+          rw (i, n, a .text-is, a .labels-are) (finished-by (L.plan ws (textOf ws) abi (abiTextOf abi) area c) refl e ∙ link-is)
+        where
+          finished-by : (P : L.Planned) → L.plan ws (textOf ws) abi (abiTextOf abi) area c ≡ P
+              → L.planned (planOf ws (textOf ws) abi (abiTextOf abi) c r) ≡ barePlanned P
+              → finished ws c area stubs (r .words) (r .n) (r .instance) (take (r .own) (r .indices)) (newsOf ws (textOf ws) abi (abiTextOf abi) c r)
+              ≡ L.onPlan P (L.finishLink ws abi c area stubs) (λ n. L.refusedCall n ws area)
+          finished-by (L.planned p) g e =
+              let f : planOf ws (textOf ws) abi (abiTextOf abi) c r ≡ barePlan p = same-plan e in
+              let j : take (r .own) (r .indices) ≡ p .indices = ap (λ (x : L.Plan). x .indices) f in
+              rw j (finished-is ws abi c area stubs (r .words) (r .n) (r .instance) (newsOf ws (textOf ws) abi (abiTextOf abi) c r) p (finish-of p g f))
+          finished-by (L.unplanned n) g e = apart (sym e)
