@@ -26,7 +26,7 @@ use Rattle.vtable.proofs.ArrayLaws.{length-entries}
 use Rattle.area.proofs.AreaLaws.{sound}
 use Rattle.plan.specs.declared.Plan.{Plan}
 use Rattle.plan.specs.Plans.{bare, barePlan, barePlanned, methodsOf, fieldsOf, newsOf, planOf, plannedOf}
-use Rattle.link.specs.Stored.{finished, Accepted}
+use Rattle.link.specs.Stored.{finished, Texts, Accepted}
 use Rattle.link.proofs.IndexLaws.{apart, same-plan, plan-few}
 use Rattle.link.proofs.PlanLaws.{Finish, finished-is}
 
@@ -73,11 +73,11 @@ module _ (ws abi : List ℕ) (c : ℕ) (area stubs text labels : List ℕ) (a : 
   pub link-is : L.onPlan (L.plan ws (textOf ws) abi (abiTextOf abi) area c) (L.finishLink ws abi c area stubs) (λ n. L.refusedCall n ws area)
       ≡ L.linkDef ws abi c area stubs
   unfolding L.linkDef
-  link-is = rw (a .set, a .class, a .tables)
+  link-is = rw (a .texts .set, a .class, a .tables)
 
   module _ (r : Plan) (planned : plannedOf ws text abi labels c r ≡ barePlanned (L.plan ws text abi labels area c)) where
     planned-texts : plannedOf ws (textOf ws) abi (abiTextOf abi) c r ≡ barePlanned (L.plan ws (textOf ws) abi (abiTextOf abi) area c)
-    planned-texts = rw (a .text-is, a .labels-are) at planned
+    planned-texts = rw (a .texts .text-is, a .texts .labels-are) at planned
 
     pub link-refused : r .row ≢ 0 → L.refusedCall (r .row) ws area ≡ L.linkDef ws abi c area stubs
     link-refused h =
@@ -93,7 +93,7 @@ module _ (ws abi : List ℕ) (c : ℕ) (area stubs text labels : List ℕ) (a : 
       finish-of : (p : L.Plan) → L.plan ws (textOf ws) abi (abiTextOf abi) area c ≡ L.planned p → planOf ws (textOf ws) abi (abiTextOf abi) c r ≡ barePlan p
           → Finish ws abi c area stubs (r .words) (r .n) (r .instance) (newsOf ws (textOf ws) abi (abiTextOf abi) c r) p
       finish-of p e f =
-          let v = valid ws abi (a .set) .0 in
+          let v = valid ws abi (a .texts .set) .0 in
           let t : entriesOf (r .words) [] (r .n) ≡ bare (p .table) = ap (λ (x : L.Plan). x .table) f in
           record {
             valid = v;
@@ -104,7 +104,7 @@ module _ (ws abi : List ℕ) (c : ℕ) (area stubs text labels : List ℕ) (a : 
             fields = sym (ap (λ (x : L.Plan). x .newFields) f);
             slot-count = sym (length-bare (p .table)) ∙ (rw (← t) (length-entries (r .words) [] (r .n)));
             slot-words = sym (bare-words stubs 0 (p .table)) ∙ (rw (← t));
-            words-are = rw (a .text-is, a .labels-are) at instance;
+            words-are = rw (a .texts .text-is, a .texts .labels-are) at instance;
             indices-fit = omega (arith, plan-few ws (textOf ws) abi (abiTextOf abi) area c p e, v .class c among .fields);
           }
 
@@ -112,8 +112,8 @@ module _ (ws abi : List ℕ) (c : ℕ) (area stubs text labels : List ℕ) (a : 
           → finished ws c area stubs (r .words) (r .n) (r .instance) is news ≡ L.linkDef ws abi c area stubs
       link-finished i n =
           let e : L.planned (planOf ws (textOf ws) abi (abiTextOf abi) c r) ≡ barePlanned (L.plan ws (textOf ws) abi (abiTextOf abi) area c)
-                = rw (eq-eqb (r .row) 0 zero) at planned-texts in
-          rw (i, n, a .text-is, a .labels-are) (finished-by (L.plan ws (textOf ws) abi (abiTextOf abi) area c) refl e ∙ link-is)
+          = rw (eq-eqb (r .row) 0 zero) at planned-texts in
+          rw (i, n, a .texts .text-is, a .texts .labels-are) (finished-by (L.plan ws (textOf ws) abi (abiTextOf abi) area c) refl e ∙ link-is)
         where
           finished-by : (P : L.Planned) → L.plan ws (textOf ws) abi (abiTextOf abi) area c ≡ P
               → L.planned (planOf ws (textOf ws) abi (abiTextOf abi) c r) ≡ barePlanned P
@@ -124,3 +124,26 @@ module _ (ws abi : List ℕ) (c : ℕ) (area stubs text labels : List ℕ) (a : 
               let j : take (r .own) (r .indices) ≡ p .indices = ap (λ (x : L.Plan). x .indices) f in
               rw j (finished-is ws abi c area stubs (r .words) (r .n) (r .instance) (newsOf ws (textOf ws) abi (abiTextOf abi) c r) p (finish-of p g f))
           finished-by (L.unplanned n) g e = apart (sym e)
+
+-- ---- the rows before
+
+module _ (ws abi : List ℕ) (c : ℕ) (area stubs text labels : List ℕ) where
+  pub link-set : {r : ℕ} → r ≡ setRefusal ws abi → r ≢ 0 → L.refusedCall r ws area ≡ L.linkDef ws abi c area stubs
+  unfolding L.linkDef
+  link-set {r = r} e h = rw (← e) (simp (ne-eqb r 0 h))
+
+  module _ (t : Texts ws abi text labels) {b : Bool} (class : b ≡ L.badClass ws text c) where
+    class-is : b ≡ L.badClass ws (textOf ws) c
+    class-is = class ∙ rw (t .text-is)
+
+    pub link-6 : b ≡ true → L.refusedCall 6 ws area ≡ L.linkDef ws abi c area stubs
+    unfolding L.linkDef
+    link-6 e = rw (t .set, ← class-is, e)
+
+    module _ (no : b ≡ false) {d : Bool} (bad : d ≡ L.badArea ws area) where
+      pub link-7 : d ≡ true → L.refusedCall 7 ws area ≡ L.linkDef ws abi c area stubs
+      unfolding L.linkDef
+      link-7 e = rw (t .set, ← class-is, no, ← bad, e)
+
+      pub link-accepted : d ≡ false → Accepted ws abi c area text labels
+      link-accepted e = record { texts = t; class = sym class-is ∙ no; tables = sym bad ∙ e }

@@ -52,10 +52,14 @@ finished ws c area stubs slots n words indices new =
       area = tableWritten area c slots n stubs;
     }))
 
--- rows 3 to 7 accept the call, and the texts are the sheets'
-pub record Accepted (ws abi : List ℕ) (c : ℕ) (area text labels : List ℕ) : Type 0 where
+-- rows 3 to 5 accept the sheets, and the texts are theirs
+pub record Texts (ws abi text labels : List ℕ) : Type 0 where
   pub set : setRefusal ws abi ≡ 0
-  pub class : badClass ws (textOf ws) c ≡ false
-  pub tables : badArea ws area ≡ false
   pub text-is : text ≡ textOf ws
   pub labels-are : labels ≡ abiTextOf abi
+
+-- and rows 6 and 7 the class and the area
+pub record Accepted (ws abi : List ℕ) (c : ℕ) (area text labels : List ℕ) : Type 0 where
+  pub texts : Texts ws abi text labels
+  pub class : badClass ws (textOf ws) c ≡ false
+  pub tables : badArea ws area ≡ false

@@ -1,0 +1,16 @@
+pub mod Area
+pub mod Bytes
+pub mod Stores
+pub mod Leaves
+pub mod Linked
+pub mod Plans
+pub mod Rows
+pub mod Like
+pub mod View
+pub mod Build
+pub mod Runs
+pub mod Lists
+pub mod Theorem
+pub mod Tests
+pub mod Examples
+pub mod Needed

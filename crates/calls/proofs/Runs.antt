@@ -1,0 +1,311 @@
+-- What every list of calls keeps, and what holds after it. Each accepted link leaves one equation of its class's table over its parent's; no
+-- later call changes either. Assumes nothing.
+use mathlib.Core.Path.{_≡_, refl, sym, ap, _∙_, subst}
+use mathlib.Core.Logic.{_⊎_, inl, inr, _≢_}
+use mathlib.Core.Bool.{false}
+use mathlib.Core.List.{List, [], _∷_}
+use Prim.Native.Nat.{ℕ, zero, suc, _+_, _≤_, _<_}
+use native.Mathlib.Omega.{arith}
+use lib.ListN.{length, getD}
+use lib.Dec.{eqb}
+use borrow.Author.Tests.{eqb-true, eqb-false}
+use Rattle.words.specs.Lists.{listFrom}
+use Rattle.words.proofs.Bools.{by}
+use Rattle.words.proofs.Lists.{part-ext}
+use Rattle.class_sheet.specs.ClassSheet.{classCount, methodCount, textOf, classKind, classFlags, classFirstMethod, classMethodCount, classTablePlace, classSlotCount}
+use Rattle.abi_sheet.specs.AbiSheet.{abiTextOf}
+use Rattle.set_rules.specs.Valid.{Valid}
+use Rattle.set_rules.proofs.Valid.{valid}
+use Rattle.chain.proofs.ChainLaws.{parent-within}
+use Rattle.linking.specs.Chain.{listCount, ownMethods, parentOf, chain, isInterface}
+use Rattle.linking.specs.Vtable.{Entry, built, parentEntries, slotWords}
+use Rattle.linking.specs.Link.{nextFree, newWords, linkedArea, Outcome}
+use Rattle.slots.specs.Slots.{In, here, there, tableFrom, inheritedFrom, Made}
+use Rattle.slots.proofs.ChainFacts.{chain-here, chain-up}
+use Rattle.slots.proofs.LinkFacts.{read-area}
+use Rattle.calls.specs.Calls.{State, tableAt}
+use Rattle.calls.proofs.Area.{length-slots, linked-length, linked-before, linked-slots}
+use Rattle.calls.proofs.Leaves.{Leaves}
+use Rattle.calls.proofs.Linked.{link-leaves}
+use Rattle.calls.proofs.Plans.{Plans, plans, plan-table}
+use Rattle.calls.proofs.Rows.{Linked, Accepted}
+use Rattle.calls.proofs.Like.{Like, like-next, other-word, own-place, own-slots, like-linked}
+use Rattle.calls.proofs.View.{parent-same, read-words-same}
+use Rattle.calls.proofs.Build.{AllOf, read-words-of, table-same}
+
+-- a class's table as its record and the area have it
+abbrev pub tableOf : State → ℕ → List ℕ
+tableOf s c = tableAt (s .area) (classTablePlace (s .set) c) (classSlotCount (s .set) c)
+
+-- the first word after a class's table
+abbrev pub endOf : State → ℕ → ℕ
+endOf s c = classTablePlace (s .set) c + classSlotCount (s .set) c + 2
+
+-- ---- what a call keeps of the classes that are linked before it
+
+pub record Keeps (s s′ : State) : Type 0 where
+  pub classes : classCount (s′ .set) ≡ classCount (s .set)
+  pub place : (c : ℕ) → Linked (s .set) c → classTablePlace (s′ .set) c ≡ classTablePlace (s .set) c
+  pub slots : (c : ℕ) → Linked (s .set) c → classSlotCount (s′ .set) c ≡ classSlotCount (s .set) c
+  pub table : (c : ℕ) → Linked (s .set) c → tableOf s′ c ≡ tableOf s c
+
+pub keeps-same : (s : State) → Keeps s s
+keeps-same s = record { classes = refl; place = λ c l. refl; slots = λ c l. refl; table = λ c l. refl }
+
+pub still : {s s′ : State} → Keeps s s′ → (c : ℕ) → Linked (s .set) c → Linked (s′ .set) c
+still k c l = record { some = l .some; among = rw (k .classes) (l .among); has = rw (k .place c l) (l .has) }
+
+pub keeps-next : {s s′ s″ : State} → Keeps s s′ → Keeps s′ s″ → Keeps s s″
+keeps-next p q = record {
+  classes = q .classes ∙ p .classes;
+  place = λ c l. q .place c (still p c l) ∙ p .place c l;
+  slots = λ c l. q .slots c (still p c l) ∙ p .slots c l;
+  table = λ c l. q .table c (still p c l) ∙ p .table c l;
+}
+
+-- an element of a list
+pub in-at : (xs : List ℕ) (i : ℕ) → i < length xs → In (getD xs i 0) xs
+in-at [] i h = absurd (omega arith)
+in-at (x ∷ xs) zero h = here
+in-at (x ∷ xs) (suc i) h = there (in-at xs i (omega arith))
+
+module _ (ws₀ abi : List ℕ) (valid₀ : Valid ws₀) (P : ℕ → Type 0) where
+  -- "whose parent chain, itself included, has only built and array classes, none of them an interface"
+  pub record Plain (c : ℕ) : Type 0 where
+    pub kinds : (d : ℕ) → In d (chain ws₀ c) → (classKind ws₀ d ≡ 0) ⊎ (classKind ws₀ d ≡ 2)
+    pub flags : (d : ℕ) → In d (chain ws₀ c) → isInterface (classFlags ws₀ d) ≡ false
+
+  not-generated : (k : ℕ) → (k ≡ 0) ⊎ (k ≡ 2) → k ≢ 1
+  not-generated k (inl e) f = omega arith
+  not-generated k (inr e) f = omega arith
+
+  plain-kinds : {c : ℕ} → Plain c → (d : ℕ) → In d (chain ws₀ c) → classKind ws₀ d ≢ 1
+  plain-kinds p d i = not-generated (classKind ws₀ d) (p .kinds d i)
+
+  plain-up : {c : ℕ} → 1 ≤ c → Plain c → Plain (parentOf ws₀ c)
+  plain-up {c} h p = record { kinds = λ d i. p .kinds d (chain-up ws₀ c h i); flags = λ d i. p .flags d (chain-up ws₀ c h i) }
+
+  abbrev pub MadeIn : State → ℕ → Type 0
+  MadeIn s c = Made ws₀ (textOf ws₀) abi (abiTextOf abi) (tableOf s) P c
+
+  -- ---- the invariant
+
+  pub record Inv (s : State) : Type 0 where
+    pub like : Like ws₀ (s .set)
+    pub parent : (c : ℕ) → Linked (s .set) c → parentOf ws₀ c ≢ 0 → Linked (s .set) (parentOf ws₀ c)
+    pub made : (c : ℕ) → Linked (s .set) c → Plain c → MadeIn s c
+    pub whole : (c : ℕ) → Linked (s .set) c → length (tableOf s c) ≡ classSlotCount (s .set) c
+    pub apart : (c d : ℕ) → Linked (s .set) c → Linked (s .set) d → c ≢ d
+        → (endOf s c ≤ classTablePlace (s .set) d) ⊎ (endOf s d ≤ classTablePlace (s .set) c)
+
+  inherited-same : (t u : ℕ → List ℕ) (c : ℕ) → (parentOf ws₀ c ≢ 0 → t (parentOf ws₀ c) ≡ u (parentOf ws₀ c))
+      → inheritedFrom ws₀ (textOf ws₀) abi (abiTextOf abi) t c ≡ inheritedFrom ws₀ (textOf ws₀) abi (abiTextOf abi) u c
+  unfolding inheritedFrom
+  inherited-same t u c h =
+      by (eqb (parentOf ws₀ c) 0) (λ q. rw q refl)
+      (λ q. rw (q, h (eqb-false (parentOf ws₀ c) 0 q)) refl)
+
+  made-same : (s s′ : State) (c : ℕ) → tableOf s′ c ≡ tableOf s c
+      → (parentOf ws₀ c ≢ 0 → tableOf s′ (parentOf ws₀ c) ≡ tableOf s (parentOf ws₀ c)) → MadeIn s c → MadeIn s′ c
+  made-same s s′ c e h m = record {
+    entries = m .entries;
+    stubs = m .stubs;
+    enough = m .enough;
+    lent = m .lent;
+    bare = m .bare;
+    from = ap (tableFrom ws₀ (textOf ws₀) abi (abiTextOf abi) c) (inherited-same (tableOf s′) (tableOf s) c h) ∙ m .from;
+    words = e ∙ m .words;
+  }
+
+  pub made-keeps : {s s′ : State} → Inv s → Keeps s s′ → (c : ℕ) → Linked (s .set) c → Plain c → MadeIn s′ c
+  made-keeps {s} {s′} inv k c l p = made-same s s′ c (k .table c l) (λ n. k .table (parentOf ws₀ c) (inv .parent c l n)) (inv .made c l p)
+
+  pub whole-keeps : {s s′ : State} → Inv s → Keeps s s′ → (c : ℕ) → Linked (s .set) c → length (tableOf s′ c) ≡ classSlotCount (s′ .set) c
+  whole-keeps inv k c l = ap length (k .table c l) ∙ inv .whole c l ∙ sym (k .slots c l)
+
+  -- ---- an accepted link keeps what is linked, and adds its class
+
+  module _ (s : State) (inv : Inv s) (c : ℕ) (stubs : List ℕ) (o : Outcome) (acc : Accepted (s .set) abi c (s .area) stubs o)
+      (lent : (x : ℕ) → In x stubs → P x) where
+    abbrev next : State
+    next = record { set = o .set; area = o .area }
+
+    abbrev T : List Entry
+    T = acc .coming .table
+
+    some : 1 ≤ c
+    some = acc .class .some
+
+    among : c ≤ classCount (s .set)
+    among = acc .class .among
+
+    among₀ : c ≤ classCount ws₀
+    among₀ = omega (arith, among, inv .like .classes)
+
+    valid-now : Valid (s .set)
+    valid-now = valid (s .set) abi (acc .valid) .0
+
+    planning : Plans (s .set) (textOf (s .set)) abi (abiTextOf abi) (s .area) c (acc .coming)
+    planning = plans (s .set) (textOf (s .set)) abi (abiTextOf abi) (s .area) c (acc .coming) (acc .comes)
+
+    leaves : Leaves (s .set) (o .set) c (nextFree (s .area)) (length T)
+    leaves =
+        let v = valid-now .class c (some, among) in
+        let i = planning .indices in
+        let f = v .fields in
+        subst (λ (x : List ℕ). Leaves (s .set) x c (nextFree (s .area)) (length T)) (sym (acc .new-set))
+        (link-leaves (s .set) c (nextFree (s .area)) (newWords (s .set) (textOf (s .set)) abi (abiTextOf abi) (s .area) c) (acc .coming)
+        some among (valid-now .fits) (v .methods) (v .fields) (omega arith) (planning .generated))
+
+    room : nextFree (s .area) + length T + 2 ≤ length (s .area)
+    room = omega (arith, acc .room .words-enough, acc .lent .within)
+
+    other : (d : ℕ) → Linked (s .set) d → d ≢ c
+    other d l e = l .has (rw e (acc .class .new))
+
+    place-other : (d : ℕ) → 1 ≤ d → d ≤ classCount (s .set) → d ≢ c → classTablePlace (o .set) d ≡ classTablePlace (s .set) d
+    place-other d h a n = other-word some among leaves d 15 h a (omega arith) n
+
+    slots-other : (d : ℕ) → 1 ≤ d → d ≤ classCount (s .set) → d ≢ c → classSlotCount (o .set) d ≡ classSlotCount (s .set) d
+    slots-other d h a n = other-word some among leaves d 16 h a (omega arith) n
+
+    table-other : (d : ℕ) → Linked (s .set) d → tableOf next d ≡ tableOf s d
+    table-other d l =
+        let b = acc .lent .below d l in
+        let n = l .has in
+        rw (place-other d (l .some) (l .among) (other d l), slots-other d (l .some) (l .among) (other d l), acc .new-area)
+        (part-ext 0 (linkedArea (s .area) c T stubs) (s .area) (classTablePlace (s .set) d + 1) (classSlotCount (s .set) d)
+        (linked-length (s .area) c T stubs (acc .lent .free) room)
+        (λ i h k. linked-before (s .area) c T stubs (acc .lent .free) room i (omega arith) (omega arith)))
+
+    pub link-keeps : Keeps s next
+    link-keeps = record {
+      classes = leaves .classes;
+      place = λ d l. place-other d (l .some) (l .among) (other d l);
+      slots = λ d l. slots-other d (l .some) (l .among) (other d l);
+      table = table-other;
+    }
+
+    pub new-place : classTablePlace (o .set) c ≡ nextFree (s .area)
+    new-place = own-place some among leaves
+
+    pub new-slots : classSlotCount (o .set) c ≡ length T
+    new-slots = own-slots some among leaves
+
+    pub new-linked : Linked (o .set) c
+    new-linked = record { some = some; among = rw (leaves .classes) among; has = rw new-place (acc .lent .free) }
+
+    new-table : tableOf next c ≡ slotWords stubs 0 T
+    new-table =
+        ap (λ (p : ℕ). tableAt (o .area) p (classSlotCount (o .set) c)) new-place
+        ∙ ap (λ (n : ℕ). tableAt (o .area) (nextFree (s .area)) n) new-slots
+        ∙ ap (λ (x : List ℕ). tableAt x (nextFree (s .area)) (length T)) (acc .new-area)
+        ∙ linked-slots (s .area) c T stubs (acc .lent .free) room
+
+    pub was : (d : ℕ) → d ≢ c → Linked (o .set) d → Linked (s .set) d
+    was d n l =
+        let a : d ≤ classCount (s .set) = rw (← leaves .classes) (l .among) in
+        record { some = l .some; among = a; has = rw (← place-other d (l .some) a n) (l .has) }
+
+    -- its parent
+    parent-is : parentOf (s .set) c ≡ parentOf ws₀ c
+    parent-is = parent-same ws₀ (s .set) valid₀ (inv .like) c some among₀
+
+    parent-linked : parentOf ws₀ c ≢ 0 → Linked (s .set) (parentOf ws₀ c)
+    parent-linked n =
+        let b = parent-within ws₀ c in
+        record { some = omega arith; among = omega (arith, among); has = rw (← parent-is) (acc .class .parent (rw parent-is n)) }
+
+    -- the parent's entries, read at the link, are those of its table, read by the sheet at the start
+    parent-entries : Plain c → parentEntries (s .set) (textOf (s .set)) abi (abiTextOf abi) (s .area) c
+        ≡ inheritedFrom ws₀ (textOf ws₀) abi (abiTextOf abi) (tableOf s) c
+    unfolding parentEntries inheritedFrom
+    parent-entries p =
+        rw parent-is
+        (by (eqb (parentOf ws₀ c) 0) (λ q. rw q refl)
+        (λ q.
+        let l = parent-linked (eqb-false (parentOf ws₀ c) 0 q) in
+        let k = valid-now .class (parentOf ws₀ c) (l .some, l .among) .slots (l .has) in
+        let b = acc .lent .below (parentOf ws₀ c) l in
+        let w = acc .lent .within in
+        rw q
+        (sym (read-area (s .set) (textOf (s .set)) abi (abiTextOf abi) (s .area) (parentOf ws₀ c) (classSlotCount (s .set) (parentOf ws₀ c))
+        (omega arith) (omega arith))
+        ∙ read-words-same ws₀ (s .set) valid₀ (inv .like) abi (abiTextOf abi) (parentOf ws₀ c) (omega (arith, l .among, inv .like .classes))
+        (plain-kinds (plain-up some p)) (tableOf s (parentOf ws₀ c)))))
+
+    inherited-of : Plain c → AllOf (methodCount ws₀) (inheritedFrom ws₀ (textOf ws₀) abi (abiTextOf abi) (tableOf s) c)
+    unfolding inheritedFrom
+    inherited-of p =
+        let b = parent-within ws₀ c in
+        by (eqb (parentOf ws₀ c) 0) (λ q. rw q tt)
+        (λ q.
+        rw q
+        (read-words-of ws₀ (s .set) valid₀ (inv .like) abi (abiTextOf abi) (parentOf ws₀ c) (omega (arith, among₀)) (plain-kinds (plain-up some p))
+        (tableOf s (parentOf ws₀ c))))
+
+    here-kind : classKind (s .set) c ≡ classKind ws₀ c
+    here-kind = inv .like .word c 4 some among₀ (omega arith)
+
+    here-flags : classFlags (s .set) c ≡ classFlags ws₀ c
+    here-flags = inv .like .word c 3 some among₀ (omega arith)
+
+    new-from : Plain c → tableFrom ws₀ (textOf ws₀) abi (abiTextOf abi) c (inheritedFrom ws₀ (textOf ws₀) abi (abiTextOf abi) (tableOf s) c) ≡ built T
+    new-from p =
+        let k = p .kinds c (chain-here ws₀ c some) in
+        let f = p .flags c (chain-here ws₀ c some) in
+        sym (table-same ws₀ (s .set) valid₀ (inv .like) abi (abiTextOf abi) c some among₀ (plain-kinds p c (chain-here ws₀ c some))
+        (inheritedFrom ws₀ (textOf ws₀) abi (abiTextOf abi) (tableOf s) c) (inherited-of p))
+        ∙ ap (tableFrom (s .set) (textOf (s .set)) abi (abiTextOf abi) c) (sym (parent-entries p))
+        ∙ plan-table (s .set) (textOf (s .set)) abi (abiTextOf abi) (s .area) c (acc .coming) planning (rw here-kind k) (rw here-flags f)
+
+    no-methods : classMethodCount ws₀ c ≡ 0 → ownMethods ws₀ c ≡ []
+    unfolding ownMethods listFrom
+    no-methods e = let n : listCount (classFirstMethod ws₀ c) (classMethodCount ws₀ c) 512 ≡ 0 = omega arith in rw n refl
+
+    new-bare : classKind ws₀ c ≡ 2 → ownMethods ws₀ c ≡ []
+    new-bare e =
+        no-methods (sym (inv .like .method-count c some among₀ (λ f. omega arith)) ∙ acc .class .bare (here-kind ∙ e))
+
+    new-made : Plain c → MadeIn next c
+    new-made p = record {
+      entries = T;
+      stubs = stubs;
+      enough = acc .room .stubs-enough;
+      lent = λ i h. lent (getD stubs i 0) (in-at stubs i h);
+      bare = new-bare;
+      from = ap (tableFrom ws₀ (textOf ws₀) abi (abiTextOf abi) c)
+          (inherited-same (tableOf next) (tableOf s) c (λ n. table-other (parentOf ws₀ c) (parent-linked n)))
+          ∙ new-from p;
+      words = new-table;
+    }
+
+    old-below : (d : ℕ) → Linked (s .set) d → endOf next d ≤ classTablePlace (o .set) c
+    old-below d l = omega (arith, new-place, link-keeps .place d l, link-keeps .slots d l, acc .lent .below d l)
+
+    pub link-inv : Inv next
+    link-inv = record {
+      like = like-next ws₀ (s .set) (o .set) (inv .like) (like-linked some among leaves);
+      parent = λ d l n.
+          by (eqb d c)
+          (λ t. let e : d ≡ c = eqb-true d c t in rw e (still link-keeps (parentOf ws₀ c) (parent-linked (rw e at n))))
+          (λ f. still link-keeps (parentOf ws₀ d) (inv .parent d (was d (eqb-false d c f) l) n));
+      made = λ d l p.
+          by (eqb d c)
+          (λ t. let e : d ≡ c = eqb-true d c t in rw e (new-made (rw e at p)))
+          (λ f. made-keeps inv link-keeps d (was d (eqb-false d c f) l) p);
+      whole = λ d l.
+          by (eqb d c)
+          (λ t. let e : d ≡ c = eqb-true d c t in rw e (ap length new-table ∙ length-slots stubs 0 T ∙ sym new-slots))
+          (λ f. whole-keeps inv link-keeps d (was d (eqb-false d c f) l));
+      apart = λ d e ld le n.
+          by (eqb d c)
+          (λ t. let q : d ≡ c = eqb-true d c t in inr (rw q (old-below e (was e (λ r. n (q ∙ sym r)) le))))
+          (λ f.
+          let od = was d (eqb-false d c f) ld in
+          by (eqb e c)
+          (λ t. let q : e ≡ c = eqb-true e c t in inl (rw q (old-below d od)))
+          (λ g.
+          let oe = was e (eqb-false e c g) le in
+          rw (link-keeps .place d od, link-keeps .slots d od, link-keeps .place e oe, link-keeps .slots e oe) (inv .apart d e od oe n)));
+    }

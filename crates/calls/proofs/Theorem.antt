@@ -1,0 +1,165 @@
+-- DEMAND 3 (specs/Demand.antt), for every list of links and asks: from what holds after the list (Lists.antt), by what such tables have (crate
+-- slots). Assumes nothing.
+use mathlib.Core.Path.{_≡_, refl, sym, ap, _∙_, subst}
+use mathlib.Core.Logic.{inl, inr, _≢_}
+use mathlib.Core.List.{List}
+use Prim.Native.Nat.{ℕ, zero, suc, _≤_}
+use native.Mathlib.Omega.{arith}
+use lib.ListN.{length}
+use lib.Dec.{eqb}
+use borrow.Author.Tests.{eqb-true, eqb-false}
+use Rattle.words.specs.declared.Found.the-variants.{Nothing}
+use Rattle.words.proofs.Bools.{by}
+use Rattle.class_sheet.specs.ClassSheet.{textOf, classSlotCount}
+use Rattle.abi_sheet.specs.AbiSheet.{abiTextOf}
+use Rattle.set_rules.specs.SetRules.{setRefusal}
+use Rattle.set_rules.specs.Valid.{Valid}
+use Rattle.set_rules.proofs.Valid.{valid}
+use Rattle.chain.proofs.ChainLaws.{parent-below, chain-none}
+use Rattle.linking.specs.Chain.{parentOf, chain}
+use Rattle.linking.specs.Abi.{classAbi}
+use Rattle.slots.specs.Slots as tables
+use Rattle.slots.specs.Slots.{In, Unique, Kept, Made}
+use Rattle.slots.proofs.ListFacts.{in-none}
+use Rattle.slots.proofs.ChainFacts.{chain-cases, chain-up}
+use Rattle.slots.proofs.Tables.{table-unique, table-kept}
+use Rattle.calls.specs.Calls.{Call, link, ask, State, step, run, Unlinked, LinkedIn, now, later, tableAt, Lent}
+use Rattle.calls.specs.Demand.{start, Conditions, KeepsParent, Claim, Demand3}
+use Rattle.calls.proofs.Rows.{Linked, link-cases, ask-cases}
+use Rattle.calls.proofs.Like.{like-same}
+use Rattle.calls.proofs.Runs.{tableOf, Plain, Inv}
+use Rattle.calls.proofs.Lists.{Goes, run-goes, Answered, answered, history}
+
+-- ---- a set that rows 3 to 5 refuse never links
+
+module _ (ws abi : List ℕ) (bad : setRefusal ws abi ≢ 0) where
+  bad-now : (s : State) → s .set ≡ ws → setRefusal (s .set) abi ≡ 0 → ⊥
+  bad-now s e h = bad (rw e at h)
+
+  stays-bad : (s : State) → s .set ≡ ws → (k : Call) → step abi s k .set ≡ ws
+  unfolding step
+  stays-bad s e (link c stubs) =
+      elim (link-cases (s .set) abi c (s .area) stubs) [ inl r ↦ r .same-set ∙ e | inr a ↦ absurd (bad-now s e (a .valid)) ]
+  stays-bad s e (ask c i stubs) =
+      elim (ask-cases (s .set) abi c i (s .area) stubs) [ inl r ↦ r .same-set ∙ e | inr a ↦ a .same-set ∙ e ]
+
+  never : {c p n : ℕ} {s : State} {ks : List Call} → s .set ≡ ws → LinkedIn abi c p n s ks → ⊥
+  never {c} {s = s} e (now stubs f g h) =
+      elim (link-cases (s .set) abi c (s .area) stubs) [ inl r ↦ r .number f | inr a ↦ bad-now s e (a .valid) ]
+  never {s = s} e (later {k = k} i) = never (stays-bad s e k) i
+
+-- ---- the others
+
+module _ (ws abi area : List ℕ) (valid₀ : Valid ws) (unlinked : Unlinked ws) (calls : List Call) where
+  abbrev P : ℕ → Type 0
+  P x = Lent x calls
+
+  abbrev final : State
+  final = run abi calls (start ws abi area calls)
+
+  none : (c : ℕ) → Linked ws c → ⊥
+  none c l = l .has (unlinked c (l .some) (l .among))
+
+  start-inv : Inv ws abi valid₀ P (start ws abi area calls)
+  start-inv = record {
+    like = like-same ws;
+    parent = λ c l. absurd (none c l);
+    made = λ c l. absurd (none c l);
+    whole = λ c l. absurd (none c l);
+    apart = λ c d l. absurd (none c l);
+  }
+
+  goes : Goes ws abi valid₀ P (start ws abi area calls) final
+  goes = run-goes ws abi valid₀ P calls (start ws abi area calls) start-inv (λ x i. i)
+
+  after : {c p n : ℕ} → LinkedIn abi c p n (start ws abi area calls) calls → Answered ws abi valid₀ P final c p n
+  after i = answered ws abi valid₀ P i start-inv (λ x j. j)
+
+  -- the chain of a linked class is linked
+  chain-linked : (bound c : ℕ) → c ≤ bound → Linked (final .set) c → Plain ws abi valid₀ P c → (d : ℕ) → In d (chain ws c)
+      → Linked (final .set) d × Plain ws abi valid₀ P d
+  chain-linked zero c b l p d i = absurd (omega (arith, l .some))
+  chain-linked (suc bound) c b l p d i =
+      let f = parent-below ws c (l .some) in
+      let up : Plain ws abi valid₀ P (parentOf ws c) =
+      record { kinds = λ e j. p .kinds e (chain-up ws c (l .some) j); flags = λ e j. p .flags e (chain-up ws c (l .some) j) } in
+      elim (chain-cases ws c (l .some) i) [
+        | inl e ↦ rw e (l, p)
+        | inr j ↦
+            by (eqb (parentOf ws c) 0)
+            (λ t. in-none (chain-none ws (parentOf ws c) (eqb-true (parentOf ws c) 0 t)) j)
+            (λ n. chain-linked bound (parentOf ws c) (omega arith) (goes .inv .parent c l (eqb-false (parentOf ws c) 0 n)) up d j)
+      ]
+
+  module _ (c place slots : ℕ) (linked : LinkedIn abi c place slots (start ws abi area calls) calls) (k : Conditions ws abi area calls c) where
+    plain : Plain ws abi valid₀ P c
+    plain = record { kinds = k .built-or-array; flags = k .no-interface }
+
+    conditions : tables.Conditions ws (textOf ws) abi (abiTextOf abi) P c
+    conditions = record {
+      orderly = k .orderly;
+      targets-nonzero = k .targets-nonzero;
+      targets-different = k .targets-different;
+      stubs-nonzero = k .stubs-nonzero;
+      no-stub = k .no-stub;
+    }
+
+    made : (d : ℕ) → In d (chain ws c) → Made ws (textOf ws) abi (abiTextOf abi) (tableOf final) P d
+    made d i = let r = chain-linked c c (omega arith) (after linked .linked) plain d i in goes .inv .made d (r .0) (r .1)
+
+    within : c ≤ 64
+    within = omega (arith, after linked .linked .among, goes .inv .like .classes, valid₀ .class-count)
+
+    -- the table that a link answered
+    table-is : {d p n : ℕ} → LinkedIn abi d p n (start ws abi area calls) calls → tableOf final d ≡ tableAt (final .area) p n
+    table-is {d} {p} {n} i =
+        let a = after i in
+        ap (λ (x : ℕ). tableAt (final .area) x (classSlotCount (final .set) d)) (a .place)
+        ∙ ap (λ (x : ℕ). tableAt (final .area) p x) (a .slots)
+
+    unique : Unique ws (textOf ws) abi (abiTextOf abi) c (tableAt (final .area) place slots)
+    unique =
+        subst (λ (t : List ℕ). Unique ws (textOf ws) abi (abiTextOf abi) c t) (table-is linked)
+        (table-unique ws (textOf ws) abi (abiTextOf abi) (tableOf final) P c within conditions made)
+
+    keeps-parent : parentOf ws c ≢ 0 → classAbi ws (textOf ws) abi (abiTextOf abi) c ≡ Nothing → KeepsParent ws abi area calls c place slots
+    keeps-parent n e =
+        elim (history ws abi valid₀ P calls (start ws abi area calls) start-inv (λ x i. i) (parentOf ws c) (goes .inv .parent c (after linked .linked) n)) [
+          | inl l ↦ absurd (none (parentOf ws c) l)
+          | inr r ↦ record {
+            parent-place = r .place;
+            parent-slots = r .slots;
+            parent-linked = r .found;
+            kept = subst (λ (t : List ℕ). Kept ws (textOf ws) abi (abiTextOf abi) c t (tableAt (final .area) (r .place) (r .slots))) (table-is linked)
+                (subst (λ (t : List ℕ). Kept ws (textOf ws) abi (abiTextOf abi) c (tableOf final c) t) (table-is (r .found))
+                (table-kept ws (textOf ws) abi (abiTextOf abi) (tableOf final) P c within conditions made n e));
+          }
+        ]
+
+    claim : Claim ws abi area calls c place slots
+    claim = record {
+      unique = unique;
+      keeps-parent = keeps-parent;
+      whole = sym (ap length (table-is linked)) ∙ goes .inv .whole c (after linked .linked) ∙ after linked .slots;
+      one-table = λ p n i. let a = after i in let b = after linked in (sym (a .place) ∙ b .place, sym (a .slots) ∙ b .slots);
+    }
+
+-- no second link of a class is accepted, whatever its chain
+pub one-link : (ws abi area : List ℕ) → Unlinked ws → (calls : List Call) {c p n q m : ℕ} → LinkedIn abi c p n (start ws abi area calls) calls
+    → LinkedIn abi c q m (start ws abi area calls) calls → (p ≡ q) × (n ≡ m)
+one-link ws abi area unlinked calls i j =
+    by (eqb (setRefusal ws abi) 0)
+    (λ t.
+    let v = valid ws abi (eqb-true (setRefusal ws abi) 0 t) .0 in
+    let a = after ws abi area v unlinked calls i in
+    let b = after ws abi area v unlinked calls j in
+    (sym (a .place) ∙ b .place, sym (a .slots) ∙ b .slots))
+    (λ f. absurd (never ws abi (eqb-false (setRefusal ws abi) 0 f) refl i))
+
+-- ---- THE THEOREM
+
+pub demand-3 : Demand3
+demand-3 ws abi area unlinked calls c place slots linked k =
+    by (eqb (setRefusal ws abi) 0)
+    (λ t. claim ws abi area (valid ws abi (eqb-true (setRefusal ws abi) 0 t) .0) unlinked calls c place slots linked k)
+    (λ f. absurd (never ws abi (eqb-false (setRefusal ws abi) 0 f) refl linked))
