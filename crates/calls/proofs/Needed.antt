@@ -105,9 +105,9 @@ linkedBefore =
       calls = link 2 (901 ∷ 902 ∷ []) ∷ [];
     }
 
-pub unlinked : Breaks linkedBefore 2 5 2 false (true ∷ true ∷ true ∷ true ∷ true ∷ true ∷ true ∷ [])
+unlinked-needed : Breaks linkedBefore 2 5 2 false (true ∷ true ∷ true ∷ true ∷ true ∷ true ∷ true ∷ [])
 unfolding opened shown linkedBefore
-unlinked = record {
+unlinked-needed = record {
   start-is = refl;
   premises = refl;
   linked = now (901 ∷ 902 ∷ []) refl refl refl;
@@ -120,9 +120,9 @@ unfoldable pub generatedChild : Case
 generatedChild =
     from (built "P" 0 (method "a" 5 ∷ []) [] ∷ compiled "G" 1 [] (7 ∷ []) ∷ []) [] (link 1 (901 ∷ []) ∷ link 2 (902 ∷ 903 ∷ []) ∷ [])
 
-pub built-or-array : Breaks generatedChild 2 4 2 true (false ∷ true ∷ true ∷ true ∷ true ∷ true ∷ true ∷ [])
+built-or-array-needed : Breaks generatedChild 2 4 2 true (false ∷ true ∷ true ∷ true ∷ true ∷ true ∷ true ∷ [])
 unfolding opened shown generatedChild
-built-or-array = record {
+built-or-array-needed = record {
   start-is = refl;
   premises = refl;
   linked = later (now (902 ∷ 903 ∷ []) refl refl refl);
@@ -136,9 +136,9 @@ built-or-array = record {
 unfoldable pub interfaceChild : Case
 interfaceChild = from (built "P" 0 (method "a" 5 ∷ []) [] ∷ having 513 0 0 (built "I" 1 [] []) ∷ []) [] (link 1 (901 ∷ []) ∷ link 2 [] ∷ [])
 
-pub no-interface : Breaks interfaceChild 2 4 0 true (true ∷ false ∷ true ∷ true ∷ true ∷ true ∷ true ∷ [])
+no-interface-needed : Breaks interfaceChild 2 4 0 true (true ∷ false ∷ true ∷ true ∷ true ∷ true ∷ true ∷ [])
 unfolding opened shown interfaceChild
-no-interface = record {
+no-interface-needed = record {
   start-is = refl;
   premises = refl;
   linked = later (now [] refl refl refl);
@@ -152,9 +152,9 @@ no-interface = record {
 unfoldable pub twoIndices : Case
 twoIndices = from (built "C" 0 (method "a" 5 ∷ []) [] ∷ []) (abi "C" (slot "a" 0 ∷ slot "a" 1 ∷ []) [] ∷ []) (link 1 (901 ∷ 902 ∷ []) ∷ [])
 
-pub orderly : Breaks twoIndices 1 1 2 true (true ∷ true ∷ false ∷ true ∷ true ∷ true ∷ true ∷ [])
+orderly-needed : Breaks twoIndices 1 1 2 true (true ∷ true ∷ false ∷ true ∷ true ∷ true ∷ true ∷ [])
 unfolding opened shown twoIndices
-orderly = record {
+orderly-needed = record {
   start-is = refl;
   premises = refl;
   linked = now (901 ∷ 902 ∷ []) refl refl refl;
@@ -167,9 +167,9 @@ unfoldable pub zeroTarget : Case
 zeroTarget =
     from (built "P" 0 (method "a" 5 ∷ []) [] ∷ built "C" 1 (method "a" 0 ∷ []) [] ∷ []) [] (link 1 (901 ∷ []) ∷ link 2 (902 ∷ []) ∷ [])
 
-pub targets-nonzero : Breaks zeroTarget 2 4 1 true (true ∷ true ∷ true ∷ false ∷ true ∷ true ∷ true ∷ [])
+targets-nonzero-needed : Breaks zeroTarget 2 4 1 true (true ∷ true ∷ true ∷ false ∷ true ∷ true ∷ true ∷ [])
 unfolding opened shown zeroTarget
-targets-nonzero = record {
+targets-nonzero-needed = record {
   start-is = refl;
   premises = refl;
   linked = later (now (902 ∷ []) refl refl refl);
@@ -185,9 +185,9 @@ zeroStub =
     from (built "P" 0 (flagged 9 "a" 5 ∷ []) [] ∷ built "C" 1 [] [] ∷ []) (abi "P" (slot "a" 0 ∷ []) [] ∷ [])
     (link 1 (0 ∷ []) ∷ link 2 (902 ∷ []) ∷ [])
 
-pub stubs-nonzero : Breaks zeroStub 2 4 1 true (true ∷ true ∷ true ∷ true ∷ false ∷ true ∷ true ∷ [])
+stubs-nonzero-needed : Breaks zeroStub 2 4 1 true (true ∷ true ∷ true ∷ true ∷ false ∷ true ∷ true ∷ [])
 unfolding opened shown zeroStub
-stubs-nonzero = record {
+stubs-nonzero-needed = record {
   start-is = refl;
   premises = refl;
   linked = later (now (902 ∷ []) refl refl refl);
@@ -201,9 +201,9 @@ stubs-nonzero = record {
 unfoldable pub sameTargets : Case
 sameTargets = from (built "C" 0 (method "a" 5 ∷ method "b" 5 ∷ []) [] ∷ []) [] (link 1 (901 ∷ 902 ∷ []) ∷ [])
 
-pub targets-different : Breaks sameTargets 1 1 2 true (true ∷ true ∷ true ∷ true ∷ true ∷ false ∷ true ∷ [])
+targets-different-needed : Breaks sameTargets 1 1 2 true (true ∷ true ∷ true ∷ true ∷ true ∷ false ∷ true ∷ [])
 unfolding opened shown sameTargets
-targets-different = record {
+targets-different-needed = record {
   start-is = refl;
   premises = refl;
   linked = now (901 ∷ 902 ∷ []) refl refl refl;
@@ -215,9 +215,9 @@ targets-different = record {
 unfoldable pub stubTarget : Case
 stubTarget = from (built "C" 0 (method "a" 902 ∷ []) [] ∷ []) (sized 2 (abi "C" [] []) ∷ []) (link 1 (901 ∷ 902 ∷ 903 ∷ []) ∷ [])
 
-pub no-stub : Breaks stubTarget 1 1 3 true (true ∷ true ∷ true ∷ true ∷ true ∷ true ∷ false ∷ [])
+no-stub-needed : Breaks stubTarget 1 1 3 true (true ∷ true ∷ true ∷ true ∷ true ∷ true ∷ false ∷ [])
 unfolding opened shown stubTarget
-no-stub = record {
+no-stub-needed = record {
   start-is = refl;
   premises = refl;
   linked = now (901 ∷ 902 ∷ 903 ∷ []) refl refl refl;
@@ -238,12 +238,38 @@ pub record WithEntry : Type 0 where
   pub linked : LinkedAt movedSlot 2 4 2
   pub fails : KeptAt movedSlot 2 (finalTable movedSlot 4 2) (finalTable movedSlot 1 1) → ⊥
 
-pub without-entry : WithEntry
+without-entry-needed : WithEntry
 unfolding opened shown movedSlot
-without-entry = record {
+without-entry-needed = record {
   start-is = refl;
   premises = refl;
   parent-linked = now (901 ∷ []) refl refl refl;
   linked = later (now (902 ∷ 903 ∷ []) refl refl refl);
   fails = not-known movedSlot 2 (finalTable movedSlot 4 2) (finalTable movedSlot 1 1) (902 ∷ 5 ∷ []) (5 ∷ []) refl refl 0 0 (omega arith) refl refl;
+}
+
+-- ---- as rows of one theorem
+
+pub record Needed : Type 0 where
+  pub unlinked : Breaks linkedBefore 2 5 2 false (true ∷ true ∷ true ∷ true ∷ true ∷ true ∷ true ∷ [])
+  pub built-or-array : Breaks generatedChild 2 4 2 true (false ∷ true ∷ true ∷ true ∷ true ∷ true ∷ true ∷ [])
+  pub no-interface : Breaks interfaceChild 2 4 0 true (true ∷ false ∷ true ∷ true ∷ true ∷ true ∷ true ∷ [])
+  pub orderly : Breaks twoIndices 1 1 2 true (true ∷ true ∷ false ∷ true ∷ true ∷ true ∷ true ∷ [])
+  pub targets-nonzero : Breaks zeroTarget 2 4 1 true (true ∷ true ∷ true ∷ false ∷ true ∷ true ∷ true ∷ [])
+  pub stubs-nonzero : Breaks zeroStub 2 4 1 true (true ∷ true ∷ true ∷ true ∷ false ∷ true ∷ true ∷ [])
+  pub targets-different : Breaks sameTargets 1 1 2 true (true ∷ true ∷ true ∷ true ∷ true ∷ false ∷ true ∷ [])
+  pub no-stub : Breaks stubTarget 1 1 3 true (true ∷ true ∷ true ∷ true ∷ true ∷ true ∷ false ∷ [])
+  pub without-entry : WithEntry
+
+pub needed : Needed
+needed = record {
+  unlinked = unlinked-needed;
+  built-or-array = built-or-array-needed;
+  no-interface = no-interface-needed;
+  orderly = orderly-needed;
+  targets-nonzero = targets-nonzero-needed;
+  stubs-nonzero = stubs-nonzero-needed;
+  targets-different = targets-different-needed;
+  no-stub = no-stub-needed;
+  without-entry = without-entry-needed;
 }
