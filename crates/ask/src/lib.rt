@@ -221,7 +221,8 @@ fn ask_refusal(ws: &[u32], abi: &[u32], c: u32, i: u32, area: &[u32]) -> u32
 // Asks for the class's table of the interface. The answer is the place after its node's link word, where interface number and slots
 // follow, and how many nodes were read on the way; or the row that refuses. Where the class's list has a node of the interface, nothing is
 // written. Else a new node goes in front of the list, from the area's next free word on, and word 0 of the area moves past it. A refused
-// ask writes nothing, and no ask changes the set. The document leaves nothing of this open.
+// ask writes nothing, and no ask changes the set. Nothing of this is left to the program; where document 01 is silent, docs/DECISIONS.md has
+// the reading.
 pub fn interface_dispatch_table(
     set: &mut [u32],
     abi: &[u32],

@@ -20,7 +20,8 @@ use Rattle.chain.proofs.ChainLaws.{own-target-member, own-method-member}
 use Rattle.linking.specs.Chain.{onFound, ownMethods, chain, eligible, ownTarget, findByTarget}
 use Rattle.linking.specs.Abi.{slotAt, classAbi, chainAbi, minimumSize}
 use Rattle.linking.specs.Vtable.{Entry, empty, Built, built, refused, onBuilt, ownFixed, findByIndex, readEntry, entryIs, slotOf, entryIsOther, methodEntry, fixedOf, putFixed, relay, relayStep, relayed, extended, putMethod, addMethod, addMethods}
-use Rattle.slots.specs.Slots.{In, here, there, readWords, startFrom, tableFrom}
+use Rattle.slots.specs.Slots.{In, here, there}
+use Rattle.slots.specs.Made.{readWords, startFrom, tableFrom}
 use Rattle.slots.proofs.ListFacts.{not-found, found-same, found-in, in-member}
 use Rattle.slots.proofs.AddFacts.{built-same, not-built}
 use Rattle.calls.proofs.Like.{Like}

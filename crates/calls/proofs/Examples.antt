@@ -4,7 +4,10 @@ use mathlib.Core.Path.{_≡_, refl}
 use mathlib.Core.Bool.{true}
 use mathlib.Core.List.{List, [], _∷_}
 use Prim.Native.Nat.{ℕ}
-use Rattle.class_sheet.specs.ClassSheet.{methodCount, fieldCount, textLength}
+use Rattle.class_sheet.specs.ClassSheet.{methodCount, fieldCount, textLength, textOf}
+use Rattle.abi_sheet.specs.AbiSheet.{abiTextOf}
+use Rattle.words.specs.declared.Found.the-variants.{At, Nothing}
+use Rattle.linking.specs.Vtable.{readEntry}
 use Rattle.linking.specs.Assemble as assemble
 use Rattle.linking.specs.Assemble.{method, built, interface, compiled, array, slot, fixed, abi, lent, spare, fresh}
 use Rattle.linking.proofs.Opened.{opened}
@@ -48,6 +51,11 @@ pub record Rows : Type 0 where
   pub first : tableAt (run sheet calls (start ws sheet area calls) .area) 1 2 ≡ 902 ∷ 100 ∷ []
   pub second : tableAt (run sheet calls (start ws sheet area calls) .area) 14 2 ≡ 902 ∷ 100 ∷ []
   pub third : tableAt (run sheet calls (start ws sheet area calls) .area) 18 3 ≡ 902 ∷ 200 ∷ 300 ∷ []
+  -- the known slots, by Reading at the start: those that demand 3's conclusions are about
+  pub parent-known : readEntry ws (textOf ws) sheet (abiTextOf sheet) 2 1 100 .method ≡ At 0
+  pub child-known : readEntry ws (textOf ws) sheet (abiTextOf sheet) 3 1 200 .method ≡ At 1
+  pub child-new : readEntry ws (textOf ws) sheet (abiTextOf sheet) 3 2 300 .method ≡ At 2
+  pub child-unknown : readEntry ws (textOf ws) sheet (abiTextOf sheet) 3 0 902 .method ≡ Nothing
   -- a field, a method and their names were added before classes 2 and 3 were linked
   pub methods : methodCount ws ∷ methodCount (run sheet calls (start ws sheet area calls) .set) ∷ [] ≡ 4 ∷ 5 ∷ []
   pub fields : fieldCount ws ∷ fieldCount (run sheet calls (start ws sheet area calls) .set) ∷ [] ≡ 0 ∷ 1 ∷ []
@@ -55,7 +63,7 @@ pub record Rows : Type 0 where
 
 pub rows : Rows
 unfolding opened shown ws sheet
-rows = record { answered = refl; first = refl; second = refl; third = refl; methods = refl; fields = refl; bytes = refl }
+rows = record { answered = refl; first = refl; second = refl; third = refl; parent-known = refl; child-known = refl; child-new = refl; child-unknown = refl; methods = refl; fields = refl; bytes = refl }
 
 -- ---- so demand 3 speaks to class 3
 

@@ -21,7 +21,6 @@ use Rattle.slots.proofs.ListFacts.{not-found, in-none}
 use Rattle.calls.specs.Calls.{Call, link, run, LinkedIn, now, later, tableAt}
 use Rattle.calls.specs.Demand.{start, Claim}
 use Rattle.calls.proofs.Tests.{isUnlinked, unlinked-holds, verdicts, shown}
-use Rattle.calls.proofs.Theorem.{one-link}
 
 pub record Case : Type 0 where
   pub set : List ℕ
@@ -77,15 +76,11 @@ module _ (x : Case) where
           | inr s ↦ in-none bare (s .own)
         ]
 
-  -- then the claim fails, as the parent's table is the one that its link answered
-  module _ (c p n p′ n′ : ℕ) (unlinked : isUnlinked (x .set) ≡ true) (has : parentOf (x .set) c ≢ 0)
+  -- then the claim fails
+  module _ (c p n p′ n′ : ℕ) (has : parentOf (x .set) c ≢ 0)
       (none : classAbi (x .set) (textOf (x .set)) (x .sheet) (abiTextOf (x .sheet)) c ≡ Nothing) (linked : LinkedAt (parentOf (x .set) c) p′ n′) where
     broken : (KeptAt c (finalTable p n) (finalTable p′ n′) → ⊥) → Holds c p n → ⊥
-    broken f claim =
-        let k = claim .keeps-parent has none in
-        let q = one-link (x .set) (x .sheet) (x .area) (unlinked-holds (x .set) unlinked) (x .calls) (k .parent-linked) linked in
-        let e : finalTable (k .parent-place) (k .parent-slots) ≡ finalTable p′ n′ = rw (q .0, q .1) refl in
-        f (rw e at (k .kept))
+    broken f claim = f (claim .keeps-parent has none .kept p′ n′ linked)
 
 -- the class is linked in the list; of the premises, `unlinked` and the tests in the order of `Conditions` are as written; and the claim fails
 pub record Breaks (x : Case) (c p n : ℕ) (unlinked : Bool) (tests : List Bool) : Type 0 where
@@ -127,7 +122,7 @@ built-or-array-needed = record {
   premises = refl;
   linked = later (now (902 ∷ 903 ∷ []) refl refl refl);
   fails =
-      broken generatedChild 2 4 2 1 1 refl (omega arith) refl (now (901 ∷ []) refl refl refl)
+      broken generatedChild 2 4 2 1 1 (omega arith) refl (now (901 ∷ []) refl refl refl)
       (not-known generatedChild 2 (finalTable generatedChild 4 2) (finalTable generatedChild 1 1) (7 ∷ 5 ∷ []) (5 ∷ []) refl refl 0 0 (omega arith) refl refl);
 }
 
@@ -143,7 +138,7 @@ no-interface-needed = record {
   premises = refl;
   linked = later (now [] refl refl refl);
   fails =
-      broken interfaceChild 2 4 0 1 1 refl (omega arith) refl (now (901 ∷ []) refl refl refl)
+      broken interfaceChild 2 4 0 1 1 (omega arith) refl (now (901 ∷ []) refl refl refl)
       (not-known interfaceChild 2 (finalTable interfaceChild 4 0) (finalTable interfaceChild 1 1) [] (5 ∷ []) refl refl 0 0 (omega arith) refl refl);
 }
 
@@ -174,7 +169,7 @@ targets-nonzero-needed = record {
   premises = refl;
   linked = later (now (902 ∷ []) refl refl refl);
   fails =
-      broken zeroTarget 2 4 1 1 1 refl (omega arith) refl (now (901 ∷ []) refl refl refl)
+      broken zeroTarget 2 4 1 1 1 (omega arith) refl (now (901 ∷ []) refl refl refl)
       (not-known zeroTarget 2 (finalTable zeroTarget 4 1) (finalTable zeroTarget 1 1) (902 ∷ []) (5 ∷ []) refl refl 0 0 (omega arith) refl refl);
 }
 
@@ -192,7 +187,7 @@ stubs-nonzero-needed = record {
   premises = refl;
   linked = later (now (902 ∷ []) refl refl refl);
   fails =
-      broken zeroStub 2 4 1 1 1 refl (omega arith) refl (now (0 ∷ []) refl refl refl)
+      broken zeroStub 2 4 1 1 1 (omega arith) refl (now (0 ∷ []) refl refl refl)
       (other-target zeroStub 2 (finalTable zeroStub 4 1) (finalTable zeroStub 1 1) (902 ∷ []) (0 ∷ []) refl refl 0 0 (omega arith) refl (omega arith) refl);
 }
 

@@ -21,7 +21,7 @@ use Rattle.linking.specs.Abi.{classAbi, chainAbi, fixedField, fixedFieldIndex}
 use Rattle.linking.specs.Vtable.{Entry, empty, Built, built, refused, onBuilt, parentEntries, inheritedTable, buildMethods, entryIsOther, fixedOf, slotOf, putMethod, addMethod, addMethods}
 use Rattle.linking.specs.Fields.{Numbering, numberField, numberFields, addedFields, tooManyWords, generatedRefusal, indicesPlus, generatedIndices, generatedBase, standFrom, ownGiven, runtimeWords, instanceWords, belowZero}
 use Rattle.linking.specs.Link.{Plan, planned, unplanned, isNone, onTable, withinSlots, builtTable, planBuilt, generatedTable, planGenerated, planArray, plan, newFieldsOf, generatedMethods}
-use Rattle.slots.specs.Slots.{tableFrom}
+use Rattle.slots.specs.Made.{tableFrom}
 use Rattle.slots.proofs.AddFacts.{not-built}
 use Rattle.slots.proofs.LinkFacts.{built-from, array-from}
 

@@ -20,7 +20,8 @@ use Rattle.chain.proofs.ChainLaws.{parent-within}
 use Rattle.linking.specs.Chain.{listCount, ownMethods, parentOf, chain, isInterface}
 use Rattle.linking.specs.Vtable.{Entry, built, parentEntries, slotWords}
 use Rattle.linking.specs.Link.{nextFree, newWords, linkedArea, Outcome}
-use Rattle.slots.specs.Slots.{In, here, there, tableFrom, inheritedFrom, Made}
+use Rattle.slots.specs.Slots.{In, here, there}
+use Rattle.slots.specs.Made.{tableFrom, inheritedFrom, Made}
 use Rattle.slots.proofs.ChainFacts.{chain-here, chain-up}
 use Rattle.slots.proofs.LinkFacts.{read-area}
 use Rattle.calls.specs.Calls.{State, tableAt}

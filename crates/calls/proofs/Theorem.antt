@@ -18,8 +18,9 @@ use Rattle.set_rules.proofs.Valid.{valid}
 use Rattle.chain.proofs.ChainLaws.{parent-below, chain-none}
 use Rattle.linking.specs.Chain.{parentOf, chain}
 use Rattle.linking.specs.Abi.{classAbi}
-use Rattle.slots.specs.Slots as tables
-use Rattle.slots.specs.Slots.{In, Unique, Kept, Made}
+use Rattle.slots.specs.Made as tables
+use Rattle.slots.specs.Slots.{In, Unique, Kept}
+use Rattle.slots.specs.Made.{Made}
 use Rattle.slots.proofs.ListFacts.{in-none}
 use Rattle.slots.proofs.ChainFacts.{chain-cases, chain-up}
 use Rattle.slots.proofs.Tables.{table-unique, table-kept}
@@ -130,8 +131,8 @@ module _ (ws abi area : List ℕ) (valid₀ : Valid ws) (unlinked : Unlinked ws)
             parent-place = r .place;
             parent-slots = r .slots;
             parent-linked = r .found;
-            kept = subst (λ (t : List ℕ). Kept ws (textOf ws) abi (abiTextOf abi) c t (tableAt (final .area) (r .place) (r .slots))) (table-is linked)
-                (subst (λ (t : List ℕ). Kept ws (textOf ws) abi (abiTextOf abi) c (tableOf final c) t) (table-is (r .found))
+            kept = λ p m l. subst (λ (t : List ℕ). Kept ws (textOf ws) abi (abiTextOf abi) c t (tableAt (final .area) p m)) (table-is linked)
+                (subst (λ (t : List ℕ). Kept ws (textOf ws) abi (abiTextOf abi) c (tableOf final c) t) (table-is l)
                 (table-kept ws (textOf ws) abi (abiTextOf abi) (tableOf final) P c within conditions made n e));
           }
         ]

@@ -23,7 +23,8 @@ use Rattle.chain.proofs.ChainLaws.{parent-within, chain-within}
 use Rattle.linking.specs.Chain.{listCount, ownMethods, parentOf, chainOf, chain, eligible, methodIs, ownTarget, findByTarget, ownMethod}
 use Rattle.linking.specs.Abi.{slotAt, classAbi, chainAbi}
 use Rattle.linking.specs.Vtable.{ownFixed, findByIndex, readEntry}
-use Rattle.slots.specs.Slots.{In, here, there, readWords}
+use Rattle.slots.specs.Slots.{In, here, there}
+use Rattle.slots.specs.Made.{readWords}
 use Rattle.slots.proofs.ListFacts.{member-in}
 use Rattle.calls.proofs.Like.{Like}
 

@@ -50,14 +50,15 @@ module _ (ws abi area : List ℕ) (calls : List Call) where
 
   -- ---- the claim
 
-  -- "In a child without an ABI entry": its parent is linked in the list, and the child's table keeps the known slots of the parent's
+  -- "In a child without an ABI entry": its parent is linked in the list, and whatever link of it was accepted, the child's table keeps the known
+  -- slots of the parent's
   pub record KeepsParent (c place slots : ℕ) : Type 0 where
     pub parent-place : ℕ
     pub parent-slots : ℕ
     pub parent-linked : Linked (parentOf ws c) parent-place parent-slots
     -- "each known slot of its parent's table is known at the same index with the same signature, and the child's target there is the parent's
     -- or that of an eligible method of that signature which the child declares"
-    pub kept : Kept ws (textOf ws) abi (abiTextOf abi) c (table place slots) (table parent-place parent-slots)
+    pub kept : (p n : ℕ) → Linked (parentOf ws c) p n → Kept ws (textOf ws) abi (abiTextOf abi) c (table place slots) (table p n)
 
   pub record Claim (c place slots : ℕ) : Type 0 where
     -- "no two known slots in a class's table have one signature"

@@ -230,7 +230,8 @@ fn link_read<'a>(
 // Links the class. The answer is the place of its table in the area, where the class number and the slots follow, and the number of its
 // slots; or the row that refuses. The table goes to the area's next free word, and word 0 of the area moves past it. The class's record
 // gets place, slot count and, unless it is generated, instance words; its fields get their indices; ABI fields and compiler methods that
-// it lacks are added. Rows 3 to 5 are judged anew, and a refused link writes nothing. The document leaves nothing of this open.
+// it lacks are added. Rows 3 to 5 are judged anew, and a refused link writes nothing. Nothing of this is left to the program; where document 01
+// is silent, docs/DECISIONS.md has the reading.
 pub fn link(set: &mut [u32], abi: &[u32], class: u32, area: &mut [u32], stubs: &[u32]) -> Answer
     ensures { λ r. ⌜ outcome r (now (set .exit)) (now (area .exit)) ≡ linkDef (now (set .entry)) (now (abi .entry)) class (now (area .entry)) (now (stubs .entry)) ⌝ }
 {

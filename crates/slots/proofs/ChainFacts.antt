@@ -11,7 +11,8 @@ use Rattle.words.proofs.ListLaws.{by-found, find-member, find-passes}
 use Rattle.class_sheet.specs.ClassSheet.{methodTarget}
 use Rattle.linking.specs.Chain.{ownMethods, parentOf, chain, ownTarget, findByTarget}
 use Rattle.chain.proofs.ChainLaws.{chain-more}
-use Rattle.slots.specs.Slots.{In, here, there, ChainMethod, ChainSlot, Orderly, Conditions}
+use Rattle.slots.specs.Slots.{In, here, there, ChainMethod, ChainSlot, Orderly}
+use Rattle.slots.specs.Made.{Conditions}
 use Rattle.slots.proofs.ListFacts.{in-member, in-cons, find-misses, found-in, found-only}
 
 -- ---- the chain's classes

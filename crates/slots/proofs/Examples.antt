@@ -14,7 +14,8 @@ use Rattle.linking.specs.Vtable.{empty, methodEntry}
 use Rattle.linking.specs.Assemble.{Lent, method, built, array, slot, abi, lent, link, answers, after, tableOf}
 use Rattle.linking.proofs.Opened.{opened}
 use Rattle.words.proofs.ListLaws.{getD-list-from}
-use Rattle.slots.specs.Slots.{In, Unique, Kept, ChainMethod, ChainSlot, Orderly, Made, Conditions, readWords, startFrom, tableFrom, inheritedFrom}
+use Rattle.slots.specs.Slots.{In, Unique, Kept, ChainMethod, ChainSlot, Orderly}
+use Rattle.slots.specs.Made.{Made, Conditions, readWords, startFrom, tableFrom, inheritedFrom}
 use Rattle.slots.proofs.ListFacts.{not-found, found-same, in-cons, in-none}
 use Rattle.slots.proofs.Tables.{table-unique, table-kept}
 

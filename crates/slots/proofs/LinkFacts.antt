@@ -11,7 +11,7 @@ use Rattle.words.specs.Lists.{listFrom}
 use Rattle.words.proofs.Lists.{part-at, length-part}
 use Rattle.class_sheet.specs.ClassSheet.{classKind, classTablePlace, classSlotCount}
 use Rattle.linking.specs.Vtable.{built, readEntry, readSlot, tableEntries, parentEntries, inheritedTable, buildMethods}
-use Rattle.slots.specs.Slots.{readWords, startFrom, tableFrom}
+use Rattle.slots.specs.Made.{readWords, startFrom, tableFrom}
 
 -- lists by a count whose elements are the same
 same-from {ℓ} : {A : Type ℓ} (f g : ℕ → A) (m n : ℕ) → ((i : ℕ) → m ≤ i → i < m + n → f i ≡ g i) → listFrom f m n ≡ listFrom g m n

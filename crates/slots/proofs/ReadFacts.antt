@@ -16,7 +16,8 @@ use Rattle.linking.specs.Chain.{ownMethods, parentOf, chain}
 use Rattle.linking.specs.Abi.{classAbi}
 use Rattle.linking.specs.Vtable.{Entry, empty, ownFixed, findByIndex, readEntry, slotWord, slotWords}
 use Rattle.chain.proofs.ChainLaws.{along-none, target-none}
-use Rattle.slots.specs.Slots.{In, readWords, Known, ChainMethod, Conditions}
+use Rattle.slots.specs.Slots.{In, Known, ChainMethod}
+use Rattle.slots.specs.Made.{readWords, Conditions}
 use Rattle.slots.proofs.ListFacts.{not-found}
 use Rattle.slots.proofs.ChainFacts.{method-up, conditions-up, target-absent, target-own}
 use Rattle.slots.proofs.PlaceFacts.{Signature, Ordered, Good, good-fixed}

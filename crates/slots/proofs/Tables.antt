@@ -16,7 +16,8 @@ use Rattle.linking.specs.Chain.{ownMethods, parentOf, chain}
 use Rattle.linking.specs.Abi.{classAbi, chainAbi, minimumSize}
 use Rattle.linking.specs.Vtable.{Entry, built, readEntry, relayed, extended, addMethods, slotWords}
 use Rattle.chain.proofs.ChainLaws.{parent-below, parent-within}
-use Rattle.slots.specs.Slots.{In, readWords, Unique, Declares, Keeps, Kept, startFrom, tableFrom, inheritedFrom, Made, Conditions}
+use Rattle.slots.specs.Slots.{In, Unique, Declares, Keeps, Kept}
+use Rattle.slots.specs.Made.{readWords, startFrom, tableFrom, inheritedFrom, Made, Conditions}
 use Rattle.slots.proofs.ListFacts.{not-found}
 use Rattle.slots.proofs.ChainFacts.{chain-here, chain-up, method-here, conditions-up}
 use Rattle.slots.proofs.PlaceFacts.{Ordered, Good, ordered-sub, good-sub, good-none}

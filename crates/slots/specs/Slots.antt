@@ -1,5 +1,5 @@
--- What demand 3 says of one class's table, and what a table that the linker made is made of. Tables are lists of slot words, one for each
--- class number; methods, chains and Reading go by one sheet. Assumes nothing.
+-- The terms of demand 3 that speak of one class's table: known slots, signatures, chains, orderly ABI sheets. A table is a list of slot words;
+-- methods, chains and Reading go by one sheet. Assumes nothing.
 use Prim.Native.Nat.{ℕ, _+_, _<_, _≤_}
 use mathlib.Core.Path.{_≡_}
 use mathlib.Core.Logic.{_≢_, _⊎_}
@@ -23,10 +23,6 @@ pub data In (x : ℕ) : List ℕ → Type 0 where
 
 module _ (ws text abi labels : List ℕ) where
   -- ---- slots of a class's table, by Reading
-
-  -- the entries of a table of these words, read along class c's chain
-  unfoldable pub readWords : ℕ → List ℕ → List Entry
-  readWords c t = listFrom (λ i. readEntry ws text abi labels c i (getD t i 0)) 0 (length t)
 
   -- "a slot is known where Reading finds a method": slot i of class c's table holds method m
   pub record Known (c : ℕ) (t : List ℕ) (i m : ℕ) : Type 0 where
@@ -86,39 +82,3 @@ module _ (ws text abi labels : List ℕ) where
         → abiSlotName abi labels s ≡ abiSlotName abi labels z
     pub one-descriptor : (s z : ℕ) → ChainSlot c s → ChainSlot c z → slotIndex abi s ≡ slotIndex abi z
         → abiSlotDescriptor abi labels s ≡ abiSlotDescriptor abi labels z
-
-  -- ---- what the linker made: the table of a built or array class from its parent's entries
-
-  unfoldable pub startFrom : ℕ → List Entry → List Entry
-  startFrom c P =
-      onFound (classAbi ws text abi labels c) (λ a. relayed ws text abi labels (chainAbi ws text abi labels c) P)
-      (extended ws text abi labels (chainAbi ws text abi labels c) P)
-
-  -- "Array: the parent's entries."
-  unfoldable pub tableFrom : ℕ → List Entry → Built
-  tableFrom c P =
-      cond (eqb (classKind ws c) 2) (built P)
-      (addMethods ws text abi labels (chainAbi ws text abi labels c) (ownMethods ws c) (startFrom c P))
-
-  -- the parent's entries, where each class d has the table `tables d`
-  unfoldable pub inheritedFrom : (ℕ → List ℕ) → ℕ → List Entry
-  inheritedFrom tables c = cond (eqb (parentOf ws c) 0) [] (readWords (parentOf ws c) (tables (parentOf ws c)))
-
-  -- class c's table is what a link makes of its parent's, with some list of stubs that P holds of
-  pub record Made (tables : ℕ → List ℕ) (P : ℕ → Type 0) (c : ℕ) : Type 0 where
-    pub entries : List Entry
-    pub stubs : List ℕ
-    pub enough : length entries ≤ length stubs
-    pub lent : (i : ℕ) → i < length stubs → P (getD stubs i 0)
-    pub bare : classKind ws c ≡ 2 → ownMethods ws c ≡ []
-    pub from : tableFrom c (inheritedFrom tables c) ≡ built entries
-    pub words : tables c ≡ slotWords stubs 0 entries
-
-  -- "under an orderly ABI sheet, where the chain's method targets and all stubs lent are nonzero, the targets all different and none of
-  -- them a stub"
-  pub record Conditions (P : ℕ → Type 0) (c : ℕ) : Type 0 where
-    pub orderly : Orderly c
-    pub targets-nonzero : (m : ℕ) → ChainMethod c m → methodTarget ws m ≢ 0
-    pub targets-different : (m k : ℕ) → ChainMethod c m → ChainMethod c k → methodTarget ws m ≡ methodTarget ws k → m ≡ k
-    pub stubs-nonzero : (x : ℕ) → P x → x ≢ 0
-    pub no-stub : (x m : ℕ) → P x → ChainMethod c m → methodTarget ws m ≢ x

@@ -14,7 +14,8 @@ ghost use Rattle.linking.specs.Abi.{chainAbi};
 ghost use Rattle.linking.specs.Vtable.{ownFixed, findByIndex, readEntry, tableEntries, parentEntries, fixedOf, relayStep, relayed, extended, inheritedTable, putMethod, addMethod, addMethods, buildMethods, methodEntries, buildInterfaceMethods, empty, built, refused};
 ghost use Rattle.vtable.specs.Arrays.{markOf, marked, entriesOf, markIs, slotIn, otherIn, slotRead, builtOf, stepOf, stepCount};
 
-// A table: its slots' words, 0 where empty, and the marks of their methods, or the row that refuses it.
+// A table, the first n of each array: its slots' words, 0 where empty, and their methods' marks (a method's number plus 1, 0 where unknown); or
+// the row that refuses it. What the arrays hold past n, or of a refused table, is the program's choice and means nothing.
 pub struct Table {
     pub words: [u32; 3584],
     pub marks: [u32; 3584],

@@ -1,0 +1,56 @@
+-- What a table that the linker made is made of: the local equation that the runs keep, and the conditions under which tables so made have
+-- demand 3's properties. Tables are lists of slot words, one for each class number. Assumes nothing.
+use Prim.Native.Nat.{ℕ, _<_, _≤_}
+use mathlib.Core.Path.{_≡_}
+use mathlib.Core.Logic.{_≢_}
+use mathlib.Core.Bool.{cond}
+use mathlib.Core.List.{List, []}
+use lib.ListN.{length, getD}
+use lib.Dec.{eqb}
+use Rattle.words.specs.Lists.{listFrom}
+use Rattle.class_sheet.specs.ClassSheet.{classKind, methodTarget}
+use Rattle.linking.specs.Chain.{onFound, ownMethods, parentOf}
+use Rattle.linking.specs.Abi.{classAbi, chainAbi}
+use Rattle.linking.specs.Vtable.{Entry, Built, built, readEntry, relayed, extended, addMethods, slotWords}
+use Rattle.slots.specs.Slots.{ChainMethod, Orderly}
+
+module _ (ws text abi labels : List ℕ) where
+  -- the entries of a table of these words, read along class c's chain
+  unfoldable pub readWords : ℕ → List ℕ → List Entry
+  readWords c t = listFrom (λ i. readEntry ws text abi labels c i (getD t i 0)) 0 (length t)
+
+  -- ---- what the linker made: the table of a built or array class from its parent's entries
+
+  unfoldable pub startFrom : ℕ → List Entry → List Entry
+  startFrom c P =
+      onFound (classAbi ws text abi labels c) (λ a. relayed ws text abi labels (chainAbi ws text abi labels c) P)
+      (extended ws text abi labels (chainAbi ws text abi labels c) P)
+
+  -- "Array: the parent's entries."
+  unfoldable pub tableFrom : ℕ → List Entry → Built
+  tableFrom c P =
+      cond (eqb (classKind ws c) 2) (built P)
+      (addMethods ws text abi labels (chainAbi ws text abi labels c) (ownMethods ws c) (startFrom c P))
+
+  -- the parent's entries, where each class d has the table `tables d`
+  unfoldable pub inheritedFrom : (ℕ → List ℕ) → ℕ → List Entry
+  inheritedFrom tables c = cond (eqb (parentOf ws c) 0) [] (readWords (parentOf ws c) (tables (parentOf ws c)))
+
+  -- class c's table is what a link makes of its parent's, with some list of stubs that P holds of
+  pub record Made (tables : ℕ → List ℕ) (P : ℕ → Type 0) (c : ℕ) : Type 0 where
+    pub entries : List Entry
+    pub stubs : List ℕ
+    pub enough : length entries ≤ length stubs
+    pub lent : (i : ℕ) → i < length stubs → P (getD stubs i 0)
+    pub bare : classKind ws c ≡ 2 → ownMethods ws c ≡ []
+    pub from : tableFrom c (inheritedFrom tables c) ≡ built entries
+    pub words : tables c ≡ slotWords stubs 0 entries
+
+  -- "under an orderly ABI sheet, where the chain's method targets and all stubs lent are nonzero, the targets all different and none of
+  -- them a stub"
+  pub record Conditions (P : ℕ → Type 0) (c : ℕ) : Type 0 where
+    pub orderly : Orderly ws text abi labels c
+    pub targets-nonzero : (m : ℕ) → ChainMethod ws text abi labels c m → methodTarget ws m ≢ 0
+    pub targets-different : (m k : ℕ) → ChainMethod ws text abi labels c m → ChainMethod ws text abi labels c k → methodTarget ws m ≡ methodTarget ws k → m ≡ k
+    pub stubs-nonzero : (x : ℕ) → P x → x ≢ 0
+    pub no-stub : (x m : ℕ) → P x → ChainMethod ws text abi labels c m → methodTarget ws m ≢ x
