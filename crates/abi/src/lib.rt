@@ -19,13 +19,15 @@ pub struct AbiChain {
     pub n: u32,
 }
 
+// The smaller of two numbers.
 fn smaller(a: u32, b: u32) -> u32
     ensures { λ r. ⌜ r ≡ min a b ⌝ }
 {
     if a < b { a } else { b }
 }
 
-fn larger(a: u32, b: u32) -> u32
+// The larger of two numbers.
+pub fn larger(a: u32, b: u32) -> u32
     ensures { λ r. ⌜ r ≡ max a b ⌝ }
 {
     if a < b { b } else { a }
@@ -246,7 +248,7 @@ pub fn chain_abi(ws: &[u32], text: &[u8], abi: &[u32], labels: &[u8], c: u32) ->
     push_chain(ws, text, abi, labels, c, AbiChain { at: [0; 64], n: 0 })
 }
 
-// The index that the first of the ABI classes fixes that fixes one for this signature.
+// The fixed index of a signature: that of the first ABI class that fixes one.
 pub fn first_fixed(
     abi: &[u32],
     labels: &[u8],
@@ -270,22 +272,7 @@ pub fn first_fixed(
     Found::Nothing
 }
 
-// The fixed index of a signature: that of the first ABI class of the chain that fixes one.
-pub fn fixed_index(
-    abi: &[u32],
-    labels: &[u8],
-    abis: AbiChain,
-    name: &[u8],
-    descriptor: &[u8],
-) -> Found
-    ensures { λ r. ⌜ r ≡ fixedIndex (now (abi .entry)) (now (labels .entry)) (abisOf abis) (now (name .entry)) (now (descriptor .entry)) ⌝ }
-{
-    let at = abis.at;
-    let n = words::wide(abis.n);
-    first_fixed(abi, labels, words::word_part(&at, 0, n), name, descriptor)
-}
-
-// The largest size that one of the ABI classes asks for.
+// How many slots a table has at least: the largest fixed index + 1 or table size among the ABI classes.
 pub fn largest_size(abi: &[u32], abis: &[u32]) -> u32
     ensures { λ r. ⌜ r ≡ minimumSize (now (abi .entry)) (now (abis .entry)) ⌝ }
 {
@@ -296,13 +283,4 @@ pub fn largest_size(abi: &[u32], abis: &[u32]) -> u32
         i += 1;
     }
     size
-}
-
-// How many slots a table has at least: the largest fixed index + 1 or table size among the chain's ABI classes.
-pub fn minimum_size(abi: &[u32], abis: AbiChain) -> u32
-    ensures { λ r. ⌜ r ≡ minimumSize (now (abi .entry)) (abisOf abis) ⌝ }
-{
-    let at = abis.at;
-    let n = words::wide(abis.n);
-    largest_size(abi, words::word_part(&at, 0, n))
 }

@@ -40,12 +40,6 @@ pub struct Numbered {
     pub row: u32,
 }
 
-fn larger(a: u32, b: u32) -> u32
-    ensures { λ r. ⌜ r ≡ max a b ⌝ }
-{
-    if a < b { b } else { a }
-}
-
 // The u32 as signed: negative from 2^31 on.
 fn as_signed(i: u32) -> Signed
     ensures { λ r. ⌜ r ≡ signedOf i ⌝ }
@@ -109,7 +103,7 @@ fn own_runtime(ws: &[u32], text: &[u8], c: u32, before: u32) -> u32
     let mut end: u32 = before;
     let mut i: u32 = 0;
     while i < n {
-        end = larger(end, runtime_end(ws, text, first + i));
+        end = abi::larger(end, runtime_end(ws, text, first + i));
         i += 1;
     }
     end
@@ -169,7 +163,7 @@ fn number_instance(abi: &[u32], own: Found, fixed: Found, w: u32, k: Counters) -
                 index: i,
                 statics: k.statics,
                 runtime: k.runtime,
-                running: larger(k.running, i + w),
+                running: abi::larger(k.running, i + w),
             }
         }
         Found::Nothing => {
@@ -371,7 +365,7 @@ fn raised(abi: &[u32], labels: &[u8], running: u32, gs: &[u32]) -> u32
     while i < gs.len() {
         let g = words::word_at(gs, i);
         let w = descriptor::width(abi_sheet::field_descriptor(abi, labels, g));
-        word = larger(word, abi::fixed_field_index(abi, g) + w);
+        word = abi::larger(word, abi::fixed_field_index(abi, g) + w);
         i += 1;
     }
     word
