@@ -402,3 +402,21 @@ impl Area {
         &self.words
     }
 }
+
+impl fmt::Debug for ClassSet {
+    fn fmt(&self, f: &mut fmt::Formatter<'_>) -> fmt::Result {
+        f.debug_struct("ClassSet").field("classes", &self.class_count()).finish_non_exhaustive()
+    }
+}
+
+impl fmt::Debug for AbiSheet {
+    fn fmt(&self, f: &mut fmt::Formatter<'_>) -> fmt::Result {
+        f.debug_struct("AbiSheet").field("classes", &self.words[0]).finish_non_exhaustive()
+    }
+}
+
+impl fmt::Debug for Area {
+    fn fmt(&self, f: &mut fmt::Formatter<'_>) -> fmt::Result {
+        f.debug_struct("Area").field("words", &self.words.len()).field("next_free", &self.words.first()).finish_non_exhaustive()
+    }
+}
