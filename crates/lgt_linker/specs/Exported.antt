@@ -1,0 +1,21 @@
+-- What an exported call answers: the number that it returns, then the words of the small array that it is lent. Assumes nothing.
+use Prim.Native.Nat.{ℕ}
+use mathlib.Core.List.{List}
+use lib.ListN.{getD}
+use Rattle.linking.specs.Link.{Outcome}
+use Rattle.sheet.specs.Sheet as sheet
+use Rattle.descriptor.specs.Words as descriptor
+
+-- "An accepted call gives 0 and its result; a refused one gives its number, zero in every other answer word": a link or an ask that
+-- returns `row` and leaves the answer words, the set and the area
+abbrev pub called : ℕ → List ℕ → List ℕ → List ℕ → Outcome
+called row answer ws area =
+    record { refusal = row; first = getD answer 0 0; second = getD answer 1 0; set = ws; area = area }
+
+-- a reading that returns `row` and leaves the answer word and the lent words
+abbrev pub readBy : ℕ → List ℕ → List ℕ → sheet.Outcome
+readBy row answer ws = record { refusal = row; words = getD answer 0 0; memory = ws }
+
+-- argument words
+abbrev pub argumentsBy : ℕ → List ℕ → descriptor.Answer
+argumentsBy row answer = record { refusal = row; words = getD answer 0 0 }

@@ -1,0 +1,118 @@
+// The linker for C and Rust programs (include/lgt_linker.h): each function is thin over the proved one that it exports. What it returns is
+// the refusal's number, 0 if the call is accepted; the other answer words go into a small lent array.
+use area::Answer;
+use descriptor::DescriptorWords;
+use sheet::Read;
+ghost use mathlib.Core.Path.{_≡_};
+ghost use mathlib.Core.List.{List};
+ghost use Prim.Native.Nat.{ℕ};
+ghost use Rattle.linking.specs.Link.{linkDef};
+ghost use Rattle.linking.specs.Ask.{askDef};
+ghost use Rattle.area.specs.Area.{outcome};
+ghost use Rattle.sheet.specs.Sheet.{readClassSheet, readAbiSheet};
+ghost use Rattle.sheet.specs.Sheet as readings;
+ghost use Rattle.descriptor.specs.Words.{argumentAnswer};
+ghost use Rattle.lgt_linker.specs.Exported.{called, readBy, argumentsBy};
+
+// Hands out a link's or an ask's answer.
+fn give_call(a: Answer, answer: &mut [u32; 2]) -> u32
+    ensures { λ r. ⌜ ((ws area : List ℕ) → called r (now (answer .exit)) ws area ≡ outcome a ws area) ⌝ }
+{
+    match a {
+        Answer::Done(first, second) => {
+            *answer = [first, second];
+            0
+        }
+        Answer::Refused(row) => {
+            *answer = [0, 0];
+            row
+        }
+    }
+}
+
+// Hands out a reading's answer.
+fn give_read(a: Read, answer: &mut [u32; 1]) -> u32
+    ensures { λ r. ⌜ ((ws : List ℕ) → readBy r (now (answer .exit)) ws ≡ readings.outcome a ws) ⌝ }
+{
+    match a {
+        Read::Words(n) => {
+            *answer = [n];
+            0
+        }
+        Read::Refused(row) => {
+            *answer = [0];
+            row
+        }
+    }
+}
+
+// `sheet::read_class_sheet`: the answer word is the number of words filled.
+#[no_mangle]
+pub extern "C" fn lgt_read_class_sheet(
+    bytes: &[u8],
+    words: &mut [u32],
+    answer: &mut [u32; 1],
+) -> u32
+    ensures { λ r. ⌜ readBy r (now (answer .exit)) (now (words .exit)) ≡ readClassSheet (now (bytes .entry)) (now (words .entry)) ⌝ }
+{
+    give_read(sheet::read_class_sheet(bytes, words), answer)
+}
+
+// `sheet::read_abi_sheet`: the answer word is the number of words filled.
+#[no_mangle]
+pub extern "C" fn lgt_read_abi_sheet(bytes: &[u8], words: &mut [u32], answer: &mut [u32; 1]) -> u32
+    ensures { λ r. ⌜ readBy r (now (answer .exit)) (now (words .exit)) ≡ readAbiSheet (now (bytes .entry)) (now (words .entry)) ⌝ }
+{
+    give_read(sheet::read_abi_sheet(bytes, words), answer)
+}
+
+// `link::link`: the answer words are the table's place and its slots.
+#[no_mangle]
+pub extern "C" fn lgt_link(
+    set: &mut [u32],
+    abi: &[u32],
+    class: u32,
+    area: &mut [u32],
+    stubs: &[u32],
+    answer: &mut [u32; 2],
+) -> u32
+    ensures { λ r. ⌜ called r (now (answer .exit)) (now (set .exit)) (now (area .exit)) ≡ linkDef (now (set .entry)) (now (abi .entry)) class (now (area .entry)) (now (stubs .entry)) ⌝ }
+{
+    give_call(link::link(set, abi, class, area, stubs), answer)
+}
+
+// `ask::interface_dispatch_table`: the answer words are the interface table's place and the nodes read.
+#[no_mangle]
+pub extern "C" fn lgt_interface_dispatch_table(
+    set: &mut [u32],
+    abi: &[u32],
+    class: u32,
+    interface: u32,
+    area: &mut [u32],
+    stubs: &[u32],
+    answer: &mut [u32; 2],
+) -> u32
+    ensures { λ r. ⌜ called r (now (answer .exit)) (now (set .exit)) (now (area .exit)) ≡ askDef (now (set .entry)) (now (abi .entry)) class interface (now (area .entry)) (now (stubs .entry)) ⌝ }
+{
+    give_call(
+        ask::interface_dispatch_table(set, abi, class, interface, area, stubs),
+        answer,
+    )
+}
+
+// `descriptor::argument_words`: the answer word is their number.
+#[no_mangle]
+pub extern "C" fn lgt_argument_words(descriptor: &[u8], flags: u32, answer: &mut [u64; 1]) -> u32
+    ensures { λ r. ⌜ argumentsBy r (now (answer .exit)) ≡ argumentAnswer (now (descriptor .entry)) flags ⌝ }
+{
+    match descriptor::argument_words(descriptor, flags) {
+        DescriptorWords::Count(n) => {
+            *answer = [n];
+            0
+        }
+        DescriptorWords::Refused => {
+            *answer = [0];
+            5
+        }
+    }
+}
