@@ -16,12 +16,14 @@ use format::{Reader, Writer};
 
 /// "LGTC", lowest byte first.
 const MAGIC: u32 = u32::from_le_bytes(*b"LGTC");
-const VERSION: u32 = 1;
+const VERSION: u32 = 2;
 /// How many of a seed's cases are looked at.
 const LOOKED_AT: u64 = 60_000;
 /// How many readings and descriptors are stored.
 const READINGS: u64 = 120;
 const DESCRIPTORS: u64 = 400;
+/// The words of a small case, at most.
+const SMALL: usize = 1_000;
 
 /// What a corpus covers.
 pub struct Summary {
@@ -35,30 +37,73 @@ pub struct Summary {
 /// up to `count`.
 pub fn make(seed: u64, count: usize) -> (Vec<u32>, Summary) {
     let mut oracle = Oracle::default();
-    let chosen = choose(&mut oracle, seed, count);
+    let chosen: Vec<_> = choose(&mut oracle, seed, count).into_iter().map(|number| (number, None)).collect();
+    build(&mut oracle, seed, &chosen, [READINGS, DESCRIPTORS], false, &format!("oracle/corpus {seed} {count}"))
+}
+
+/// A few small cases of `seed`, and one thing each, in all but the first, that the Rust did not answer.
+pub fn spoiled(seed: u64) -> (Vec<u32>, Summary) {
+    let mut oracle = Oracle::default();
+    let small: Vec<_> = (0..LOOKED_AT).filter(|&number| is_small(&mut oracle, &generate::case(seed, number))).take(4).collect();
+    let chosen: Vec<_> = small.into_iter().zip([None, Some(Spoil::Answer), Some(Spoil::Set), Some(Spoil::Area)]).collect();
+    build(&mut oracle, seed, &chosen, [2, 2], true, &format!("oracle/corpus spoiled {seed}"))
+}
+
+/// What is stored otherwise than the Rust answered it, at the last link of a case that it accepts.
+#[derive(Clone, Copy)]
+enum Spoil {
+    Answer,
+    Set,
+    Area,
+}
+
+/// Whether a case is small, and the Rust accepts a link of it that is not its first call.
+fn is_small(oracle: &mut Oracle, case: &Case) -> bool {
+    let mut writer = Writer::default();
+    write_case(&mut writer, oracle, case, &mut Counts::default(), None);
+    writer.len() < SMALL && last_accepted(oracle, case).is_some_and(|call| call > 0)
+}
+
+/// The number of the last link that the Rust accepts.
+fn last_accepted(oracle: &mut Oracle, case: &Case) -> Option<usize> {
+    oracle.new_case(case.rebuilds);
+    let mut state = State { set: case.set.clone(), area: case.area.clone() };
+    let answers: Vec<Answer> = case.calls.iter().map(|&call| perform(oracle, case, call, &mut state)).collect();
+    (0..answers.len()).rev().find(|&number| answers[number].refusal == 0 && matches!(case.calls[number], Call::Link { .. }))
+}
+
+fn build(
+    oracle: &mut Oracle,
+    seed: u64,
+    chosen: &[(u64, Option<Spoil>)],
+    [readings, descriptors]: [u64; 2],
+    spoil: bool,
+    made: &str,
+) -> (Vec<u32>, Summary) {
     let mut writer = Writer::default();
     let mut longest = Longest::default();
     let mut counts = Counts::default();
-    for &number in &chosen {
+    for &(number, spoil) in chosen {
         let case = generate::case(seed, number);
         longest.case(&case);
-        write_case(&mut writer, &mut oracle, &case, &mut counts);
+        write_case(&mut writer, oracle, &case, &mut counts, spoil);
     }
     let mut random = Random::new(seed);
-    for number in 0..READINGS {
+    for number in 0..readings {
         let reading = readings::reading(&mut random, &generate::case(seed, number));
         longest.reading(&reading);
-        write_reading(&mut writer, &mut oracle, &reading);
+        write_reading(&mut writer, oracle, &reading, spoil && number + 1 == readings);
     }
-    for _ in 0..DESCRIPTORS {
-        write_descriptor(&mut writer, &mut oracle, &mut random);
+    for number in 0..descriptors {
+        write_descriptor(&mut writer, oracle, &mut random, spoil && number + 1 == descriptors);
     }
     let reached = counts.reached().len();
     let buckets = counts.summary().0.lines().count() - 1;
     let mut header = Writer::default();
     header.words(&[MAGIC, VERSION, seed as u32, (seed >> 32) as u32]);
-    header.words(&[chosen.len() as u32, READINGS as u32, DESCRIPTORS as u32]);
+    header.words(&[chosen.len() as u32, readings as u32, descriptors as u32]);
     header.words(&longest.0);
+    header.bytes(made.as_bytes());
     header.append(writer);
     (header.finish(), Summary { cases: chosen.len(), calls: counts.calls as usize, reached, buckets })
 }
@@ -96,7 +141,7 @@ fn choose(oracle: &mut Oracle, seed: u64, count: usize) -> Vec<u64> {
         let case = generate::case(seed, number);
         let mut writer = Writer::default();
         let mut counts = Counts::default();
-        write_case(&mut writer, oracle, &case, &mut counts);
+        write_case(&mut writer, oracle, &case, &mut counts, None);
         let size = writer.len();
         sizes.push((size, number));
         for bucket in counts.reached() {
@@ -117,7 +162,8 @@ fn choose(oracle: &mut Oracle, seed: u64, count: usize) -> Vec<u64> {
     chosen
 }
 
-fn write_case(writer: &mut Writer, oracle: &mut Oracle, case: &Case, counts: &mut Counts) {
+fn write_case(writer: &mut Writer, oracle: &mut Oracle, case: &Case, counts: &mut Counts, spoil: Option<Spoil>) {
+    let spoiled = spoil.and_then(|spoil| Some((last_accepted(oracle, case)?, spoil)));
     for words in [&case.set, &case.abi, &case.area] {
         writer.list(words);
     }
@@ -126,34 +172,48 @@ fn write_case(writer: &mut Writer, oracle: &mut Oracle, case: &Case, counts: &mu
     writer.words(&[case.calls.len() as u32]);
     oracle.new_case(case.rebuilds);
     let mut state = State { set: case.set.clone(), area: case.area.clone() };
-    for &call in &case.calls {
+    for (number, &call) in case.calls.iter().enumerate() {
         let before = state.clone();
         let answer = perform(oracle, case, call, &mut state);
+        let (mut told, mut after) = (answer, state.clone());
+        match spoiled {
+            Some((spoiled, Spoil::Answer)) if spoiled == number => told.second += 1,
+            Some((spoiled, Spoil::Set)) if spoiled == number => spoil_last(&before.set, &mut after.set),
+            Some((spoiled, Spoil::Area)) if spoiled == number => spoil_last(&before.area, &mut after.area),
+            _ => (),
+        }
         counts.observe(&Step { case, call, before: &before, answer, after: &state });
         writer.words(&match call {
             Call::Link { class, stubs } => [0, class, 0, stubs as u32],
             Call::Ask { class, interface, stubs } => [1, class, interface, stubs as u32],
         });
-        writer.words(&[answer.refusal, answer.first, answer.second]);
-        writer.changes(&before.set, &state.set);
-        writer.changes(&before.area, &state.area);
+        writer.words(&[told.refusal, told.first, told.second]);
+        writer.changes(&before.set, &after.set);
+        writer.changes(&before.area, &after.area);
     }
 }
 
-fn write_reading(writer: &mut Writer, oracle: &mut Oracle, reading: &readings::Reading) {
+/// Adds 1 to the last word that a call changed.
+fn spoil_last(before: &[u32], after: &mut [u32]) {
+    if let Some(at) = (0..before.len()).rev().find(|&at| before[at] != after[at]) {
+        after[at] = after[at].wrapping_add(1);
+    }
+}
+
+fn write_reading(writer: &mut Writer, oracle: &mut Oracle, reading: &readings::Reading, spoil: bool) {
     let mut words = readings::lent_words(reading.lent);
     let answer = readings::read(oracle, reading, &mut words);
     writer.words(&[u32::from(!reading.is_class_sheet), reading.lent as u32]);
     writer.bytes(&reading.bytes);
-    writer.words(&[answer.refusal, answer.first]);
+    writer.words(&[answer.refusal, answer.first + u32::from(spoil)]);
 }
 
-fn write_descriptor(writer: &mut Writer, oracle: &mut Oracle, random: &mut Random) {
+fn write_descriptor(writer: &mut Writer, oracle: &mut Oracle, random: &mut Random, spoil: bool) {
     let (descriptor, flags) = readings::descriptor(random);
     let answer = oracle.argument_words(&descriptor, flags);
     writer.words(&[flags]);
     writer.bytes(&descriptor);
-    writer.words(&[answer.refusal, answer.first]);
+    writer.words(&[answer.refusal, answer.first + u32::from(spoil)]);
 }
 
 /// Replays a corpus on a side; answers the number of calls, or what differs first.
@@ -164,6 +224,7 @@ pub fn replay(corpus: &[u32], side: &mut dyn Linker) -> Result<usize, String> {
     if (magic, version) != (MAGIC, VERSION) {
         return Err("no corpus of this version".to_owned());
     }
+    reader.bytes()?;
     let mut calls = 0;
     for number in 0..cases {
         calls += replay_case(&mut reader, side).map_err(|message| format!("case {number}: {message}"))?;

@@ -1,4 +1,5 @@
-//! `corpus SEED N FILE` writes a corpus; `corpus replay FILE` replays one on the model.
+//! `corpus SEED N FILE` writes a corpus; `corpus spoiled SEED FILE` one that no linker replays;
+//! `corpus replay FILE` replays one on the model.
 
 use std::fs;
 use std::process::ExitCode;
@@ -11,11 +12,18 @@ fn main() -> ExitCode {
     let arguments: Vec<&str> = arguments.iter().map(String::as_str).collect();
     let result = match arguments.as_slice() {
         ["replay", file] => replay(file),
+        ["spoiled", seed, file] => match seed.parse() {
+            Ok(seed) => write(seed, corpus::spoiled(seed), file).map(|(message, _)| message),
+            _ => Err("SEED is a number".to_owned()),
+        },
         [seed, count, file] => match (seed.parse(), count.parse()) {
-            (Ok(seed), Ok(count)) => write(seed, count, file),
+            (Ok(seed), Ok(count)) => match write(seed, corpus::make(seed, count), file) {
+                Ok((message, true)) => Ok(message),
+                Ok((message, false)) | Err(message) => Err(message),
+            },
             _ => Err("SEED and N are numbers".to_owned()),
         },
-        _ => Err("usage: corpus SEED N FILE, or corpus replay FILE".to_owned()),
+        _ => Err("usage: corpus SEED N FILE, corpus spoiled SEED FILE, or corpus replay FILE".to_owned()),
     };
     match result {
         Ok(message) => {
@@ -29,13 +37,13 @@ fn main() -> ExitCode {
     }
 }
 
-fn write(seed: u64, count: usize, file: &str) -> Result<String, String> {
-    let (words, summary) = corpus::make(seed, count);
+/// Writes a corpus; answers what it holds, and whether it covers every bucket.
+fn write(seed: u64, (words, summary): (Vec<u32>, corpus::Summary), file: &str) -> Result<(String, bool), String> {
     let bytes: Vec<u8> = words.iter().flat_map(|word| word.to_le_bytes()).collect();
     fs::write(file, &bytes).map_err(|error| format!("{file}: {error}"))?;
     let corpus::Summary { cases, calls, reached, buckets } = summary;
     let message = format!("{file}: {} bytes, seed {seed}, {cases} cases, {calls} calls, {reached} of {buckets} buckets", bytes.len());
-    if reached == buckets { Ok(message) } else { Err(message) }
+    Ok((message, reached == buckets))
 }
 
 fn replay(file: &str) -> Result<String, String> {
