@@ -1,0 +1,46 @@
+-- Laws of the lines, a piece after the other as the code puts them. Assumes nothing.
+use mathlib.Core.Path.{_≡_, sym, _∙_}
+use mathlib.Core.List.{List, [], _∷_, _++_}
+use Prim.Native.Nat.{ℕ, _≤_, _<_}
+use native.Mathlib.Omega.{arith}
+use lib.ListN.{length}
+use Rattle.descriptor.specs.Bytes.{text}
+use Rattle.lines.specs.Bytes.{put, decimal}
+use Rattle.lines.specs.Lines.{lineEnd, numbered, shown, classLine, slotLine, classRefused, sheetRefused}
+use Rattle.lines.proofs.ByteLaws.{then}
+
+pub shown-dash : (p : List ℕ × ℕ) {q : List ℕ × ℕ} (part : List ℕ) → length part ≡ 0 → q ≡ put p (text "-") → q ≡ put p (shown part)
+shown-dash p [] h e = e
+shown-dash p (b ∷ bs) h e = absurd (omega arith)
+
+pub shown-part : (p : List ℕ × ℕ) {q : List ℕ × ℕ} (part : List ℕ) → (length part ≡ 0 → ⊥) → q ≡ put p part → q ≡ put p (shown part)
+shown-part p [] h e = absurd (omega arith)
+shown-part p (b ∷ bs) h e = e
+
+module _ (p : List ℕ × ℕ) {p₁ p₂ p₃ : List ℕ × ℕ} where
+  pub class-refused-put : (c row : ℕ) → p₁ ≡ put p (text "class " ++ decimal c) → p₂ ≡ put p₁ (text " refused " ++ decimal row) → p₃ ≡ put p₂ lineEnd
+      → p₃ ≡ put p (classRefused c row)
+  unfolding classRefused numbered
+  class-refused-put c row e₁ e₂ e₃ = then p (text "class " ++ decimal c) _ e₁ (then p₁ (text " refused " ++ decimal row) _ e₂ e₃)
+
+  pub sheet-refused-put : (sheet : List ℕ) (row : ℕ) → p₁ ≡ put p sheet → p₂ ≡ put p₁ (text " refused " ++ decimal row) → p₃ ≡ put p₂ lineEnd
+      → p₃ ≡ put p (sheetRefused sheet row)
+  unfolding sheetRefused numbered
+  sheet-refused-put sheet row e₁ e₂ e₃ = then p sheet _ e₁ (then p₁ (text " refused " ++ decimal row) _ e₂ e₃)
+
+  module _ {p₄ p₅ p₆ : List ℕ × ℕ} where
+    pub class-line-put : (c : ℕ) (name : List ℕ) (words slots : ℕ) → p₁ ≡ put p (text "class " ++ decimal c) → p₂ ≡ put p₁ (text " ") → p₃ ≡ put p₂ name
+        → p₄ ≡ put p₃ (text " words " ++ decimal words) → p₅ ≡ put p₄ (text " slots " ++ decimal slots) → p₆ ≡ put p₅ lineEnd
+        → p₆ ≡ put p (classLine c name words slots)
+    unfolding classLine numbered
+    class-line-put c name words slots e₁ e₂ e₃ e₄ e₅ e₆ =
+        then p (text "class " ++ decimal c) _ e₁ (then p₁ (text " ") _ e₂ (then p₂ name _ e₃
+        (then p₃ (text " words " ++ decimal words) _ e₄ (then p₄ (text " slots " ++ decimal slots) _ e₅ e₆))))
+
+    pub slot-line-put : (i : ℕ) (name descriptor : List ℕ) (target : ℕ) {p₇ : List ℕ × ℕ} → p₁ ≡ put p (decimal i) → p₂ ≡ put p₁ (text " ")
+        → p₃ ≡ put p₂ (shown name) → p₄ ≡ put p₃ (text " ") → p₅ ≡ put p₄ (shown descriptor) → p₆ ≡ put p₅ (text " " ++ decimal target)
+        → p₇ ≡ put p₆ lineEnd → p₇ ≡ put p (slotLine i name descriptor target)
+    unfolding slotLine numbered
+    slot-line-put i name descriptor target e₁ e₂ e₃ e₄ e₅ e₆ e₇ =
+        then p (decimal i) _ e₁ (then p₁ (text " ") _ e₂ (then p₂ (shown name) _ e₃ (then p₃ (text " ") _ e₄ (then p₄ (shown descriptor) _ e₅
+        (then p₅ (text " " ++ decimal target) _ e₆ e₇)))))

@@ -1,0 +1,123 @@
+// The listing program of document 01: reads `abi.bin`, then `classes.bin`, in its working folder, and writes their listing. Each argument
+// names a folder to list instead, one after the other, ended by a slash: it is put before the two names. A file that is missing or cannot
+// be read is named on standard error, and nothing is written for its folder.
+ghost use mathlib.Core.Path.{_≡_};
+ghost use lib.ListN.{length};
+use libc::STDOUT_FILENO;
+
+// Room for the bytes of a sheet and one block more, so that a longer file is refused and not cut.
+fn sheet_bytes() -> [u8; 47616]
+    ensures { λ r. ⌜ 47616 ≡ length r ⌝ }
+{
+    [0; 47616]
+}
+
+// Room for a listing of half a million bytes: 4,093 slots, the most that the area holds, of 128 bytes each.
+fn listing_bytes() -> [u8; 524288]
+    ensures { λ r. ⌜ 524288 ≡ length r ⌝ }
+{
+    [0; 524288]
+}
+
+// Whether the n bytes that were read are all of the input, or all that count.
+fn is_whole(fd: i32, n: usize) -> bool {
+    if n == 47616 {
+        return true;
+    }
+    let mut one = [0u8; 1];
+    libc::read(fd, &mut one) == 0
+}
+
+// Reads an open file to its end. Answers the number of bytes, or 47,617 where it cannot be read.
+fn read_open(fd: i32, bytes: &mut [u8]) -> usize {
+    let n = io::read_full(fd, bytes);
+    if is_whole(fd, n) {
+        return n;
+    }
+    47617
+}
+
+// Reads the file at a path, as `read_open` does, and says on standard error why it cannot.
+fn read_file(path: &[u8], bytes: &mut [u8]) -> usize {
+    let fd = os::open_read(path);
+    if fd < 0 {
+        os::fail(path);
+        return 47617;
+    }
+    let n = read_open(fd, bytes);
+    if n == 47617 {
+        os::fail(path);
+    }
+    libc::close(fd);
+    n
+}
+
+// Reads the file of this name in a folder.
+fn read_in(folder: &[u8], name: &[u8], bytes: &mut [u8]) -> usize {
+    let mut path = io::buffer();
+    let at = lines::put_bytes(&mut path, 0, folder);
+    let end = lines::put_bytes(&mut path, at, name);
+    read_file(words::part(&path, 0, end), bytes)
+}
+
+// Writes the first n bytes of a listing, or says that it is cut.
+fn write_listing(out: &[u8], n: usize) {
+    if n < out.len() {
+        io::write_all(STDOUT_FILENO, words::part(out, 0, n));
+    } else {
+        io::write_all(libc::STDERR_FILENO, b"list: the listing is too long\n");
+    }
+}
+
+// Lists the folder whose ABI sheet is read, and good.
+fn list_classes(folder: &[u8], abi: &[u8], out: &mut [u8]) {
+    let mut classes = sheet_bytes();
+    let n = read_in(folder, b"classes.bin", &mut classes);
+    if n != 47617 {
+        let end = listing::list(abi, words::part(&classes, 0, n), out);
+        write_listing(out, end);
+    }
+}
+
+// Lists the folder whose ABI sheet is read.
+fn list_read(folder: &[u8], abi: &[u8], out: &mut [u8]) {
+    let end = listing::abi_line(abi, out);
+    if end > 0 {
+        write_listing(out, end);
+    } else {
+        list_classes(folder, abi, out);
+    }
+}
+
+// Lists a folder.
+fn list_folder(folder: &[u8]) {
+    let mut abi = sheet_bytes();
+    let n = read_in(folder, b"abi.bin", &mut abi);
+    if n != 47617 {
+        let mut out = listing_bytes();
+        list_read(folder, words::part(&abi, 0, n), &mut out);
+    }
+}
+
+// Lists the folder that argument i names.
+fn list_argument(i: usize) {
+    let mut folder = io::buffer();
+    let n = os::arg(i, &mut folder);
+    if os::errno() != 0 {
+        os::fail(b"list: argument");
+        return;
+    }
+    list_folder(words::part(&folder, 0, n));
+}
+
+fn main() {
+    let count = os::arg_count();
+    if count < 2 {
+        list_folder(b"");
+    }
+    let mut i: usize = 1;
+    while i < count {
+        list_argument(i);
+        i += 1;
+    }
+}
