@@ -1,0 +1,202 @@
+//! The library with every slice beside pages that may not be touched. Each call is made twice, with
+//! slices that begin where such a page ends and with slices that end where one begins; what is
+//! only lent for reading may not be written. Empty slices are null pointers the first way. An access
+//! outside ends the program by a signal.
+
+use std::ffi::{c_int, c_void};
+use std::slice;
+
+use harness::side::{Answer, Linker};
+
+use crate::Library;
+
+// The C library, as Linux has it.
+unsafe extern "C" {
+    fn mmap(place: *mut c_void, length: usize, access: c_int, flags: c_int, file: c_int, offset: i64) -> *mut c_void;
+    fn munmap(place: *mut c_void, length: usize) -> c_int;
+    fn mprotect(place: *mut c_void, length: usize, access: c_int) -> c_int;
+}
+
+const NO_ACCESS: c_int = 0;
+const READ: c_int = 1;
+const READ_AND_WRITE: c_int = 3;
+const PRIVATE_AND_ANONYMOUS: c_int = 0x22;
+const PAGE: usize = 4096;
+
+/// On which side of a slice the forbidden page lies.
+#[derive(Clone, Copy, PartialEq, Eq)]
+enum Guard {
+    Before,
+    After,
+}
+
+/// Whole pages between two that may not be touched.
+struct Pages {
+    start: *mut u8,
+    length: usize,
+}
+
+impl Pages {
+    fn new(length: usize) -> Self {
+        let length = length.next_multiple_of(PAGE);
+        let whole = unsafe { mmap(std::ptr::null_mut(), length + 2 * PAGE, NO_ACCESS, PRIVATE_AND_ANONYMOUS, -1, 0) };
+        assert_ne!(whole as isize, -1, "no pages");
+        let pages = Self { start: unsafe { whole.cast::<u8>().add(PAGE) }, length };
+        pages.allow(READ_AND_WRITE);
+        pages
+    }
+
+    fn allow(&self, access: c_int) {
+        assert_eq!(unsafe { mprotect(self.start.cast(), self.length, access) }, 0, "mprotect");
+    }
+
+    /// Copies a slice in, next to the guard; there is room for it.
+    fn put<T: Copy>(&self, content: &[T], guard: Guard) -> *mut T {
+        let free = self.length - size_of_val(content);
+        let place: *mut T = unsafe { self.start.add(if guard == Guard::After { free } else { 0 }) }.cast();
+        unsafe { place.copy_from_nonoverlapping(content.as_ptr(), content.len()) };
+        place
+    }
+}
+
+impl Drop for Pages {
+    fn drop(&mut self) {
+        unsafe { munmap(self.start.sub(PAGE).cast(), self.length + 2 * PAGE) };
+    }
+}
+
+/// A slice that may be written, in pages of its own.
+struct Lent {
+    pages: Pages,
+}
+
+impl Lent {
+    fn new() -> Self {
+        Self { pages: Pages::new(PAGE) }
+    }
+
+    fn put<T: Copy>(&mut self, content: &[T], guard: Guard) -> &'static mut [T] {
+        if size_of_val(content) > self.pages.length {
+            self.pages = Pages::new(size_of_val(content));
+        }
+        unsafe { slice::from_raw_parts_mut(self.pages.put(content, guard), content.len()) }
+    }
+
+    /// The same, for reading only, until `release`.
+    fn put_fixed<T: Copy>(&mut self, content: &[T], guard: Guard) -> &'static [T] {
+        let place = self.put(content, guard);
+        self.pages.allow(READ);
+        place
+    }
+
+    fn release(&self) {
+        self.pages.allow(READ_AND_WRITE);
+    }
+}
+
+/// The library behind guards.
+pub struct Guarded {
+    library: Library,
+    first: Lent,
+    second: Lent,
+    fixed: Lent,
+    also_fixed: Lent,
+}
+
+impl Default for Guarded {
+    fn default() -> Self {
+        Self { library: Library::default(), first: Lent::new(), second: Lent::new(), fixed: Lent::new(), also_fixed: Lent::new() }
+    }
+}
+
+type Sides<'a> = &'a mut dyn FnMut(&mut Library, &mut [u32], &[u32], &mut [u32], &[u32]) -> Answer;
+
+impl Guarded {
+    /// A call on two slices that may be written, `set` and `area`, and two that may not.
+    fn call(&mut self, set: &mut [u32], abi: &[u32], area: &mut [u32], stubs: &[u32], make: Sides) -> Answer {
+        let mut once = |guard| {
+            self.library.null_where_empty = guard == Guard::Before;
+            let (lent_set, lent_area) = (self.first.put(set, guard), self.second.put(area, guard));
+            let (lent_abi, lent_stubs) = (self.fixed.put_fixed(abi, guard), self.also_fixed.put_fixed(stubs, guard));
+            let answer = make(&mut self.library, lent_set, lent_abi, lent_area, lent_stubs);
+            self.fixed.release();
+            self.also_fixed.release();
+            (answer, lent_set.to_vec(), lent_area.to_vec())
+        };
+        let (before, after) = (once(Guard::Before), once(Guard::After));
+        assert!(before == after, "the two placements differ: {:?} and {:?}", before.0, after.0);
+        set.copy_from_slice(&after.1);
+        area.copy_from_slice(&after.2);
+        after.0
+    }
+
+    fn read(&mut self, bytes: &[u8], words: &mut [u32], make: &mut dyn FnMut(&mut Library, &[u8], &mut [u32]) -> Answer) -> Answer {
+        let mut once = |guard| {
+            self.library.null_where_empty = guard == Guard::Before;
+            let (lent_bytes, lent_words) = (self.fixed.put_fixed(bytes, guard), self.first.put(words, guard));
+            let answer = make(&mut self.library, lent_bytes, lent_words);
+            self.fixed.release();
+            (answer, lent_words.to_vec())
+        };
+        let (before, after) = (once(Guard::Before), once(Guard::After));
+        assert!(before == after, "the two placements differ: {:?} and {:?}", before.0, after.0);
+        words.copy_from_slice(&after.1);
+        after.0
+    }
+}
+
+impl Linker for Guarded {
+    fn read_class_sheet(&mut self, bytes: &[u8], words: &mut [u32]) -> Answer {
+        self.read(bytes, words, &mut |library, bytes, words| library.read_class_sheet(bytes, words))
+    }
+
+    fn read_abi_sheet(&mut self, bytes: &[u8], words: &mut [u32]) -> Answer {
+        self.read(bytes, words, &mut |library, bytes, words| library.read_abi_sheet(bytes, words))
+    }
+
+    fn link(&mut self, set: &mut [u32], abi: &[u32], class: u32, area: &mut [u32], stubs: &[u32]) -> Answer {
+        self.call(set, abi, area, stubs, &mut |library, set, abi, area, stubs| library.link(set, abi, class, area, stubs))
+    }
+
+    fn ask(&mut self, set: &mut [u32], abi: &[u32], class: u32, interface: u32, area: &mut [u32], stubs: &[u32]) -> Answer {
+        self.call(set, abi, area, stubs, &mut |library, set, abi, area, stubs| library.ask(set, abi, class, interface, area, stubs))
+    }
+
+    fn argument_words(&mut self, descriptor: &[u8], flags: u32) -> Answer {
+        self.read(descriptor, &mut [], &mut |library, descriptor, _| library.argument_words(descriptor, flags))
+    }
+}
+
+#[cfg(test)]
+mod tests {
+    use std::env;
+    use std::os::unix::process::ExitStatusExt;
+    use std::process::Command;
+
+    use super::{Guard, Lent};
+
+    /// Each of these touches ends a program by signal 11, invalid access.
+    #[test]
+    fn guards_bite() {
+        for touch in ["before", "after", "fixed"] {
+            let program = env::current_exe().expect("the test has a path");
+            let run = Command::new(program).args(["--exact", "guarded::tests::touched"]).env("TOUCH", touch).output();
+            assert_eq!(run.expect("the test runs itself").status.signal(), Some(11), "{touch}");
+        }
+    }
+
+    /// Touches what the variable TOUCH says, nothing without it.
+    #[test]
+    fn touched() {
+        let Ok(touch) = env::var("TOUCH") else { return };
+        let words = [1u32, 2, 3];
+        let mut lent = Lent::new();
+        unsafe {
+            match touch.as_str() {
+                "before" => _ = lent.put(&words, Guard::Before).as_ptr().sub(1).read_volatile(),
+                "after" => _ = lent.put(&words, Guard::After).as_ptr().add(3).read_volatile(),
+                _ => lent.put_fixed(&words, Guard::After).as_ptr().cast_mut().write_volatile(0),
+            }
+        }
+    }
+}

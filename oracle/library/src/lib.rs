@@ -1,0 +1,118 @@
+//! The compiled Rattle library as a side of the comparison.
+
+pub mod guarded;
+pub mod malformed;
+
+use std::ptr;
+
+use harness::side::{Answer, Linker};
+
+// As include/lgt_linker.h declares them.
+unsafe extern "C" {
+    fn lgt_read_class_sheet(bytes: *const u8, bytes_len: usize, words: *mut u32, words_len: usize, answer: *mut u32) -> u32;
+
+    fn lgt_read_abi_sheet(bytes: *const u8, bytes_len: usize, words: *mut u32, words_len: usize, answer: *mut u32) -> u32;
+
+    fn lgt_link(
+        set: *mut u32,
+        set_len: usize,
+        abi: *const u32,
+        abi_len: usize,
+        class_number: u32,
+        area: *mut u32,
+        area_len: usize,
+        stubs: *const u32,
+        stubs_len: usize,
+        answer: *mut u32,
+    ) -> u32;
+
+    fn lgt_interface_dispatch_table(
+        set: *mut u32,
+        set_len: usize,
+        abi: *const u32,
+        abi_len: usize,
+        class_number: u32,
+        interface_number: u32,
+        area: *mut u32,
+        area_len: usize,
+        stubs: *const u32,
+        stubs_len: usize,
+        answer: *mut u32,
+    ) -> u32;
+
+    fn lgt_argument_words(descriptor: *const u8, descriptor_len: usize, flags: u32, answer: *mut u64) -> u32;
+}
+
+/// What an answer array holds before a call, so that a word that is not written shows.
+const UNWRITTEN: u32 = 0xDEAD_BEEF;
+
+/// The compiled Rattle library.
+#[derive(Clone, Copy, Default)]
+pub struct Library {
+    /// Whether an empty slice is handed on as a null pointer.
+    pub null_where_empty: bool,
+}
+
+impl Library {
+    fn read_only<T>(self, slice: &[T]) -> *const T {
+        if slice.is_empty() && self.null_where_empty { ptr::null() } else { slice.as_ptr() }
+    }
+
+    fn lent<T>(self, slice: &mut [T]) -> *mut T {
+        if slice.is_empty() && self.null_where_empty { ptr::null_mut() } else { slice.as_mut_ptr() }
+    }
+}
+
+/// Makes a call with an answer array of `words` words, and sees that no word after them is written.
+fn answered(words: usize, call: impl FnOnce(*mut u32) -> u32) -> Answer {
+    let mut answer = [UNWRITTEN; 4];
+    let refusal = call(answer.as_mut_ptr());
+    assert!(answer[words..].iter().all(|&word| word == UNWRITTEN), "a word after the answer is written");
+    Answer { refusal, first: answer[0], second: if words > 1 { answer[1] } else { 0 } }
+}
+
+// Each call hands on whole slices of this program; none that is written overlaps another.
+impl Linker for Library {
+    fn read_class_sheet(&mut self, bytes: &[u8], words: &mut [u32]) -> Answer {
+        answered(1, |answer| unsafe { lgt_read_class_sheet(self.read_only(bytes), bytes.len(), self.lent(words), words.len(), answer) })
+    }
+
+    fn read_abi_sheet(&mut self, bytes: &[u8], words: &mut [u32]) -> Answer {
+        answered(1, |answer| unsafe { lgt_read_abi_sheet(self.read_only(bytes), bytes.len(), self.lent(words), words.len(), answer) })
+    }
+
+    fn link(&mut self, set: &mut [u32], abi: &[u32], class: u32, area: &mut [u32], stubs: &[u32]) -> Answer {
+        let (set_len, area_len) = (set.len(), area.len());
+        let (set, abi_words, area, stub_words) = (self.lent(set), self.read_only(abi), self.lent(area), self.read_only(stubs));
+        answered(2, |answer| unsafe {
+            lgt_link(set, set_len, abi_words, abi.len(), class, area, area_len, stub_words, stubs.len(), answer)
+        })
+    }
+
+    fn ask(&mut self, set: &mut [u32], abi: &[u32], class: u32, interface: u32, area: &mut [u32], stubs: &[u32]) -> Answer {
+        let (set_len, area_len) = (set.len(), area.len());
+        let (set, abi_words, area, stub_words) = (self.lent(set), self.read_only(abi), self.lent(area), self.read_only(stubs));
+        answered(2, |answer| unsafe {
+            lgt_interface_dispatch_table(
+                set,
+                set_len,
+                abi_words,
+                abi.len(),
+                class,
+                interface,
+                area,
+                area_len,
+                stub_words,
+                stubs.len(),
+                answer,
+            )
+        })
+    }
+
+    fn argument_words(&mut self, descriptor: &[u8], flags: u32) -> Answer {
+        let mut answer = [u64::from(UNWRITTEN), u64::from(UNWRITTEN)];
+        let refusal = unsafe { lgt_argument_words(self.read_only(descriptor), descriptor.len(), flags, answer.as_mut_ptr()) };
+        assert_eq!(answer[1], u64::from(UNWRITTEN), "a word after the answer is written");
+        Answer { refusal, first: answer[0].try_into().unwrap_or(u32::MAX), second: 0 }
+    }
+}

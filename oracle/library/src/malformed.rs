@@ -1,0 +1,109 @@
+//! Malformed inputs: sheets, words, areas and lengths of any kind, by the seed.
+
+use harness::case::{Call, Case};
+use harness::generate;
+use harness::random::Random;
+use harness::readings::{self, Reading};
+use harness::sheet::blocks;
+
+/// A word that a record or a count is likely to be tripped by.
+fn odd_word(random: &mut Random, length: usize) -> u32 {
+    match random.below(8) {
+        0 => 0,
+        1 => random.below(4),
+        2 => random.below(64),
+        3 => u32::MAX - random.below(3),
+        4 => (length as u32).wrapping_add(random.below(5)).wrapping_sub(2),
+        5 => random.pick(&[63, 64, 65, 255, 256, 511, 512, 513, 1023, 1024, 1025, 2048, 8191, 8192, 8193, 65535, 65536]),
+        6 => 1 << random.below(32),
+        _ => random.word(),
+    }
+}
+
+/// A slice of small, large and random words behind a few plausible counts.
+fn garbage(random: &mut Random, counts: usize, most: u32) -> Vec<u32> {
+    let length = random.below(most) as usize;
+    (0..length).map(|position| if position < counts && random.chance(90) { random.below(3) } else { odd_word(random, length) }).collect()
+}
+
+/// Changes words, often near the front where the counts and records are, or the length.
+fn damage(random: &mut Random, words: &mut Vec<u32>, changes: u32) {
+    for _ in 0..random.below(changes + 1) {
+        let near = random.pick(&[8, 40, 200, u32::MAX]).min(words.len() as u32);
+        let length = words.len();
+        if let Some(word) = words.get_mut(random.below(near) as usize) {
+            *word = odd_word(random, length);
+        }
+    }
+    match random.below(40) {
+        0 => words.clear(),
+        1 => words.truncate(random.below(words.len() as u32 + 1) as usize),
+        2 => words.truncate(words.len().saturating_sub(random.between(1, 4) as usize)),
+        3 => words.resize(words.len() + random.below(300) as usize, 0),
+        _ => {}
+    }
+}
+
+fn call(random: &mut Random, lists: usize) -> Call {
+    let class = if random.chance(90) { random.below(6) } else { odd_word(random, 64) };
+    let interface = if random.chance(90) { random.below(6) } else { odd_word(random, 64) };
+    let stubs = random.below(lists as u32) as usize;
+    if random.chance(50) { Call::Link { class, stubs } } else { Call::Ask { class, interface, stubs } }
+}
+
+/// A list of calls on malformed memory.
+pub fn case(seed: u64, number: u64) -> Case {
+    let mut random = Random::for_case(!seed, number);
+    let random = &mut random;
+    if number.is_multiple_of(4) {
+        let set = garbage(random, 6, 90);
+        let abi = if random.chance(60) { vec![0; 4] } else { garbage(random, 4, 50) };
+        let (area, stubs) = (garbage(random, 0, 30), vec![garbage(random, 0, 12)]);
+        let calls = (0..4).map(|_| call(random, 1)).collect();
+        return Case { set, abi, area, stubs, calls, rebuilds: true, spoiled: None };
+    }
+    let mut case = generate::case(seed, number);
+    case.rebuilds = true;
+    let changes = random.pick(&[1, 2, 8]);
+    for words in [&mut case.set, &mut case.abi, &mut case.area] {
+        if random.chance(60) {
+            damage(random, words, changes);
+        }
+    }
+    for stubs in &mut case.stubs {
+        damage(random, stubs, 1);
+    }
+    let lists = case.stubs.len();
+    for made in &mut case.calls {
+        if random.chance(10) {
+            *made = call(random, lists);
+        }
+    }
+    case
+}
+
+/// A malformed sheet to read: bytes of any kind, or words of any kind in blocks with true checks.
+pub fn reading(random: &mut Random, case: &Case) -> Reading {
+    let mut reading = readings::reading(random, case);
+    match random.below(4) {
+        0 => reading.bytes = (0..random.below(1600)).map(|_| random.word() as u8).collect(),
+        1 => {
+            let mut content = if reading.is_class_sheet { case.set.clone() } else { case.abi.clone() };
+            damage(random, &mut content, 8);
+            reading.bytes = blocks(&content);
+        }
+        2 => reading.bytes.truncate(random.below(reading.bytes.len() as u32 + 1) as usize),
+        _ => {
+            for _ in 0..random.below(4) {
+                let at = random.below(reading.bytes.len() as u32) as usize;
+                if let Some(byte) = reading.bytes.get_mut(at) {
+                    *byte = random.word() as u8;
+                }
+            }
+        }
+    }
+    if random.chance(30) {
+        reading.lent = random.below(300) as usize;
+    }
+    reading
+}
