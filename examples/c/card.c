@@ -5,7 +5,8 @@
 
 #include "lgt_linker.h"
 
-static uint8_t bytes[92 * 512];
+/* A byte more than the longest sheet, so that a longer file is refused and not cut. */
+static uint8_t bytes[92 * 512 + 1];
 static uint32_t set[LGT_CLASS_WORDS];
 static uint32_t abi[LGT_ABI_WORDS];
 static uint32_t area[4096] = {1};

@@ -22,6 +22,8 @@ const READ: c_int = 1;
 const READ_AND_WRITE: c_int = 3;
 const PRIVATE_AND_ANONYMOUS: c_int = 0x22;
 const PAGE: usize = 4096;
+/// The bytes on each side that may not be touched.
+const GUARD: usize = 1 << 30;
 
 /// On which side of a slice the forbidden page lies.
 #[derive(Clone, Copy, PartialEq, Eq)]
@@ -30,7 +32,7 @@ enum Guard {
     After,
 }
 
-/// Whole pages between two that may not be touched.
+/// Whole pages between pages that may not be touched.
 struct Pages {
     start: *mut u8,
     length: usize,
@@ -39,9 +41,9 @@ struct Pages {
 impl Pages {
     fn new(length: usize) -> Self {
         let length = length.next_multiple_of(PAGE);
-        let whole = unsafe { mmap(std::ptr::null_mut(), length + 2 * PAGE, NO_ACCESS, PRIVATE_AND_ANONYMOUS, -1, 0) };
+        let whole = unsafe { mmap(std::ptr::null_mut(), length + 2 * GUARD, NO_ACCESS, PRIVATE_AND_ANONYMOUS, -1, 0) };
         assert_ne!(whole as isize, -1, "no pages");
-        let pages = Self { start: unsafe { whole.cast::<u8>().add(PAGE) }, length };
+        let pages = Self { start: unsafe { whole.cast::<u8>().add(GUARD) }, length };
         pages.allow(READ_AND_WRITE);
         pages
     }
@@ -61,7 +63,7 @@ impl Pages {
 
 impl Drop for Pages {
     fn drop(&mut self) {
-        unsafe { munmap(self.start.sub(PAGE).cast(), self.length + 2 * PAGE) };
+        unsafe { munmap(self.start.sub(GUARD).cast(), self.length + 2 * GUARD) };
     }
 }
 

@@ -183,6 +183,7 @@ buckets! {
     KeptTextJunk = "no growth: junk bytes after the text stay",
     GrownTo512Fields = "growth: to 512 fields",
     GrownTo512Methods = "growth: to 512 methods",
+    GrownTo8192Text = "growth: to 8,192 text bytes",
     Row14Fields = "row 14: fields",
     Row14Methods = "row 14: methods",
     Row14TextByFields = "row 14: text, by fields",

@@ -68,6 +68,7 @@ fn growth(view: &View, hits: &mut Hits) {
     hit(hits, Bucket::GrownMethods, before[1] != after[1]);
     hit(hits, Bucket::GrownTo512Fields, before[2] != after[2] && after[2] == 512);
     hit(hits, Bucket::GrownTo512Methods, before[1] != after[1] && after[1] == 512);
+    hit(hits, Bucket::GrownTo8192Text, before[5] != after[5] && after[5] == 8192);
     hit(hits, Bucket::GrownSlackJunk, before[old..new].iter().any(|&word| word != 0));
     hit(hits, Bucket::GrownTextJunk, text_junk);
     hit(hits, Bucket::GrownExact, new == after.len());
