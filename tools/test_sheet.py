@@ -116,7 +116,7 @@ class RoundTrips(unittest.TestCase):
         return sheetform.render(made)
 
     def test_examples(self):
-        texts = glob.glob(os.path.join(HERE, "..", "examples", "*", "*.txt"))
+        texts = [path for path in glob.glob(os.path.join(HERE, "..", "examples", "*", "*.txt")) if not path.endswith("listing.txt")]
         self.assertTrue(texts)
         for path in texts:
             with open(path, encoding="utf-8") as file:
@@ -376,17 +376,12 @@ class Vectors(unittest.TestCase):
         self.assertEqual(vectors.weighed([TOP, TOP]), WORD - 3)
 
     def test_front_page(self):
-        """What README.md says that `./judge examples/card` prints."""
+        """What README.md says that `./list examples/card` prints."""
         root = os.path.join(HERE, "..")
+        with open(os.path.join(root, "examples", "card", "listing.txt"), encoding="utf-8") as file:
+            listing = "".join("    " + line for line in file)
         with open(os.path.join(root, "README.md"), encoding="utf-8") as file:
-            said = re.findall(r"^    (examples/card/\S+ (?:accepted|refused) .*)$", file.read(), re.M)
-        if not said:
-            self.skipTest("README.md has no such lines")
-        lines = []
-        for path in ("examples/card/abi.bin", "examples/card/classes.bin"):
-            with open(os.path.join(root, path), "rb") as file:
-                lines.append(vectors.answer(path, file.read()))
-        self.assertEqual(said, lines)
+            self.assertIn("\n\n" + listing + "\n", file.read())
 
 
 class Commands(unittest.TestCase):
