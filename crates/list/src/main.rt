@@ -12,11 +12,11 @@ fn sheet_bytes() -> [u8; 47616]
     [0; 47616]
 }
 
-// Room for a listing of half a million bytes: 4,093 slots, the most that the area holds, of 128 bytes each.
-fn listing_bytes() -> [u8; 524288]
-    ensures { λ r. ⌜ 524288 ≡ length r ⌝ }
+// Room for the longest listing: the area holds 4,093 slots at most, whose lines have 528 bytes at most, and 64 lines of classes have 293.
+fn listing_bytes() -> [u8; 2228224]
+    ensures { λ r. ⌜ 2228224 ≡ length r ⌝ }
 {
-    [0; 524288]
+    [0; 2228224]
 }
 
 // Whether the n bytes that were read are all of the input, or all that count.
@@ -60,7 +60,7 @@ fn read_in(folder: &[u8], name: &[u8], bytes: &mut [u8]) -> usize {
     read_file(words::part(&path, 0, end), bytes)
 }
 
-// Writes the first n bytes of a listing, or says that it is cut.
+// Writes the first n bytes, the whole listing if they are not all that were lent (crates/lines/proofs/Whole.antt); else says so.
 fn write_listing(out: &[u8], n: usize) {
     if n < out.len() {
         io::write_all(STDOUT_FILENO, words::part(out, 0, n));
