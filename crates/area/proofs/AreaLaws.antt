@@ -15,11 +15,10 @@ use Rattle.words.proofs.ListLaws.{length-list-from}
 use Rattle.class_sheet.specs.ClassSheet.{classCount}
 use Rattle.growth.proofs.Lists.{list-more}
 use Rattle.growth.proofs.Writes.{write-none, write-more, write-set, write-next}
-use Rattle.linking.specs.Vtable.{Entry, built, refused, slotWord, slotWords}
+use Rattle.linking.specs.Vtable.{Entry, slotWord, slotWords}
 use Rattle.linking.specs.Link.{nextFree, endsBelow, badArea, noRoom, writeAt, linkedArea}
 use Rattle.linking.specs.Ask.{headPlace, askedArea}
-use Rattle.vtable.specs.Arrays.{entryAt, entriesOf, builtOf}
-use Rattle.vtable.specs.declared.Table.{Table}
+use Rattle.vtable.specs.Arrays.{entryAt, entriesOf}
 use Rattle.vtable.proofs.ArrayLaws.{length-entries}
 use Rattle.area.specs.Area.{slotsOf, tableWords, nodeWords, mayNotWrite, tableWritten, nodeWritten}
 
@@ -163,14 +162,6 @@ module _ (area ts stubs : List ℕ) (n : ℕ) {b : Bool} (test : b ≡ mayNotWri
     node-put head i {old = old} {ys = ys} o p u e q r =
         let g = written-part area (nodeWords old i ts stubs n) ys k start p in
         r ∙ rw (q, g, e, u, ← test, f, o, free)
-
--- ---- the struct and the table that it stands for
-
-pub built-rows : (t : Table) (T : List Entry) → builtOf t ≡ built T → (t .row ≡ 0) × (entriesOf (t .words) (t .marks) (t .n) ≡ T)
-built-rows t T e =
-    by (eqb (t .row) 0)
-    (λ q. let p : built (entriesOf (t .words) (t .marks) (t .n)) ≡ built T = rw q at e in (eqb-true (t .row) 0 q, cc))
-    (λ q. let p : refused (t .row) ≡ built T = rw q at e in let z : _≡_ {A = ℕ} 0 1 = cc in absurd (omega arith))
 
 -- ---- what the definitions of link and ask say of it
 

@@ -2,23 +2,21 @@
 use mathlib.Core.Path.{_≡_, refl, sym, ap, _∙_}
 use mathlib.Core.Bool.{true, false, _&&_}
 use mathlib.Core.List.{List, [], _∷_, _++_, append-assoc, append-nil}
-use Prim.Native.Nat.{ℕ, _+_, _-_, _≤_, _<_, min}
+use Prim.Native.Nat.{ℕ, _+_, _-_, _≤_, _<_}
 use native.Mathlib.Omega.{arith}
 use lib.ListN.{length, getD, set}
 use borrow.Author.Tests.{ne-eqb}
 use Rattle.words.specs.Lists.{listFrom}
 use Rattle.words.specs.declared.Found.{Found}
 use Rattle.words.specs.declared.Found.the-variants.{At, Nothing}
-use Rattle.words.proofs.ListLaws.{restFrom, rest-start, rest-turn, rest-end, length-list-from, find-member, found-by}
-use Rattle.class_sheet.specs.ClassSheet.{classSlotCount, methodName, methodDescriptor, methodFlags, methodTarget}
+use Rattle.words.proofs.ListLaws.{restFrom, rest-start, rest-turn, rest-end, find-member, found-by}
+use Rattle.class_sheet.specs.ClassSheet.{methodName, methodDescriptor, methodFlags, methodTarget}
 use Rattle.linking.specs.Chain.{ownMethods, parentOf, chain, isVirtual, methodIs}
-use Rattle.linking.specs.Vtable.{Entry, Built, built, refused, readSlot, tableEntries}
+use Rattle.linking.specs.Vtable.{Entry, Built, built, refused}
 use Rattle.linking.specs.Ask.{ownImplementation, implementation, consEntry, dispatchEntries}
 use Rattle.chain.proofs.ChainLaws.{along-none, along-hit, along-up, own-method-room}
-use Rattle.vtable.specs.Arrays.{marked, entryAt, entriesOf, builtOf}
-use Rattle.vtable.specs.declared.Table.{Table}
-use Rattle.vtable.proofs.ArrayLaws.{length-entries, push-slot}
-use Rattle.area.proofs.AreaLaws.{built-rows}
+use Rattle.vtable.specs.Arrays.{marked, entryAt, entriesOf}
+use Rattle.vtable.proofs.ArrayLaws.{push-slot}
 use Rattle.ask.specs.Dispatch.{slotBuilt, dispatched}
 use Rattle.ask.specs.declared.Slot.{Slot}
 
@@ -118,15 +116,3 @@ module _ (ws text : List ℕ) where
     pub dispatch-end : (us ns : List ℕ) (i : ℕ) → i ≡ n → built (entriesOf us ns n) ≡ soFar us ns i
     unfolding soFar dispatchEntries
     dispatch-end us ns i e = rw (rest-end (entryAt ts ms) 0 n i (omega arith), append-nil, e)
-
--- ---- a table that was read
-
--- it has at most 1,024 slots
-pub read-few : (ws text abi labels area : List ℕ) (i : ℕ) (t : Table) → builtOf t ≡ built (tableEntries ws text abi labels area i) → t .n ≤ 1024
-unfolding tableEntries
-read-few ws text abi labels area i t e =
-    let p = built-rows t (tableEntries ws text abi labels area i) e in
-    let l = length-entries (t .words) (t .marks) (t .n) in
-    let k = length-list-from (readSlot ws text abi labels area i) 0 (min (classSlotCount ws i) 1024) in
-    let q : length (entriesOf (t .words) (t .marks) (t .n)) ≡ length (tableEntries ws text abi labels area i) = ap length (p .1) in
-    omega arith

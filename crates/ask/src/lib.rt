@@ -1,6 +1,7 @@
 // `interface_dispatch_table` (class_definition.rs): a class's table for an interface, found in the class's list or built in front of it.
 use area::Answer;
 use area::Walked;
+use vtable::Entries;
 use vtable::Table;
 use words::Found;
 ghost use mathlib.Core.Path.{_≡_};
@@ -118,8 +119,8 @@ fn dispatch_slots(
 }
 
 // Class c's table for an interface's.
-fn dispatch(ws: &[u32], text: &[u8], c: u32, t: Table) -> Table
-    requires { ⌜ t .n ≤ 3584 ⌝ }
+fn dispatch(ws: &[u32], text: &[u8], c: u32, t: Entries) -> Table
+    requires { ⌜ t .n ≤ 1024 ⌝ }
     ensures { λ r. ⌜ builtOf r ≡ dispatchEntries (now (ws .entry)) (now (text .entry)) c (entriesOf (t .words) (t .marks) (t .n)) ⌝ }
 {
     let mut us = [0u32; 3584];

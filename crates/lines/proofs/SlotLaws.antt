@@ -9,10 +9,9 @@ use Rattle.words.specs.Lists.{listFrom}
 use Rattle.words.proofs.ListLaws.{restFrom, rest-start, rest-turn, rest-end}
 use Rattle.class_sheet.specs.ClassSheet.{textOf, textLength, className, classInstanceWords, classSlotCount}
 use Rattle.abi_sheet.specs.AbiSheet.{abiTextOf, abiTextLength}
-use Rattle.linking.specs.Vtable.{Entry, built, tableEntries}
-use Rattle.vtable.specs.Arrays.{marked, entryAt, entriesOf, builtOf}
-use Rattle.vtable.specs.declared.Table.{Table}
-use Rattle.area.proofs.AreaLaws.{built-rows}
+use Rattle.linking.specs.Vtable.{Entry, tableEntries}
+use Rattle.vtable.specs.Arrays.{marked, entryAt, entriesOf}
+use Rattle.vtable.specs.declared.Entries.{Entries}
 use Rattle.lines.specs.Bytes.{put}
 use Rattle.lines.specs.Lines.{classLine, slotLine, slotName, slotDescriptor, slotText, slotTexts, linesOf, classLines}
 use Rattle.lines.proofs.ByteLaws.{put-none, then}
@@ -41,16 +40,16 @@ module _ (ws text abi labels : List ℕ) where
     slots-end p i h = rw (rest-end (entryAt ts ms) 0 n i h) (put-none p)
 
   -- the class's line and its slots' lines
-  pub lines-put : (area : List ℕ) (c : ℕ) (p : List ℕ × ℕ) {q r : List ℕ × ℕ} {name : List ℕ} {words slots : ℕ} (t : Table)
+  pub lines-put : (area : List ℕ) (c : ℕ) (p : List ℕ × ℕ) {q r : List ℕ × ℕ} {name : List ℕ} {words slots : ℕ} (t : Entries)
       → name ≡ className ws text c → words ≡ classInstanceWords ws c → slots ≡ classSlotCount ws c → q ≡ put p (classLine c name words slots)
-      → builtOf t ≡ built (tableEntries ws text abi labels area c)
+      → entriesOf (t .words) (t .marks) (t .n) ≡ tableEntries ws text abi labels area c
       → r ≡ put q (slotTexts ws text abi labels c 0 (entriesOf (t .words) (t .marks) (t .n)))
       → r ≡ put p (linesOf ws text abi labels area c)
   unfolding linesOf
   lines-put area c p t e f g h k l =
       let T : List Entry = tableEntries ws text abi labels area c in
       then p (classLine c (className ws text c) (classInstanceWords ws c) (classSlotCount ws c)) (slotTexts ws text abi labels c 0 T)
-      (h ∙ rw (e, f, g)) (l ∙ rw (built-rows t T k .1))
+      (h ∙ rw (e, f, g)) (l ∙ rw k)
 
 -- ---- with the texts
 

@@ -12,8 +12,9 @@ use Rattle.words.proofs.Bools.{by, or-neither}
 use Rattle.words.specs.Lists.{listFrom, fold}
 use Rattle.class_sheet.specs.ClassSheet.{classCount, fieldCount, textOf, classFirstField, classFieldCount}
 use Rattle.abi_sheet.specs.AbiSheet.{abiTextOf}
-use Rattle.set_rules.specs.SetRules.{setRefusal}
+use Rattle.set_rules.specs.SetRules.{setFits, recordsRefusal, setRefusal}
 use Rattle.set_rules.specs.Valid.{Valid}
+use Rattle.set_rules.proofs.Laws.{set-3, set-rest}
 use Rattle.set_rules.proofs.Valid.{valid}
 use Rattle.linking.specs.Chain.{parentOf}
 use Rattle.linking.specs.Vtable.{Entry, slotWord, slotWords}
@@ -26,7 +27,7 @@ use Rattle.vtable.proofs.ArrayLaws.{length-entries}
 use Rattle.area.proofs.AreaLaws.{sound}
 use Rattle.plan.specs.declared.Plan.{Plan}
 use Rattle.plan.specs.Plans.{bare, barePlan, barePlanned, methodsOf, fieldsOf, newsOf, planOf, plannedOf}
-use Rattle.link.specs.Stored.{finished, Texts, Accepted}
+use Rattle.link.specs.Stored.{finished, Fitting, Texts, Accepted}
 use Rattle.link.proofs.IndexLaws.{apart, same-plan, plan-few}
 use Rattle.link.proofs.PlanLaws.{Finish, finished-is}
 
@@ -128,9 +129,23 @@ module _ (ws abi : List ℕ) (c : ℕ) (area stubs text labels : List ℕ) (a : 
 -- ---- the rows before
 
 module _ (ws abi : List ℕ) (c : ℕ) (area stubs text labels : List ℕ) where
-  pub link-set : {r : ℕ} → r ≡ setRefusal ws abi → r ≢ 0 → L.refusedCall r ws area ≡ L.linkDef ws abi c area stubs
+  link-set : {r : ℕ} → r ≡ setRefusal ws abi → r ≢ 0 → L.refusedCall r ws area ≡ L.linkDef ws abi c area stubs
   unfolding L.linkDef
   link-set {r = r} e h = rw (← e) (simp (ne-eqb r 0 h))
+
+  -- row 3, and rows 4 and 5 of sheets that it accepts
+  pub link-3 : {f : Bool} → f ≡ setFits ws abi → not f ≡ true → L.refusedCall 3 ws area ≡ L.linkDef ws abi c area stubs
+  link-3 e h = link-set (set-3 ws abi e h) (λ (z : 3 ≡ 0). omega arith)
+
+  module _ (t : Fitting ws abi text labels) {r : ℕ} (rows : r ≡ recordsRefusal ws text abi labels) where
+    refusal-is : r ≡ setRefusal ws abi
+    refusal-is = set-rest ws abi {f = true} (sym (t .fits)) refl (t .text-is) (t .labels-are) rows
+
+    pub link-records : r ≢ 0 → L.refusedCall r ws area ≡ L.linkDef ws abi c area stubs
+    link-records h = link-set refusal-is h
+
+    pub link-texts : r ≡ 0 → Texts ws abi text labels
+    link-texts z = record { set = sym refusal-is ∙ z; text-is = t .text-is; labels-are = t .labels-are }
 
   module _ (t : Texts ws abi text labels) {b : Bool} (class : b ≡ L.badClass ws text c) where
     class-is : b ≡ L.badClass ws (textOf ws) c

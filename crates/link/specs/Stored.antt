@@ -1,11 +1,11 @@
 -- What a link stores in the class words, as the code goes: what grows, then the record, then the indices. Assumes nothing.
 use Prim.Native.Nat.{ℕ}
 use mathlib.Core.Path.{_≡_}
-use mathlib.Core.Bool.{false, cond, _||_}
+use mathlib.Core.Bool.{true, false, cond, _||_}
 use mathlib.Core.List.{List, []}
 use Rattle.class_sheet.specs.ClassSheet.{textOf, classFirstField, fieldsAt}
 use Rattle.abi_sheet.specs.AbiSheet.{abiTextOf}
-use Rattle.set_rules.specs.SetRules.{setRefusal}
+use Rattle.set_rules.specs.SetRules.{setFits, setRefusal}
 use Rattle.linking.specs.Compiler.{New}
 use Rattle.linking.specs.Set.{putIndices}
 use Rattle.linking.specs.Link.{Plan, isNone, linkedRecord, nextFree, listsFull, setShort, noRoom, badClass, badArea, Outcome, refusedCall}
@@ -52,7 +52,13 @@ finished ws c area stubs slots n words indices new =
       area = tableWritten area c slots n stubs;
     }))
 
--- rows 3 to 5 accept the sheets, and the texts are theirs
+-- row 3 accepts the sheets, and the texts are theirs
+pub record Fitting (ws abi text labels : List ℕ) : Type 0 where
+  pub fits : setFits ws abi ≡ true
+  pub text-is : text ≡ textOf ws
+  pub labels-are : labels ≡ abiTextOf abi
+
+-- rows 3 to 5 accept them
 pub record Texts (ws abi text labels : List ℕ) : Type 0 where
   pub set : setRefusal ws abi ≡ 0
   pub text-is : text ≡ textOf ws

@@ -3,7 +3,7 @@ use area::Answer;
 ghost use mathlib.Core.Path.{_≡_};
 ghost use Rattle.linking.specs.Link.{linkedRecord, listsFull, setShort, linkDef};
 ghost use Rattle.growth.specs.News.{news, named};
-ghost use Rattle.link.specs.Stored.{membersPlan, numbered, withMethods, storedNews, finished, Texts, Accepted};
+ghost use Rattle.link.specs.Stored.{membersPlan, numbered, withMethods, storedNews, finished, Fitting, Texts, Accepted};
 ghost use Rattle.area.specs.Area.{outcome};
 
 // Stores what a link answers in class c's record: its place and slot count and, unless the class is generated, its instance words.
@@ -227,6 +227,26 @@ fn link_read<'a>(
     link_planned(set, c, text, abi, labels, area, stubs)
 }
 
+// Rows 4 to 15 and the effect, of sheets that row 3 accepts, and their texts.
+fn link_fitting<'a>(
+    set: &mut [u32],
+    c: u32,
+    text: &'a [u8],
+    abi: &[u32],
+    labels: &'a [u8],
+    area: &mut [u32],
+    stubs: &[u32],
+) -> Answer
+    requires { ⌜ Fitting (now set) (now abi) (now text) (now labels) ⌝ }
+    ensures { λ r. ⌜ outcome r (now (set .exit)) (now (area .exit)) ≡ linkDef (now (set .entry)) (now (abi .entry)) c (now (area .entry)) (now (stubs .entry)) ⌝ }
+{
+    let row = set_rules::records_refusal(set, text, abi, labels);
+    if row != 0 {
+        return Answer::Refused(row);
+    }
+    link_read(set, c, text, abi, labels, area, stubs)
+}
+
 // Links the class. The answer is the place of its table in the area, where the class number and the slots follow, and the number of its
 // slots; or the row that refuses. The table goes to the area's next free word, and word 0 of the area moves past it. The class's record
 // gets place, slot count and, unless it is generated, instance words; its fields get their indices; ABI fields and compiler methods that
@@ -235,9 +255,8 @@ fn link_read<'a>(
 pub fn link(set: &mut [u32], abi: &[u32], class: u32, area: &mut [u32], stubs: &[u32]) -> Answer
     ensures { λ r. ⌜ outcome r (now (set .exit)) (now (area .exit)) ≡ linkDef (now (set .entry)) (now (abi .entry)) class (now (area .entry)) (now (stubs .entry)) ⌝ }
 {
-    let row = set_rules::set_refusal(set, abi);
-    if row != 0 {
-        return Answer::Refused(row);
+    if !set_rules::set_fits(set, abi) {
+        return Answer::Refused(3);
     }
     let mut bytes = [0u8; 8192];
     class_sheet::unpack_text(set, &mut bytes);
@@ -245,5 +264,5 @@ pub fn link(set: &mut [u32], abi: &[u32], class: u32, area: &mut [u32], stubs: &
     abi_sheet::unpack_text(abi, &mut abi_bytes);
     let text = text::name_at(&bytes, 0, class_sheet::text_length(set));
     let labels = text::name_at(&abi_bytes, 0, abi_sheet::text_length(abi));
-    link_read(set, class, text, abi, labels, area, stubs)
+    link_fitting(set, class, text, abi, labels, area, stubs)
 }

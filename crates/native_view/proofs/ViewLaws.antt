@@ -16,22 +16,17 @@ use Rattle.growth.proofs.Lists.{list-more}
 use Rattle.class_sheet.specs.ClassSheet.{classTablePlace, classSlotCount}
 use Rattle.linking.specs.Chain.{onFound, parentOf}
 use Rattle.linking.specs.Abi.{chainAbi}
-use Rattle.linking.specs.Vtable.{Entry, empty, built, refused, readEntry, readSlot, tableEntries, parentEntries, fixedOf}
+use Rattle.linking.specs.Vtable.{Entry, empty, readEntry, readSlot, tableEntries, parentEntries, fixedOf}
 use Rattle.linking.specs.Compiler.{New, ownerState, isEmptied, viewFrom, nativeView, entryMethods}
-use Rattle.vtable.specs.Arrays.{markOf, marked, entryAt, entriesOf, builtOf}
+use Rattle.vtable.specs.Arrays.{markOf, marked, entryAt, entriesOf}
 use Rattle.abi.specs.Abis.{abisOf}
 use Rattle.abi.specs.declared.AbiChain.{AbiChain}
-use Rattle.vtable.specs.declared.Table.{Table}
+use Rattle.vtable.specs.declared.Entries.{Entries}
 use Rattle.vtable.proofs.ArrayLaws.{length-entries, entry-is, push-slot}
 use Rattle.vtable.proofs.ReadLaws.{read-back}
 use Rattle.native_view.specs.Native.{below, SmallMarks, markMethods}
 
--- ---- the table that the struct stands for
-
-pub table-is : (t : Table) (E : List Entry) → builtOf t ≡ built E → entriesOf (t .words) (t .marks) (t .n) ≡ E
-table-is t E h =
-    by (eqb (t .row) 0) (λ q. let b : built (entriesOf (t .words) (t .marks) (t .n)) ≡ built E = rw q at h in cc)
-    (λ q. let b : refused (t .row) ≡ built E = rw q at h in absurd (let z : _≡_ {A = ℕ} 0 1 = cc in omega arith))
+-- ---- elements of the first n
 
 pub below-in : (xs : List ℕ) (n i : ℕ) {a x : ℕ} → i < n → a ≡ i → x ≡ getD xs a 0 → x ≡ below xs n i
 unfolding below
@@ -148,17 +143,6 @@ module _ (ws text abi labels : List ℕ) where
   -- ---- the parent's entries
 
   module _ (area : List ℕ) (c : ℕ) where
-    pub parent-length : length (parentEntries ws text abi labels area c) ≤ 1024
-    unfolding parentEntries tableEntries
-    parent-length =
-        by (eqb (parentOf ws c) 0) (λ q. rw q (omega arith))
-        (λ q.
-        rw q
-        (omega (
-          arith,
-          length-list-from (readSlot ws text abi labels area (parentOf ws c)) 0 (min (classSlotCount ws (parentOf ws c)) 1024),
-        )))
-
     no-method : (m : ℕ) {X : Type 0} → Nothing ≡ At m → X
     no-method m e = absurd (let z : _≡_ {A = ℕ} 0 1 = cc in omega arith)
 
@@ -180,24 +164,19 @@ module _ (ws text abi labels : List ℕ) where
     parent-room i m e =
         by (eqb (parentOf ws c) 0) (λ q. no-method m (rw q at e)) (λ q. table-room (parentOf ws c) i m (rw q at e))
 
-    -- the count and the marks as the code has them
-    pub parent-count : (t : Table) → builtOf t ≡ built (parentEntries ws text abi labels area c) → t .n ≤ 1024
-    parent-count t h =
-        let e = ap (λ (l : List Entry). length l) (table-is t (parentEntries ws text abi labels area c) h) in
-        omega (arith, length-entries (t .words) (t .marks) (t .n), parent-length)
-
-    pub native-is : (t : Table) (vs vm abis : List ℕ) {p : ℕ} → builtOf t ≡ built (parentEntries ws text abi labels area c) → p ≡ parentOf ws c
+    -- the view and the marks as the code has them
+    pub native-is : (t : Entries) (vs vm abis : List ℕ) {p : ℕ} → entriesOf (t .words) (t .marks) (t .n) ≡ parentEntries ws text abi labels area c → p ≡ parentOf ws c
         → abis ≡ chainAbi ws text abi labels p
         → entriesOf vs vm (t .n) ≡ viewFrom ws text abi labels abis 0 (entriesOf (t .words) (t .marks) (t .n))
         → entriesOf vs vm (t .n) ≡ nativeView ws text abi labels area c
     unfolding nativeView
-    native-is t vs vm abis h e f g = g ∙ rw (table-is t (parentEntries ws text abi labels area c) h, f, e)
+    native-is t vs vm abis h e f g = g ∙ rw (h, f, e)
 
-    pub native-small : (t : Table) (vs vm abis : List ℕ) → builtOf t ≡ built (parentEntries ws text abi labels area c)
+    pub native-small : (t : Entries) (vs vm abis : List ℕ) → entriesOf (t .words) (t .marks) (t .n) ≡ parentEntries ws text abi labels area c
         → entriesOf vs vm (t .n) ≡ viewFrom ws text abi labels abis 0 (entriesOf (t .words) (t .marks) (t .n)) → SmallMarks vm (t .n)
     native-small t vs vm abis h g =
         view-small abis (parentEntries ws text abi labels area c) vs vm (t .n) parent-room
-        (g ∙ rw (table-is t (parentEntries ws text abi labels area c) h))
+        (g ∙ rw h)
 
     module _ (new : List New) where
       methods-from : (ts ms : List ℕ) (m n : ℕ) → allFound (λ i. marked (getD ms i 0)) (numbers m n)
@@ -206,9 +185,9 @@ module _ (ws text abi labels : List ℕ) where
       methods-from ts ms m zero = refl
       methods-from ts ms m (suc n) = rw (methods-from ts ms (m + 1) n)
 
-      pub methods-are : (t : Table) → builtOf t ≡ built (parentEntries ws text abi labels area c)
+      pub methods-are : (t : Entries) → entriesOf (t .words) (t .marks) (t .n) ≡ parentEntries ws text abi labels area c
           → markMethods (t .marks) (t .n) ≡ entryMethods ws text abi labels new (parentEntries ws text abi labels area c)
       unfolding entriesOf markMethods
       methods-are t h =
           methods-from (t .words) (t .marks) 0 (t .n)
-          ∙ ap (entryMethods ws text abi labels new) (table-is t (parentEntries ws text abi labels area c) h)
+          ∙ ap (entryMethods ws text abi labels new) h

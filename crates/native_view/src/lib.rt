@@ -20,9 +20,9 @@ ghost use Rattle.native_view.specs.Native.{below, SmallMarks, markMethod
 
 // The first n slots of the native view, the marks of the parent's slots, and the first `added` methods that the compiler table adds.
 pub struct Native {
-    pub words: [u32; 3584],
-    pub marks: [u32; 3584],
-    pub known: [u32; 3584],
+    pub words: [u32; 1024],
+    pub marks: [u32; 1024],
+    pub known: [u32; 1024],
     pub n: u32,
     pub refs: [u32; 1024],
     pub flags: [u32; 1024],
@@ -379,8 +379,8 @@ pub fn native_view<'a>(
     let ts = parent.words;
     let ms = parent.marks;
     let n = parent.n;
-    let mut vs = [0u32; 3584];
-    let mut vm = [0u32; 3584];
+    let mut vs = [0u32; 1024];
+    let mut vm = [0u32; 1024];
     view_entries(ws, text, abi, labels, part, &ts, &ms, n, &mut vs, &mut vm);
     let new = add_methods(ws, text, abi, labels, c, &vs, &vm, n);
     let refs = new.refs;

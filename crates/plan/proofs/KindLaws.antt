@@ -16,6 +16,7 @@ use Rattle.linking.specs.Compiler.{New, addedMethods, compilerTable}
 use Rattle.linking.specs.Fields.{numberFields, addedFields, builtWords, tooManyWords, generatedRefusal}
 use Rattle.linking.specs.Link as L
 use Rattle.vtable.specs.Arrays.{entriesOf, builtOf}
+use Rattle.vtable.specs.declared.Entries.{Entries}
 use Rattle.vtable.specs.declared.Table.{Table}
 use Rattle.vtable.proofs.TableLaws.{interface-same}
 use Rattle.field.specs.Numbers.{outcomeOf, builtFields, generatedFields}
@@ -26,7 +27,7 @@ use Rattle.growth.specs.News.{firstNews, membersOf}
 use Rattle.growth.specs.declared.Members.{Members}
 use Rattle.plan.specs.declared.Plan.{Plan}
 use Rattle.plan.specs.Plans.{bare, barePlan, barePlanned, methodsOf, fieldsOf, newsOf, planOf, plannedOf, tableRow}
-use Rattle.plan.proofs.TableLaws.{row-passes, planning, table-stops, table-passes}
+use Rattle.plan.proofs.TableLaws.{row-none, row-passes, planning, table-stops, table-passes}
 
 module _ (ws text abi labels area : List ℕ) (c : ℕ) where
   -- a plan that is refused
@@ -112,10 +113,18 @@ module _ (ws text abi labels area : List ℕ) (c : ℕ) where
 
   -- ---- an array class
 
-  module _ (t : Table) (table : builtOf t ≡ built (parentEntries ws text abi labels area c)) where
-    pub array-table : barePlanned (planning t [] [] [] (builtOf t)) ≡ barePlanned (L.planArray ws text abi labels area c)
+  module _ (t : Entries) (table : entriesOf (t .words) (t .marks) (t .n) ≡ parentEntries ws text abi labels area c) (count : t .n ≤ 1024) where
+    abbrev inherited : Table
+    inherited = record { words = t .words; marks = t .marks; n = t .n; row = 0 }
+
+    array-table : barePlanned (planning inherited [] [] [] (builtOf inherited)) ≡ barePlanned (L.planArray ws text abi labels area c)
     unfolding L.planArray
     array-table = rw table
+
+    pub array-planned : (r : Plan) → entriesOf (r .words) [] (r .n) ≡ entriesOf (t .words) [] (t .n)
+        → take (r .own) (r .indices) ≡ [] → r .added ≡ 0 → r .row ≡ 0
+        → plannedOf ws text abi labels c r ≡ barePlanned (L.planArray ws text abi labels area c)
+    array-planned r s i a z = plain-planned r [] inherited s i a z (row-none 0 (t .n) refl count) refl ∙ array-table
 
   -- ---- a generated class
 

@@ -154,10 +154,6 @@ fn plan_array(ws: &[u32], text: &[u8], abi: &[u32], labels: &[u8], area: &[u32],
     ensures members { λ r. ⌜ r .added ≤ 1024 ⌝ }
 {
     let t = vtable::parent_entries(ws, text, abi, labels, area, c);
-    let row = table_row(t.row, t.n);
-    if row != 0 {
-        return no_plan(row);
-    }
     let ts = t.words;
     let no_fields = field::Numbered {
         indices: [0; 512],

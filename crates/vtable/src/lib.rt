@@ -23,6 +23,13 @@ pub struct Table {
     pub row: u32,
 }
 
+// The entries of a linked class's table, the first n of each array, as in `Table`.
+pub struct Entries {
+    pub words: [u32; 1024],
+    pub marks: [u32; 1024],
+    pub n: u32,
+}
+
 // What adding a method comes to: so many slots, or row 11 (its fixed index differs from the inherited one), or row 12 (its fixed slot
 // holds another signature).
 pub enum Step {
@@ -211,17 +218,17 @@ pub fn table_entries(
     labels: &[u8],
     area: &[u32],
     c: u32,
-) -> Table
-    ensures { λ r. ⌜ builtOf r ≡ built (tableEntries (now (ws .entry)) (now (text .entry)) (now (abi .entry)) (now (labels .entry)) (now (area .entry)) c) ⌝ }
+) -> Entries
+    ensures is { λ r. ⌜ entriesOf (r .words) (r .marks) (r .n) ≡ tableEntries (now (ws .entry)) (now (text .entry)) (now (abi .entry)) (now (labels .entry)) (now (area .entry)) c ⌝ }
+    ensures count { λ r. ⌜ r .n ≤ 1024 ⌝ }
 {
-    let mut ts = [0u32; 3584];
-    let mut ms = [0u32; 3584];
+    let mut ts = [0u32; 1024];
+    let mut ms = [0u32; 1024];
     let n = read_table(ws, text, abi, labels, area, c, &mut ts, &mut ms);
-    Table {
+    Entries {
         words: ts,
         marks: ms,
         n,
-        row: 0,
     }
 }
 
@@ -258,17 +265,17 @@ pub fn parent_entries(
     labels: &[u8],
     area: &[u32],
     c: u32,
-) -> Table
-    ensures { λ r. ⌜ builtOf r ≡ built (parentEntries (now (ws .entry)) (now (text .entry)) (now (abi .entry)) (now (labels .entry)) (now (area .entry)) c) ⌝ }
+) -> Entries
+    ensures is { λ r. ⌜ entriesOf (r .words) (r .marks) (r .n) ≡ parentEntries (now (ws .entry)) (now (text .entry)) (now (abi .entry)) (now (labels .entry)) (now (area .entry)) c ⌝ }
+    ensures count { λ r. ⌜ r .n ≤ 1024 ⌝ }
 {
-    let mut ts = [0u32; 3584];
-    let mut ms = [0u32; 3584];
+    let mut ts = [0u32; 1024];
+    let mut ms = [0u32; 1024];
     let n = read_parent(ws, text, abi, labels, area, c, &mut ts, &mut ms);
-    Table {
+    Entries {
         words: ts,
         marks: ms,
         n,
-        row: 0,
     }
 }
 

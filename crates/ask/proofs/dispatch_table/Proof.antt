@@ -1,7 +1,6 @@
 use mathlib.Core.Path.{refl}
 use Rattle.set_rules.proofs.Laws.{text-handed}
 use native.Mathlib.Omega.{arith}
-use Rattle.ask.proofs.DispatchLaws.{read-few}
 use Rattle.ask.proofs.AskLaws.{table-handed}
 use borrow.Author.Needs.{needs}
 use Rattle.ask.proofs.dispatch_table.Statement.{statement}
@@ -50,11 +49,7 @@ table-entries-requires : tie.Need-table-entries-requires
 table-entries-requires c κs = search needs
 
 dispatch-requires : tie.Need-dispatch-requires
-dispatch-requires c κs =
-    let at-name-at2 = c .before in
-    let at-name-at = at-name-at2 .before .before .before in
-    let a = at-name-at .before .before .before .before .before .before .before .before .before .before .before .before .args in
-    omega (arith, read-few (a .ws .now) (at-name-at .name-at .result .now) (a .abi .now) (at-name-at2 .name-at2 .result .now) (a .area .now) (a .i) (c .table-entries .result) (c .table-entries .ensures))
+dispatch-requires c κs = c .table-entries .ensures .1
 
 returns : tie.Need-returns
 returns c =
@@ -70,7 +65,7 @@ returns c =
     table-handed (a .ws .now) (a .abi .now) (a .area .now) (a .c) (a .i) (at-table-entries .table-entries .result)
     (text-handed _ _ _ (at-pre .pre .0) refl (at-unpack-text .unpack-text .ensures) (at-text-length .text-length .ensures) (at-name-at .name-at .ensures))
     (text-handed _ _ _ (at-pre .pre .1) refl (at-unpack-text2 .unpack-text2 .ensures) (at-text-length2 .text-length2 .ensures) (at-name-at2 .name-at2 .ensures))
-    (at-table-entries .table-entries .ensures) (c .dispatch .ensures)
+    (at-table-entries .table-entries .ensures .0) (c .dispatch .ensures)
 
 pub dispatch-table-spec : {M : Type 1} → statement M
 dispatch-table-spec =

@@ -1,8 +1,8 @@
 use mathlib.Core.List.{[]}
-use mathlib.Core.Path.{_≡_, refl, sym, _∙_}
-use Rattle.set_rules.proofs.Laws.{text-handed}
-use Rattle.set_rules.proofs.Valid.{valid}
-use Rattle.link.proofs.PlannedLaws.{link-set}
+use mathlib.Core.Path.{refl, sym, _∙_}
+use borrow.Author.Tests.{not-false}
+use Rattle.set_rules.proofs.Laws.{text-handed, set-text, set-abi-text}
+use Rattle.link.proofs.PlannedLaws.{link-3}
 use borrow.Author.Needs.{needs}
 use Rattle.link.proofs.link.Statement.{statement}
 use Rattle.link.proofs.link.Tie as tie
@@ -12,18 +12,20 @@ use Rattle.abi_sheet.proofs.text_length.Reads as text-length-reads
 use Rattle.abi_sheet.proofs.unpack_text.Reads as unpack-text-reads
 use Rattle.class_sheet.proofs.text_length.Reads as text-length-reads′
 use Rattle.class_sheet.proofs.unpack_text.Reads as unpack-text-reads′
-use Rattle.link.proofs.link_read.Reads as link-read-reads
-use Rattle.set_rules.proofs.set_refusal.Reads as set-refusal-reads
+use Rattle.link.proofs.link_fitting.Reads as link-fitting-reads
+use Rattle.set_rules.proofs.set_fits.Reads as set-fits-reads
 use Rattle.text.proofs.name_at.Reads as name-at-reads
 
-set-refusal-requires : tie.Need-set-refusal-requires
-set-refusal-requires c κs = search needs
+set-fits-requires : tie.Need-set-fits-requires
+set-fits-requires c κs = search needs
 
 same-length : tie.Need-same-length
 same-length c = search needs
 
 returns : tie.Need-returns
-returns c = let a = c .before .before .before .before .before .before .before .args in link-set (a .set .now) (a .abi .now) (a .class) (a .area .now) (a .stubs .now) [] [] (c .before .set-refusal .ensures) (c .if1 .taken)
+returns c =
+    let a = c .before .before .before .before .before .before .before .args in
+    link-3 (a .set .now) (a .abi .now) (a .class) (a .area .now) (a .stubs .now) [] [] (c .before .set-fits .ensures) (c .if1 .taken)
 
 slice-aggregate-unpack-text : tie.Need-slice-aggregate-unpack-text
 slice-aggregate-unpack-text c = search needs
@@ -55,15 +57,14 @@ text-length-requires-2 c κs = search needs
 name-at-requires-2 : tie.Need-name-at-requires-2
 name-at-requires-2 c κs = search needs
 
-link-read-requires : tie.Need-link-read-requires
-link-read-requires c κs =
-    let a = c .before .before .before .before .before .before .before .before .before .before .before .before .before .before .before .before .before .before .before .before .before .before .before .args in
-    let z = sym (c .before .before .before .before .before .before .before .before .before .before .before .before .before .before .before .before .before .set-refusal .ensures) ∙ c .before .before .before .before .before .before .before .before .before .before .before .before .before .before .before .before .if1 .left in
-    let v = valid (a .set .now) (a .abi .now) z in
+link-fitting-requires : tie.Need-link-fitting-requires
+link-fitting-requires c κs =
+    let f = c .before .before .before .before .before .before .before .before .before .before .before .before .before .before .before .before .before .set-fits .ensures in
+    let h = c .before .before .before .before .before .before .before .before .before .before .before .before .before .before .before .before .if1 .left in
     record {
-      set = z;
-      text-is = text-handed _ _ _ (v .0 .text-length) refl (c .before .before .before .before .before .before .before .before .before .before .before .before .before .unpack-text .ensures) (c .before .before .before .before .before .before .text-length .ensures) (c .before .before .before .before .before .name-at .ensures);
-      labels-are = text-handed _ _ _ (v .1 .text-length) refl (c .before .before .before .before .before .before .before .before .before .before .unpack-text2 .ensures) (c .before .before .before .text-length2 .ensures) (c .before .before .name-at2 .ensures);
+      fits = sym f ∙ not-false _ h;
+      text-is = text-handed _ _ _ (set-text _ _ f h) refl (c .before .before .before .before .before .before .before .before .before .before .before .before .before .unpack-text .ensures) (c .before .before .before .before .before .before .text-length .ensures) (c .before .before .before .before .before .name-at .ensures);
+      labels-are = text-handed _ _ _ (set-abi-text _ _ f h) refl (c .before .before .before .before .before .before .before .before .before .before .unpack-text2 .ensures) (c .before .before .before .text-length2 .ensures) (c .before .before .name-at2 .ensures);
     }
 
 same-length-2 : tie.Need-same-length-2
@@ -79,7 +80,7 @@ pub link-spec : {M : Type 1} → statement M
 link-spec =
     tie.close
     (tie.spec
-    set-refusal-requires
+    set-fits-requires
     same-length
     returns
     slice-aggregate-unpack-text
@@ -92,7 +93,7 @@ link-spec =
     slice-aggregate-name-at-2
     text-length-requires-2
     name-at-requires-2
-    link-read-requires
+    link-fitting-requires
     same-length-2
     same-length-3
     returns-2)

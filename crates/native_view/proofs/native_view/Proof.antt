@@ -1,7 +1,7 @@
 use native.Mathlib.Omega.{arith}
 use denote.Ref.{now}
 use Rattle.growth.specs.News.{membersOf}
-use Rattle.native_view.proofs.ViewLaws.{parent-count, native-is, native-small, methods-are, abis-are}
+use Rattle.native_view.proofs.ViewLaws.{native-is, native-small, methods-are, abis-are}
 use Rattle.native_view.proofs.AddLaws.{added-are}
 use borrow.Author.Needs.{needs}
 use Rattle.native_view.proofs.native_view.Statement.{statement}
@@ -48,10 +48,7 @@ slice-aggregate-view-entries-4 c = search needs
 
 view-entries-requires : tie.Need-view-entries-requires
 view-entries-requires c κs =
-    let a = c .before .before .before .before .before .before .before .before .before .before .before .before .before .before .before .before .before .before .args in
-    let p = c .before .before .before .before .before .before .before .before .before .before .before .before .parent-entries in
-    let h = parent-count (now (a .ws)) (now (a .text)) (now (a .abi)) (now (a .labels)) (now (a .area)) (a .c) (p .result) (p .ensures) in
-    (omega arith, omega arith)
+    let h = c .before .before .before .before .before .before .before .before .before .before .before .before .parent-entries .ensures .1 in (omega arith, omega arith)
 
 slice-aggregate-add-methods : tie.Need-slice-aggregate-add-methods
 slice-aggregate-add-methods c = search needs
@@ -63,7 +60,7 @@ add-methods-requires : tie.Need-add-methods-requires
 add-methods-requires c κs =
     let a = c .before .before .before .before .before .before .before .before .before .before .before .before .before .before .before .before .before .before .before .before .before .before .before .args in
     let p = c .before .before .before .before .before .before .before .before .before .before .before .before .before .before .before .before .before .parent-entries in
-    native-small (now (a .ws)) (now (a .text)) (now (a .abi)) (now (a .labels)) (now (a .area)) (a .c) (p .result) _ _ _ (p .ensures) (c .before .before .before .before .view-entries .ensures)
+    native-small (now (a .ws)) (now (a .text)) (now (a .abi)) (now (a .labels)) (now (a .area)) (a .c) (p .result) _ _ _ (p .ensures .0) (c .before .before .before .before .view-entries .ensures)
 
 returns : tie.Need-returns
 returns c =
@@ -72,14 +69,14 @@ returns c =
     let p = s .parent-entries in
     let h = c .before .before .before .before .before .before .before .before .before .before .before .before .before .before .before .before .before .before .before .chain-abi in
     let part = abis-are (h .result) _ (h .ensures) (c .before .before .before .before .before .before .before .before .before .before .before .before .before .before .before .before .wide .ensures) (c .before .before .before .before .before .before .before .before .before .before .before .before .before .before .before .word-part .ensures) in
-    let v = native-is (now (a .ws)) (now (a .text)) (now (a .abi)) (now (a .labels)) (now (a .area)) (a .c) (p .result) _ _ _ (p .ensures) (c .before .before .before .before .before .before .before .before .before .before .before .before .before .before .before .before .before .before .before .before .parent-of .ensures) part (c .before .before .before .before .before .before .before .before .view-entries .ensures) in
+    let v = native-is (now (a .ws)) (now (a .text)) (now (a .abi)) (now (a .labels)) (now (a .area)) (a .c) (p .result) _ _ _ (p .ensures .0) (c .before .before .before .before .before .before .before .before .before .before .before .before .before .before .before .before .before .before .before .before .parent-of .ensures) part (c .before .before .before .before .before .before .before .before .view-entries .ensures) in
     let m = c .before .before .before .add-methods in (
       v,
       (
-        λ new. methods-are (now (a .ws)) (now (a .text)) (now (a .abi)) (now (a .labels)) (now (a .area)) (a .c) new (p .result) (p .ensures),
+        λ new. methods-are (now (a .ws)) (now (a .text)) (now (a .abi)) (now (a .labels)) (now (a .area)) (a .c) new (p .result) (p .ensures .0),
         (
           added-are (now (a .ws)) (now (a .text)) (now (a .abi)) (now (a .labels)) (a .c) _ _ _ (now (a .area)) (membersOf (now (a .ws)) (now (a .text)) (now (a .abi)) (now (a .labels)) (m .result)) v (m .ensures .0),
-          (parent-count (now (a .ws)) (now (a .text)) (now (a .abi)) (now (a .labels)) (now (a .area)) (a .c) (p .result) (p .ensures), m .ensures .1),
+          (p .ensures .1, m .ensures .1),
         ),
       ),
     )

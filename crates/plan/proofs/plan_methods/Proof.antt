@@ -4,7 +4,7 @@ use lib.ListN.{take}
 use mathlib.Core.List.{[]}
 use mathlib.Core.Path.{_≡_, sym, _∙_}
 use Rattle.plan.proofs.TableLaws.{row-passes, table-stops}
-use Rattle.plan.proofs.KindLaws.{no-plan, plain-planned, plain-instance, array-table, methods-table}
+use Rattle.plan.proofs.KindLaws.{no-plan, plain-planned, plain-instance, methods-table}
 use borrow.Author.Needs.{needs}
 use Rattle.plan.proofs.plan_methods.Statement.{statement}
 use Rattle.plan.proofs.plan_methods.Tie as tie
