@@ -15,7 +15,6 @@ use Rattle.linking.specs.Vtable.{Built, tableEntries}
 use Rattle.linking.specs.Link.{nextFree, badArea, noRoom, Outcome, refusedCall}
 use Rattle.linking.specs.Ask.{Walk, hit, missed, broken, walk, headPlace, dispatchEntries, buildNode, badAsk, askDef}
 use Rattle.vtable.specs.Arrays.{entriesOf}
-use Rattle.vtable.specs.declared.Entries.{Entries}
 use Rattle.vtable.proofs.ArrayLaws.{length-entries}
 use Rattle.area.specs.declared.Answer.the-variants.{Done}
 use Rattle.area.specs.Area.{outcome, nodeWritten}
@@ -91,11 +90,11 @@ module _ (ws : List ℕ) (c i : ℕ) (area stubs : List ℕ) (nodes : ℕ) (ts m
           rw (eq-eqb row 0 zero, room-is, free, g, k, next)
 
 -- the table of an interface that was read, and the class's for it, with the texts as the code hands them on
-pub table-handed : (ws abi area : List ℕ) (c i : ℕ) (t : Entries) {text labels : List ℕ} {B : Built} → text ≡ textOf ws → labels ≡ abiTextOf abi
-    → entriesOf (t .words) (t .marks) (t .n) ≡ tableEntries ws text abi labels area i
-    → B ≡ dispatchEntries ws text c (entriesOf (t .words) (t .marks) (t .n))
+pub table-handed : (ws abi area : List ℕ) (c i : ℕ) (ts ms : List ℕ) (n : ℕ) {text labels : List ℕ} {B : Built} → text ≡ textOf ws → labels ≡ abiTextOf abi
+    → entriesOf ts ms n ≡ tableEntries ws text abi labels area i
+    → B ≡ dispatchEntries ws text c (entriesOf ts ms n)
     → B ≡ dispatchEntries ws (textOf ws) c (tableEntries ws (textOf ws) abi (abiTextOf abi) area i)
-table-handed ws abi area c i t e f g h = h ∙ rw (g, e, f)
+table-handed ws abi area c i ts ms n e f g h = h ∙ rw (g, e, f)
 
 -- the node's table, as `buildNode` has it
 pub node-built : (ws abi : List ℕ) (c i : ℕ) (area stubs : List ℕ) (nodes : ℕ) {B : Built} {o : Outcome}

@@ -1,12 +1,11 @@
 // `interface_dispatch_table` (class_definition.rs): a class's table for an interface, found in the class's list or built in front of it.
 use area::Answer;
 use area::Walked;
-use vtable::Entries;
-use vtable::Table;
 use words::Found;
 ghost use mathlib.Core.Path.{_≡_};
 ghost use mathlib.Core.Bool.{_&&_, false};
-ghost use Prim.Native.Nat.{_≤_};
+ghost use mathlib.Core.List.{List};
+ghost use Prim.Native.Nat.{ℕ, _≤_};
 ghost use lib.ListN.{length};
 ghost use Rattle.class_sheet.specs.ClassSheet.{methodFlags, textLength, textOf};
 ghost use Rattle.abi_sheet.specs.AbiSheet.{abiTextLength, abiTextOf};
@@ -15,7 +14,7 @@ ghost use Rattle.linking.specs.Chain.{isVirtual, methodIs};
 ghost use Rattle.linking.specs.Vtable.{tableEntries};
 ghost use Rattle.linking.specs.Link.{badArea};
 ghost use Rattle.linking.specs.Ask.{headPlace, ownImplementation, implementation, dispatchEntries, buildNode, askDef};
-ghost use Rattle.vtable.specs.Arrays.{marked, entriesOf, builtOf};
+ghost use Rattle.vtable.specs.Arrays.{marked, entriesOf};
 ghost use Rattle.area.specs.Area.{outcome};
 ghost use Rattle.ask.specs.Dispatch.{slotBuilt, dispatched, tableBuilt, askRefusal, finishAsk};
 
@@ -118,28 +117,24 @@ fn dispatch_slots(
     0
 }
 
-// Class c's table for an interface's.
-fn dispatch(ws: &[u32], text: &[u8], c: u32, t: Entries) -> Table
-    requires { ⌜ t .n ≤ 1024 ⌝ }
-    ensures { λ r. ⌜ builtOf r ≡ dispatchEntries (now (ws .entry)) (now (text .entry)) c (entriesOf (t .words) (t .marks) (t .n)) ⌝ }
-{
-    let mut us = [0u32; 3584];
-    let mut ns = [0u32; 3584];
-    let ts = t.words;
-    let ms = t.marks;
-    let row = dispatch_slots(ws, text, c, &ts, &ms, t.n, &mut us, &mut ns);
-    Table {
-        words: us,
-        marks: ns,
-        n: t.n,
-        row,
-    }
+// How many slots a class's table for an interface has, or the row that refuses it.
+struct Dispatch {
+    n: u32,
+    row: u32,
 }
 
-// Class c's table for interface i, with the sheets' texts unpacked.
-fn dispatch_table(ws: &[u32], abi: &[u32], area: &[u32], c: u32, i: u32) -> Table
-    requires { ⌜ (textLength (now ws) ≤ 8192) × (abiTextLength (now abi) ≤ 8192) ⌝ }
-    ensures { λ r. ⌜ builtOf r ≡ dispatchEntries (now (ws .entry)) (textOf (now (ws .entry))) c (tableEntries (now (ws .entry)) (textOf (now (ws .entry))) (now (abi .entry)) (abiTextOf (now (abi .entry))) (now (area .entry)) i) ⌝ }
+// Fills the arrays with class c's table for interface i, with the sheets' texts unpacked.
+fn dispatch_table(
+    ws: &[u32],
+    abi: &[u32],
+    area: &[u32],
+    c: u32,
+    i: u32,
+    us: &mut [u32],
+    ns: &mut [u32],
+) -> Dispatch
+    requires { ⌜ (textLength (now ws) ≤ 8192) × (abiTextLength (now abi) ≤ 8192) × (1024 ≤ length (now us)) × (1024 ≤ length (now ns)) ⌝ }
+    ensures { λ r. ⌜ tableBuilt (now (us .exit)) (now (ns .exit)) (r .n) (r .row) ≡ dispatchEntries (now (ws .entry)) (textOf (now (ws .entry))) c (tableEntries (now (ws .entry)) (textOf (now (ws .entry))) (now (abi .entry)) (abiTextOf (now (abi .entry))) (now (area .entry)) i) ⌝ }
 {
     let mut bytes = [0u8; 8192];
     class_sheet::unpack_text(ws, &mut bytes);
@@ -147,8 +142,11 @@ fn dispatch_table(ws: &[u32], abi: &[u32], area: &[u32], c: u32, i: u32) -> Tabl
     abi_sheet::unpack_text(abi, &mut abi_bytes);
     let text = text::name_at(&bytes, 0, class_sheet::text_length(ws));
     let labels = text::name_at(&abi_bytes, 0, abi_sheet::text_length(abi));
-    let t = vtable::table_entries(ws, text, abi, labels, area, i);
-    dispatch(ws, text, c, t)
+    let mut ts = [0u32; 1024];
+    let mut ms = [0u32; 1024];
+    let n = vtable::table_entries(ws, text, abi, labels, area, i, &mut ts, &mut ms);
+    let row = dispatch_slots(ws, text, c, &ts, &ms, n, us, ns);
+    Dispatch { n, row }
 }
 
 // The place of class c's list head.
@@ -160,7 +158,7 @@ fn head_place(ws: &[u32], c: u32) -> usize
         + 1
 }
 
-// Rows 16 and 15, and then the node of interface i in front of class c's list.
+// Rows 16 and 15, and then the node of interface i, with n slots of these words, in front of class c's list.
 fn finish_ask(
     ws: &[u32],
     c: u32,
@@ -168,20 +166,21 @@ fn finish_ask(
     area: &mut [u32],
     stubs: &[u32],
     nodes: u32,
-    t: Table,
+    ts: &[u32],
+    n: u32,
+    row: u32,
 ) -> Answer
     requires { ⌜ badArea (now ws) (now area) ≡ false ⌝ }
-    ensures { λ r. ⌜ outcome r (now (ws .entry)) (now (area .exit)) ≡ finishAsk (now (ws .entry)) c i (now (area .entry)) (now (stubs .entry)) nodes (builtOf t) ⌝ }
+    ensures { λ r. ⌜ ((ms : List ℕ) → outcome r (now (ws .entry)) (now (area .exit)) ≡ finishAsk (now (ws .entry)) c i (now (area .entry)) (now (stubs .entry)) nodes (tableBuilt (now (ts .entry)) ms n row)) ⌝ }
 {
-    if t.row != 0 {
-        return Answer::Refused(t.row);
+    if row != 0 {
+        return Answer::Refused(row);
     }
-    if area::no_room(area, stubs, t.n) {
+    if area::no_room(area, stubs, n) {
         return Answer::Refused(15);
     }
     let node = words::word_at(area, 0);
-    let ts = t.words;
-    area::write_node(area, head_place(ws, c), i, &ts, t.n, stubs);
+    area::write_node(area, head_place(ws, c), i, ts, n, stubs);
     Answer::Done(node + 1, nodes)
 }
 
@@ -198,8 +197,10 @@ fn build_node(
     requires { ⌜ (setRefusal (now ws) (now abi) ≡ 0) × (badArea (now ws) (now area) ≡ false) ⌝ }
     ensures { λ r. ⌜ outcome r (now (ws .entry)) (now (area .exit)) ≡ buildNode (now (ws .entry)) (now (abi .entry)) c i (now (area .entry)) (now (stubs .entry)) nodes ⌝ }
 {
-    let t = dispatch_table(ws, abi, area, c, i);
-    finish_ask(ws, c, i, area, stubs, nodes, t)
+    let mut us = [0u32; 1024];
+    let mut ns = [0u32; 1024];
+    let t = dispatch_table(ws, abi, area, c, i, &mut us, &mut ns);
+    finish_ask(ws, c, i, area, stubs, nodes, &us, t.n, t.row)
 }
 
 // Rows 3 to 7 of an ask, but for the walk: the number that refuses, or 0.

@@ -17,14 +17,9 @@ ghost use Rattle.growth.specs.News.{firstNews};
 ghost use Rattle.native_view.specs.Native.{below, markMethods};
 ghost use Rattle.compiler.specs.Methods.{nameIn, descriptorIn, markSame, someSame, flagsIn, targetIn, markTarget, viewTarget, matchIn, methodAt, slotsIn, methodNumber};
 
-// The table, the first n slots of two arrays, and the first `added` methods that are added to the class.
+// How many slots the table has, and how many methods are added to the class.
 pub struct Prepared {
-    pub words: [u32; 3584],
-    pub marks: [u32; 3584],
     pub n: u32,
-    pub refs: [u32; 1024],
-    pub flags: [u32; 1024],
-    pub lasts: [u32; 1024],
     pub added: u32,
 }
 
@@ -488,7 +483,7 @@ fn compiler_table<'a>(
     )
 }
 
-// The virtual table of class c, which has a compiler table, and the methods that are added to it.
+// Fills the arrays with the virtual table of class c, which has a compiler table, and with the methods that are added to it.
 pub fn prepare_generated<'a>(
     ws: &[u32],
     text: &'a [u8],
@@ -496,44 +491,53 @@ pub fn prepare_generated<'a>(
     labels: &'a [u8],
     area: &[u32],
     c: u32,
+    ts: &mut [u32; 3584],
+    ms: &mut [u32; 3584],
+    refs: &mut [u32; 1024],
+    flags: &mut [u32; 1024],
+    lasts: &mut [u32; 1024],
 ) -> Prepared
-    ensures table { λ r. ⌜ entriesOf (r .words) (r .marks) (r .n) ≡ compilerTable (now (ws .entry)) (now (text .entry)) (now (abi .entry)) (now (labels .entry)) (now (area .entry)) c ⌝ }
-    ensures members { λ r. ⌜ firstNews (now (ws .entry)) (now (text .entry)) (now (abi .entry)) (now (labels .entry)) (r .refs) (r .flags) (r .lasts) (r .added) ≡ addedMethods (now (ws .entry)) (now (text .entry)) (now (abi .entry)) (now (labels .entry)) (now (area .entry)) c ⌝ }
+    ensures table { λ r. ⌜ entriesOf (now (ts .exit)) (now (ms .exit)) (r .n) ≡ compilerTable (now (ws .entry)) (now (text .entry)) (now (abi .entry)) (now (labels .entry)) (now (area .entry)) c ⌝ }
+    ensures members { λ r. ⌜ firstNews (now (ws .entry)) (now (text .entry)) (now (abi .entry)) (now (labels .entry)) (now (refs .exit)) (now (flags .exit)) (now (lasts .exit)) (r .added) ≡ addedMethods (now (ws .entry)) (now (text .entry)) (now (abi .entry)) (now (labels .entry)) (now (area .entry)) c ⌝ }
     ensures counts { λ r. ⌜ (r .n ≤ 3584) × (r .added ≤ 1024) ⌝ }
+    ensures arrays { λ r. ⌜ (length (now (ts .exit)) ≡ 3584) × (length (now (ms .exit)) ≡ 3584) × (length (now (refs .exit)) ≡ 1024) × (length (now (flags .exit)) ≡ 1024) × (length (now (lasts .exit)) ≡ 1024) ⌝ }
 {
-    let native = native_view::native_view(ws, text, abi, labels, area, c);
-    let vs = native.words;
-    let vm = native.marks;
-    let known = native.known;
-    let refs = native.refs;
-    let flags = native.flags;
-    let lasts = native.lasts;
-    let mut ts = [0u32; 3584];
-    let mut ms = [0u32; 3584];
+    let mut vs = [0u32; 1024];
+    let mut vm = [0u32; 1024];
+    let mut known = [0u32; 1024];
+    let native = native_view::native_view(
+        ws,
+        text,
+        abi,
+        labels,
+        area,
+        c,
+        &mut vs,
+        &mut vm,
+        &mut known,
+        refs,
+        flags,
+        lasts,
+    );
     let n = compiler_table(
         ws,
         text,
         abi,
         labels,
-        &refs,
-        &flags,
-        &lasts,
+        refs,
+        flags,
+        lasts,
         native.added,
         c,
         &vs,
         &vm,
         &known,
         native.n,
-        &mut ts,
-        &mut ms,
+        ts,
+        ms,
     );
     Prepared {
-        words: ts,
-        marks: ms,
-        n: n,
-        refs: refs,
-        flags: flags,
-        lasts: lasts,
+        n,
         added: native.added,
     }
 }

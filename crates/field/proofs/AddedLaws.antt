@@ -4,7 +4,7 @@ use mathlib.Core.Bool.{Bool, true, false, cond, not}
 use mathlib.Core.List.{List, [], _∷_, _++_, append-assoc, append-nil}
 use Prim.Native.Nat.{ℕ, zero, suc, _+_, _-_, _≤_, _<_}
 use native.Mathlib.Omega.{arith}
-use lib.ListN.{length, getD, take, drop, set, replicate, getD-replicate, List·getD-append}
+use lib.ListN.{length, getD, take, drop, set, List·getD-append}
 use lib.Seq.{take-suc-set, length-take-le}
 use native.Mathlib.Numerals.{add-one}
 use borrow.Author.Tests.{eq-eqb, ne-eqb, le-ltb}
@@ -165,21 +165,21 @@ module _ (ws text abi labels : List ℕ) where
       rw (e, f, h) (simp (le-ltb (1024 + g) 512 (omega arith), le-ltb (1024 + g) 1024 (omega arith), z))
 
   -- what the arrays hold, if s is the part of l with the numbers of the fields
-  pub members-are : (own : Found) (c : ℕ) (l s refs lasts a b : List ℕ) {n m : ℕ} → own ≡ classAbi ws text abi labels c
+  pub members-are : (own : Found) (c : ℕ) (l s refs flags lasts a d b : List ℕ) {n m : ℕ} → own ≡ classAbi ws text abi labels c
       → take n l ≡ addedFields ws text abi labels own c → n ≤ 256 → length l ≡ 256 → m ≡ n → s ≡ take m (drop 0 l)
-      → refs ≡ stores (length s) (λ i. 1024 + getD s i 0) a → lasts ≡ stores (length s) (λ i. fixedFieldIndex abi (getD s i 0)) b
-      → length a ≡ 1024 → length b ≡ 1024
-      → firstNews ws text abi labels refs (replicate 1024 2) lasts n
+      → refs ≡ stores (length s) (λ i. 1024 + getD s i 0) a → flags ≡ stores (length s) (λ _. 2) d
+      → lasts ≡ stores (length s) (λ i. fixedFieldIndex abi (getD s i 0)) b → length a ≡ 1024 → length d ≡ 1024 → length b ≡ 1024
+      → firstNews ws text abi labels refs flags lasts n
       ≡ newFieldsOf ws text abi labels [] (addedFields ws text abi labels (classAbi ws text abi labels c) c)
   unfolding firstNews
-  members-are own c l s refs lasts a b {n = n} entry e k o f g p q t u =
+  members-are own c l s refs flags lasts a d b {n = n} entry e k o f g p v q t w u =
       let x : s ≡ addedFields ws text abi labels own c = added-part ws text abi labels c own l s e f g in
       let y : length s ≡ n = rw (g, f) (length-take-le n l (omega arith)) in
       rw (← entry, ← x, ← y)
-      (news-from (newAt ws text abi labels refs (replicate 1024 2) lasts) 0 s
+      (news-from (newAt ws text abi labels refs flags lasts) 0 s
       (λ i h.
       let z : 0 + i ≡ i = omega arith in
       rw z
-      (new-at refs (replicate 1024 2) lasts i (getD s i 0) (rw p (getD-stores (length s) (λ i. 1024 + getD s i 0) a i h (omega arith)))
-      (getD-replicate 1024 i 2 0 (omega arith))
+      (new-at refs flags lasts i (getD s i 0) (rw p (getD-stores (length s) (λ i. 1024 + getD s i 0) a i h (omega arith)))
+      (rw v (getD-stores (length s) (λ _. 2) d i h (omega arith)))
       (rw q (getD-stores (length s) (λ i. fixedFieldIndex abi (getD s i 0)) b i h (omega arith))))))

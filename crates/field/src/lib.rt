@@ -1,6 +1,5 @@
 // Field words (field.rs, `new`, `patch_declared_instance_field_word_indices`): the word indices of a class's fields, its instance
 // words, and the ABI fields that are added to it.
-use growth::Members;
 use words::Found;
 ghost use mathlib.Core.Path.{_≡_};
 ghost use mathlib.Core.List.{[], _∷_, _++_};
@@ -15,7 +14,7 @@ ghost use Rattle.linking.specs.Chain.{onFound, listCount, ownFields, chain, isS
 ghost use Rattle.linking.specs.Abi.{fixedFieldIndex, fixedField, givenWords, classAbi};
 ghost use Rattle.linking.specs.Fields.{belowZero, fieldWidth, instanceWords, runtimeEnd, ownRuntime, numberInstance, numberField, numberFields, declaresField, addedFields, raised, addWidth, declaredWords, standFrom, movedIndex, indicesPlus};
 ghost use Rattle.linking.specs.Link.{newFieldsOf};
-ghost use Rattle.growth.specs.News.{membersOf};
+ghost use Rattle.growth.specs.News.{firstNews};
 ghost use Rattle.field.specs.Numbers.{signedOf, counting, firstNumbering, declaredBy, Fits, Movable, Small, numbered, refused, outcomeOf, builtFields, generatedFields, wordsFrom};
 
 // A u32 read as signed: a number from zero on, or the magnitude of one below zero.
@@ -424,43 +423,44 @@ pub fn built_fields(ws: &[u32], text: &[u8], abi: &[u32], labels: &[u8], c: u32)
     }
 }
 
-// Stores what names each ABI field, from 1,024 on, and its fixed index.
-fn put_fields(abi: &[u32], gs: &[u32], refs: &mut [u32], lasts: &mut [u32])
+// Stores what names each ABI field, from 1,024 on, its flags, 2, and its fixed index.
+fn put_fields(abi: &[u32], gs: &[u32], refs: &mut [u32], flags: &mut [u32], lasts: &mut [u32])
     requires { ⌜ Small (now gs) ⌝ }
     ensures refs { λ _. ⌜ now (refs .exit) ≡ stores (length (now (gs .entry))) (λ i. 1024 + getD (now (gs .entry)) i 0) (now (refs .entry)) ⌝ }
+    ensures flags { λ _. ⌜ now (flags .exit) ≡ stores (length (now (gs .entry))) (λ _. 2) (now (flags .entry)) ⌝ }
     ensures lasts { λ _. ⌜ now (lasts .exit) ≡ stores (length (now (gs .entry))) (λ i. fixedFieldIndex (now (abi .entry)) (getD (now (gs .entry)) i 0)) (now (lasts .entry)) ⌝ }
 {
     let mut i: usize = 0;
     while i < gs.len() {
         let g = words::word_at(gs, i);
         words::put_word(refs, i, 1024 + g);
+        words::put_word(flags, i, 2);
         words::put_word(lasts, i, abi::fixed_field_index(abi, g));
         i += 1;
     }
 }
 
-// The ABI fields that no instance field of class c matches, as new members.
-pub fn added_fields(ws: &[u32], text: &[u8], abi: &[u32], labels: &[u8], c: u32) -> Members
-    ensures is { λ r. ⌜ membersOf (now (ws .entry)) (now (text .entry)) (now (abi .entry)) (now (labels .entry)) r ≡ newFieldsOf (now (ws .entry)) (now (text .entry)) (now (abi .entry)) (now (labels .entry)) [] (addedFields (now (ws .entry)) (now (text .entry)) (now (abi .entry)) (now (labels .entry)) (classAbi (now (ws .entry)) (now (text .entry)) (now (abi .entry)) (now (labels .entry)) c) c) ⌝ }
-    ensures count { λ r. ⌜ r .n ≤ 256 ⌝ }
+// Fills the arrays with the ABI fields that no instance field of class c matches, as new members, and answers how many there are.
+pub fn added_fields(
+    ws: &[u32],
+    text: &[u8],
+    abi: &[u32],
+    labels: &[u8],
+    c: u32,
+    refs: &mut [u32; 1024],
+    flags: &mut [u32; 1024],
+    lasts: &mut [u32; 1024],
+) -> u32
+    ensures is { λ r. ⌜ firstNews (now (ws .entry)) (now (text .entry)) (now (abi .entry)) (now (labels .entry)) (now (refs .exit)) (now (flags .exit)) (now (lasts .exit)) r ≡ newFieldsOf (now (ws .entry)) (now (text .entry)) (now (abi .entry)) (now (labels .entry)) [] (addedFields (now (ws .entry)) (now (text .entry)) (now (abi .entry)) (now (labels .entry)) (classAbi (now (ws .entry)) (now (text .entry)) (now (abi .entry)) (now (labels .entry)) c) c) ⌝ }
+    ensures count { λ r. ⌜ r ≤ 256 ⌝ }
+    ensures arrays { λ r. ⌜ (length (now (refs .exit)) ≡ 1024) × (length (now (flags .exit)) ≡ 1024) × (length (now (lasts .exit)) ≡ 1024) ⌝ }
 {
     let own = abi::class_abi(ws, text, abi, labels, c);
     let mut gs = [0u32; 256];
     let n = added(ws, text, abi, labels, own, c, &mut gs);
-    let mut refs = [0u32; 1024];
-    let mut lasts = [0u32; 1024];
-    put_fields(
-        abi,
-        words::word_part(&gs, 0, words::wide(n)),
-        &mut refs,
-        &mut lasts,
-    );
-    Members {
-        refs,
-        flags: [2; 1024],
-        lasts,
-        n,
-    }
+    let fields = words::word_part(&gs, 0, words::wide(n));
+    put_fields(abi, fields, refs, flags, lasts);
+    n
 }
 
 // The words with those of field f, if it is an instance field.

@@ -9,7 +9,6 @@ use Rattle.words.specs.Lists.{listFrom}
 use Rattle.class_sheet.specs.ClassSheet.{methodName, methodDescriptor}
 use Rattle.abi_sheet.specs.AbiSheet.{abiSlotName, abiSlotDescriptor, abiFieldName, abiFieldDescriptor}
 use Rattle.linking.specs.Compiler.{New}
-use Rattle.growth.specs.declared.Members.{Members}
 
 -- how many there are: a compiler table has at most 1,024 slots and an ABI sheet at most 256 fields, so no list of a link is cut
 unfoldable pub newCount : List ℕ → ℕ
@@ -49,7 +48,3 @@ module _ (ws text abi labels : List ℕ) where
   -- the new members by their names alone: what rows 14 and 15 ask for
   abbrev pub named : List ℕ → List New
   named refs = news refs [] []
-
-  -- the new members that the struct holds
-  abbrev pub membersOf : Members → List New
-  membersOf m = firstNews (m .refs) (m .flags) (m .lasts) (m .n)

@@ -19,14 +19,6 @@ const MEMBER_WIDTH: usize = 6;
 // The most words that a class sheet's blocks hold.
 const MOST: usize = 11684;
 
-// New members, the first n of each array: what names them, their flags, and their targets or indices.
-pub struct Members {
-    pub refs: [u32; 1024],
-    pub flags: [u32; 1024],
-    pub lasts: [u32; 1024],
-    pub n: u32,
-}
-
 // The name of what r names: a part of the class text, or of the ABI text.
 pub fn ref_name<'a>(ws: &[u32], text: &'a [u8], abi: &[u32], labels: &'a [u8], r: u32) -> &'a [u8]
     ensures is { λ p. ⌜ now p ≡ refName (now (ws .entry)) (now (text .entry)) (now (abi .entry)) (now (labels .entry)) r ⌝ }

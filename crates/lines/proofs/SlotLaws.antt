@@ -11,7 +11,6 @@ use Rattle.class_sheet.specs.ClassSheet.{textOf, textLength, className, classIn
 use Rattle.abi_sheet.specs.AbiSheet.{abiTextOf, abiTextLength}
 use Rattle.linking.specs.Vtable.{Entry, tableEntries}
 use Rattle.vtable.specs.Arrays.{marked, entryAt, entriesOf}
-use Rattle.vtable.specs.declared.Entries.{Entries}
 use Rattle.lines.specs.Bytes.{put}
 use Rattle.lines.specs.Lines.{classLine, slotLine, slotName, slotDescriptor, slotText, slotTexts, linesOf, classLines}
 use Rattle.lines.proofs.ByteLaws.{put-none, then}
@@ -40,13 +39,13 @@ module _ (ws text abi labels : List ℕ) where
     slots-end p i h = rw (rest-end (entryAt ts ms) 0 n i h) (put-none p)
 
   -- the class's line and its slots' lines
-  pub lines-put : (area : List ℕ) (c : ℕ) (p : List ℕ × ℕ) {q r : List ℕ × ℕ} {name : List ℕ} {words slots : ℕ} (t : Entries)
+  pub lines-put : (area : List ℕ) (c : ℕ) (p : List ℕ × ℕ) {q r : List ℕ × ℕ} {name : List ℕ} {words slots : ℕ} (ts ms : List ℕ) (n : ℕ)
       → name ≡ className ws text c → words ≡ classInstanceWords ws c → slots ≡ classSlotCount ws c → q ≡ put p (classLine c name words slots)
-      → entriesOf (t .words) (t .marks) (t .n) ≡ tableEntries ws text abi labels area c
-      → r ≡ put q (slotTexts ws text abi labels c 0 (entriesOf (t .words) (t .marks) (t .n)))
+      → entriesOf ts ms n ≡ tableEntries ws text abi labels area c
+      → r ≡ put q (slotTexts ws text abi labels c 0 (entriesOf ts ms n))
       → r ≡ put p (linesOf ws text abi labels area c)
   unfolding linesOf
-  lines-put area c p t e f g h k l =
+  lines-put area c p ts ms n e f g h k l =
       let T : List Entry = tableEntries ws text abi labels area c in
       then p (classLine c (className ws text c) (classInstanceWords ws c) (classSlotCount ws c)) (slotTexts ws text abi labels c 0 T)
       (h ∙ rw (e, f, g)) (l ∙ rw k)

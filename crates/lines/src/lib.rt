@@ -250,10 +250,10 @@ fn list_with<'a>(
     let words = class_sheet::class_instance_words(ws, c);
     let slots = class_sheet::class_slot_count(ws, c);
     let place = class_line(out, at, c, name, words, slots);
-    let t = vtable::table_entries(ws, text, abi, labels, area, c);
-    let ts = t.words;
-    let ms = t.marks;
-    list_slots(ws, text, abi, labels, c, &ts, &ms, t.n, out, place)
+    let mut ts = [0u32; 1024];
+    let mut ms = [0u32; 1024];
+    let n = vtable::table_entries(ws, text, abi, labels, area, c, &mut ts, &mut ms);
+    list_slots(ws, text, abi, labels, c, &ts, &ms, n, out, place)
 }
 
 // Unpacks the texts, and puts class c's lines.

@@ -45,13 +45,12 @@ length-bare (e ∷ T) = ap suc (length-bare T)
 
 -- ---- the parts that the code lends of a plan's arrays
 
-module _ (ws text abi labels : List ℕ) (c : ℕ) (r : Plan) where
-  pub news-lent : {refs flags lasts : List ℕ} {n : ℕ} → n ≡ r .added → refs ≡ take n (drop 0 (r .refs)) → flags ≡ take n (drop 0 (r .flags))
-      → lasts ≡ take n (drop 0 (r .lasts)) → r .added ≤ 1024 → length (r .refs) ≡ 1024
-      → news ws text abi labels refs flags lasts ≡ newsOf ws text abi labels c r
-  news-lent e f g h m l = rw (f, g, h, e) (news-part ws text abi labels (r .refs) (r .flags) (r .lasts) (r .added) m (omega arith))
+module _ (ws text abi labels : List ℕ) (c : ℕ) (ts is rs fs ls : List ℕ) (r : Plan) where
+  pub news-lent : {refs flags lasts : List ℕ} {n : ℕ} → n ≡ r .added → refs ≡ take n (drop 0 rs) → flags ≡ take n (drop 0 fs)
+      → lasts ≡ take n (drop 0 ls) → r .added ≤ 1024 → length rs ≡ 1024 → news ws text abi labels refs flags lasts ≡ newsOf ws text abi labels c ts is rs fs ls r
+  news-lent e f g h m l = rw (f, g, h, e) (news-part ws text abi labels rs fs ls (r .added) m (omega arith))
 
-  pub indices-lent : {is : List ℕ} {n : ℕ} → n ≡ r .own → is ≡ take n (drop 0 (r .indices)) → is ≡ take (r .own) (r .indices)
+  pub indices-lent : {js : List ℕ} {n : ℕ} → n ≡ r .own → js ≡ take n (drop 0 is) → js ≡ take (r .own) is
   indices-lent e f = f ∙ rw e
 
 -- ---- a call that rows 3 to 7 accept
@@ -76,8 +75,8 @@ module _ (ws abi : List ℕ) (c : ℕ) (area stubs text labels : List ℕ) (a : 
   unfolding L.linkDef
   link-is = rw (a .texts .set, a .class, a .tables)
 
-  module _ (r : Plan) (planned : plannedOf ws text abi labels c r ≡ barePlanned (L.plan ws text abi labels area c)) where
-    planned-texts : plannedOf ws (textOf ws) abi (abiTextOf abi) c r ≡ barePlanned (L.plan ws (textOf ws) abi (abiTextOf abi) area c)
+  module _ (ts is rs fs ls : List ℕ) (r : Plan) (planned : plannedOf ws text abi labels c ts is rs fs ls r ≡ barePlanned (L.plan ws text abi labels area c)) where
+    planned-texts : plannedOf ws (textOf ws) abi (abiTextOf abi) c ts is rs fs ls r ≡ barePlanned (L.plan ws (textOf ws) abi (abiTextOf abi) area c)
     planned-texts = rw (a .texts .text-is, a .texts .labels-are) at planned
 
     pub link-refused : r .row ≢ 0 → L.refusedCall (r .row) ws area ≡ L.linkDef ws abi c area stubs
@@ -91,11 +90,11 @@ module _ (ws abi : List ℕ) (c : ℕ) (area stubs text labels : List ℕ) (a : 
         refused-by (L.unplanned n) e = let f : r .row ≡ n = cc in rw f
 
     module _ (zero : r .row ≡ 0) (instance : r .instance ≡ L.newWords ws text abi labels area c) where
-      finish-of : (p : L.Plan) → L.plan ws (textOf ws) abi (abiTextOf abi) area c ≡ L.planned p → planOf ws (textOf ws) abi (abiTextOf abi) c r ≡ barePlan p
-          → Finish ws abi c area stubs (r .words) (r .n) (r .instance) (newsOf ws (textOf ws) abi (abiTextOf abi) c r) p
+      finish-of : (p : L.Plan) → L.plan ws (textOf ws) abi (abiTextOf abi) area c ≡ L.planned p → planOf ws (textOf ws) abi (abiTextOf abi) c ts is rs fs ls r ≡ barePlan p
+          → Finish ws abi c area stubs ts (r .n) (r .instance) (newsOf ws (textOf ws) abi (abiTextOf abi) c ts is rs fs ls r) p
       finish-of p e f =
           let v = valid ws abi (a .texts .set) .0 in
-          let t : entriesOf (r .words) [] (r .n) ≡ bare (p .table) = ap (λ (x : L.Plan). x .table) f in
+          let t : entriesOf ts [] (r .n) ≡ bare (p .table) = ap (λ (x : L.Plan). x .table) f in
           record {
             valid = v;
             some = among .0;
@@ -103,27 +102,27 @@ module _ (ws abi : List ℕ) (c : ℕ) (area stubs text labels : List ℕ) (a : 
             short-area = sound ws area (a .tables) .short;
             methods = sym (ap (λ (x : L.Plan). x .newMethods) f);
             fields = sym (ap (λ (x : L.Plan). x .newFields) f);
-            slot-count = sym (length-bare (p .table)) ∙ (rw (← t) (length-entries (r .words) [] (r .n)));
+            slot-count = sym (length-bare (p .table)) ∙ (rw (← t) (length-entries ts [] (r .n)));
             slot-words = sym (bare-words stubs 0 (p .table)) ∙ (rw (← t));
             words-are = rw (a .texts .text-is, a .texts .labels-are) at instance;
             indices-fit = omega (arith, plan-few ws (textOf ws) abi (abiTextOf abi) area c p e, v .class c among .fields);
           }
 
-      pub link-finished : {is : List ℕ} {news : List New} → is ≡ take (r .own) (r .indices) → news ≡ newsOf ws text abi labels c r
-          → finished ws c area stubs (r .words) (r .n) (r .instance) is news ≡ L.linkDef ws abi c area stubs
+      pub link-finished : {js : List ℕ} {news : List New} → js ≡ take (r .own) is → news ≡ newsOf ws text abi labels c ts is rs fs ls r
+          → finished ws c area stubs ts (r .n) (r .instance) js news ≡ L.linkDef ws abi c area stubs
       link-finished i n =
-          let e : L.planned (planOf ws (textOf ws) abi (abiTextOf abi) c r) ≡ barePlanned (L.plan ws (textOf ws) abi (abiTextOf abi) area c)
+          let e : L.planned (planOf ws (textOf ws) abi (abiTextOf abi) c ts is rs fs ls r) ≡ barePlanned (L.plan ws (textOf ws) abi (abiTextOf abi) area c)
           = rw (eq-eqb (r .row) 0 zero) at planned-texts in
           rw (i, n, a .texts .text-is, a .texts .labels-are) (finished-by (L.plan ws (textOf ws) abi (abiTextOf abi) area c) refl e ∙ link-is)
         where
           finished-by : (P : L.Planned) → L.plan ws (textOf ws) abi (abiTextOf abi) area c ≡ P
-              → L.planned (planOf ws (textOf ws) abi (abiTextOf abi) c r) ≡ barePlanned P
-              → finished ws c area stubs (r .words) (r .n) (r .instance) (take (r .own) (r .indices)) (newsOf ws (textOf ws) abi (abiTextOf abi) c r)
+              → L.planned (planOf ws (textOf ws) abi (abiTextOf abi) c ts is rs fs ls r) ≡ barePlanned P
+              → finished ws c area stubs ts (r .n) (r .instance) (take (r .own) is) (newsOf ws (textOf ws) abi (abiTextOf abi) c ts is rs fs ls r)
               ≡ L.onPlan P (L.finishLink ws abi c area stubs) (λ n. L.refusedCall n ws area)
           finished-by (L.planned p) g e =
-              let f : planOf ws (textOf ws) abi (abiTextOf abi) c r ≡ barePlan p = same-plan e in
-              let j : take (r .own) (r .indices) ≡ p .indices = ap (λ (x : L.Plan). x .indices) f in
-              rw j (finished-is ws abi c area stubs (r .words) (r .n) (r .instance) (newsOf ws (textOf ws) abi (abiTextOf abi) c r) p (finish-of p g f))
+              let f : planOf ws (textOf ws) abi (abiTextOf abi) c ts is rs fs ls r ≡ barePlan p = same-plan e in
+              let j : take (r .own) is ≡ p .indices = ap (λ (x : L.Plan). x .indices) f in
+              rw j (finished-is ws abi c area stubs ts (r .n) (r .instance) (newsOf ws (textOf ws) abi (abiTextOf abi) c ts is rs fs ls r) p (finish-of p g f))
           finished-by (L.unplanned n) g e = apart (sym e)
 
 -- ---- the rows before

@@ -177,16 +177,34 @@ fn link_planned<'a>(
     requires { ⌜ Accepted (now set) (now abi) c (now area) (now text) (now labels) ⌝ }
     ensures { λ r. ⌜ outcome r (now (set .exit)) (now (area .exit)) ≡ linkDef (now (set .entry)) (now (abi .entry)) c (now (area .entry)) (now (stubs .entry)) ⌝ }
 {
-    let p = plan::plan_link(set, text, abi, labels, area, c);
+    let mut slots = [0u32; 3584];
+    let mut marks = [0u32; 3584];
+    let mut own = [0u32; 512];
+    let mut refs = [0u32; 1024];
+    let mut flags = [0u32; 1024];
+    let mut lasts = [0u32; 1024];
+    let p = plan::plan_link(
+        set,
+        text,
+        abi,
+        labels,
+        area,
+        c,
+        &mut slots,
+        &mut marks,
+        &mut own,
+        &mut refs,
+        &mut flags,
+        &mut lasts,
+    );
     if p.row != 0 {
         return Answer::Refused(p.row);
     }
-    let slots = p.words;
-    let own = p.indices;
-    let refs = p.refs;
-    let flags = p.flags;
-    let lasts = p.lasts;
+    let indices = words::word_part(&own, 0, words::wide(p.own));
     let n = words::wide(p.added);
+    let names = words::word_part(&refs, 0, n);
+    let bits = words::word_part(&flags, 0, n);
+    let ends = words::word_part(&lasts, 0, n);
     finish_link(
         set,
         c,
@@ -198,10 +216,10 @@ fn link_planned<'a>(
         &slots,
         p.n,
         p.instance,
-        words::word_part(&own, 0, words::wide(p.own)),
-        words::word_part(&refs, 0, n),
-        words::word_part(&flags, 0, n),
-        words::word_part(&lasts, 0, n),
+        indices,
+        names,
+        bits,
+        ends,
     )
 }
 

@@ -1,5 +1,5 @@
 -- Laws of the methods that compiler targets add. Assumes nothing.
-use mathlib.Core.Path.{_≡_, sym, ap, _∙_}
+use mathlib.Core.Path.{_≡_, refl, sym, ap, _∙_}
 use mathlib.Core.Bool.{Bool, true, false, _||_}
 use mathlib.Core.Logic.{_≢_}
 use mathlib.Core.List.{List, [], _∷_, _++_, append-assoc, append-nil}
@@ -9,7 +9,7 @@ use lib.ListN.{length, getD, set}
 use lib.Seq.{getD-set-same, getD-set-other}
 use lib.Dec.{eqb}
 use borrow.Author.Tests.{eq-eqb, ne-eqb, lt-ltb, le-ltb}
-use Rattle.words.specs.Lists.{orElse, andThen, firstFound, allFound, some}
+use Rattle.words.specs.Lists.{listFrom, orElse, andThen, firstFound, allFound, some}
 use Rattle.words.specs.declared.Found.{Found}
 use Rattle.words.specs.declared.Found.the-variants.{At, Nothing}
 use Rattle.words.proofs.Bools.{by}
@@ -34,22 +34,35 @@ small-mark ms n i h e = rw e (h i)
 
 -- ---- a new member at the end of the arrays
 
-pub push-new : (ws text abi labels refs flags lasts : List ℕ) (n r f t : ℕ) → length refs ≡ 1024 → length flags ≡ 1024 → length lasts ≡ 1024 → n < 1024
+pub push-new : (ws text abi labels refs flags lasts : List ℕ) (n r f t : ℕ) → n < length refs → n < length flags → n < length lasts
     → firstNews ws text abi labels (set refs n r) (set flags n f) (set lasts n t) (n + 1)
     ≡ firstNews ws text abi labels refs flags lasts n
     ++ (record { name = refName ws text abi labels r; descriptor = refDescriptor ws text abi labels r; flags = f; last = t } ∷ [])
 unfolding firstNews newAt
-push-new ws text abi labels refs flags lasts n r f t h g k l =
+push-new ws text abi labels refs flags lasts n r f t h g k =
     list-more (newAt ws text abi labels (set refs n r) (set flags n f) (set lasts n t)) n
     ∙ rw (
-      getD-set-same refs n r 0 (omega arith),
-      getD-set-same flags n f 0 (omega arith),
-      getD-set-same lasts n t 0 (omega arith),
+      getD-set-same refs n r 0 h,
+      getD-set-same flags n f 0 g,
+      getD-set-same lasts n t 0 k,
       list-ext (newAt ws text abi labels (set refs n r) (set flags n f) (set lasts n t)) (newAt ws text abi labels refs flags lasts) 0 n
           (λ i o.
           let p : i ≢ n = (λ (z : i ≡ n). omega arith) in
           rw (getD-set-other refs n i r 0 p, getD-set-other flags n i f 0 p, getD-set-other lasts n i t 0 p)),
     )
+
+-- as the code stores it
+pub pushed : (ws text abi labels refs flags lasts : List ℕ) (n r f t : ℕ) {rs fs ls : List ℕ} {i j k : ℕ}
+    → n < length refs → n < length flags → n < length lasts → i ≡ n → rs ≡ set refs i r → j ≡ n → fs ≡ set flags j f → k ≡ n → ls ≡ set lasts k t
+    → firstNews ws text abi labels rs fs ls (n + 1)
+    ≡ firstNews ws text abi labels refs flags lasts n
+    ++ (record { name = refName ws text abi labels r; descriptor = refDescriptor ws text abi labels r; flags = f; last = t } ∷ [])
+pushed ws text abi labels refs flags lasts n r f t h g k ei er ej ef ek el =
+    rw (er, ef, el, ei, ej, ek) (push-new ws text abi labels refs flags lasts n r f t h g k)
+
+pub none-yet : (ws text abi labels refs flags lasts : List ℕ) → firstNews ws text abi labels refs flags lasts 0 ≡ []
+unfolding firstNews listFrom
+none-yet ws text abi labels refs flags lasts = refl
 
 pub interface-end : (ws : List ℕ) (c k : ℕ) {n : ℕ} → n ≤ k → n ≡ listCount (classFirstInterface ws c) (classInterfaceCount ws c) 256
     → length (ownInterfaces ws c) ≤ k

@@ -21,7 +21,6 @@ use Rattle.linking.specs.Compiler.{New, ownerState, isEmptied, viewFrom, native
 use Rattle.vtable.specs.Arrays.{markOf, marked, entryAt, entriesOf}
 use Rattle.abi.specs.Abis.{abisOf}
 use Rattle.abi.specs.declared.AbiChain.{AbiChain}
-use Rattle.vtable.specs.declared.Entries.{Entries}
 use Rattle.vtable.proofs.ArrayLaws.{length-entries, entry-is, push-slot}
 use Rattle.vtable.proofs.ReadLaws.{read-back}
 use Rattle.native_view.specs.Native.{below, SmallMarks, markMethods}
@@ -165,29 +164,21 @@ module _ (ws text abi labels : List ℕ) where
         by (eqb (parentOf ws c) 0) (λ q. no-method m (rw q at e)) (λ q. table-room (parentOf ws c) i m (rw q at e))
 
     -- the view and the marks as the code has them
-    pub native-is : (t : Entries) (vs vm abis : List ℕ) {p : ℕ} → entriesOf (t .words) (t .marks) (t .n) ≡ parentEntries ws text abi labels area c → p ≡ parentOf ws c
-        → abis ≡ chainAbi ws text abi labels p
-        → entriesOf vs vm (t .n) ≡ viewFrom ws text abi labels abis 0 (entriesOf (t .words) (t .marks) (t .n))
-        → entriesOf vs vm (t .n) ≡ nativeView ws text abi labels area c
-    unfolding nativeView
-    native-is t vs vm abis h e f g = g ∙ rw (h, f, e)
+    module _ (ts ms : List ℕ) (n : ℕ) (read : entriesOf ts ms n ≡ parentEntries ws text abi labels area c) where
+      pub native-is : (vs vm abis : List ℕ) {p : ℕ} → p ≡ parentOf ws c → abis ≡ chainAbi ws text abi labels p
+          → entriesOf vs vm n ≡ viewFrom ws text abi labels abis 0 (entriesOf ts ms n) → entriesOf vs vm n ≡ nativeView ws text abi labels area c
+      unfolding nativeView
+      native-is vs vm abis e f g = g ∙ rw (read, f, e)
 
-    pub native-small : (t : Entries) (vs vm abis : List ℕ) → entriesOf (t .words) (t .marks) (t .n) ≡ parentEntries ws text abi labels area c
-        → entriesOf vs vm (t .n) ≡ viewFrom ws text abi labels abis 0 (entriesOf (t .words) (t .marks) (t .n)) → SmallMarks vm (t .n)
-    native-small t vs vm abis h g =
-        view-small abis (parentEntries ws text abi labels area c) vs vm (t .n) parent-room
-        (g ∙ rw h)
+      pub native-small : (vs vm abis : List ℕ) → entriesOf vs vm n ≡ viewFrom ws text abi labels abis 0 (entriesOf ts ms n) → SmallMarks vm n
+      native-small vs vm abis g = view-small abis (parentEntries ws text abi labels area c) vs vm n parent-room (g ∙ rw read)
 
-    module _ (new : List New) where
-      methods-from : (ts ms : List ℕ) (m n : ℕ) → allFound (λ i. marked (getD ms i 0)) (numbers m n)
-          ≡ entryMethods ws text abi labels new (listFrom (entryAt ts ms) m n)
+      methods-from : (new : List New) (m k : ℕ)
+          → allFound (λ i. marked (getD ms i 0)) (numbers m k) ≡ entryMethods ws text abi labels new (listFrom (entryAt ts ms) m k)
       unfolding entryMethods listFrom entryAt allFound
-      methods-from ts ms m zero = refl
-      methods-from ts ms m (suc n) = rw (methods-from ts ms (m + 1) n)
+      methods-from new m zero = refl
+      methods-from new m (suc k) = rw (methods-from new (m + 1) k)
 
-      pub methods-are : (t : Entries) → entriesOf (t .words) (t .marks) (t .n) ≡ parentEntries ws text abi labels area c
-          → markMethods (t .marks) (t .n) ≡ entryMethods ws text abi labels new (parentEntries ws text abi labels area c)
+      pub methods-are : (new : List New) → markMethods ms n ≡ entryMethods ws text abi labels new (parentEntries ws text abi labels area c)
       unfolding entriesOf markMethods
-      methods-are t h =
-          methods-from (t .words) (t .marks) 0 (t .n)
-          ∙ ap (entryMethods ws text abi labels new) h
+      methods-are new = methods-from new 0 n ∙ ap (entryMethods ws text abi labels new) read

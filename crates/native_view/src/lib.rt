@@ -1,6 +1,5 @@
 // What a generated class with a compiler table takes from its parent (`prepare_generated`): the native view of the parent's table, and
 // the methods that its compiler targets add.
-use growth::Members;
 use words::Found;
 ghost use mathlib.Core.Path.{_≡_};
 ghost use mathlib.Core.Bool.{false, cond};
@@ -15,18 +14,12 @@ ghost use Rattle.linking.specs.Abi.{slotAt, classAbi};
 ghost use Rattle.linking.specs.Vtable.{fixedOf, parentEntries};
 ghost use Rattle.linking.specs.Compiler.{New, holds, ownerState, isEmptied, viewFrom, nativeView, signatureSources, addNamed, compilerTargets, addedFrom, addedMethods, entryMethods};
 ghost use Rattle.vtable.specs.Arrays.{marked, entriesOf};
-ghost use Rattle.growth.specs.News.{refName, refDescriptor, membersOf, firstNews};
+ghost use Rattle.growth.specs.News.{refName, refDescriptor, firstNews};
 ghost use Rattle.native_view.specs.Native.{below, SmallMarks, markMethods, interfaceSlot, sourceRef, refFlags, newOf, addedAt};
 
-// The first n slots of the native view, the marks of the parent's slots, and the first `added` methods that the compiler table adds.
+// How many slots the native view has, and how many methods the compiler table adds.
 pub struct Native {
-    pub words: [u32; 1024],
-    pub marks: [u32; 1024],
-    pub known: [u32; 1024],
     pub n: u32,
-    pub refs: [u32; 1024],
-    pub flags: [u32; 1024],
-    pub lasts: [u32; 1024],
     pub added: u32,
 }
 
@@ -247,41 +240,17 @@ fn is_declared(ws: &[u32], text: &[u8], name: &[u8], descriptor: &[u8], c: u32) 
     }
 }
 
-// No added methods.
-fn no_methods() -> Members
-    ensures is { λ m. ⌜ ((ws text abi labels : List ℕ) → membersOf ws text abi labels m ≡ []) ⌝ }
-    ensures count { λ m. ⌜ m .n ≡ 0 ⌝ }
+// Stores one added method more, after n.
+fn push(refs: &mut [u32], flags: &mut [u32], lasts: &mut [u32], n: u32, r: u32, f: u32, t: u32)
+    requires { ⌜ (n < length (now refs)) × (n < length (now flags)) × (n < length (now lasts)) ⌝ }
+    ensures { λ _. ⌜ ((ws text abi labels : List ℕ) → firstNews ws text abi labels (now (refs .exit)) (now (flags .exit)) (now (lasts .exit)) (n + 1) ≡ firstNews ws text abi labels (now (refs .entry)) (now (flags .entry)) (now (lasts .entry)) n ++ (record { name = refName ws text abi labels r; descriptor = refDescriptor ws text abi labels r; flags = f; last = t } ∷ [])) ⌝ }
 {
-    Members {
-        refs: [0; 1024],
-        flags: [0; 1024],
-        lasts: [0; 1024],
-        n: 0,
-    }
+    words::put_word(refs, words::wide(n), r);
+    words::put_word(flags, words::wide(n), f);
+    words::put_word(lasts, words::wide(n), t);
 }
 
-// One added method more.
-fn push(into: Members, r: u32, f: u32, t: u32) -> Members
-    requires { ⌜ into .n < 1024 ⌝ }
-    ensures is { λ m. ⌜ ((ws text abi labels : List ℕ) → membersOf ws text abi labels m ≡ membersOf ws text abi labels into ++ (record { name = refName ws text abi labels r; descriptor = refDescriptor ws text abi labels r; flags = f; last = t } ∷ [])) ⌝ }
-    ensures count { λ m. ⌜ m .n ≡ into .n + 1 ⌝ }
-{
-    let n = into.n;
-    let mut refs = into.refs;
-    let mut flags = into.flags;
-    let mut lasts = into.lasts;
-    refs[n as usize] = r;
-    flags[n as usize] = f;
-    lasts[n as usize] = t;
-    Members {
-        refs: refs,
-        flags: flags,
-        lasts: lasts,
-        n: n + 1,
-    }
-}
-
-// The methods with one more for target t that takes its signature from r, unless class c declares it.
+// Adds a method for target t that takes its signature from r, unless class c declares it, and answers how many there are.
 fn add_named<'a>(
     ws: &[u32],
     text: &'a [u8],
@@ -290,21 +259,25 @@ fn add_named<'a>(
     c: u32,
     r: u32,
     t: u32,
-    into: Members,
-) -> Members
-    requires { ⌜ into .n < 1024 ⌝ }
-    ensures is { λ m. ⌜ membersOf (now (ws .entry)) (now (text .entry)) (now (abi .entry)) (now (labels .entry)) m ≡ membersOf (now (ws .entry)) (now (text .entry)) (now (abi .entry)) (now (labels .entry)) into ++ addNamed (now (ws .entry)) (now (text .entry)) (now (abi .entry)) (now (labels .entry)) c (newOf (now (ws .entry)) (now (text .entry)) (now (abi .entry)) (now (labels .entry)) r t) [] ⌝ }
-    ensures count { λ m. ⌜ m .n ≤ into .n + 1 ⌝ }
+    refs: &mut [u32],
+    flags: &mut [u32],
+    lasts: &mut [u32],
+    n: u32,
+) -> u32
+    requires { ⌜ (n < 1024) × (1024 ≤ length (now refs)) × (1024 ≤ length (now flags)) × (1024 ≤ length (now lasts)) ⌝ }
+    ensures is { λ m. ⌜ firstNews (now (ws .entry)) (now (text .entry)) (now (abi .entry)) (now (labels .entry)) (now (refs .exit)) (now (flags .exit)) (now (lasts .exit)) m ≡ firstNews (now (ws .entry)) (now (text .entry)) (now (abi .entry)) (now (labels .entry)) (now (refs .entry)) (now (flags .entry)) (now (lasts .entry)) n ++ addNamed (now (ws .entry)) (now (text .entry)) (now (abi .entry)) (now (labels .entry)) c (newOf (now (ws .entry)) (now (text .entry)) (now (abi .entry)) (now (labels .entry)) r t) [] ⌝ }
+    ensures count { λ m. ⌜ m ≤ n + 1 ⌝ }
 {
     let name = growth::ref_name(ws, text, abi, labels, r);
     let descriptor = growth::ref_descriptor(ws, text, abi, labels, r);
     if is_declared(ws, text, name, descriptor, c) {
-        return into;
+        return n;
     }
-    push(into, r, ref_flags(ws, r), t)
+    push(refs, flags, lasts, n, r, ref_flags(ws, r), t);
+    n + 1
 }
 
-// The methods with what target t at index i adds, where the native view has word w and mark k.
+// Adds what target t at index i adds, where the native view has word w and mark k, and answers how many there are.
 fn add<'a>(
     ws: &[u32],
     text: &'a [u8],
@@ -315,22 +288,25 @@ fn add<'a>(
     t: u32,
     w: u32,
     k: u32,
-    into: Members,
-) -> Members
-    requires { ⌜ (into .n < 1024) × (k ≤ 512) ⌝ }
-    ensures is { λ m. ⌜ membersOf (now (ws .entry)) (now (text .entry)) (now (abi .entry)) (now (labels .entry)) m ≡ membersOf (now (ws .entry)) (now (text .entry)) (now (abi .entry)) (now (labels .entry)) into ++ addedAt (now (ws .entry)) (now (text .entry)) (now (abi .entry)) (now (labels .entry)) c i t (record { word = w; method = marked k }) ⌝ }
-    ensures count { λ m. ⌜ m .n ≤ into .n + 1 ⌝ }
+    refs: &mut [u32],
+    flags: &mut [u32],
+    lasts: &mut [u32],
+    n: u32,
+) -> u32
+    requires { ⌜ (n < 1024) × (k ≤ 512) × (1024 ≤ length (now refs)) × (1024 ≤ length (now flags)) × (1024 ≤ length (now lasts)) ⌝ }
+    ensures is { λ m. ⌜ firstNews (now (ws .entry)) (now (text .entry)) (now (abi .entry)) (now (labels .entry)) (now (refs .exit)) (now (flags .exit)) (now (lasts .exit)) m ≡ firstNews (now (ws .entry)) (now (text .entry)) (now (abi .entry)) (now (labels .entry)) (now (refs .entry)) (now (flags .entry)) (now (lasts .entry)) n ++ addedAt (now (ws .entry)) (now (text .entry)) (now (abi .entry)) (now (labels .entry)) c i t (record { word = w; method = marked k }) ⌝ }
+    ensures count { λ m. ⌜ m ≤ n + 1 ⌝ }
 {
     if (t == 0) | (t == w) {
-        return into;
+        return n;
     }
     match source_ref(ws, text, abi, labels, c, i, k) {
-        Found::At(r) => add_named(ws, text, abi, labels, c, r, t, into),
-        Found::Nothing => into,
+        Found::At(r) => add_named(ws, text, abi, labels, c, r, t, refs, flags, lasts, n),
+        Found::Nothing => n,
     }
 }
 
-// The methods that class c's compiler targets add, where the native view has these n slots.
+// Fills the arrays with the methods that class c's compiler targets add, where the native view has these n slots, and answers how many there are.
 fn add_methods<'a>(
     ws: &[u32],
     text: &'a [u8],
@@ -340,25 +316,72 @@ fn add_methods<'a>(
     vs: &[u32],
     vm: &[u32],
     n: u32,
-) -> Members
-    requires { ⌜ SmallMarks (now vm) n ⌝ }
-    ensures is { λ m. ⌜ membersOf (now (ws .entry)) (now (text .entry)) (now (abi .entry)) (now (labels .entry)) m ≡ addedFrom (now (ws .entry)) (now (text .entry)) (now (abi .entry)) (now (labels .entry)) c (entriesOf (now (vs .entry)) (now (vm .entry)) n) 0 (compilerTargets (now (ws .entry)) (now (text .entry)) (now (abi .entry)) (now (labels .entry)) c) ⌝ }
-    ensures count { λ m. ⌜ m .n ≤ 1024 ⌝ }
+    refs: &mut [u32],
+    flags: &mut [u32],
+    lasts: &mut [u32],
+) -> u32
+    requires { ⌜ (SmallMarks (now vm) n) × (1024 ≤ length (now refs)) × (1024 ≤ length (now flags)) × (1024 ≤ length (now lasts)) ⌝ }
+    ensures is { λ m. ⌜ firstNews (now (ws .entry)) (now (text .entry)) (now (abi .entry)) (now (labels .entry)) (now (refs .exit)) (now (flags .exit)) (now (lasts .exit)) m ≡ addedFrom (now (ws .entry)) (now (text .entry)) (now (abi .entry)) (now (labels .entry)) c (entriesOf (now (vs .entry)) (now (vm .entry)) n) 0 (compilerTargets (now (ws .entry)) (now (text .entry)) (now (abi .entry)) (now (labels .entry)) c) ⌝ }
+    ensures count { λ m. ⌜ m ≤ 1024 ⌝ }
 {
     let count = compiler_count(ws, c);
-    let mut new = no_methods();
+    let mut new: u32 = 0;
     let mut i: u32 = 0;
     while i < count {
         let t = compiler_target(ws, c, i);
         let w = word_below(vs, n, i);
         let k = word_below(vm, n, i);
-        new = add(ws, text, abi, labels, c, i, t, w, k, new);
+        new = add(
+            ws,
+            text,
+            abi,
+            labels,
+            c,
+            i,
+            t,
+            w,
+            k,
+            refs,
+            flags,
+            lasts,
+            new,
+        );
         i += 1;
     }
     new
 }
 
-// The native view of class c's parent, and the methods that c's compiler table adds.
+// Fills the arrays with the native view of the parent's n slots, and with the methods that class c's compiler table adds; answers how many these are.
+fn view_parent<'a>(
+    ws: &[u32],
+    text: &'a [u8],
+    abi: &[u32],
+    labels: &'a [u8],
+    area: &[u32],
+    c: u32,
+    ts: &[u32],
+    ms: &[u32],
+    n: u32,
+    vs: &mut [u32],
+    vm: &mut [u32],
+    refs: &mut [u32],
+    flags: &mut [u32],
+    lasts: &mut [u32],
+) -> u32
+    requires { ⌜ (entriesOf (now ts) (now ms) n ≡ parentEntries (now ws) (now text) (now abi) (now labels) (now area) c) × (n ≤ length (now vs)) × (n ≤ length (now vm)) × (1024 ≤ length (now refs)) × (1024 ≤ length (now flags)) × (1024 ≤ length (now lasts)) ⌝ }
+    ensures view { λ r. ⌜ entriesOf (now (vs .exit)) (now (vm .exit)) n ≡ nativeView (now (ws .entry)) (now (text .entry)) (now (abi .entry)) (now (labels .entry)) (now (area .entry)) c ⌝ }
+    ensures members { λ r. ⌜ firstNews (now (ws .entry)) (now (text .entry)) (now (abi .entry)) (now (labels .entry)) (now (refs .exit)) (now (flags .exit)) (now (lasts .exit)) r ≡ addedMethods (now (ws .entry)) (now (text .entry)) (now (abi .entry)) (now (labels .entry)) (now (area .entry)) c ⌝ }
+    ensures count { λ r. ⌜ r ≤ 1024 ⌝ }
+{
+    let abis = abi::chain_abi(ws, text, abi, labels, chain::parent_of(ws, c));
+    let at = abis.at;
+    let part = words::word_part(&at, 0, words::wide(abis.n));
+    view_entries(ws, text, abi, labels, part, ts, ms, n, vs, vm);
+    add_methods(ws, text, abi, labels, c, vs, vm, n, refs, flags, lasts)
+}
+
+// Fills the arrays with the native view of class c's parent: words and marks; with the marks of the parent's slots; and with the methods that c's
+// compiler table adds.
 pub fn native_view<'a>(
     ws: &[u32],
     text: &'a [u8],
@@ -366,34 +389,36 @@ pub fn native_view<'a>(
     labels: &'a [u8],
     area: &[u32],
     c: u32,
+    vs: &mut [u32; 1024],
+    vm: &mut [u32; 1024],
+    known: &mut [u32; 1024],
+    refs: &mut [u32; 1024],
+    flags: &mut [u32; 1024],
+    lasts: &mut [u32; 1024],
 ) -> Native
-    ensures view { λ r. ⌜ entriesOf (r .words) (r .marks) (r .n) ≡ nativeView (now (ws .entry)) (now (text .entry)) (now (abi .entry)) (now (labels .entry)) (now (area .entry)) c ⌝ }
-    ensures parent { λ r. ⌜ ((new : List New) → markMethods (r .known) (r .n) ≡ entryMethods (now (ws .entry)) (now (text .entry)) (now (abi .entry)) (now (labels .entry)) new (parentEntries (now (ws .entry)) (now (text .entry)) (now (abi .entry)) (now (labels .entry)) (now (area .entry)) c)) ⌝ }
-    ensures members { λ r. ⌜ firstNews (now (ws .entry)) (now (text .entry)) (now (abi .entry)) (now (labels .entry)) (r .refs) (r .flags) (r .lasts) (r .added) ≡ addedMethods (now (ws .entry)) (now (text .entry)) (now (abi .entry)) (now (labels .entry)) (now (area .entry)) c ⌝ }
+    ensures view { λ r. ⌜ entriesOf (now (vs .exit)) (now (vm .exit)) (r .n) ≡ nativeView (now (ws .entry)) (now (text .entry)) (now (abi .entry)) (now (labels .entry)) (now (area .entry)) c ⌝ }
+    ensures parent { λ r. ⌜ ((new : List New) → markMethods (now (known .exit)) (r .n) ≡ entryMethods (now (ws .entry)) (now (text .entry)) (now (abi .entry)) (now (labels .entry)) new (parentEntries (now (ws .entry)) (now (text .entry)) (now (abi .entry)) (now (labels .entry)) (now (area .entry)) c)) ⌝ }
+    ensures members { λ r. ⌜ firstNews (now (ws .entry)) (now (text .entry)) (now (abi .entry)) (now (labels .entry)) (now (refs .exit)) (now (flags .exit)) (now (lasts .exit)) (r .added) ≡ addedMethods (now (ws .entry)) (now (text .entry)) (now (abi .entry)) (now (labels .entry)) (now (area .entry)) c ⌝ }
     ensures counts { λ r. ⌜ (r .n ≤ 1024) × (r .added ≤ 1024) ⌝ }
+    ensures arrays { λ r. ⌜ (length (now (vs .exit)) ≡ 1024) × (length (now (vm .exit)) ≡ 1024) × (length (now (known .exit)) ≡ 1024) × (length (now (refs .exit)) ≡ 1024) × (length (now (flags .exit)) ≡ 1024) × (length (now (lasts .exit)) ≡ 1024) ⌝ }
 {
-    let parent = vtable::parent_entries(ws, text, abi, labels, area, c);
-    let abis = abi::chain_abi(ws, text, abi, labels, chain::parent_of(ws, c));
-    let at = abis.at;
-    let part = words::word_part(&at, 0, words::wide(abis.n));
-    let ts = parent.words;
-    let ms = parent.marks;
-    let n = parent.n;
-    let mut vs = [0u32; 1024];
-    let mut vm = [0u32; 1024];
-    view_entries(ws, text, abi, labels, part, &ts, &ms, n, &mut vs, &mut vm);
-    let new = add_methods(ws, text, abi, labels, c, &vs, &vm, n);
-    let refs = new.refs;
-    let flags = new.flags;
-    let lasts = new.lasts;
-    Native {
-        words: vs,
-        marks: vm,
-        known: ms,
-        n: n,
-        refs: refs,
-        flags: flags,
-        lasts: lasts,
-        added: new.n,
-    }
+    let mut ts = [0u32; 1024];
+    let n = vtable::parent_entries(ws, text, abi, labels, area, c, &mut ts, known);
+    let added = view_parent(
+        ws,
+        text,
+        abi,
+        labels,
+        area,
+        c,
+        &ts,
+        known,
+        n,
+        vs,
+        vm,
+        refs,
+        flags,
+        lasts,
+    );
+    Native { n, added }
 }

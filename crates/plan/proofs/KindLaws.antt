@@ -15,24 +15,26 @@ use Rattle.linking.specs.Abi.{classAbi}
 use Rattle.linking.specs.Compiler.{New, addedMethods, compilerTable}
 use Rattle.linking.specs.Fields.{numberFields, addedFields, builtWords, tooManyWords, generatedRefusal}
 use Rattle.linking.specs.Link as L
-use Rattle.vtable.specs.Arrays.{entriesOf, builtOf}
-use Rattle.vtable.specs.declared.Entries.{Entries}
-use Rattle.vtable.specs.declared.Table.{Table}
+use Rattle.vtable.specs.Arrays.{entriesOf}
 use Rattle.vtable.proofs.TableLaws.{interface-same}
 use Rattle.field.specs.Numbers.{outcomeOf, builtFields, generatedFields}
 use Rattle.field.specs.declared.Numbered.{Numbered}
 use Rattle.field.proofs.OutcomeLaws.{built-accepted, built-refused, generated-accepted, generated-refused}
 use Rattle.field.proofs.AddedLaws.{any-area}
-use Rattle.growth.specs.News.{firstNews, membersOf}
-use Rattle.growth.specs.declared.Members.{Members}
+use Rattle.growth.specs.News.{firstNews}
 use Rattle.plan.specs.declared.Plan.{Plan}
-use Rattle.plan.specs.Plans.{bare, barePlan, barePlanned, methodsOf, fieldsOf, newsOf, planOf, plannedOf, tableRow}
-use Rattle.plan.proofs.TableLaws.{row-none, row-passes, planning, table-stops, table-passes}
+use Rattle.plan.specs.Plans.{barePlanned, methodsOf, fieldsOf, plannedOf, tableRow}
+use Rattle.plan.proofs.TableLaws.{row-none, row-passes, Table, builtOf, planning, table-stops, table-passes}
 
 module _ (ws text abi labels area : List ℕ) (c : ℕ) where
   -- a plan that is refused
-  pub no-plan : (r : Plan) {row : ℕ} {Q : L.Planned} → r .row ≡ row → row ≢ 0 → L.unplanned row ≡ Q → plannedOf ws text abi labels c r ≡ Q
-  no-plan r {row = row} e h q = rw e (simp (ne-eqb row 0 h) q)
+  pub no-plan : (r : Plan) (ts is refs flags lasts : List ℕ) {row : ℕ} {Q : L.Planned} → r .row ≡ row → row ≢ 0 → L.unplanned row ≡ Q
+      → plannedOf ws text abi labels c ts is refs flags lasts r ≡ Q
+  no-plan r ts is refs flags lasts {row = row} e h q = rw e (simp (ne-eqb row 0 h) q)
+
+  -- what a plan adds, from the arrays
+  abbrev added : List ℕ → List ℕ → List ℕ → ℕ → List New
+  added refs flags lasts k = firstNews ws text abi labels refs flags lasts k
 
   -- ---- the table of a built class
 
@@ -63,18 +65,17 @@ module _ (ws text abi labels area : List ℕ) (c : ℕ) where
           table-stops t (take (r .n) (r .indices)) [] (L.newFieldsOf ws text abi labels area (addedFields ws text abi labels (classAbi ws text abi labels c) c)) e h
           ∙ plan-table
 
-      pub built-planned : (m : Members) (slots : List ℕ) {row : ℕ} → classKind ws c ≡ 0 → row ≡ tableRow (t .row) (t .n) → row ≡ 0
-          → entriesOf slots [] (t .n) ≡ entriesOf (t .words) [] (t .n)
-          → membersOf ws text abi labels m ≡ L.newFieldsOf ws text abi labels [] (addedFields ws text abi labels (classAbi ws text abi labels c) c)
+      pub built-planned : (refs flags lasts : List ℕ) (k : ℕ) {n row : ℕ} → classKind ws c ≡ 0 → n ≡ t .n → row ≡ tableRow (t .row) (t .n) → row ≡ 0
+          → added refs flags lasts k ≡ L.newFieldsOf ws text abi labels [] (addedFields ws text abi labels (classAbi ws text abi labels c) c)
           → L.planned
           (record {
-            table = entriesOf slots [] (t .n);
+            table = entriesOf (t .words) [] n;
             indices = take (r .n) (r .indices);
-            newMethods = methodsOf ws c (membersOf ws text abi labels m);
-            newFields = fieldsOf ws c (membersOf ws text abi labels m);
+            newMethods = methodsOf ws c (added refs flags lasts k);
+            newFields = fieldsOf ws c (added refs flags lasts k);
           })
           ≡ barePlanned (L.planBuilt ws text abi labels area c)
-      built-planned m slots kind e z s n =
+      built-planned refs flags lasts k kind s e z n =
           let p = row-passes (t .row) (t .n) (sym e ∙ z) in
           let a = any-area ws text abi labels area (addedFields ws text abi labels (classAbi ws text abi labels c) c) in
           rw (kind, s, n, ← a)
@@ -95,36 +96,44 @@ module _ (ws text abi labels area : List ℕ) (c : ℕ) where
   either true e = (refl, e)
   either false e = (e, refl)
 
-  pub plain-planned : (r : Plan) (is : List ℕ) (t : Table) {row : ℕ} → entriesOf (r .words) [] (r .n) ≡ entriesOf (t .words) [] (t .n)
-      → take (r .own) (r .indices) ≡ is → r .added ≡ 0 → r .row ≡ 0 → row ≡ tableRow (t .row) (t .n) → row ≡ 0
-      → plannedOf ws text abi labels c r ≡ barePlanned (planning t is [] [] (builtOf t))
-  plain-planned r is t s i a z e f =
+  pub plain-planned : (is : List ℕ) (t : Table) (refs flags lasts : List ℕ) {n row : ℕ} → n ≡ t .n → row ≡ tableRow (t .row) (t .n) → row ≡ 0
+      → L.planned
+      (record {
+        table = entriesOf (t .words) [] n;
+        indices = is;
+        newMethods = methodsOf ws c (added refs flags lasts 0);
+        newFields = fieldsOf ws c (added refs flags lasts 0);
+      })
+      ≡ barePlanned (planning t is [] [] (builtOf t))
+  plain-planned is t refs flags lasts s e f =
       let p = row-passes (t .row) (t .n) (sym e ∙ f) in
-      let n : newsOf ws text abi labels c r ≡ [] = rw a (no-news (r .refs) (r .flags) (r .lasts)) in
-      let g = either (eqb (classKind ws c) 0) n in
-      simp (eq-eqb (r .row) 0 z) (rw (s, i, g .0, g .1) (table-passes t is [] [] (p .0) (p .1)))
+      let g = either (eqb (classKind ws c) 0) (no-news refs flags lasts) in
+      rw (s, g .0, g .1) (table-passes t is [] [] (p .0) (p .1))
 
   pub no-words : classKind ws c ≢ 0 → 0 ≡ L.newWords ws text abi labels area c
   unfolding L.newWords
   no-words h = simp (ne-eqb (classKind ws c) 0 h)
 
-  pub plain-instance : (r : Plan) → classKind ws c ≢ 0 → r .instance ≡ 0 → r .instance ≡ L.newWords ws text abi labels area c
-  plain-instance r h e = e ∙ no-words h
-
   -- ---- an array class
 
-  module _ (t : Entries) (table : entriesOf (t .words) (t .marks) (t .n) ≡ parentEntries ws text abi labels area c) (count : t .n ≤ 1024) where
+  module _ (ps qs : List ℕ) (n : ℕ) (table : entriesOf ps qs n ≡ parentEntries ws text abi labels area c) (count : n ≤ 1024) where
     abbrev inherited : Table
-    inherited = record { words = t .words; marks = t .marks; n = t .n; row = 0 }
+    inherited = record { words = ps; marks = qs; n = n; row = 0 }
 
     array-table : barePlanned (planning inherited [] [] [] (builtOf inherited)) ≡ barePlanned (L.planArray ws text abi labels area c)
     unfolding L.planArray
     array-table = rw table
 
-    pub array-planned : (r : Plan) → entriesOf (r .words) [] (r .n) ≡ entriesOf (t .words) [] (t .n)
-        → take (r .own) (r .indices) ≡ [] → r .added ≡ 0 → r .row ≡ 0
-        → plannedOf ws text abi labels c r ≡ barePlanned (L.planArray ws text abi labels area c)
-    array-planned r s i a z = plain-planned r [] inherited s i a z (row-none 0 (t .n) refl count) refl ∙ array-table
+    pub array-planned : (ts refs flags lasts : List ℕ) → entriesOf ts [] n ≡ entriesOf ps [] n
+        → L.planned
+        (record {
+          table = entriesOf ts [] n;
+          indices = [];
+          newMethods = methodsOf ws c (added refs flags lasts 0);
+          newFields = fieldsOf ws c (added refs flags lasts 0);
+        })
+        ≡ barePlanned (L.planArray ws text abi labels area c)
+    array-planned ts refs flags lasts s = rw s (plain-planned [] inherited refs flags lasts refl (row-none 0 n refl count) refl ∙ array-table)
 
   -- ---- a generated class
 
@@ -159,14 +168,13 @@ module _ (ws text abi labels area : List ℕ) (c : ℕ) where
         pub compiled-stops : {row : ℕ} → row ≡ tableRow 0 n → row ≢ 0 → L.unplanned row ≡ barePlanned (L.planGenerated ws text abi labels area c)
         compiled-stops e h = table-stops prepared (take (r .n) (r .indices)) E [] e h ∙ compiled-table
 
-        pub compiled-planned : (slots : List ℕ) {row : ℕ} → classKind ws c ≢ 0 → row ≡ tableRow 0 n → row ≡ 0
-            → entriesOf slots [] n ≡ entriesOf ts [] n
+        pub compiled-planned : {row : ℕ} → classKind ws c ≢ 0 → row ≡ tableRow 0 n → row ≡ 0
             → L.planned
-            (record { table = entriesOf slots [] n; indices = take (r .n) (r .indices); newMethods = methodsOf ws c E; newFields = fieldsOf ws c E })
+            (record { table = entriesOf ts [] n; indices = take (r .n) (r .indices); newMethods = methodsOf ws c E; newFields = fieldsOf ws c E })
             ≡ barePlanned (L.planGenerated ws text abi labels area c)
-        compiled-planned slots kind e z s =
+        compiled-planned kind e z =
             let p = row-passes 0 n (sym e ∙ z) in
-            simp (ne-eqb (classKind ws c) 0 kind) (rw s (table-passes prepared (take (r .n) (r .indices)) E [] refl (p .1) ∙ compiled-table))
+            simp (ne-eqb (classKind ws c) 0 kind) (table-passes prepared (take (r .n) (r .indices)) E [] refl (p .1) ∙ compiled-table)
 
   -- ---- by the kind
 

@@ -16,11 +16,12 @@ use Rattle.words.specs.Lists.{listFrom}
 use Rattle.linking.specs.Vtable.{Entry, Built, built, refused, empty}
 use Rattle.linking.specs.Compiler.{New}
 use Rattle.linking.specs.Link as L
-use Rattle.vtable.specs.Arrays.{entryAt, entriesOf, builtOf}
-use Rattle.vtable.specs.declared.Table.{Table}
+use Rattle.vtable.specs.Arrays.{entryAt, entriesOf, stepOf, stepCount}
+use Rattle.vtable.specs.declared.Step.{Step}
+use Rattle.vtable.specs.declared.Step.the-variants.{Next, Moved, Taken}
 use Rattle.vtable.proofs.ArrayLaws.{length-entries, entry-is}
 use Rattle.field.proofs.AddedLaws.{getD-stores}
-use Rattle.plan.specs.Plans.{bare, barePlan, barePlanned, tableRow}
+use Rattle.plan.specs.Plans.{bare, barePlan, barePlanned, stepRow, tableRow}
 
 -- ---- a table by its words
 
@@ -78,6 +79,28 @@ row-passes row n h =
   where
     ne : (k : ℕ) → eqb k 0 ≡ false → k ≡ 0 → ⊥
     ne k q z = let t : true ≡ false = sym (eq-eqb k 0 z) ∙ q in let o : _≡_ {A = ℕ} 0 1 = cc in omega arith
+
+-- a table in two arrays, of so many slots, or the row that refuses it
+pub record Table : Type 0 where
+  pub words : List ℕ
+  pub marks : List ℕ
+  pub n : ℕ
+  pub row : ℕ
+
+abbrev pub builtOf : Table → Built
+builtOf t = cond (eqb (t .row) 0) (built (entriesOf (t .words) (t .marks) (t .n))) (refused (t .row))
+
+-- what building it came to
+abbrev pub stepTable : Step → List ℕ → List ℕ → Table
+stepTable s ts ms = record { words = ts; marks = ms; n = stepCount s; row = stepRow s }
+
+pub step-built : (s : Step) (ts ms : List ℕ) → builtOf (stepTable s ts ms) ≡ stepOf s ts ms
+step-built (Next n) ts ms = refl
+step-built Moved ts ms = refl
+step-built Taken ts ms = refl
+
+pub step-refusal : (s : Step) {a b r : ℕ} → a ≡ stepRow s → b ≡ stepCount s → r ≡ tableRow a b → r ≡ tableRow (stepRow s) (stepCount s)
+step-refusal s e f g = g ∙ rw (e, f)
 
 module _ (t : Table) (is : List ℕ) (ms fs : List New) where
   abbrev pub planning : Built → L.Planned

@@ -1,26 +1,22 @@
-// What a link comes to before anything is written: rows 8 to 13, by the class's kind.
+// What a link comes to before anything is written: rows 8 to 13, by the class's kind. Slots, indices and new members lie in arrays of the caller.
+use vtable::Step;
 ghost use mathlib.Core.Path.{_≡_};
 ghost use mathlib.Core.Logic.{_≢_};
 ghost use mathlib.Core.List.{[]};
 ghost use Prim.Native.Nat.{_≤_, _<_};
-ghost use lib.ListN.{length, take};
+ghost use lib.ListN.{length};
 ghost use Rattle.class_sheet.specs.ClassSheet.{classKind, classCompilerTable};
 ghost use Rattle.linking.specs.Link.{builtTable, planBuilt, planGenerated, planArray, plan, newWords};
-ghost use Rattle.vtable.specs.Arrays.{entriesOf, builtOf};
+ghost use Rattle.vtable.specs.Arrays.{entriesOf, stepOf, stepCount};
 ghost use Rattle.field.specs.Numbers.{outcomeOf, generatedFields};
-ghost use Rattle.plan.specs.Plans.{barePlanned, plannedOf, tableRow};
+ghost use Rattle.plan.specs.Plans.{barePlanned, plannedOf, Keeps, stepRow, tableRow};
 
-// The words of the table's n slots; the indices of the class's own fields; its instance words; what names the members to add, their
-// flags, and their targets or indices; or the row that refuses the link.
+// How many slots the table has, how many fields of its own the class has, its instance words, and how many members are added; or the row that
+// refuses the link.
 pub struct Plan {
-    pub words: [u32; 1024],
     pub n: u32,
-    pub indices: [u32; 512],
     pub own: u32,
     pub instance: u32,
-    pub refs: [u32; 1024],
-    pub flags: [u32; 1024],
-    pub lasts: [u32; 1024],
     pub added: u32,
     pub row: u32,
 }
@@ -31,16 +27,33 @@ fn no_plan(row: u32) -> Plan
     ensures members { λ r. ⌜ r .added ≤ 1024 ⌝ }
 {
     Plan {
-        words: [0; 1024],
         n: 0,
-        indices: [0; 512],
         own: 0,
         instance: 0,
-        refs: [0; 1024],
-        flags: [0; 1024],
-        lasts: [0; 1024],
         added: 0,
         row,
+    }
+}
+
+// The row that refuses what building a table came to, or 0.
+fn step_row(s: Step) -> u32
+    ensures { λ r. ⌜ r ≡ stepRow s ⌝ }
+{
+    match s {
+        Step::Next(_) => 0,
+        Step::Moved => 11,
+        Step::Taken => 12,
+    }
+}
+
+// How many slots it came to.
+fn step_count(s: Step) -> u32
+    ensures { λ r. ⌜ r ≡ stepCount s ⌝ }
+{
+    match s {
+        Step::Next(n) => n,
+        Step::Moved => 0,
+        Step::Taken => 0,
     }
 }
 
@@ -54,7 +67,7 @@ fn table_row(row: u32, n: u32) -> u32
     if 1024 < n { 13 } else { 0 }
 }
 
-// Copies the words of the table's n slots.
+// Copies the words of n slots.
 fn copy_slots(ts: &[u32], n: u32, slots: &mut [u32])
     requires { ⌜ (n ≤ 1024) × (1024 ≤ length (now slots)) ⌝ }
     ensures { λ _. ⌜ entriesOf (now (slots .exit)) [] n ≡ entriesOf (now (ts .entry)) [] n ⌝ }
@@ -67,125 +80,139 @@ fn copy_slots(ts: &[u32], n: u32, slots: &mut [u32])
     }
 }
 
-// The table of a built class.
-fn built_table(
+// Fills the arrays with the table of a built class.
+fn built_table<'a>(
     ws: &[u32],
-    text: &[u8],
+    text: &'a [u8],
     abi: &[u32],
-    labels: &[u8],
+    labels: &'a [u8],
     area: &[u32],
     c: u32,
-) -> vtable::Table
-    ensures { λ r. ⌜ builtOf r ≡ builtTable (now (ws .entry)) (now (text .entry)) (now (abi .entry)) (now (labels .entry)) (now (area .entry)) c ⌝ }
+    ts: &mut [u32; 3584],
+    ms: &mut [u32; 3584],
+) -> Step
+    ensures is { λ r. ⌜ stepOf r (now (ts .exit)) (now (ms .exit)) ≡ builtTable (now (ws .entry)) (now (text .entry)) (now (abi .entry)) (now (labels .entry)) (now (area .entry)) c ⌝ }
+    ensures array { λ r. ⌜ length (now (ts .exit)) ≡ 3584 ⌝ }
 {
     if class_sheet::class_flags(ws, c) / 512 % 2 == 1 {
-        return vtable::build_interface_methods(ws, text, c);
+        let n = vtable::build_interface_methods(ws, text, c, ts, ms);
+        return Step::Next(n);
     }
-    vtable::build_methods(ws, text, abi, labels, area, c)
+    vtable::build_methods(ws, text, abi, labels, area, c, ts, ms)
 }
 
 // A built class: row 10, its table, and the ABI fields that it adds.
-fn plan_built(ws: &[u32], text: &[u8], abi: &[u32], labels: &[u8], area: &[u32], c: u32) -> Plan
+fn plan_built<'a>(
+    ws: &[u32],
+    text: &'a [u8],
+    abi: &[u32],
+    labels: &'a [u8],
+    area: &[u32],
+    c: u32,
+    ts: &mut [u32; 3584],
+    ms: &mut [u32; 3584],
+    indices: &mut [u32; 512],
+    refs: &mut [u32; 1024],
+    flags: &mut [u32; 1024],
+    lasts: &mut [u32; 1024],
+) -> Plan
     requires { ⌜ classKind (now ws) c ≡ 0 ⌝ }
-    ensures is { λ r. ⌜ plannedOf (now (ws .entry)) (now (text .entry)) (now (abi .entry)) (now (labels .entry)) c r ≡ barePlanned (planBuilt (now (ws .entry)) (now (text .entry)) (now (abi .entry)) (now (labels .entry)) (now (area .entry)) c) ⌝ }
+    ensures is { λ r. ⌜ plannedOf (now (ws .entry)) (now (text .entry)) (now (abi .entry)) (now (labels .entry)) c (now (ts .exit)) (now (indices .exit)) (now (refs .exit)) (now (flags .exit)) (now (lasts .exit)) r ≡ barePlanned (planBuilt (now (ws .entry)) (now (text .entry)) (now (abi .entry)) (now (labels .entry)) (now (area .entry)) c) ⌝ }
     ensures words { λ r. ⌜ (r .row ≡ 0 → r .instance ≡ newWords (now (ws .entry)) (now (text .entry)) (now (abi .entry)) (now (labels .entry)) (now (area .entry)) c) ⌝ }
     ensures members { λ r. ⌜ r .added ≤ 1024 ⌝ }
+    ensures arrays { λ r. ⌜ (Keeps 3584 (now (ts .entry)) (now (ts .exit))) × (Keeps 512 (now (indices .entry)) (now (indices .exit))) × (Keeps 1024 (now (refs .entry)) (now (refs .exit))) × (Keeps 1024 (now (flags .entry)) (now (flags .exit))) × (Keeps 1024 (now (lasts .entry)) (now (lasts .exit))) ⌝ }
 {
     let f = field::built_fields(ws, text, abi, labels, c);
     if f.row != 0 {
         return no_plan(f.row);
     }
-    let t = built_table(ws, text, abi, labels, area, c);
-    let row = table_row(t.row, t.n);
+    let step = built_table(ws, text, abi, labels, area, c, ts, ms);
+    let row = table_row(step_row(step), step_count(step));
     if row != 0 {
         return no_plan(row);
     }
-    let m = field::added_fields(ws, text, abi, labels, c);
-    let ts = t.words;
-    let mut slots = [0u32; 1024];
-    copy_slots(&ts, t.n, &mut slots);
-    let indices = f.indices;
-    let refs = m.refs;
-    let flags = m.flags;
-    let lasts = m.lasts;
+    let added = field::added_fields(ws, text, abi, labels, c, refs, flags, lasts);
+    let own = f.indices;
+    *indices = own;
     Plan {
-        words: slots,
-        n: t.n,
-        indices,
+        n: step_count(step),
         own: f.n,
         instance: f.words,
-        refs,
-        flags,
-        lasts,
-        added: m.n,
-        row: 0,
-    }
-}
-
-// A plan that adds nothing: a table of n slots with these words, and the class's own indices.
-fn plain_plan(ts: &[u32], n: u32, f: field::Numbered) -> Plan
-    requires { ⌜ n ≤ 1024 ⌝ }
-    ensures table { λ r. ⌜ entriesOf (r .words) [] (r .n) ≡ entriesOf (now (ts .entry)) [] n ⌝ }
-    ensures indices { λ r. ⌜ take (r .own) (r .indices) ≡ take (f .n) (f .indices) ⌝ }
-    ensures none { λ r. ⌜ (r .added ≡ 0) × (r .instance ≡ 0) × (r .row ≡ 0) ⌝ }
-{
-    let mut slots = [0u32; 1024];
-    copy_slots(ts, n, &mut slots);
-    let indices = f.indices;
-    Plan {
-        words: slots,
-        n,
-        indices,
-        own: f.n,
-        instance: 0,
-        refs: [0; 1024],
-        flags: [0; 1024],
-        lasts: [0; 1024],
-        added: 0,
+        added,
         row: 0,
     }
 }
 
 // An array class: the parent's entries.
-fn plan_array(ws: &[u32], text: &[u8], abi: &[u32], labels: &[u8], area: &[u32], c: u32) -> Plan
+fn plan_array<'a>(
+    ws: &[u32],
+    text: &'a [u8],
+    abi: &[u32],
+    labels: &'a [u8],
+    area: &[u32],
+    c: u32,
+    ts: &mut [u32; 3584],
+    ms: &mut [u32; 3584],
+    indices: &mut [u32; 512],
+    refs: &mut [u32; 1024],
+    flags: &mut [u32; 1024],
+    lasts: &mut [u32; 1024],
+) -> Plan
     requires { ⌜ classKind (now ws) c ≢ 0 ⌝ }
-    ensures is { λ r. ⌜ plannedOf (now (ws .entry)) (now (text .entry)) (now (abi .entry)) (now (labels .entry)) c r ≡ barePlanned (planArray (now (ws .entry)) (now (text .entry)) (now (abi .entry)) (now (labels .entry)) (now (area .entry)) c) ⌝ }
+    ensures is { λ r. ⌜ plannedOf (now (ws .entry)) (now (text .entry)) (now (abi .entry)) (now (labels .entry)) c (now (ts .exit)) (now (indices .exit)) (now (refs .exit)) (now (flags .exit)) (now (lasts .exit)) r ≡ barePlanned (planArray (now (ws .entry)) (now (text .entry)) (now (abi .entry)) (now (labels .entry)) (now (area .entry)) c) ⌝ }
     ensures words { λ r. ⌜ (r .row ≡ 0 → r .instance ≡ newWords (now (ws .entry)) (now (text .entry)) (now (abi .entry)) (now (labels .entry)) (now (area .entry)) c) ⌝ }
     ensures members { λ r. ⌜ r .added ≤ 1024 ⌝ }
+    ensures arrays { λ r. ⌜ (Keeps 3584 (now (ts .entry)) (now (ts .exit))) × (Keeps 512 (now (indices .entry)) (now (indices .exit))) × (Keeps 1024 (now (refs .entry)) (now (refs .exit))) × (Keeps 1024 (now (flags .entry)) (now (flags .exit))) × (Keeps 1024 (now (lasts .entry)) (now (lasts .exit))) ⌝ }
 {
-    let t = vtable::parent_entries(ws, text, abi, labels, area, c);
-    let ts = t.words;
-    let no_fields = field::Numbered {
-        indices: [0; 512],
-        n: 0,
-        words: 0,
+    let mut ps = [0u32; 1024];
+    let mut qs = [0u32; 1024];
+    let n = vtable::parent_entries(ws, text, abi, labels, area, c, &mut ps, &mut qs);
+    copy_slots(&ps, n, ts);
+    Plan {
+        n,
+        own: 0,
+        instance: 0,
+        added: 0,
         row: 0,
-    };
-    plain_plan(&ts, t.n, no_fields)
+    }
 }
 
 // A generated class without a compiler table, whose own indices are these.
-fn plan_methods(
+fn plan_methods<'a>(
     ws: &[u32],
-    text: &[u8],
+    text: &'a [u8],
     abi: &[u32],
-    labels: &[u8],
+    labels: &'a [u8],
     area: &[u32],
     c: u32,
     f: field::Numbered,
+    ts: &mut [u32; 3584],
+    ms: &mut [u32; 3584],
+    indices: &mut [u32; 512],
+    refs: &mut [u32; 1024],
+    flags: &mut [u32; 1024],
+    lasts: &mut [u32; 1024],
 ) -> Plan
     requires { ⌜ (classKind (now ws) c ≢ 0) × (classCompilerTable (now ws) c ≡ 0) × (f .row ≡ 0) × (outcomeOf f ≡ generatedFields (now ws) (now text) c) ⌝ }
-    ensures is { λ r. ⌜ plannedOf (now (ws .entry)) (now (text .entry)) (now (abi .entry)) (now (labels .entry)) c r ≡ barePlanned (planGenerated (now (ws .entry)) (now (text .entry)) (now (abi .entry)) (now (labels .entry)) (now (area .entry)) c) ⌝ }
+    ensures is { λ r. ⌜ plannedOf (now (ws .entry)) (now (text .entry)) (now (abi .entry)) (now (labels .entry)) c (now (ts .exit)) (now (indices .exit)) (now (refs .exit)) (now (flags .exit)) (now (lasts .exit)) r ≡ barePlanned (planGenerated (now (ws .entry)) (now (text .entry)) (now (abi .entry)) (now (labels .entry)) (now (area .entry)) c) ⌝ }
     ensures words { λ r. ⌜ (r .row ≡ 0 → r .instance ≡ newWords (now (ws .entry)) (now (text .entry)) (now (abi .entry)) (now (labels .entry)) (now (area .entry)) c) ⌝ }
     ensures members { λ r. ⌜ r .added ≤ 1024 ⌝ }
+    ensures arrays { λ r. ⌜ (Keeps 3584 (now (ts .entry)) (now (ts .exit))) × (Keeps 512 (now (indices .entry)) (now (indices .exit))) × (Keeps 1024 (now (refs .entry)) (now (refs .exit))) × (Keeps 1024 (now (flags .entry)) (now (flags .exit))) × (Keeps 1024 (now (lasts .entry)) (now (lasts .exit))) ⌝ }
 {
-    let t = vtable::build_methods(ws, text, abi, labels, area, c);
-    let row = table_row(t.row, t.n);
+    let step = vtable::build_methods(ws, text, abi, labels, area, c, ts, ms);
+    let row = table_row(step_row(step), step_count(step));
     if row != 0 {
         return no_plan(row);
     }
-    let ts = t.words;
-    plain_plan(&ts, t.n, f)
+    let own = f.indices;
+    *indices = own;
+    Plan {
+        n: step_count(step),
+        own: f.n,
+        instance: 0,
+        added: 0,
+        row: 0,
+    }
 }
 
 // A generated class with a compiler table, whose own indices are these: its table, and the methods that it adds.
@@ -197,33 +224,30 @@ fn plan_compiled<'a>(
     area: &[u32],
     c: u32,
     f: field::Numbered,
+    ts: &mut [u32; 3584],
+    ms: &mut [u32; 3584],
+    indices: &mut [u32; 512],
+    refs: &mut [u32; 1024],
+    flags: &mut [u32; 1024],
+    lasts: &mut [u32; 1024],
 ) -> Plan
     requires { ⌜ (classKind (now ws) c ≢ 0) × (classCompilerTable (now ws) c ≢ 0) × (f .row ≡ 0) × (outcomeOf f ≡ generatedFields (now ws) (now text) c) ⌝ }
-    ensures is { λ r. ⌜ plannedOf (now (ws .entry)) (now (text .entry)) (now (abi .entry)) (now (labels .entry)) c r ≡ barePlanned (planGenerated (now (ws .entry)) (now (text .entry)) (now (abi .entry)) (now (labels .entry)) (now (area .entry)) c) ⌝ }
+    ensures is { λ r. ⌜ plannedOf (now (ws .entry)) (now (text .entry)) (now (abi .entry)) (now (labels .entry)) c (now (ts .exit)) (now (indices .exit)) (now (refs .exit)) (now (flags .exit)) (now (lasts .exit)) r ≡ barePlanned (planGenerated (now (ws .entry)) (now (text .entry)) (now (abi .entry)) (now (labels .entry)) (now (area .entry)) c) ⌝ }
     ensures words { λ r. ⌜ (r .row ≡ 0 → r .instance ≡ newWords (now (ws .entry)) (now (text .entry)) (now (abi .entry)) (now (labels .entry)) (now (area .entry)) c) ⌝ }
     ensures members { λ r. ⌜ r .added ≤ 1024 ⌝ }
+    ensures arrays { λ r. ⌜ (Keeps 3584 (now (ts .entry)) (now (ts .exit))) × (Keeps 512 (now (indices .entry)) (now (indices .exit))) × (Keeps 1024 (now (refs .entry)) (now (refs .exit))) × (Keeps 1024 (now (flags .entry)) (now (flags .exit))) × (Keeps 1024 (now (lasts .entry)) (now (lasts .exit))) ⌝ }
 {
-    let p = compiler::prepare_generated(ws, text, abi, labels, area, c);
+    let p = compiler::prepare_generated(ws, text, abi, labels, area, c, ts, ms, refs, flags, lasts);
     let row = table_row(0, p.n);
     if row != 0 {
         return no_plan(row);
     }
-    let ts = p.words;
-    let mut slots = [0u32; 1024];
-    copy_slots(&ts, p.n, &mut slots);
-    let indices = f.indices;
-    let refs = p.refs;
-    let flags = p.flags;
-    let lasts = p.lasts;
+    let own = f.indices;
+    *indices = own;
     Plan {
-        words: slots,
         n: p.n,
-        indices,
         own: f.n,
         instance: 0,
-        refs,
-        flags,
-        lasts,
         added: p.added,
         row: 0,
     }
@@ -237,23 +261,59 @@ fn plan_generated<'a>(
     labels: &'a [u8],
     area: &[u32],
     c: u32,
+    ts: &mut [u32; 3584],
+    ms: &mut [u32; 3584],
+    indices: &mut [u32; 512],
+    refs: &mut [u32; 1024],
+    flags: &mut [u32; 1024],
+    lasts: &mut [u32; 1024],
 ) -> Plan
     requires { ⌜ classKind (now ws) c ≢ 0 ⌝ }
-    ensures is { λ r. ⌜ plannedOf (now (ws .entry)) (now (text .entry)) (now (abi .entry)) (now (labels .entry)) c r ≡ barePlanned (planGenerated (now (ws .entry)) (now (text .entry)) (now (abi .entry)) (now (labels .entry)) (now (area .entry)) c) ⌝ }
+    ensures is { λ r. ⌜ plannedOf (now (ws .entry)) (now (text .entry)) (now (abi .entry)) (now (labels .entry)) c (now (ts .exit)) (now (indices .exit)) (now (refs .exit)) (now (flags .exit)) (now (lasts .exit)) r ≡ barePlanned (planGenerated (now (ws .entry)) (now (text .entry)) (now (abi .entry)) (now (labels .entry)) (now (area .entry)) c) ⌝ }
     ensures words { λ r. ⌜ (r .row ≡ 0 → r .instance ≡ newWords (now (ws .entry)) (now (text .entry)) (now (abi .entry)) (now (labels .entry)) (now (area .entry)) c) ⌝ }
     ensures members { λ r. ⌜ r .added ≤ 1024 ⌝ }
+    ensures arrays { λ r. ⌜ (Keeps 3584 (now (ts .entry)) (now (ts .exit))) × (Keeps 512 (now (indices .entry)) (now (indices .exit))) × (Keeps 1024 (now (refs .entry)) (now (refs .exit))) × (Keeps 1024 (now (flags .entry)) (now (flags .exit))) × (Keeps 1024 (now (lasts .entry)) (now (lasts .exit))) ⌝ }
 {
     let f = field::generated_fields(ws, text, c);
     if f.row != 0 {
         return no_plan(f.row);
     }
     if class_sheet::class_compiler_table(ws, c) == 0 {
-        return plan_methods(ws, text, abi, labels, area, c, f);
+        return plan_methods(
+            ws,
+            text,
+            abi,
+            labels,
+            area,
+            c,
+            f,
+            ts,
+            ms,
+            indices,
+            refs,
+            flags,
+            lasts,
+        );
     }
-    plan_compiled(ws, text, abi, labels, area, c, f)
+    plan_compiled(
+        ws,
+        text,
+        abi,
+        labels,
+        area,
+        c,
+        f,
+        ts,
+        ms,
+        indices,
+        refs,
+        flags,
+        lasts,
+    )
 }
 
-// What a link of class c comes to before anything is written.
+// What a link of class c comes to before anything is written. Fills the arrays with the table's words and marks, the indices of the class's own fields, and
+// what names the members to add, their flags, and their targets or indices. What the arrays hold past the counts, or of a refused link, means nothing.
 pub fn plan_link<'a>(
     ws: &[u32],
     text: &'a [u8],
@@ -261,17 +321,63 @@ pub fn plan_link<'a>(
     labels: &'a [u8],
     area: &[u32],
     c: u32,
+    ts: &mut [u32; 3584],
+    ms: &mut [u32; 3584],
+    indices: &mut [u32; 512],
+    refs: &mut [u32; 1024],
+    flags: &mut [u32; 1024],
+    lasts: &mut [u32; 1024],
 ) -> Plan
-    ensures is { λ r. ⌜ plannedOf (now (ws .entry)) (now (text .entry)) (now (abi .entry)) (now (labels .entry)) c r ≡ barePlanned (plan (now (ws .entry)) (now (text .entry)) (now (abi .entry)) (now (labels .entry)) (now (area .entry)) c) ⌝ }
+    ensures is { λ r. ⌜ plannedOf (now (ws .entry)) (now (text .entry)) (now (abi .entry)) (now (labels .entry)) c (now (ts .exit)) (now (indices .exit)) (now (refs .exit)) (now (flags .exit)) (now (lasts .exit)) r ≡ barePlanned (plan (now (ws .entry)) (now (text .entry)) (now (abi .entry)) (now (labels .entry)) (now (area .entry)) c) ⌝ }
     ensures words { λ r. ⌜ (r .row ≡ 0 → r .instance ≡ newWords (now (ws .entry)) (now (text .entry)) (now (abi .entry)) (now (labels .entry)) (now (area .entry)) c) ⌝ }
     ensures members { λ r. ⌜ r .added ≤ 1024 ⌝ }
+    ensures arrays { λ r. ⌜ (Keeps 3584 (now (ts .entry)) (now (ts .exit))) × (Keeps 512 (now (indices .entry)) (now (indices .exit))) × (Keeps 1024 (now (refs .entry)) (now (refs .exit))) × (Keeps 1024 (now (flags .entry)) (now (flags .exit))) × (Keeps 1024 (now (lasts .entry)) (now (lasts .exit))) ⌝ }
 {
     let kind = class_sheet::class_kind(ws, c);
     if kind == 0 {
-        return plan_built(ws, text, abi, labels, area, c);
+        return plan_built(
+            ws,
+            text,
+            abi,
+            labels,
+            area,
+            c,
+            ts,
+            ms,
+            indices,
+            refs,
+            flags,
+            lasts,
+        );
     }
     if kind == 1 {
-        return plan_generated(ws, text, abi, labels, area, c);
+        return plan_generated(
+            ws,
+            text,
+            abi,
+            labels,
+            area,
+            c,
+            ts,
+            ms,
+            indices,
+            refs,
+            flags,
+            lasts,
+        );
     }
-    plan_array(ws, text, abi, labels, area, c)
+    plan_array(
+        ws,
+        text,
+        abi,
+        labels,
+        area,
+        c,
+        ts,
+        ms,
+        indices,
+        refs,
+        flags,
+        lasts,
+    )
 }

@@ -10,10 +10,7 @@ use Rattle.words.proofs.ListLaws.{restFrom, rest-start, rest-turn, rest-end}
 use Rattle.class_sheet.specs.ClassSheet.{classFirstMethod, classMethodCount}
 use Rattle.linking.specs.Chain.{listCount, ownMethods, eligible}
 use Rattle.linking.specs.Abi.{chainAbi}
-use Rattle.linking.specs.Vtable.{Entry, Built, built, refused, methodEntry, methodEntries, inheritedTable, addMethods, buildMethods, buildInterfaceMethods}
-use Rattle.vtable.specs.declared.Step.{Step}
-use Rattle.vtable.specs.declared.Step.the-variants.{Next, Moved, Taken}
-use Rattle.vtable.specs.Arrays.{entriesOf, stepOf}
+use Rattle.linking.specs.Vtable.{Entry, Built, methodEntry, methodEntries, inheritedTable, addMethods, buildMethods, buildInterfaceMethods}
 
 -- ---- `build_methods`
 
@@ -22,16 +19,6 @@ pub built-is : (ws text abi labels area : List ℕ) (c : ℕ) (abis : List ℕ) 
     → B ≡ buildMethods ws text abi labels area c
 unfolding buildMethods
 built-is ws text abi labels area c abis T e f g = g ∙ rw (e, f)
-
-module _ (s : Step) (us ns : List ℕ) {B : Built} where
-  pub built-next : (k : ℕ) → s ≡ Next k → stepOf s us ns ≡ B → built (entriesOf us ns k) ≡ B
-  built-next k e h = rw e at h
-
-  pub built-moved : s ≡ Moved → stepOf s us ns ≡ B → refused 11 ≡ B
-  built-moved e h = rw e at h
-
-  pub built-taken : s ≡ Taken → stepOf s us ns ≡ B → refused 12 ≡ B
-  built-taken e h = rw e at h
 
 -- ---- `build_interface_methods`
 

@@ -12,7 +12,6 @@ use Rattle.linking.specs.Chain.{onFound, methodIs}
 use Rattle.linking.specs.Vtable.{Entry, Built, built, refused, readEntry}
 use Rattle.vtable.specs.declared.Step.{Step}
 use Rattle.vtable.specs.declared.Step.the-variants.{Next, Moved, Taken}
-use Rattle.vtable.specs.declared.Table.{Table}
 
 -- a method's mark: its number plus 1; 0 for none, and for a number that is no method of a sheet
 abbrev pub markOf : Found → ℕ
@@ -59,7 +58,3 @@ abbrev pub stepCount : Step → ℕ
 stepCount (Next n) = n
 stepCount Moved = 0
 stepCount Taken = 0
-
--- the table that the struct stands for, or the row that refuses it
-abbrev pub builtOf : Table → Built
-builtOf t = cond (eqb (t .row) 0) (built (entriesOf (t .words) (t .marks) (t .n))) (refused (t .row))

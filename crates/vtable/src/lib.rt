@@ -11,24 +11,11 @@ ghost use Rattle.words.specs.Lists.{listFrom, fold, keep};
 ghost use Rattle.words.specs.declared.Found.the-variants.{At, Nothing};
 ghost use Rattle.linking.specs.Chain.{onFound, ownMethods, eligible};
 ghost use Rattle.linking.specs.Abi.{chainAbi};
-ghost use Rattle.linking.specs.Vtable.{ownFixed, findByIndex, readEntry, tableEntries, parentEntries, fixedOf, relayStep, relayed, extended, inheritedTable, putMethod, addMethod, addMethods, buildMethods, methodEntries, buildInterfaceMethods, empty, built, refused};
-ghost use Rattle.vtable.specs.Arrays.{markOf, marked, entriesOf, markIs, slotIn, otherIn, slotRead, builtOf, stepOf, stepCount};
+ghost use Rattle.linking.specs.Vtable.{ownFixed, findByIndex, readEntry, tableEntries, parentEntries, fixedOf, relayStep, relayed, extended, inheritedTable, putMethod, addMethod, addMethods, buildMethods, methodEntries, buildInterfaceMethods, empty};
+ghost use Rattle.vtable.specs.Arrays.{markOf, marked, entriesOf, markIs, slotIn, otherIn, slotRead, stepOf, stepCount};
 
-// A table, the first n of each array: its slots' words, 0 where empty, and their methods' marks (a method's number plus 1, 0 where unknown); or
-// the row that refuses it. What the arrays hold past n, or of a refused table, is the program's choice and means nothing.
-pub struct Table {
-    pub words: [u32; 3584],
-    pub marks: [u32; 3584],
-    pub n: u32,
-    pub row: u32,
-}
-
-// The entries of a linked class's table, the first n of each array, as in `Table`.
-pub struct Entries {
-    pub words: [u32; 1024],
-    pub marks: [u32; 1024],
-    pub n: u32,
-}
+// A table lies in two arrays of the caller: its slots' words, 0 where empty, and their methods' marks (a method's number plus 1, 0 where unknown). What they hold
+// past the slots that are answered, or of a refused table, is the program's choice and means nothing.
 
 // What adding a method comes to: so many slots, or row 11 (its fixed index differs from the inherited one), or row 12 (its fixed slot
 // holds another signature).
@@ -210,7 +197,7 @@ fn extend(ts: &mut [u32], ms: &mut [u32], n: u32, size: u32) -> u32
     j
 }
 
-// The entries of class c's table, each as Reading finds it.
+// Fills the arrays with the entries of class c's table, each as Reading finds it, and answers how many there are.
 pub fn table_entries(
     ws: &[u32],
     text: &[u8],
@@ -218,18 +205,14 @@ pub fn table_entries(
     labels: &[u8],
     area: &[u32],
     c: u32,
-) -> Entries
-    ensures is { λ r. ⌜ entriesOf (r .words) (r .marks) (r .n) ≡ tableEntries (now (ws .entry)) (now (text .entry)) (now (abi .entry)) (now (labels .entry)) (now (area .entry)) c ⌝ }
-    ensures count { λ r. ⌜ r .n ≤ 1024 ⌝ }
+    ts: &mut [u32; 1024],
+    ms: &mut [u32; 1024],
+) -> u32
+    ensures is { λ r. ⌜ entriesOf (now (ts .exit)) (now (ms .exit)) r ≡ tableEntries (now (ws .entry)) (now (text .entry)) (now (abi .entry)) (now (labels .entry)) (now (area .entry)) c ⌝ }
+    ensures count { λ r. ⌜ r ≤ 1024 ⌝ }
+    ensures arrays { λ r. ⌜ (length (now (ts .exit)) ≡ 1024) × (length (now (ms .exit)) ≡ 1024) ⌝ }
 {
-    let mut ts = [0u32; 1024];
-    let mut ms = [0u32; 1024];
-    let n = read_table(ws, text, abi, labels, area, c, &mut ts, &mut ms);
-    Entries {
-        words: ts,
-        marks: ms,
-        n,
-    }
+    read_table(ws, text, abi, labels, area, c, ts, ms)
 }
 
 // Fills the arrays with the slots of class c's parent, read along the parent's own chain, and answers how many there are.
@@ -257,7 +240,7 @@ fn read_parent(
     n
 }
 
-// The entries of the table of class c's parent; none without a parent.
+// Fills the arrays with the entries of the table of class c's parent, and answers how many there are: none without a parent.
 pub fn parent_entries(
     ws: &[u32],
     text: &[u8],
@@ -265,18 +248,14 @@ pub fn parent_entries(
     labels: &[u8],
     area: &[u32],
     c: u32,
-) -> Entries
-    ensures is { λ r. ⌜ entriesOf (r .words) (r .marks) (r .n) ≡ parentEntries (now (ws .entry)) (now (text .entry)) (now (abi .entry)) (now (labels .entry)) (now (area .entry)) c ⌝ }
-    ensures count { λ r. ⌜ r .n ≤ 1024 ⌝ }
+    ts: &mut [u32; 1024],
+    ms: &mut [u32; 1024],
+) -> u32
+    ensures is { λ r. ⌜ entriesOf (now (ts .exit)) (now (ms .exit)) r ≡ parentEntries (now (ws .entry)) (now (text .entry)) (now (abi .entry)) (now (labels .entry)) (now (area .entry)) c ⌝ }
+    ensures count { λ r. ⌜ r ≤ 1024 ⌝ }
+    ensures arrays { λ r. ⌜ (length (now (ts .exit)) ≡ 1024) × (length (now (ms .exit)) ≡ 1024) ⌝ }
 {
-    let mut ts = [0u32; 1024];
-    let mut ms = [0u32; 1024];
-    let n = read_parent(ws, text, abi, labels, area, c, &mut ts, &mut ms);
-    Entries {
-        words: ts,
-        marks: ms,
-        n,
-    }
+    read_parent(ws, text, abi, labels, area, c, ts, ms)
 }
 
 // Stores word w and mark k as slot i.
@@ -569,20 +548,7 @@ fn add_methods(
     Step::Next(k)
 }
 
-// No table, but the row that refuses it.
-fn refused_table(row: u32) -> Table
-    requires { ⌜ 0 < row ⌝ }
-    ensures { λ r. ⌜ builtOf r ≡ refused row ⌝ }
-{
-    Table {
-        words: [0; 3584],
-        marks: [0; 3584],
-        n: 0,
-        row,
-    }
-}
-
-// Class c's table by these ABI classes, those of its chain.
+// Fills the arrays with class c's table by these ABI classes, those of its chain.
 fn build_with(
     ws: &[u32],
     text: &[u8],
@@ -591,26 +557,19 @@ fn build_with(
     area: &[u32],
     abis: &[u32],
     c: u32,
-) -> Table
-    requires { ⌜ now abis ≡ chainAbi (now ws) (now text) (now abi) (now labels) c ⌝ }
-    ensures { λ r. ⌜ builtOf r ≡ buildMethods (now (ws .entry)) (now (text .entry)) (now (abi .entry)) (now (labels .entry)) (now (area .entry)) c ⌝ }
+    ts: &mut [u32],
+    ms: &mut [u32],
+) -> Step
+    requires { ⌜ (now abis ≡ chainAbi (now ws) (now text) (now abi) (now labels) c) × (3584 ≤ length (now ts)) × (3584 ≤ length (now ms)) ⌝ }
+    ensures is { λ r. ⌜ stepOf r (now (ts .exit)) (now (ms .exit)) ≡ buildMethods (now (ws .entry)) (now (text .entry)) (now (abi .entry)) (now (labels .entry)) (now (area .entry)) c ⌝ }
+    ensures count { λ r. ⌜ stepCount r ≤ 2560 ⌝ }
 {
-    let mut ts = [0u32; 3584];
-    let mut ms = [0u32; 3584];
-    let n = inherited_table(ws, text, abi, labels, area, abis, c, &mut ts, &mut ms);
-    match add_methods(ws, text, abi, labels, abis, c, &mut ts, &mut ms, n) {
-        Step::Next(k) => Table {
-            words: ts,
-            marks: ms,
-            n: k,
-            row: 0,
-        },
-        Step::Moved => refused_table(11),
-        Step::Taken => refused_table(12),
-    }
+    let n = inherited_table(ws, text, abi, labels, area, abis, c, ts, ms);
+    add_methods(ws, text, abi, labels, abis, c, ts, ms, n)
 }
 
-// Class c's table: the parent's entries, relayed or extended as the chain's ABI classes ask, and its own methods.
+// Fills the arrays with class c's table: the parent's entries, relayed or extended as the chain's ABI classes ask, and its own methods. Answers how many slots it has, or the
+// row that refuses it.
 pub fn build_methods(
     ws: &[u32],
     text: &[u8],
@@ -618,13 +577,17 @@ pub fn build_methods(
     labels: &[u8],
     area: &[u32],
     c: u32,
-) -> Table
-    ensures { λ r. ⌜ builtOf r ≡ buildMethods (now (ws .entry)) (now (text .entry)) (now (abi .entry)) (now (labels .entry)) (now (area .entry)) c ⌝ }
+    ts: &mut [u32; 3584],
+    ms: &mut [u32; 3584],
+) -> Step
+    ensures is { λ r. ⌜ stepOf r (now (ts .exit)) (now (ms .exit)) ≡ buildMethods (now (ws .entry)) (now (text .entry)) (now (abi .entry)) (now (labels .entry)) (now (area .entry)) c ⌝ }
+    ensures count { λ r. ⌜ stepCount r ≤ 2560 ⌝ }
+    ensures arrays { λ r. ⌜ (length (now (ts .exit)) ≡ 3584) × (length (now (ms .exit)) ≡ 3584) ⌝ }
 {
     let chain = abi::chain_abi(ws, text, abi, labels, c);
     let at = chain.at;
     let abis = words::word_part(&at, 0, words::wide(chain.n));
-    build_with(ws, text, abi, labels, area, abis, c)
+    build_with(ws, text, abi, labels, area, abis, c, ts, ms)
 }
 
 // Puts method m after the n slots, if it is eligible.
@@ -657,17 +620,17 @@ fn eligible_methods(ws: &[u32], text: &[u8], c: u32, ts: &mut [u32], ms: &mut [u
     n
 }
 
-// The table of a built interface: its eligible methods in order, whatever the ABI sheet.
-pub fn build_interface_methods(ws: &[u32], text: &[u8], c: u32) -> Table
-    ensures { λ r. ⌜ builtOf r ≡ built (buildInterfaceMethods (now (ws .entry)) (now (text .entry)) [] [] c) ⌝ }
+// Fills the arrays with the table of a built interface, its eligible methods in order, whatever the ABI sheet, and answers how many there are.
+pub fn build_interface_methods(
+    ws: &[u32],
+    text: &[u8],
+    c: u32,
+    ts: &mut [u32; 3584],
+    ms: &mut [u32; 3584],
+) -> u32
+    ensures is { λ r. ⌜ entriesOf (now (ts .exit)) (now (ms .exit)) r ≡ buildInterfaceMethods (now (ws .entry)) (now (text .entry)) [] [] c ⌝ }
+    ensures count { λ r. ⌜ r ≤ 512 ⌝ }
+    ensures arrays { λ r. ⌜ (length (now (ts .exit)) ≡ 3584) × (length (now (ms .exit)) ≡ 3584) ⌝ }
 {
-    let mut ts = [0u32; 3584];
-    let mut ms = [0u32; 3584];
-    let n = eligible_methods(ws, text, c, &mut ts, &mut ms);
-    Table {
-        words: ts,
-        marks: ms,
-        n,
-        row: 0,
-    }
+    eligible_methods(ws, text, c, ts, ms)
 }

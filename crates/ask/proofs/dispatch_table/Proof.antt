@@ -1,6 +1,6 @@
+use native.Mathlib.Omega.{arith}
 use mathlib.Core.Path.{refl}
 use Rattle.set_rules.proofs.Laws.{text-handed}
-use native.Mathlib.Omega.{arith}
 use Rattle.ask.proofs.AskLaws.{table-handed}
 use borrow.Author.Needs.{needs}
 use Rattle.ask.proofs.dispatch_table.Statement.{statement}
@@ -9,7 +9,7 @@ use Rattle.ask.proofs.dispatch_table.Reads as reads
 use Rattle.ask.proofs.dispatch_table.Lts as lts
 use Rattle.abi_sheet.proofs.text_length.Reads as text-length-reads
 use Rattle.abi_sheet.proofs.unpack_text.Reads as unpack-text-reads
-use Rattle.ask.proofs.dispatch.Reads as dispatch-reads
+use Rattle.ask.proofs.dispatch_slots.Reads as dispatch-slots-reads
 use Rattle.class_sheet.proofs.text_length.Reads as text-length-reads′
 use Rattle.class_sheet.proofs.unpack_text.Reads as unpack-text-reads′
 use Rattle.text.proofs.name_at.Reads as name-at-reads
@@ -48,24 +48,30 @@ name-at-requires-2 c κs = search needs
 table-entries-requires : tie.Need-table-entries-requires
 table-entries-requires c κs = search needs
 
-dispatch-requires : tie.Need-dispatch-requires
-dispatch-requires c κs = c .table-entries .ensures .1
+slice-aggregate-dispatch-slots : tie.Need-slice-aggregate-dispatch-slots
+slice-aggregate-dispatch-slots c = search needs
+
+slice-aggregate-dispatch-slots-2 : tie.Need-slice-aggregate-dispatch-slots-2
+slice-aggregate-dispatch-slots-2 c = search needs
+
+dispatch-slots-requires : tie.Need-dispatch-slots-requires
+dispatch-slots-requires c κs =
+    let n = c .before .before .before .before .table-entries .ensures .1 .0 in let p = c .before .before .before .before .before .before .before .before .before .before .before .before .before .before .before .before .before .before .before .before .before .before .before .before .pre in (omega (arith, n, p .2), omega (arith, n, p .3))
+
+same-length : tie.Need-same-length
+same-length c = search needs
+
+same-length-2 : tie.Need-same-length-2
+same-length-2 c = search needs
 
 returns : tie.Need-returns
 returns c =
-    let at-table-entries = c .before in
-    let at-name-at2 = at-table-entries .before in
-    let at-text-length2 = at-name-at2 .before in
-    let at-name-at = at-text-length2 .before .before in
-    let at-text-length = at-name-at .before in
-    let at-unpack-text2 = at-text-length .before .before .before in
-    let at-unpack-text = at-unpack-text2 .before .before .before in
-    let at-pre = at-unpack-text .before .before .before .before .before in
-    let a = at-pre .args in
-    table-handed (a .ws .now) (a .abi .now) (a .area .now) (a .c) (a .i) (at-table-entries .table-entries .result)
-    (text-handed _ _ _ (at-pre .pre .0) refl (at-unpack-text .unpack-text .ensures) (at-text-length .text-length .ensures) (at-name-at .name-at .ensures))
-    (text-handed _ _ _ (at-pre .pre .1) refl (at-unpack-text2 .unpack-text2 .ensures) (at-text-length2 .text-length2 .ensures) (at-name-at2 .name-at2 .ensures))
-    (at-table-entries .table-entries .ensures .0) (c .dispatch .ensures)
+    let a = c .before .before .before .before .before .before .before .before .before .before .before .before .before .before .before .before .before .before .before .before .before .before .before .before .before .before .before .before .before .args in
+    let p = c .before .before .before .before .before .before .before .before .before .before .before .before .before .before .before .before .before .before .before .before .before .before .before .before .before .before .before .before .before .pre in
+    table-handed (a .ws .now) (a .abi .now) (a .area .now) (a .c) (a .i) _ _ _
+    (text-handed _ _ _ (p .0) refl (c .before .before .before .before .before .before .before .before .before .before .before .before .before .before .before .before .before .before .before .before .before .before .unpack-text .ensures) (c .before .before .before .before .before .before .before .before .before .before .before .before .before .before .before .before .text-length .ensures) (c .before .before .before .before .before .before .before .before .before .before .before .before .before .before .before .name-at .ensures))
+    (text-handed _ _ _ (p .1) refl (c .before .before .before .before .before .before .before .before .before .before .before .before .before .before .before .before .before .before .before .unpack-text2 .ensures) (c .before .before .before .before .before .before .before .before .before .before .before .before .before .text-length2 .ensures) (c .before .before .before .before .before .before .before .before .before .before .before .before .name-at2 .ensures))
+    (c .before .before .before .before .before .before .before .before .before .table-entries .ensures .0) (c .before .before .before .before .dispatch-slots .ensures)
 
 pub dispatch-table-spec : {M : Type 1} → statement M
 dispatch-table-spec =
@@ -82,5 +88,9 @@ dispatch-table-spec =
     text-length-requires-2
     name-at-requires-2
     table-entries-requires
-    dispatch-requires
+    slice-aggregate-dispatch-slots
+    slice-aggregate-dispatch-slots-2
+    dispatch-slots-requires
+    same-length
+    same-length-2
     returns)

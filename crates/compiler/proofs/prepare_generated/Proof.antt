@@ -1,4 +1,5 @@
 use denote.Ref.{now}
+use mathlib.Core.Path.{_∙_}
 use Rattle.compiler.proofs.EntryLaws.{prepared-is}
 use borrow.Author.Needs.{needs}
 use Rattle.compiler.proofs.prepare_generated.Statement.{statement}
@@ -20,31 +21,24 @@ slice-aggregate-compiler-table-2 c = search needs
 slice-aggregate-compiler-table-3 : tie.Need-slice-aggregate-compiler-table-3
 slice-aggregate-compiler-table-3 c = search needs
 
-slice-aggregate-compiler-table-4 : tie.Need-slice-aggregate-compiler-table-4
-slice-aggregate-compiler-table-4 c = search needs
-
-slice-aggregate-compiler-table-5 : tie.Need-slice-aggregate-compiler-table-5
-slice-aggregate-compiler-table-5 c = search needs
-
-slice-aggregate-compiler-table-6 : tie.Need-slice-aggregate-compiler-table-6
-slice-aggregate-compiler-table-6 c = search needs
-
-slice-aggregate-compiler-table-7 : tie.Need-slice-aggregate-compiler-table-7
-slice-aggregate-compiler-table-7 c = search needs
-
-slice-aggregate-compiler-table-8 : tie.Need-slice-aggregate-compiler-table-8
-slice-aggregate-compiler-table-8 c = search needs
-
 compiler-table-requires : tie.Need-compiler-table-requires
 compiler-table-requires c κs = search needs
 
 returns : tie.Need-returns
 returns c =
-    let a = c .before .before .before .before .before .before .before .before .before .before .before .before .before .before .before .before .before .before .before .before .before .before .before .args in
-    let v = c .before .before .before .before .before .before .before .before .before .before .before .before .before .before .before .before .before .native-view in
-    let e = v .ensures in
-    let t = c .before .before .compiler-table .ensures in
-    (prepared-is (now (a .ws)) (now (a .text)) (now (a .abi)) (now (a .labels)) (v .result .refs) (v .result .flags) (v .result .lasts) (v .result .added) (a .c) (v .result .words) (v .result .marks) (v .result .n) (now (a .area)) (v .result .known) (e .0) (e .1 .1 .0) (e .1 .0) (t .0), (e .1 .1 .0, (t .1, e .1 .1 .1 .1)))
+    let a = c .before .before .before .before .before .before .before .before .before .before .before .before .before .before .before .before .before .before .before .before .before .before .before .before .args in
+    let e = c .before .before .before .before .before .before .before .before .before .before .before .before .native-view .ensures in
+    let t = c .compiler-table .ensures in
+    let l = e .1 .1 .1 .1 in (
+      prepared-is (now (a .ws)) (now (a .text)) (now (a .abi)) (now (a .labels)) _ _ _ _ (a .c) _ _ _ (now (a .area)) _ (e .0) (e .1 .1 .0) (e .1 .0) (t .0),
+      (
+        e .1 .1 .0,
+        (
+          (t .1, e .1 .1 .1 .0 .1),
+          (c .compiler-table .kept .1 .1 .1 .1 .1 .1 .1 .1 .1 .1 .1 .1 .1 .0 ∙ c .before .before .compiler-table-arg7 .given .0 .1, c .compiler-table .kept .1 .1 .1 .1 .1 .1 .1 .1 .1 .1 .1 .1 .1 .1 .0 ∙ c .before .compiler-table-arg8 .given .0 .1, l .3, l .4, l .5),
+        ),
+      ),
+    )
 
 pub prepare-generated-spec : {M : Type 1} → statement M
 prepare-generated-spec =
@@ -54,10 +48,5 @@ prepare-generated-spec =
     slice-aggregate-compiler-table
     slice-aggregate-compiler-table-2
     slice-aggregate-compiler-table-3
-    slice-aggregate-compiler-table-4
-    slice-aggregate-compiler-table-5
-    slice-aggregate-compiler-table-6
-    slice-aggregate-compiler-table-7
-    slice-aggregate-compiler-table-8
     compiler-table-requires
     returns)

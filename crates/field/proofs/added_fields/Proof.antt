@@ -1,8 +1,15 @@
-use Rattle.field.proofs.AddedLaws.{added-part}
-use Rattle.field.proofs.AddedLaws.{part-small, members-are}
+use mathlib.Core.Path.{_∙_}
+use Rattle.field.proofs.AddedLaws.{added-part, part-small, members-are}
 use borrow.Author.Needs.{needs}
 use Rattle.field.proofs.added_fields.Statement.{statement}
 use Rattle.field.proofs.added_fields.Tie as tie
+use Rattle.field.proofs.added_fields.Reads as reads
+use Rattle.field.proofs.added_fields.Lts as lts
+use Rattle.abi.proofs.class_abi.Reads as class-abi-reads
+use Rattle.field.proofs.added.Reads as added-reads
+use Rattle.field.proofs.put_fields.Reads as put-fields-reads
+use Rattle.words.proofs.wide.Reads as wide-reads
+use Rattle.words.proofs.word_part.Reads as word-part-reads
 
 class-abi-requires : tie.Need-class-abi-requires
 class-abi-requires c κs = search needs
@@ -22,29 +29,17 @@ wide-requires c κs = search needs
 word-part-requires : tie.Need-word-part-requires
 word-part-requires c κs = search needs
 
-slice-aggregate-put-fields : tie.Need-slice-aggregate-put-fields
-slice-aggregate-put-fields c = search needs
-
-slice-aggregate-put-fields-2 : tie.Need-slice-aggregate-put-fields-2
-slice-aggregate-put-fields-2 c = search needs
-
 put-fields-requires : tie.Need-put-fields-requires
 put-fields-requires c κs =
-    let at-word-part = c .before .before in
-    let at-wide = at-word-part .before in
-    let at-added = at-wide .before .before .before in
-    let at-class-abi = at-added .before .before in
-    let entry = at-class-abi .before .before .before .before .before in
-    let a = entry .args in let s = at-word-part .word-part .result .now in part-small (a .ws .now) (a .text .now) (a .abi .now) (a .labels .now) (a .c) (at-class-abi .class-abi .result) s (added-part _ _ _ _ _ _ (at-added .added .last .1 .1 .1 .1 .1 .1 .0) s (at-added .added .ensures .0) (at-wide .wide .ensures) (at-word-part .word-part .ensures))
+    let a = c .before .before .before .before .before .before .before .before .before .before .before .before .before .before .args in
+    let s = c .before .before .before .word-part .result .now in
+    part-small (a .ws .now) (a .text .now) (a .abi .now) (a .labels .now) (a .c) (c .before .before .before .before .before .before .before .before .before .class-abi .result) s (added-part _ _ _ _ _ _ (c .before .before .before .before .before .before .before .added .last .1 .1 .1 .1 .1 .1 .0) s (c .before .before .before .before .before .before .before .added .ensures .0) (c .before .before .before .before .wide .ensures) (c .before .before .before .word-part .ensures))
 
 returns : tie.Need-returns
 returns c =
-    let at-put-fields = c .before .before in
-    let at-word-part = at-put-fields .before .before .before in
-    let at-wide = at-word-part .before in
-    let at-added = at-wide .before .before .before in
-    let at-class-abi = at-added .before .before in
-    (members-are _ _ _ _ _ _ (at-added .added .last .1 .1 .1 .1 .1 .1 .0) (at-word-part .word-part .result .now) _ _ _ _ (at-class-abi .class-abi .ensures) (at-added .added .ensures .0) (at-added .added .ensures .1) (search needs) (at-wide .wide .ensures) (at-word-part .word-part .ensures) (at-put-fields .put-fields .ensures .0) (at-put-fields .put-fields .ensures .1) (search needs) (search needs), at-added .added .ensures .1)
+    let p = c .put-fields .ensures in
+    let d = c .before .before .before .before .before .before .before .before .added .ensures in
+    (members-are _ _ _ _ _ _ (c .before .before .before .before .before .before .before .before .added .last .1 .1 .1 .1 .1 .1 .0) (c .before .before .before .before .word-part .result .now) _ _ _ _ _ _ (c .before .before .before .before .before .before .before .before .before .before .class-abi .ensures) (d .0) (d .1) (search needs) (c .before .before .before .before .before .wide .ensures) (c .before .before .before .before .word-part .ensures) (p .0) (p .1 .0) (p .1 .1) (c .before .before .before .put-fields-arg .given .0 .1) (c .before .before .put-fields-arg2 .given .0 .1) (c .before .put-fields-arg3 .given .0 .1), (d .1, (c .put-fields .kept .1 .1 .0 ∙ c .before .before .before .put-fields-arg .given .0 .1, c .put-fields .kept .1 .1 .1 .0 ∙ c .before .before .put-fields-arg2 .given .0 .1, c .put-fields .kept .1 .1 .1 .1 .0 ∙ c .before .put-fields-arg3 .given .0 .1)))
 
 pub added-fields-spec : {M : Type 1} → statement M
 added-fields-spec =
@@ -56,7 +51,5 @@ added-fields-spec =
     slice-aggregate-word-part
     wide-requires
     word-part-requires
-    slice-aggregate-put-fields
-    slice-aggregate-put-fields-2
     put-fields-requires
     returns)

@@ -42,9 +42,8 @@ same-length c = search needs
 returns : tie.Need-returns
 returns c =
     let a = c .before .before .before .before .before .before .before .before .before .before .before .before .before .before .before .before .before .before .before .before .before .before .args in
-    lines-put (now (a .ws)) (now (a .text)) (now (a .abi)) (now (a .labels)) (now (a .area)) _ _ (c .before .before .before .before .before .before .before .before .table-entries .result)
-    (c .before .before .before .before .before .before .before .before .before .before .before .before .before .before .before .class-name .ensures) (c .before .before .before .before .before .before .before .before .before .before .before .before .before .before .class-instance-words .ensures) (c .before .before .before .before .before .before .before .before .before .before .before .before .before .class-slot-count .ensures) (c .before .before .before .before .before .before .before .before .before .before .before .class-line .ensures)
-    (c .before .before .before .before .before .before .before .before .table-entries .ensures .0) (c .before .before .list-slots .ensures)
+    lines-put (now (a .ws)) (now (a .text)) (now (a .abi)) (now (a .labels)) (now (a .area)) _ _ _ _ _ (c .before .before .before .before .before .before .before .before .before .before .before .before .before .before .before .class-name .ensures) (c .before .before .before .before .before .before .before .before .before .before .before .before .before .before .class-instance-words .ensures) (c .before .before .before .before .before .before .before .before .before .before .before .before .before .class-slot-count .ensures) (c .before .before .before .before .before .before .before .before .before .before .before .class-line .ensures)
+    (c .before .before .before .before .before .before .table-entries .ensures .0) (c .before .before .list-slots .ensures)
 
 pub list-with-spec : {M : Type 1} → statement M
 list-with-spec =

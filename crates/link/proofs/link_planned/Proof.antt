@@ -1,10 +1,7 @@
+use mathlib.Core.Path.{sym, _∙_}
 use Prim.Native.Nat.{ℕ}
-use borrow.Author.Needs.{length-unmapped}
+use lib.ListN.{length-replicate}
 use Rattle.link.proofs.PlannedLaws.{news-lent, indices-lent, link-refused, link-finished}
-use native.Mathlib.Omega.{arith}
-use denote.Ref.{now}
-use mathlib.Core.Path.{_≡_, sym, _∙_, ap}
-use Rattle.compiler.proofs.MethodLaws.{news-part}
 use borrow.Author.Needs.{needs}
 use Rattle.link.proofs.link_planned.Statement.{statement}
 use Rattle.link.proofs.link_planned.Tie as tie
@@ -25,40 +22,46 @@ same-length-2 : tie.Need-same-length-2
 same-length-2 c = search needs
 
 returns : tie.Need-returns
-returns c = let a = c .before .before .before .before .before .before .before .before .before .before .before .args in link-refused (a .set .now) (a .abi .now) (a .c) (a .area .now) (a .stubs .now) (a .text .now) (a .labels .now) (c .before .before .before .before .before .before .before .before .before .before .before .pre) (c .before .before .plan-link .result) (c .before .before .plan-link .ensures .0) (c .if1 .taken)
+returns c =
+    let a = c .before .before .before .before .before .before .before .before .before .before .before .before .before .before .before .before .before .args in link-refused (a .set .now) (a .abi .now) (a .c) (a .area .now) (a .stubs .now) (a .text .now) (a .labels .now) (c .before .before .before .before .before .before .before .before .before .before .before .before .before .before .before .before .before .pre) (c .before .before .plan-link .last .1 .1 .1 .1 .1 .1 .0) (c .before .before .plan-link .last .1 .1 .1 .1 .1 .1 .1 .1 .0) (c .before .before .plan-link .last .1 .1 .1 .1 .1 .1 .1 .1 .1 .0) (c .before .before .plan-link .last .1 .1 .1 .1 .1 .1 .1 .1 .1 .1 .0) (c .before .before .plan-link .last .1 .1 .1 .1 .1 .1 .1 .1 .1 .1 .1 .0) (c .before .before .plan-link .result) (c .before .before .plan-link .ensures .0) (c .if1 .taken)
+
+slice-aggregate-word-part : tie.Need-slice-aggregate-word-part
+slice-aggregate-word-part c =
+    sym (c .before .before .before .plan-link .ensures .1 .1 .1 .1 (length-replicate {0} {A = ℕ} 512 0))
 
 wide-requires : tie.Need-wide-requires
 wide-requires c κs = search needs
 
-slice-aggregate-finish-link : tie.Need-slice-aggregate-finish-link
-slice-aggregate-finish-link c = search needs
-
-slice-aggregate-word-part : tie.Need-slice-aggregate-word-part
-slice-aggregate-word-part c = search needs
+word-part-requires : tie.Need-word-part-requires
+word-part-requires c κs = search needs
 
 wide-requires-2 : tie.Need-wide-requires-2
 wide-requires-2 c κs = search needs
 
-word-part-requires : tie.Need-word-part-requires
-word-part-requires c κs = search needs
-
 slice-aggregate-word-part-2 : tie.Need-slice-aggregate-word-part-2
-slice-aggregate-word-part-2 c = sym (length-unmapped ℕ (c .before .before .before .before .before .before .before .before .before .before .before .before .before .before .before .plan-link .result .refs) 1024 (c .before .before .before .before .before .before .before .before .before .before .before .before .before .before .before .plan-link .ok .1 .1 .1 .1 .1 .1 .1 .0 .1 .0 .1))
+slice-aggregate-word-part-2 c =
+    sym (c .before .before .before .before .before .before .before .plan-link .ensures .1 .1 .1 .2 (length-replicate {0} {A = ℕ} 1024 0))
 
 word-part-requires-2 : tie.Need-word-part-requires-2
 word-part-requires-2 c κs = search needs
 
 slice-aggregate-word-part-3 : tie.Need-slice-aggregate-word-part-3
-slice-aggregate-word-part-3 c = sym (length-unmapped ℕ (c .before .before .before .before .before .before .before .before .before .before .before .before .before .before .before .before .before .plan-link .result .flags) 1024 (c .before .before .before .before .before .before .before .before .before .before .before .before .before .before .before .before .before .plan-link .ok .1 .1 .1 .1 .1 .1 .1 .1 .0 .1 .0 .1))
+slice-aggregate-word-part-3 c =
+    sym (c .before .before .before .before .before .before .before .before .before .plan-link .ensures .1 .1 .1 .3 (length-replicate {0} {A = ℕ} 1024 0))
 
 word-part-requires-3 : tie.Need-word-part-requires-3
 word-part-requires-3 c κs = search needs
 
 slice-aggregate-word-part-4 : tie.Need-slice-aggregate-word-part-4
-slice-aggregate-word-part-4 c = sym (length-unmapped ℕ (c .before .before .before .before .before .before .before .before .before .before .before .before .before .before .before .before .before .before .before .plan-link .result .lasts) 1024 (c .before .before .before .before .before .before .before .before .before .before .before .before .before .before .before .before .before .before .before .plan-link .ok .1 .1 .1 .1 .1 .1 .1 .1 .1 .0 .1 .0 .1))
+slice-aggregate-word-part-4 c =
+    sym (c .before .before .before .before .before .before .before .before .before .before .before .plan-link .ensures .1 .1 .1 .4 (length-replicate {0} {A = ℕ} 1024 0))
 
 word-part-requires-4 : tie.Need-word-part-requires-4
 word-part-requires-4 c κs = search needs
+
+slice-aggregate-finish-link : tie.Need-slice-aggregate-finish-link
+slice-aggregate-finish-link c =
+    sym (c .before .before .before .before .before .before .before .before .before .before .before .before .before .before .before .plan-link .ensures .1 .1 .1 .0 (length-replicate {0} {A = ℕ} 3584 0))
 
 finish-link-requires : tie.Need-finish-link-requires
 finish-link-requires c κs = search needs
@@ -71,13 +74,13 @@ same-length-4 c = search needs
 
 returns-2 : tie.Need-returns-2
 returns-2 c =
-    let a = c .before .before .before .before .before .before .before .before .before .before .before .before .before .before .before .before .before .before .before .before .before .before .before .before .before .before .before .before .before .before .before .before .before .before .args in
-    let e = c .before .before .before .before .before .before .before .before .before .before .before .before .before .before .before .before .before .before .before .before .before .before .before .before .before .plan-link .ensures in
-    let z = c .before .before .before .before .before .before .before .before .before .before .before .before .before .before .before .before .before .before .before .before .before .before .before .if1 .left in
+    let a = c .before .before .before .before .before .before .before .before .before .before .before .before .before .before .before .before .before .before .before .before .before .before .before .before .before .before .before .before .before .before .before .before .before .before .before .args in
+    let e = c .before .before .before .before .before .before .before .before .before .before .before .before .before .before .before .before .before .before .before .before .plan-link .ensures in
+    let z = c .before .before .before .before .before .before .before .before .before .before .before .before .before .before .before .before .before .before .if1 .left in
     c .before .before .before .before .finish-link .ensures
-    ∙ link-finished (a .set .now) (a .abi .now) (a .c) (a .area .now) (a .stubs .now) (a .text .now) (a .labels .now) (c .before .before .before .before .before .before .before .before .before .before .before .before .before .before .before .before .before .before .before .before .before .before .before .before .before .before .before .before .before .before .before .before .before .before .pre) (c .before .before .before .before .before .before .before .before .before .before .before .before .before .before .before .before .before .before .before .before .before .before .before .before .before .plan-link .result) (e .0) z (e .1 .0 z)
-    (indices-lent (a .set .now) (a .text .now) (a .abi .now) (a .labels .now) (a .c) (c .before .before .before .before .before .before .before .before .before .before .before .before .before .before .before .before .before .before .before .before .before .before .before .before .before .plan-link .result) (c .before .before .before .before .before .before .before .before .before .before .before .before .wide2 .ensures) (c .before .before .before .before .before .before .before .before .before .before .before .word-part .ensures))
-    (news-lent (a .set .now) (a .text .now) (a .abi .now) (a .labels .now) (a .c) (c .before .before .before .before .before .before .before .before .before .before .before .before .before .before .before .before .before .before .before .before .before .before .before .before .before .plan-link .result) (c .before .before .before .before .before .before .before .before .before .before .before .before .before .before .before .before .before .wide .ensures) (c .before .before .before .before .before .before .before .before .before .word-part2 .ensures) (c .before .before .before .before .before .before .before .word-part3 .ensures) (c .before .before .before .before .before .word-part4 .ensures) (e .1 .1) (length-unmapped ℕ (c .before .before .before .before .before .before .before .before .before .before .before .before .before .before .before .before .before .before .before .before .before .before .before .before .before .plan-link .result .refs) 1024 (c .before .before .before .before .before .before .before .before .before .before .before .before .before .before .before .before .before .before .before .before .before .before .before .before .before .plan-link .ok .1 .1 .1 .1 .1 .1 .1 .0 .1 .0 .1)))
+    ∙ link-finished (a .set .now) (a .abi .now) (a .c) (a .area .now) (a .stubs .now) (a .text .now) (a .labels .now) (c .before .before .before .before .before .before .before .before .before .before .before .before .before .before .before .before .before .before .before .before .before .before .before .before .before .before .before .before .before .before .before .before .before .before .before .pre) (c .before .before .before .before .before .before .before .before .before .before .before .before .before .before .before .before .before .before .before .before .plan-link .last .1 .1 .1 .1 .1 .1 .0) (c .before .before .before .before .before .before .before .before .before .before .before .before .before .before .before .before .before .before .before .before .plan-link .last .1 .1 .1 .1 .1 .1 .1 .1 .0) (c .before .before .before .before .before .before .before .before .before .before .before .before .before .before .before .before .before .before .before .before .plan-link .last .1 .1 .1 .1 .1 .1 .1 .1 .1 .0) (c .before .before .before .before .before .before .before .before .before .before .before .before .before .before .before .before .before .before .before .before .plan-link .last .1 .1 .1 .1 .1 .1 .1 .1 .1 .1 .0) (c .before .before .before .before .before .before .before .before .before .before .before .before .before .before .before .before .before .before .before .before .plan-link .last .1 .1 .1 .1 .1 .1 .1 .1 .1 .1 .1 .0) (c .before .before .before .before .before .before .before .before .before .before .before .before .before .before .before .before .before .before .before .before .plan-link .result) (e .0) z (e .1 .0 z)
+    (indices-lent (a .set .now) (a .text .now) (a .abi .now) (a .labels .now) (a .c) (c .before .before .before .before .before .before .before .before .before .before .before .before .before .before .before .before .before .before .before .before .plan-link .last .1 .1 .1 .1 .1 .1 .0) (c .before .before .before .before .before .before .before .before .before .before .before .before .before .before .before .before .before .before .before .before .plan-link .last .1 .1 .1 .1 .1 .1 .1 .1 .0) (c .before .before .before .before .before .before .before .before .before .before .before .before .before .before .before .before .before .before .before .before .plan-link .last .1 .1 .1 .1 .1 .1 .1 .1 .1 .0) (c .before .before .before .before .before .before .before .before .before .before .before .before .before .before .before .before .before .before .before .before .plan-link .last .1 .1 .1 .1 .1 .1 .1 .1 .1 .1 .0) (c .before .before .before .before .before .before .before .before .before .before .before .before .before .before .before .before .before .before .before .before .plan-link .last .1 .1 .1 .1 .1 .1 .1 .1 .1 .1 .1 .0) (c .before .before .before .before .before .before .before .before .before .before .before .before .before .before .before .before .before .before .before .before .plan-link .result) (c .before .before .before .before .before .before .before .before .before .before .before .before .before .before .before .before .wide .ensures) (c .before .before .before .before .before .before .before .before .before .before .before .before .before .before .before .word-part .ensures))
+    (news-lent (a .set .now) (a .text .now) (a .abi .now) (a .labels .now) (a .c) (c .before .before .before .before .before .before .before .before .before .before .before .before .before .before .before .before .before .before .before .before .plan-link .last .1 .1 .1 .1 .1 .1 .0) (c .before .before .before .before .before .before .before .before .before .before .before .before .before .before .before .before .before .before .before .before .plan-link .last .1 .1 .1 .1 .1 .1 .1 .1 .0) (c .before .before .before .before .before .before .before .before .before .before .before .before .before .before .before .before .before .before .before .before .plan-link .last .1 .1 .1 .1 .1 .1 .1 .1 .1 .0) (c .before .before .before .before .before .before .before .before .before .before .before .before .before .before .before .before .before .before .before .before .plan-link .last .1 .1 .1 .1 .1 .1 .1 .1 .1 .1 .0) (c .before .before .before .before .before .before .before .before .before .before .before .before .before .before .before .before .before .before .before .before .plan-link .last .1 .1 .1 .1 .1 .1 .1 .1 .1 .1 .1 .0) (c .before .before .before .before .before .before .before .before .before .before .before .before .before .before .before .before .before .before .before .before .plan-link .result) (c .before .before .before .before .before .before .before .before .before .before .before .before .before .before .wide2 .ensures) (c .before .before .before .before .before .before .before .before .before .before .before .before .word-part2 .ensures) (c .before .before .before .before .before .before .before .before .before .before .word-part3 .ensures) (c .before .before .before .before .before .before .before .before .word-part4 .ensures) (e .1 .1 .0) (c .before .before .before .before .before .before .before .before .before .before .before .before .before .before .before .before .before .before .before .before .plan-link .ensures .1 .1 .1 .2 (length-replicate {0} {A = ℕ} 1024 0)))
 
 pub link-planned-spec : {M : Type 1} → statement M
 link-planned-spec =
@@ -87,17 +90,17 @@ link-planned-spec =
     same-length
     same-length-2
     returns
-    wide-requires
-    slice-aggregate-finish-link
     slice-aggregate-word-part
-    wide-requires-2
+    wide-requires
     word-part-requires
+    wide-requires-2
     slice-aggregate-word-part-2
     word-part-requires-2
     slice-aggregate-word-part-3
     word-part-requires-3
     slice-aggregate-word-part-4
     word-part-requires-4
+    slice-aggregate-finish-link
     finish-link-requires
     same-length-3
     same-length-4

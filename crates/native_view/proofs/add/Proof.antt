@@ -1,6 +1,6 @@
-use denote.Ref.{now}
-use Rattle.growth.specs.News.{membersOf}
 use native.Mathlib.Omega.{arith}
+use denote.Ref.{now}
+use Rattle.growth.specs.News.{firstNews}
 use Rattle.native_view.proofs.AddLaws.{add-skip, add-at, add-none}
 use borrow.Author.Needs.{needs}
 use Rattle.native_view.proofs.add.Statement.{statement}
@@ -11,7 +11,8 @@ use Rattle.native_view.proofs.add_named.Reads as add-named-reads
 use Rattle.native_view.proofs.source_ref.Reads as source-ref-reads
 
 returns : tie.Need-returns
-returns c = let a = c .before .before .before .before .before .args in (add-skip (now (a .ws)) (now (a .text)) (now (a .abi)) (now (a .labels)) (a .c) (a .i) (a .t) (a .w) (a .k) (membersOf (now (a .ws)) (now (a .text)) (now (a .abi)) (now (a .labels)) (a .into)) (c .if1 .taken), omega arith)
+returns c =
+    let a = c .before .before .before .before .before .before .before .before .args in (add-skip (now (a .ws)) (now (a .text)) (now (a .abi)) (now (a .labels)) (a .c) (a .i) (a .t) (a .w) (a .k) (firstNews (now (a .ws)) (now (a .text)) (now (a .abi)) (now (a .labels)) (now (a .refs)) (now (a .flags)) (now (a .lasts)) (a .n)) (c .if1 .taken), omega arith)
 
 source-ref-requires : tie.Need-source-ref-requires
 source-ref-requires c κs = search needs
@@ -25,15 +26,24 @@ add-named-requires c κs = search needs
 enum-told : tie.Need-enum-told
 enum-told c = search needs
 
+same-length : tie.Need-same-length
+same-length c = search needs
+
+same-length-2 : tie.Need-same-length-2
+same-length-2 c = search needs
+
+same-length-3 : tie.Need-same-length-3
+same-length-3 c = search needs
+
 returns-2 : tie.Need-returns-2
 returns-2 c =
-    let a = c .before .before .before .before .before .before .before .before .before .before .args in
-    (add-at (now (a .ws)) (now (a .text)) (now (a .abi)) (now (a .labels)) (a .c) (a .i) (a .t) (a .w) (a .k) (membersOf (now (a .ws)) (now (a .text)) (now (a .abi)) (now (a .labels)) (a .into)) (c .before .before .before .before .before .before .before .before .before .before .pre .1) (c .before .before .before .before .before .if1 .left) (c .before .before .before .before .source-ref .ensures) _ (c .before .before .r .given .1) (c .add-named .ensures .0), omega arith)
+    let a = c .before .before .before .before .before .before .before .before .before .before .before .before .before .before .before .before .before .before .before .before .before .before .args in
+    (add-at (now (a .ws)) (now (a .text)) (now (a .abi)) (now (a .labels)) (a .c) (a .i) (a .t) (a .w) (a .k) (firstNews (now (a .ws)) (now (a .text)) (now (a .abi)) (now (a .labels)) (now (a .refs)) (now (a .flags)) (now (a .lasts)) (a .n)) (c .before .before .before .before .before .before .before .before .before .before .before .before .before .before .before .before .before .before .before .before .before .before .pre .1) (c .before .before .before .before .before .before .before .before .before .before .before .before .before .before .if1 .left) (c .before .before .before .before .before .before .before .before .before .before .before .before .before .source-ref .ensures) _ (c .before .before .before .before .before .before .before .before .before .before .before .r .given .1) (c .before .before .before .before .before .before .add-named .ensures .0), c .before .before .before .before .before .before .add-named .ensures .1)
 
 returns-3 : tie.Need-returns-3
 returns-3 c =
-    let a = c .before .before .before .before .before .before .before .before .args in
-    (add-none (now (a .ws)) (now (a .text)) (now (a .abi)) (now (a .labels)) (a .c) (a .i) (a .t) (a .w) (a .k) (membersOf (now (a .ws)) (now (a .text)) (now (a .abi)) (now (a .labels)) (a .into)) (c .before .before .before .before .before .before .before .before .pre .1) (c .before .before .before .if1 .left) (c .before .before .source-ref .ensures) (c .enum-told .given .1), omega arith)
+    let a = c .before .before .before .before .before .before .before .before .before .before .before .args in
+    (add-none (now (a .ws)) (now (a .text)) (now (a .abi)) (now (a .labels)) (a .c) (a .i) (a .t) (a .w) (a .k) (firstNews (now (a .ws)) (now (a .text)) (now (a .abi)) (now (a .labels)) (now (a .refs)) (now (a .flags)) (now (a .lasts)) (a .n)) (c .before .before .before .before .before .before .before .before .before .before .before .pre .1) (c .before .before .before .if1 .left) (c .before .before .source-ref .ensures) (c .enum-told .given .1), omega arith)
 
 pub add-spec : {M : Type 1} → statement M
 add-spec =
@@ -44,5 +54,8 @@ add-spec =
     enum-known-r
     add-named-requires
     enum-told
+    same-length
+    same-length-2
+    same-length-3
     returns-2
     returns-3)

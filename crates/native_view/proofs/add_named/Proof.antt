@@ -1,6 +1,6 @@
-use denote.Ref.{now}
-use Rattle.growth.specs.News.{membersOf}
 use native.Mathlib.Omega.{arith}
+use denote.Ref.{now}
+use Rattle.growth.specs.News.{firstNews}
 use Rattle.native_view.proofs.AddLaws.{named-old, named-new}
 use borrow.Author.Needs.{needs}
 use Rattle.native_view.proofs.add_named.Statement.{statement}
@@ -23,7 +23,9 @@ is-declared-requires : tie.Need-is-declared-requires
 is-declared-requires c κs = search needs
 
 returns : tie.Need-returns
-returns c = (named-old _ _ _ _ _ _ _ _ (c .before .before .before .ref-name .ensures .0) (c .before .before .ref-descriptor .ensures .0) (c .before .is-declared .ensures) (c .if1 .taken), omega arith)
+returns c =
+    let a = c .before .before .before .before .before .before .before .before .before .before .before .args in
+    (named-old (now (a .ws)) (now (a .text)) (now (a .abi)) (now (a .labels)) (a .c) (a .r) (a .t) (firstNews (now (a .ws)) (now (a .text)) (now (a .abi)) (now (a .labels)) (now (a .refs)) (now (a .flags)) (now (a .lasts)) (a .n)) (c .before .before .before .ref-name .ensures .0) (c .before .before .ref-descriptor .ensures .0) (c .before .is-declared .ensures) (c .if1 .taken), omega arith)
 
 ref-flags-requires : tie.Need-ref-flags-requires
 ref-flags-requires c κs = search needs
@@ -31,10 +33,22 @@ ref-flags-requires c κs = search needs
 push-requires : tie.Need-push-requires
 push-requires c κs = search needs
 
+add-result : tie.Need-add-result
+add-result c = search needs
+
+same-length : tie.Need-same-length
+same-length c = search needs
+
+same-length-2 : tie.Need-same-length-2
+same-length-2 c = search needs
+
+same-length-3 : tie.Need-same-length-3
+same-length-3 c = search needs
+
 returns-2 : tie.Need-returns-2
 returns-2 c =
-    let a = c .before .before .before .before .before .before .before .before .before .before .args in
-    (named-new (now (a .ws)) (now (a .text)) (now (a .abi)) (now (a .labels)) (a .c) (a .r) (a .t) (membersOf (now (a .ws)) (now (a .text)) (now (a .abi)) (now (a .labels)) (a .into)) (c .before .before .before .before .before .ref-name .ensures .0) (c .before .before .before .before .ref-descriptor .ensures .0) (c .before .before .before .is-declared .ensures) (c .before .before .if1 .left) (c .before .ref-flags .ensures _ _ _) (c .push .ensures .0 (now (a .ws)) (now (a .text)) (now (a .abi)) (now (a .labels))), omega arith)
+    let a = c .before .before .before .before .before .before .before .before .before .before .before .before .before .before .before .before .before .before .before .before .before .before .args in
+    (named-new (now (a .ws)) (now (a .text)) (now (a .abi)) (now (a .labels)) (a .c) (a .r) (a .t) (firstNews (now (a .ws)) (now (a .text)) (now (a .abi)) (now (a .labels)) (now (a .refs)) (now (a .flags)) (now (a .lasts)) (a .n)) (c .before .before .before .before .before .before .before .before .before .before .before .before .before .before .ref-name .ensures .0) (c .before .before .before .before .before .before .before .before .before .before .before .before .before .ref-descriptor .ensures .0) (c .before .before .before .before .before .before .before .before .before .before .before .before .is-declared .ensures) (c .before .before .before .before .before .before .before .before .before .before .before .if1 .left) (c .before .before .before .before .before .before .before .ref-flags .ensures _ _ _) (c .before .before .before .before .before .before .push .ensures (now (a .ws)) (now (a .text)) (now (a .abi)) (now (a .labels))), omega arith)
 
 pub add-named-spec : {M : Type 1} → statement M
 add-named-spec =
@@ -46,4 +60,8 @@ add-named-spec =
     returns
     ref-flags-requires
     push-requires
+    add-result
+    same-length
+    same-length-2
+    same-length-3
     returns-2)

@@ -1,3 +1,5 @@
+use mathlib.Core.Path.{ap}
+use Rattle.linking.specs.Vtable.{built}
 use Rattle.plan.proofs.KindLaws.{table-interface, table-class}
 use borrow.Author.Needs.{needs}
 use Rattle.plan.proofs.built_table.Statement.{statement}
@@ -15,13 +17,15 @@ build-interface-methods-requires : tie.Need-build-interface-methods-requires
 build-interface-methods-requires c κs = search needs
 
 returns : tie.Need-returns
-returns c = table-interface _ _ _ _ _ _ (c .before .before .class-flags .ensures) (c .before .if1 .taken) (c .build-interface-methods .ensures)
+returns c =
+    (table-interface _ _ _ _ _ _ (c .before .before .before .before .class-flags .ensures) (c .before .before .before .if1 .taken) (ap built (c .build-interface-methods .ensures .0)), c .build-interface-methods .ensures .1 .1 .0)
 
 build-methods-requires : tie.Need-build-methods-requires
 build-methods-requires c κs = search needs
 
 returns-2 : tie.Need-returns-2
-returns-2 c = table-class _ _ _ _ _ _ (c .before .before .class-flags .ensures) (c .before .if1 .left) (c .build-methods .ensures)
+returns-2 c =
+    (table-class _ _ _ _ _ _ (c .before .before .before .before .class-flags .ensures) (c .before .before .before .if1 .left) (c .build-methods .ensures .0), c .build-methods .ensures .1 .1 .0)
 
 pub built-table-spec : {M : Type 1} → statement M
 built-table-spec =

@@ -1,8 +1,6 @@
-use native.Mathlib.Omega.{arith}
 use denote.Ref.{now}
 use mathlib.Core.Path.{_≡_, sym, _∙_}
-use Rattle.plan.proofs.TableLaws.{row-passes}
-use Rattle.plan.proofs.KindLaws.{no-plan, generated-row, compiled-stops, compiled-planned, plain-instance, no-words, kind-built, kind-generated, kind-array}
+use Rattle.plan.proofs.KindLaws.{no-plan, generated-row}
 use borrow.Author.Needs.{needs}
 use Rattle.plan.proofs.plan_generated.Statement.{statement}
 use Rattle.plan.proofs.plan_generated.Tie as tie
@@ -21,7 +19,9 @@ no-plan-requires : tie.Need-no-plan-requires
 no-plan-requires c κs = search needs
 
 returns : tie.Need-returns
-returns c = let a = c .before .before .before .before .before .before .before .before .before .args in (no-plan (now (a .ws)) (now (a .text)) (now (a .abi)) (now (a .labels)) (now (a .area)) (a .c) (c .no-plan .result) (c .no-plan .ensures .0) (c .before .if1 .taken) (generated-row (now (a .ws)) (now (a .text)) (now (a .abi)) (now (a .labels)) (now (a .area)) (a .c) (c .before .before .before .generated-fields .result) (c .before .before .before .generated-fields .ensures) (c .before .if1 .taken)), ((λ z. absurd (c .before .if1 .taken (sym (c .no-plan .ensures .0) ∙ z))), c .no-plan .ensures .1))
+returns c =
+    let a = c .before .before .before .before .before .before .before .before .before .args in
+    (no-plan (now (a .ws)) (now (a .text)) (now (a .abi)) (now (a .labels)) (now (a .area)) (a .c) (c .no-plan .result) _ _ _ _ _ (c .no-plan .ensures .0) (c .before .if1 .taken) (generated-row (now (a .ws)) (now (a .text)) (now (a .abi)) (now (a .labels)) (now (a .area)) (a .c) (c .before .before .before .generated-fields .result) (c .before .before .before .generated-fields .ensures) (c .before .if1 .taken)), ((λ z. absurd (c .before .if1 .taken (sym (c .no-plan .ensures .0) ∙ z))), (c .no-plan .ensures .1, (λ l. l, λ l. l, λ l. l, λ l. l, λ l. l))))
 
 class-compiler-table-requires : tie.Need-class-compiler-table-requires
 class-compiler-table-requires c κs = search needs

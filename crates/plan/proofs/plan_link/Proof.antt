@@ -1,8 +1,6 @@
-use native.Mathlib.Omega.{arith}
 use denote.Ref.{now}
-use mathlib.Core.Path.{_≡_, sym, _∙_}
-use Rattle.plan.proofs.TableLaws.{row-passes}
-use Rattle.plan.proofs.KindLaws.{no-plan, generated-row, compiled-stops, compiled-planned, plain-instance, no-words, kind-built, kind-generated, kind-array}
+use mathlib.Core.Path.{_∙_}
+use Rattle.plan.proofs.KindLaws.{kind-built, kind-generated, kind-array}
 use borrow.Author.Needs.{needs}
 use Rattle.plan.proofs.plan_link.Statement.{statement}
 use Rattle.plan.proofs.plan_link.Tie as tie
@@ -20,19 +18,22 @@ plan-built-requires : tie.Need-plan-built-requires
 plan-built-requires c κs = search needs
 
 returns : tie.Need-returns
-returns c = let a = c .before .before .before .before .before .before .before .before .args in (c .plan-built .ensures .0 ∙ kind-built (now (a .ws)) (now (a .text)) (now (a .abi)) (now (a .labels)) (now (a .area)) (a .c) (c .before .before .class-kind .ensures) (c .before .if1 .taken), c .plan-built .ensures .1)
+returns c =
+    let a = c .before .before .before .before .before .before .before .before .before .before .before .before .before .before .args in (c .plan-built .ensures .0 ∙ kind-built (now (a .ws)) (now (a .text)) (now (a .abi)) (now (a .labels)) (now (a .area)) (a .c) (c .before .before .before .before .before .before .before .before .class-kind .ensures) (c .before .before .before .before .before .before .before .if1 .taken), c .plan-built .ensures .1)
 
 plan-generated-requires : tie.Need-plan-generated-requires
 plan-generated-requires c κs = search needs
 
 returns-2 : tie.Need-returns-2
-returns-2 c = let a = c .before .before .before .before .before .before .before .before .before .args in (c .plan-generated .ensures .0 ∙ kind-generated (now (a .ws)) (now (a .text)) (now (a .abi)) (now (a .labels)) (now (a .area)) (a .c) (c .before .before .before .class-kind .ensures) (c .before .before .if1 .left) (c .before .if2 .taken), c .plan-generated .ensures .1)
+returns-2 c =
+    let a = c .before .before .before .before .before .before .before .before .before .before .before .before .before .before .before .args in (c .plan-generated .ensures .0 ∙ kind-generated (now (a .ws)) (now (a .text)) (now (a .abi)) (now (a .labels)) (now (a .area)) (a .c) (c .before .before .before .before .before .before .before .before .before .class-kind .ensures) (c .before .before .before .before .before .before .before .before .if1 .left) (c .before .before .before .before .before .before .before .if2 .taken), c .plan-generated .ensures .1)
 
 plan-array-requires : tie.Need-plan-array-requires
 plan-array-requires c κs = search needs
 
 returns-3 : tie.Need-returns-3
-returns-3 c = let a = c .before .before .before .before .before .before .before .before .before .args in (c .plan-array .ensures .0 ∙ kind-array (now (a .ws)) (now (a .text)) (now (a .abi)) (now (a .labels)) (now (a .area)) (a .c) (c .before .before .before .class-kind .ensures) (c .before .before .if1 .left) (c .before .if2 .left), c .plan-array .ensures .1)
+returns-3 c =
+    let a = c .before .before .before .before .before .before .before .before .before .before .before .before .before .before .before .args in (c .plan-array .ensures .0 ∙ kind-array (now (a .ws)) (now (a .text)) (now (a .abi)) (now (a .labels)) (now (a .area)) (a .c) (c .before .before .before .before .before .before .before .before .before .class-kind .ensures) (c .before .before .before .before .before .before .before .before .if1 .left) (c .before .before .before .before .before .before .before .if2 .left), c .plan-array .ensures .1)
 
 pub plan-link-spec : {M : Type 1} → statement M
 plan-link-spec =

@@ -23,10 +23,10 @@ word-part-requires c κs = search needs
 
 build-with-requires : tie.Need-build-with-requires
 unfolding abisOf
-build-with-requires c κs = cc
+build-with-requires c κs = (cc, search needs, search needs)
 
 returns : tie.Need-returns
-returns c = search needs
+returns c = (c .build-with .ensures .0, (c .build-with .ensures .1, (search needs, search needs)))
 
 pub build-methods-spec : {M : Type 1} → statement M
 build-methods-spec =
