@@ -1,17 +1,20 @@
--- Laws of row 3 for a class sheet: the reading's form, as the code tests it. Assumes nothing.
+-- Laws of row 3 for a class sheet, the reading's form as the code tests it, and of row 4's records as it reads them. Assumes nothing.
 use mathlib.Core.Path.{_≡_, refl, sym, ap, _∙_}
-use mathlib.Core.Bool.{Bool, true, false, _&&_, and-false}
+use mathlib.Core.Bool.{Bool, true, false, not, _&&_, and-false}
 use mathlib.Core.List.{List}
 use Prim.Native.Nat.{ℕ, _+_, _*_, _≤_, _<_}
-use lib.ListN.{length}
+use lib.ListN.{length, getD, take, drop}
 use lib.Dec.{leb, ltb}
-use borrow.Author.Tests.{le-leb, lt-leb, leb-true}
+use borrow.Author.Tests.{le-leb, lt-leb, leb-true, not-true, not-false}
 use Rattle.words.proofs.Bools.{and-both, and-4, and-6}
+use Rattle.words.proofs.Laws.{part-rest}
 use Rattle.words.specs.Folds.{allOf}
+use Rattle.words.proofs.FoldLaws.{all-ext}
 use Rattle.block.specs.Block.{leastFit}
-use Rattle.text.specs.Text.{zeroRest}
-use Rattle.class_sheet.specs.ClassSheet.{classCount, methodCount, fieldCount, interfaceCount, compilerCount, textLength, textAt, contentEnd}
-use Rattle.class_rules.specs.ClassRules.{classLimits, classFits, unlinked, classForm}
+use Rattle.text.specs.Text.{zeroRest, printable, signatureClean, memberClean}
+use Rattle.text.proofs.Laws.{signature-is, member-is}
+use Rattle.class_sheet.specs.ClassSheet.{classCount, methodCount, fieldCount, interfaceCount, compilerCount, textLength, methodsAt, fieldsAt, textAt, contentEnd, methodWord, fieldWord}
+use Rattle.class_rules.specs.ClassRules.{classLimits, classFits, unlinked, classForm, methodFlagsOk, methodRecord, fieldRecord}
 
 module _ (ws : List ℕ) {l : Bool} (limits : l ≡ classLimits ws) where
   pub form-limits : l ≡ false → false ≡ classForm ws
@@ -62,3 +65,24 @@ formed ws h =
     limits ws
     (and-4 (classLimits ws) (leastFit (contentEnd ws) (length ws)) (zeroRest ws (4 * textAt ws + textLength ws))
     (allOf (classCount ws) (λ i. unlinked ws (i + 1))) h .0)
+
+-- ---- row 4's records, as the code reads them: from their section's beginning on, told whether the text is printable
+
+module _ (ws text : List ℕ) {clean : Bool} (told : clean ≡ printable text) where
+  module _ (m : ℕ) {at w : ℕ} {s : Bool} (section : at ≡ methodsAt ws) (number : w ≡ m) (both : s ≡ signatureClean ws (at + 6 * w) text clean) where
+    pub method-stop : not s ≡ true → false ≡ methodRecord ws text m
+    unfolding methodRecord methodWord
+    method-stop h = let q = rw (section, number) at both in rw (← (signature-is ws text told (methodsAt ws + 6 * m)), ← q, not-true s h)
+
+    pub method-on : not s ≡ false → {f : ℕ} {g : Bool} → f ≡ getD ws (at + 6 * w + 4) 0 → g ≡ methodFlagsOk f → g ≡ methodRecord ws text m
+    unfolding methodRecord methodWord
+    method-on h e k =
+        let q = rw (section, number) at both in
+        rw (← (signature-is ws text told (methodsAt ws + 6 * m)), ← q, not-false s h) (k ∙ rw (e, section, number))
+
+  pub fields-are : {at n : ℕ} {p : List ℕ} {r : Bool} → at ≡ fieldsAt ws → p ≡ take (length ws) (drop at ws) → n ≡ fieldCount ws
+      → r ≡ allOf n (memberClean p 6 65535 text clean) → r ≡ allOf (fieldCount ws) (fieldRecord ws text)
+  unfolding fieldRecord fieldWord
+  fields-are {p = p} e q f g =
+      let rest : p ≡ drop (fieldsAt ws) ws = q ∙ rw e (part-rest ws (fieldsAt ws)) in
+      g ∙ rw f (all-ext (fieldCount ws) _ _ (λ i l. member-is ws text told (fieldsAt ws) 6 65535 i rest))

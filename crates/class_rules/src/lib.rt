@@ -1,9 +1,16 @@
 // Rows 3 and 4 of the table of refusals, for the words of a class sheet.
 ghost use mathlib.Core.Path.{_≡_};
-ghost use Prim.Native.Nat.{_+_};
+ghost use mathlib.Core.Bool.{true};
+ghost use Prim.Native.Nat.{_+_, _<_, _^_};
+ghost use lib.ListN.{length};
 ghost use Rattle.words.specs.Folds.{allOf};
-ghost use Rattle.class_sheet.specs.ClassSheet.{classCount, methodCount, fieldCount, interfaceCount};
+ghost use Rattle.text.specs.Text.{printable};
+ghost use Rattle.class_sheet.specs.ClassSheet.{classCount, methodCount, fieldCount, interfaceCount, methodsAt};
+ghost use Rattle.class_rules.specs.Apart.{keyStep, nameKey, hasKey, newKeys, freeList, marked, freeLists};
 ghost use Rattle.class_rules.specs.ClassRules.{classLimits, classFits, unlinked, classForm, compilerOk, classNumbers, classLists, classRecord, methodFlagsOk, methodRecord, fieldRecord, interfaceNames, apart, methodsApart, fieldsApart, classesApart, apartBefore, classRecords};
+
+// The words of a method record, and of a field record.
+const MEMBER_WIDTH: u32 = 6;
 
 // Whether each count is within its limit.
 fn limits_ok(ws: &[u32]) -> bool
@@ -113,23 +120,25 @@ fn lists_ok(ws: &[u32], c: u32) -> bool
     methods & fields & interfaces & compiler
 }
 
-// Whether class c's record is in order.
-fn class_ok(ws: &[u32], text: &[u8], c: u32) -> bool
+// Whether class c's record is in order. Here and below `clean` tells whether each byte of the text is from 0x21 to 0x7E.
+fn class_ok(ws: &[u32], text: &[u8], clean: bool, c: u32) -> bool
+    requires { ⌜ clean ≡ printable (now text) ⌝ }
     ensures { λ r. ⌜ r ≡ classRecord (now (ws .entry)) (now (text .entry)) c ⌝ }
 {
     let start = class_sheet::class_name_start(ws, c);
     let length = class_sheet::class_name_length(ws, c);
-    text::part_ok(text, start, length) & numbers_ok(ws, c) & lists_ok(ws, c)
+    text::part_clean(text, clean, start, length) & numbers_ok(ws, c) & lists_ok(ws, c)
 }
 
 // Whether each class record is in order.
-fn classes_ok(ws: &[u32], text: &[u8]) -> bool
+fn classes_ok(ws: &[u32], text: &[u8], clean: bool) -> bool
+    requires { ⌜ clean ≡ printable (now text) ⌝ }
     ensures { λ r. ⌜ r ≡ allOf (classCount (now (ws .entry))) (λ i. classRecord (now (ws .entry)) (now (text .entry)) (i + 1)) ⌝ }
 {
     let n = class_sheet::class_count(ws);
     let mut i: u32 = 0;
     while i < n {
-        if !class_ok(ws, text, i + 1) {
+        if !class_ok(ws, text, clean, i + 1) {
             return false;
         }
         i += 1;
@@ -144,27 +153,28 @@ fn method_flags_ok(flags: u32) -> bool
     (flags < 8192) & (flags / 512 % 2 == 0)
 }
 
-// Whether method m's record is in order.
-fn method_ok(ws: &[u32], text: &[u8], m: u32) -> bool
+// Whether method m's record is in order; the records begin at `at`.
+fn method_ok(ws: &[u32], at: usize, text: &[u8], clean: bool, m: u32) -> bool
+    requires { ⌜ (at ≡ methodsAt (now ws)) × (at < 2 ^ 37) × (clean ≡ printable (now text)) ⌝ }
     ensures { λ r. ⌜ r ≡ methodRecord (now (ws .entry)) (now (text .entry)) m ⌝ }
 {
-    let name = class_sheet::method_name_start(ws, m);
-    let name_length = class_sheet::method_name_length(ws, m);
-    let descriptor = class_sheet::method_descriptor_start(ws, m);
-    let descriptor_length = class_sheet::method_descriptor_length(ws, m);
-    text::part_ok(text, name, name_length)
-        & text::part_ok(text, descriptor, descriptor_length)
-        & method_flags_ok(class_sheet::method_flags(ws, m))
+    let place = at + (MEMBER_WIDTH as usize) * words::wide(m);
+    if !text::signature_clean(ws, place, text, clean) {
+        return false;
+    }
+    method_flags_ok(words::word_at(ws, place + 4))
 }
 
 // Whether each method record is in order.
-fn methods_ok(ws: &[u32], text: &[u8]) -> bool
+fn methods_ok(ws: &[u32], text: &[u8], clean: bool) -> bool
+    requires { ⌜ clean ≡ printable (now text) ⌝ }
     ensures { λ r. ⌜ r ≡ allOf (methodCount (now (ws .entry))) (methodRecord (now (ws .entry)) (now (text .entry))) ⌝ }
 {
+    let at = class_sheet::methods_at(ws);
     let n = class_sheet::method_count(ws);
     let mut m: u32 = 0;
     while m < n {
-        if !method_ok(ws, text, m) {
+        if !method_ok(ws, at, text, clean, m) {
             return false;
         }
         m += 1;
@@ -172,32 +182,22 @@ fn methods_ok(ws: &[u32], text: &[u8]) -> bool
     true
 }
 
-// Whether field f's record is in order.
-fn field_ok(ws: &[u32], text: &[u8], f: u32) -> bool
-    ensures { λ r. ⌜ r ≡ fieldRecord (now (ws .entry)) (now (text .entry)) f ⌝ }
-{
-    let name = class_sheet::field_name_start(ws, f);
-    let name_length = class_sheet::field_name_length(ws, f);
-    let descriptor = class_sheet::field_descriptor_start(ws, f);
-    let descriptor_length = class_sheet::field_descriptor_length(ws, f);
-    text::part_ok(text, name, name_length)
-        & text::part_ok(text, descriptor, descriptor_length)
-        & (class_sheet::field_flags(ws, f) <= 65535)
-}
-
 // Whether each field record is in order.
-fn fields_ok(ws: &[u32], text: &[u8]) -> bool
+fn fields_ok(ws: &[u32], text: &[u8], clean: bool) -> bool
+    requires { ⌜ clean ≡ printable (now text) ⌝ }
     ensures { λ r. ⌜ r ≡ allOf (fieldCount (now (ws .entry))) (fieldRecord (now (ws .entry)) (now (text .entry))) ⌝ }
 {
+    let at = class_sheet::fields_at(ws);
+    let end = ws.len();
     let n = class_sheet::field_count(ws);
-    let mut f: u32 = 0;
-    while f < n {
-        if !field_ok(ws, text, f) {
-            return false;
-        }
-        f += 1;
-    }
-    true
+    text::members_clean(
+        words::word_part(ws, at, end),
+        MEMBER_WIDTH,
+        n,
+        65535,
+        text,
+        clean,
+    )
 }
 
 // Whether interface word i names a class.
@@ -286,8 +286,8 @@ fn apart_before(ws: &[u32], text: &[u8], d: u32) -> bool
     true
 }
 
-// Whether each class is apart from each before it.
-fn all_apart(ws: &[u32], text: &[u8]) -> bool
+// Whether each class is apart from each before it, pair by pair.
+fn each_apart(ws: &[u32], text: &[u8]) -> bool
     ensures { λ r. ⌜ r ≡ allOf (classCount (now (ws .entry))) (λ i. apartBefore (now (ws .entry)) (now (text .entry)) (i + 1)) ⌝ }
 {
     let n = class_sheet::class_count(ws);
@@ -301,13 +301,134 @@ fn all_apart(ws: &[u32], text: &[u8]) -> bool
     true
 }
 
+// The key after one byte more.
+fn key_step(key: u32, b: u8) -> u32
+    ensures { λ r. ⌜ r ≡ keyStep key b ⌝ }
+{
+    ((16777619 * words::wide(key) + (b as usize)) % 4294967296) as u32
+}
+
+// A number that a name's bytes give: names with different keys are different.
+fn name_key(name: &[u8]) -> u32
+    ensures { λ r. ⌜ r ≡ nameKey (now (name .entry)) ⌝ }
+{
+    let mut key: u32 = 0;
+    let mut i: usize = 0;
+    while i < name.len() {
+        key = key_step(key, name[i]);
+        i += 1;
+    }
+    key
+}
+
+// Whether one of the keys is k. It looks at all of them, so that the compiler can take several at a time.
+fn has_key(keys: &[u32], k: u32) -> bool
+    ensures { λ r. ⌜ r ≡ hasKey (now (keys .entry)) k ⌝ }
+{
+    let mut found = false;
+    let mut i: usize = 0;
+    while i < keys.len() {
+        found = found | (keys[i] == k);
+        i += 1;
+    }
+    found
+}
+
+// Whether there is room for the keys of all classes, and no two are the same; it leaves keys there.
+fn new_keys(ws: &[u32], text: &[u8], keys: &mut [u32]) -> bool
+    ensures { λ r. ⌜ r ≡ newKeys (now (ws .entry)) (now (text .entry)) (length (now (keys .entry))) ⌝ }
+{
+    let n = class_sheet::class_count(ws);
+    if keys.len() < words::wide(n) {
+        return false;
+    }
+    let mut i: u32 = 0;
+    while i < n {
+        let at = words::wide(i);
+        let key = name_key(class_sheet::class_name(ws, text, i + 1));
+        if has_key(words::word_part(keys, 0, at), key) {
+            return false;
+        }
+        words::put_word(keys, at, key);
+        i += 1;
+    }
+    true
+}
+
+// Marks the n elements from `first` on; answers whether all of them have marks and none was marked before. It stops at one that was.
+fn mark_list(marks: &mut [u8], first: u32, n: u32) -> bool
+    ensures is { λ r. ⌜ r ≡ freeList (now (marks .entry)) first n ⌝ }
+    ensures marks { λ r. ⌜ (r ≡ true → now (marks .exit) ≡ marked (now (marks .entry)) first n) ⌝ }
+{
+    let start = words::wide(first);
+    let count = words::wide(n);
+    if marks.len() < start + count {
+        return false;
+    }
+    let mut k: usize = 0;
+    while k < count {
+        if marks[start + k] != 0 {
+            return false;
+        }
+        marks[start + k] = 1;
+        k += 1;
+    }
+    true
+}
+
+// Whether no method and no field is in the lists of two classes: each class marks its own, and finds none of them marked.
+fn free_lists(ws: &[u32], methods: &mut [u8], fields: &mut [u8]) -> bool
+    ensures { λ r. ⌜ r ≡ freeLists (now (ws .entry)) (now (methods .entry)) (now (fields .entry)) ⌝ }
+{
+    let n = class_sheet::class_count(ws);
+    let mut i: u32 = 0;
+    while i < n {
+        let first_method = class_sheet::class_first_method(ws, i + 1);
+        let method_count = class_sheet::class_method_count(ws, i + 1);
+        let first_field = class_sheet::class_first_field(ws, i + 1);
+        let field_count = class_sheet::class_field_count(ws, i + 1);
+        let free = mark_list(methods, first_method, method_count)
+            & mark_list(fields, first_field, field_count);
+        if !free {
+            return false;
+        }
+        i += 1;
+    }
+    true
+}
+
+// Whether keys and marks show that each class is apart from each before it. They do not where two names have one key, where a list
+// goes past the marks, and where classes are not apart.
+fn seen_apart(ws: &[u32], text: &[u8]) -> bool
+    ensures { λ r. ⌜ (r ≡ true → allOf (classCount (now (ws .entry))) (λ i. apartBefore (now (ws .entry)) (now (text .entry)) (i + 1)) ≡ true) ⌝ }
+{
+    let mut keys = [0u32; 64];
+    if !new_keys(ws, text, &mut keys) {
+        return false;
+    }
+    let mut methods = [0u8; 512];
+    let mut fields = [0u8; 512];
+    free_lists(ws, &mut methods, &mut fields)
+}
+
+// Whether each class is apart from each before it: mostly it is seen in one pass, and else the pairs are looked at.
+fn all_apart(ws: &[u32], text: &[u8]) -> bool
+    ensures { λ r. ⌜ r ≡ allOf (classCount (now (ws .entry))) (λ i. apartBefore (now (ws .entry)) (now (text .entry)) (i + 1)) ⌝ }
+{
+    if seen_apart(ws, text) {
+        return true;
+    }
+    each_apart(ws, text)
+}
+
 // Row 4, of a reading, a link or an ask.
 pub fn records_ok(ws: &[u32], text: &[u8]) -> bool
     ensures { λ r. ⌜ r ≡ classRecords (now (ws .entry)) (now (text .entry)) ⌝ }
 {
-    classes_ok(ws, text)
-        & methods_ok(ws, text)
-        & fields_ok(ws, text)
+    let clean = text::is_printable(text);
+    classes_ok(ws, text, clean)
+        & methods_ok(ws, text, clean)
+        & fields_ok(ws, text, clean)
         & interfaces_ok(ws)
         & all_apart(ws, text)
 }

@@ -13,6 +13,7 @@ ghost use Rattle.descriptor.specs.Machine.{
   methodDone,
   isMethodDescriptor,
 };
+ghost use Rattle.descriptor.specs.Names.{nameEnd, fieldInside, methodInside, readOn};
 ghost use Rattle.descriptor.specs.Words.{
   receiverWords,
   byteWidth,
@@ -143,6 +144,43 @@ fn field_done(q: FieldState) -> bool
     }
 }
 
+// Where the run of bytes from i on ends that a name may have.
+fn name_end(s: &[u8], i: usize) -> usize
+    ensures { λ r. ⌜ r ≡ nameEnd (now (s .entry)) i ⌝ }
+{
+    let mut j = i;
+    while j < s.len() {
+        if !is_name_byte(s[j]) {
+            return j;
+        }
+        j += 1;
+    }
+    j
+}
+
+// Where a reader reads on, for which i is next: inside an identifier it passes over the bytes that leave it where it stands.
+fn read_on(inside: bool, s: &[u8], i: usize) -> usize
+    ensures { λ r. ⌜ r ≡ readOn inside (now (s .entry)) i ⌝ }
+{
+    if inside {
+        return name_end(s, i);
+    }
+    i
+}
+
+// Whether the reader of a field descriptor stands inside an identifier.
+fn field_inside(q: FieldState) -> bool
+    ensures { λ r. ⌜ r ≡ fieldInside q ⌝ }
+{
+    match q {
+        FieldState::Open => false,
+        FieldState::Start => false,
+        FieldState::Inside => true,
+        FieldState::Done => false,
+        FieldState::Bad => false,
+    }
+}
+
 // Whether the bytes are a field descriptor. Any bytes are taken, and only the grammar counts: there is no limit on dimensions.
 pub fn is_field_descriptor(s: &[u8]) -> bool
     ensures { λ r. ⌜ r ≡ isFieldDescriptor (now (s .entry)) ⌝ }
@@ -151,7 +189,7 @@ pub fn is_field_descriptor(s: &[u8]) -> bool
     let mut i: usize = 0;
     while i < s.len() {
         q = field_next(q, words::byte_at(s, i));
-        i += 1;
+        i = read_on(field_inside(q), s, i + 1);
     }
     field_done(q)
 }
@@ -223,6 +261,18 @@ fn method_done(q: MethodState) -> bool
     }
 }
 
+// Whether the reader of a method descriptor stands inside an identifier.
+fn method_inside(q: MethodState) -> bool
+    ensures { λ r. ⌜ r ≡ methodInside q ⌝ }
+{
+    match q {
+        MethodState::Begin => false,
+        MethodState::Parameters(p) => field_inside(p),
+        MethodState::Return => false,
+        MethodState::Returned(p) => field_inside(p),
+    }
+}
+
 // Whether the bytes are a method descriptor. Any bytes are taken, and only the grammar counts: there is no limit on argument words.
 pub fn is_method_descriptor(s: &[u8]) -> bool
     ensures { λ r. ⌜ r ≡ isMethodDescriptor (now (s .entry)) ⌝ }
@@ -231,7 +281,7 @@ pub fn is_method_descriptor(s: &[u8]) -> bool
     let mut i: usize = 0;
     while i < s.len() {
         q = method_next(q, words::byte_at(s, i));
-        i += 1;
+        i = read_on(method_inside(q), s, i + 1);
     }
     method_done(q)
 }

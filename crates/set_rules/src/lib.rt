@@ -1,50 +1,72 @@
 // Row 5 of the table of refusals for both sheets, and rows 3 to 5 as a link or an ask applies them to words already read.
 ghost use mathlib.Core.Path.{_≡_};
+ghost use Prim.Native.Nat.{_^_, _≤_, _<_};
 ghost use Rattle.words.specs.Folds.{allOf};
-ghost use Rattle.class_sheet.specs.ClassSheet.{methodCount, fieldCount};
-ghost use Rattle.abi_sheet.specs.AbiSheet.{abiSlotCount, abiFieldCount};
-ghost use Rattle.set_rules.specs.SetRules.{methodTyped, fieldTyped, classDescriptors, abiSlotTyped, abiFieldTyped, abiDescriptors, classRefusal, abiRefusal, setFits, recordsRefusal, setRefusal};
+ghost use Rattle.text.specs.Text.{nameAt};
+ghost use Rattle.set_rules.specs.Known.{isDescriptor, isKnown, Known, recordTyped};
+ghost use Rattle.set_rules.specs.SetRules.{classDescriptors, abiDescriptors, classRefusal, abiRefusal, setFits, recordsRefusal, setRefusal};
 
-// Whether method m's descriptor is one.
-fn method_typed(ws: &[u32], text: &[u8], m: u32) -> bool
-    ensures { λ r. ⌜ r ≡ methodTyped (now (ws .entry)) (now (text .entry)) m ⌝ }
-{
-    descriptor::is_method_descriptor(class_sheet::method_descriptor(ws, text, m))
-}
+// The words of a method or field record of a class sheet, and of a slot or field record of an ABI sheet. In both, words 2 and 3 are the
+// start and the length of the descriptor.
+const MEMBER_WIDTH: usize = 6;
 
-// Whether each method's descriptor is one.
-fn methods_typed(ws: &[u32], text: &[u8]) -> bool
-    ensures { λ r. ⌜ r ≡ allOf (methodCount (now (ws .entry))) (methodTyped (now (ws .entry)) (now (text .entry))) ⌝ }
+const ABI_MEMBER_WIDTH: usize = 5;
+
+// The most bytes that a text has, and so where its parts may start. Many records share a descriptor: `known`, a byte for each start, has one
+// more than the length of a part that starts there and was found to be a descriptor, so that it is read but once.
+const STARTS: usize = 8192;
+
+// Whether the bytes are a descriptor: a method's, or else a field's.
+fn is_descriptor(method: bool, s: &[u8]) -> bool
+    ensures { λ r. ⌜ r ≡ isDescriptor method (now (s .entry)) ⌝ }
 {
-    let n = class_sheet::method_count(ws);
-    let mut m: u32 = 0;
-    while m < n {
-        if !method_typed(ws, text, m) {
-            return false;
-        }
-        m += 1;
+    if method {
+        return descriptor::is_method_descriptor(s);
     }
-    true
+    descriptor::is_field_descriptor(s)
 }
 
-// Whether field f's descriptor is one.
-fn field_typed(ws: &[u32], text: &[u8], f: u32) -> bool
-    ensures { λ r. ⌜ r ≡ fieldTyped (now (ws .entry)) (now (text .entry)) f ⌝ }
+// Whether `known` has, at the part's start, one more than its length.
+fn is_known(known: &[u8], start: u32, len: u32) -> bool
+    ensures { λ r. ⌜ r ≡ isKnown (now (known .entry)) start len ⌝ }
 {
-    descriptor::is_field_descriptor(class_sheet::field_descriptor(ws, text, f))
+    words::byte_at(known, words::wide(start)) as usize == words::wide(len) + 1
 }
 
-// Whether each field's descriptor is one.
-fn fields_typed(ws: &[u32], text: &[u8]) -> bool
-    ensures { λ r. ⌜ r ≡ allOf (fieldCount (now (ws .entry))) (fieldTyped (now (ws .entry)) (now (text .entry))) ⌝ }
+// Whether the part of the text is a descriptor. It is read only where it is not known to be one; a descriptor of up to 254 bytes is
+// known from then on.
+fn part_typed(method: bool, text: &[u8], start: u32, len: u32, known: &mut [u8]) -> bool
+    requires { ⌜ Known method (now text) (now known) ⌝ }
+    ensures is { λ r. ⌜ r ≡ isDescriptor method (nameAt (now (text .entry)) start len) ⌝ }
+    ensures kept { λ _. ⌜ Known method (now (text .entry)) (now (known .exit)) ⌝ }
 {
-    let n = class_sheet::field_count(ws);
-    let mut f: u32 = 0;
-    while f < n {
-        if !field_typed(ws, text, f) {
+    if is_known(known, start, len) {
+        return true;
+    }
+    let typed = is_descriptor(method, text::name_at(text, start, len));
+    if typed & (len < 255) {
+        words::put_byte(known, words::wide(start), (len % 255 + 1) as u8);
+    }
+    typed
+}
+
+// Whether each of n records from word `first` on has a descriptor. One that ends past the words has none: its length is 0.
+fn records_typed(method: bool, ws: &[u32], first: usize, width: usize, n: u32, text: &[u8]) -> bool
+    requires { ⌜ (first < 2 ^ 38) × (width ≤ 6) ⌝ }
+    ensures { λ r. ⌜ r ≡ allOf n (recordTyped method (now (ws .entry)) first width (now (text .entry))) ⌝ }
+{
+    let mut known = [0u8; STARTS];
+    let mut at = first;
+    let mut i: u32 = 0;
+    while i < n {
+        if ws.len() <= at + 3 {
             return false;
         }
-        f += 1;
+        if !part_typed(method, text, ws[at + 2], ws[at + 3], &mut known) {
+            return false;
+        }
+        at += width;
+        i += 1;
     }
     true
 }
@@ -53,58 +75,24 @@ fn fields_typed(ws: &[u32], text: &[u8]) -> bool
 fn class_descriptors_ok(ws: &[u32], text: &[u8]) -> bool
     ensures { λ r. ⌜ r ≡ classDescriptors (now (ws .entry)) (now (text .entry)) ⌝ }
 {
-    methods_typed(ws, text) & fields_typed(ws, text)
-}
-
-// Whether ABI slot s's descriptor is one.
-fn abi_slot_typed(abi: &[u32], text: &[u8], s: u32) -> bool
-    ensures { λ r. ⌜ r ≡ abiSlotTyped (now (abi .entry)) (now (text .entry)) s ⌝ }
-{
-    descriptor::is_method_descriptor(abi_sheet::slot_descriptor(abi, text, s))
-}
-
-// Whether each ABI slot's descriptor is one.
-fn abi_slots_typed(abi: &[u32], text: &[u8]) -> bool
-    ensures { λ r. ⌜ r ≡ allOf (abiSlotCount (now (abi .entry))) (abiSlotTyped (now (abi .entry)) (now (text .entry))) ⌝ }
-{
-    let n = abi_sheet::slot_count(abi);
-    let mut s: u32 = 0;
-    while s < n {
-        if !abi_slot_typed(abi, text, s) {
-            return false;
-        }
-        s += 1;
-    }
-    true
-}
-
-// Whether ABI field f's descriptor is one.
-fn abi_field_typed(abi: &[u32], text: &[u8], f: u32) -> bool
-    ensures { λ r. ⌜ r ≡ abiFieldTyped (now (abi .entry)) (now (text .entry)) f ⌝ }
-{
-    descriptor::is_field_descriptor(abi_sheet::field_descriptor(abi, text, f))
-}
-
-// Whether each ABI field's descriptor is one.
-fn abi_fields_typed(abi: &[u32], text: &[u8]) -> bool
-    ensures { λ r. ⌜ r ≡ allOf (abiFieldCount (now (abi .entry))) (abiFieldTyped (now (abi .entry)) (now (text .entry))) ⌝ }
-{
-    let n = abi_sheet::field_count(abi);
-    let mut f: u32 = 0;
-    while f < n {
-        if !abi_field_typed(abi, text, f) {
-            return false;
-        }
-        f += 1;
-    }
-    true
+    let methods = class_sheet::methods_at(ws);
+    let count = class_sheet::method_count(ws);
+    let methods_ok = records_typed(true, ws, methods, MEMBER_WIDTH, count, text);
+    let fields = class_sheet::fields_at(ws);
+    let count = class_sheet::field_count(ws);
+    methods_ok & records_typed(false, ws, fields, MEMBER_WIDTH, count, text)
 }
 
 // Row 5 for an ABI sheet.
 fn abi_descriptors_ok(abi: &[u32], text: &[u8]) -> bool
     ensures { λ r. ⌜ r ≡ abiDescriptors (now (abi .entry)) (now (text .entry)) ⌝ }
 {
-    abi_slots_typed(abi, text) & abi_fields_typed(abi, text)
+    let slots = abi_sheet::slots_at(abi);
+    let count = abi_sheet::slot_count(abi);
+    let slots_ok = records_typed(true, abi, slots, ABI_MEMBER_WIDTH, count, text);
+    let fields = abi_sheet::fields_at(abi);
+    let count = abi_sheet::field_count(abi);
+    slots_ok & records_typed(false, abi, fields, ABI_MEMBER_WIDTH, count, text)
 }
 
 // Rows 4 and 5 for a class sheet: the number that refuses, or 0.

@@ -1,8 +1,8 @@
 -- The text section, and names as parts of it. Assumes nothing.
-use Prim.Native.Nat.{ℕ, _+_, _*_, _-_, _/_, _%_}
-use mathlib.Core.Bool.{Bool, true, false, _&&_, cond}
+use Prim.Native.Nat.{ℕ, zero, suc, _+_, _*_, _-_, _/_, _%_}
+use mathlib.Core.Bool.{Bool, true, false, _&&_, _||_, cond}
 use mathlib.Core.List.{List, [], _∷_, _++_}
-use lib.ListN.{getD, take, drop, length}
+use lib.ListN.{getD, set, take, drop, length}
 use lib.Dec.{eqb, leb, ltb}
 use Rattle.words.specs.Folds.{allOf, table}
 use Rattle.words.specs.Words.{byteOf}
@@ -18,6 +18,11 @@ textOfWords ws n = table n (textByte ws)
 -- lent bytes with the first n of the words in front and the rest as it was, where there is room
 unfoldable pub unpackedText : List ℕ → ℕ → List ℕ → List ℕ
 unpackedText ws n text = cond (ltb (length text) n) text (textOfWords ws n ++ drop n text)
+
+-- bytes after stores of k bytes of the words from byte `start` on, each at its own place
+unfoldable pub textStores : List ℕ → ℕ → ℕ → List ℕ → List ℕ
+textStores ws start zero text = text
+textStores ws start (suc k) text = set (textStores ws start k text) (start + k) (textByte ws (start + k))
 
 -- byte `start + k` of the words is 0
 unfoldable pub zeroAt : List ℕ → ℕ → ℕ → Bool
@@ -46,3 +51,17 @@ printable (b ∷ bs) = leb 33 b && leb b 126 && printable bs
 -- "every list and text part lies inside its section; names and descriptors have 1 to 255 bytes, each 0x21 to 0x7E"
 unfoldable pub partOk : List ℕ → ℕ → ℕ → Bool
 partOk text start len = leb 1 len && leb len 255 && leb (start + len) (length text) && printable (nameAt text start len)
+
+-- the same, told whether each byte of the text is 0x21 to 0x7E: `partClean text (printable text)` is `partOk text` (`clean-is`)
+unfoldable pub partClean : List ℕ → Bool → ℕ → ℕ → Bool
+partClean text clean start len =
+    leb 1 len && leb len 255 && leb (start + len) (length text) && (clean || printable (nameAt text start len))
+
+-- a name and a descriptor, whose starts and lengths are the four words from `at` on
+unfoldable pub signatureClean : List ℕ → ℕ → List ℕ → Bool → Bool
+signatureClean ws at text clean =
+    partClean text clean (getD ws at 0) (getD ws (at + 1) 0) && partClean text clean (getD ws (at + 2) 0) (getD ws (at + 3) 0)
+
+-- record i of this width: a name, a descriptor, and a number up to `most`
+unfoldable pub memberClean : List ℕ → ℕ → ℕ → List ℕ → Bool → ℕ → Bool
+memberClean ws width most text clean i = signatureClean ws (width * i) text clean && leb (getD ws (width * i + 4) 0) most

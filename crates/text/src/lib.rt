@@ -1,8 +1,49 @@
 // The text section of a sheet: its words unpacked to bytes, names compared, and the rule for a name or descriptor.
 ghost use mathlib.Core.Path.{_≡_};
-ghost use Rattle.text.specs.Text.{unpackedText, zeroRest, nameAt, sameBytes, printable, partOk};
+ghost use Prim.Native.Nat.{_*_, _-_, _≤_};
+ghost use lib.ListN.{length};
+ghost use Rattle.words.specs.Folds.{allOf, stores};
+ghost use Rattle.text.specs.Text.{textByte, textStores, unpackedText, zeroRest, nameAt, sameBytes, printable, partClean, signatureClean, memberClean};
 
-// The first n bytes of the words, four a word, lowest byte first, where the lent bytes have room for them, and else nothing.
+// The smaller of two numbers.
+fn least(a: usize, b: usize) -> usize
+    ensures { λ r. ⌜ (r ≤ a) × (r ≤ b) ⌝ }
+{
+    if a < b {
+        return a;
+    }
+    b
+}
+
+// Stores the first n words, four bytes each, lowest byte first.
+fn unpack_words(ws: &[u32], n: usize, text: &mut [u8])
+    requires { ⌜ (n ≤ length (now ws)) × (4 * n ≤ length (now text)) ⌝ }
+    ensures { λ _. ⌜ now (text .exit) ≡ stores (4 * n) (textByte (now (ws .entry))) (now (text .entry)) ⌝ }
+{
+    let mut w: usize = 0;
+    while w < n {
+        let x = ws[w];
+        text[4 * w] = (x % 256) as u8;
+        text[4 * w + 1] = (x / 256 % 256) as u8;
+        text[4 * w + 2] = (x / 65536 % 256) as u8;
+        text[4 * w + 3] = (x / 16777216 % 256) as u8;
+        w += 1;
+    }
+}
+
+// Stores bytes `start` to `end` of the words, each at its own place; a byte past the words is 0.
+fn unpack_bytes(ws: &[u32], start: usize, end: usize, text: &mut [u8])
+    ensures { λ _. ⌜ now (text .exit) ≡ textStores (now (ws .entry)) start (end - start) (now (text .entry)) ⌝ }
+{
+    let mut i: usize = start;
+    while i < end {
+        words::put_byte(text, i, words::byte_of(words::word_at(ws, i / 4), i));
+        i += 1;
+    }
+}
+
+// The first n bytes of the words, four a word, lowest byte first, where the lent bytes have room for them, and else nothing. Whole words
+// go first, then what is left.
 pub fn unpack_text(ws: &[u32], n: u32, text: &mut [u8])
     ensures { λ _. ⌜ now (text .exit) ≡ unpackedText (now (ws .entry)) n (now (text .entry)) ⌝ }
 {
@@ -10,11 +51,9 @@ pub fn unpack_text(ws: &[u32], n: u32, text: &mut [u8])
     if text.len() < count {
         return;
     }
-    let mut i: usize = 0;
-    while i < count {
-        words::put_byte(text, i, words::byte_of(words::word_at(ws, i / 4), i));
-        i += 1;
-    }
+    let whole = least(count / 4, ws.len());
+    unpack_words(ws, whole, text);
+    unpack_bytes(ws, 4 * whole, count, text);
 }
 
 // Whether each byte of the words from byte `start` to their end is 0.
@@ -57,26 +96,23 @@ pub fn same(a: &[u8], b: &[u8]) -> bool
 }
 
 // Whether each byte is from 0x21 to 0x7E.
-fn all_printable(s: &[u8]) -> bool
+pub fn is_printable(s: &[u8]) -> bool
     ensures { λ r. ⌜ r ≡ printable (now (s .entry)) ⌝ }
 {
+    let mut ok = true;
     let mut i: usize = 0;
     while i < s.len() {
-        let b = words::byte_at(s, i);
-        if b < 33 {
-            return false;
-        }
-        if 126 < b {
-            return false;
-        }
+        let b = s[i];
+        ok = ok & (33 <= b) & (b <= 126);
         i += 1;
     }
-    true
+    ok
 }
 
-// Whether a name or descriptor lies inside the text, has 1 to 255 bytes, and each is from 0x21 to 0x7E.
-pub fn part_ok(text: &[u8], start: u32, len: u32) -> bool
-    ensures { λ r. ⌜ r ≡ partOk (now (text .entry)) start len ⌝ }
+// Whether a name or descriptor lies inside the text, has 1 to 255 bytes, and each is from 0x21 to 0x7E. `clean` tells that each byte of
+// the text is: then those of the part need no look.
+pub fn part_clean(text: &[u8], clean: bool, start: u32, len: u32) -> bool
+    ensures { λ r. ⌜ r ≡ partClean (now (text .entry)) clean start len ⌝ }
 {
     if len < 1 {
         return false;
@@ -87,5 +123,50 @@ pub fn part_ok(text: &[u8], start: u32, len: u32) -> bool
     if text.len() < words::wide(start) + words::wide(len) {
         return false;
     }
-    all_printable(name_at(text, start, len))
+    if clean {
+        return true;
+    }
+    is_printable(name_at(text, start, len))
+}
+
+// Whether a name and a descriptor are in order, whose starts and lengths are the four words from `at` on. Where the last of these is not
+// there, the descriptor is empty.
+pub fn signature_clean(ws: &[u32], at: usize, text: &[u8], clean: bool) -> bool
+    ensures { λ r. ⌜ r ≡ signatureClean (now (ws .entry)) at (now (text .entry)) clean ⌝ }
+{
+    if ws.len() < 4 {
+        return false;
+    }
+    if ws.len() - 4 < at {
+        return false;
+    }
+    if !part_clean(text, clean, ws[at], ws[at + 1]) {
+        return false;
+    }
+    part_clean(text, clean, ws[at + 2], ws[at + 3])
+}
+
+// Whether record i of this width is in order: a name, a descriptor, and a number up to `most`.
+fn member_clean(ws: &[u32], width: u32, most: u32, text: &[u8], clean: bool, i: u32) -> bool
+    ensures { λ r. ⌜ r ≡ memberClean (now (ws .entry)) width most (now (text .entry)) clean i ⌝ }
+{
+    let at = (width as usize) * (i as usize);
+    if !signature_clean(ws, at, text, clean) {
+        return false;
+    }
+    words::word_at(ws, at + 4) <= most
+}
+
+// Whether each of the n records is.
+pub fn members_clean(ws: &[u32], width: u32, n: u32, most: u32, text: &[u8], clean: bool) -> bool
+    ensures { λ r. ⌜ r ≡ allOf n (memberClean (now (ws .entry)) width most (now (text .entry)) clean) ⌝ }
+{
+    let mut i: u32 = 0;
+    while i < n {
+        if !member_clean(ws, width, most, text, clean, i) {
+            return false;
+        }
+        i += 1;
+    }
+    true
 }

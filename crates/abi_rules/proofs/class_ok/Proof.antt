@@ -1,4 +1,6 @@
+use mathlib.Core.Path.{_∙_}
 use Rattle.abi_rules.specs.AbiRules.{abiClassRecord}
+use Rattle.text.proofs.Laws.{clean-is}
 use borrow.Author.Needs.{needs}
 use Rattle.abi_rules.proofs.class_ok.Statement.{statement}
 use Rattle.abi_rules.proofs.class_ok.Tie as tie
@@ -14,7 +16,7 @@ use Rattle.abi_sheet.proofs.class_slot_count.Reads as class-slot-count-reads
 use Rattle.abi_sheet.proofs.class_table_size_plus_one.Reads as class-table-size-plus-one-reads
 use Rattle.abi_sheet.proofs.field_count.Reads as field-count-reads
 use Rattle.abi_sheet.proofs.slot_count.Reads as slot-count-reads
-use Rattle.text.proofs.part_ok.Reads as part-ok-reads
+use Rattle.text.proofs.part_clean.Reads as part-clean-reads
 use Rattle.words.proofs.is_inside.Reads as is-inside-reads
 
 class-name-start-requires : tie.Need-class-name-start-requires
@@ -23,8 +25,8 @@ class-name-start-requires c κs = search needs
 class-name-length-requires : tie.Need-class-name-length-requires
 class-name-length-requires c κs = search needs
 
-part-ok-requires : tie.Need-part-ok-requires
-part-ok-requires c κs = search needs
+part-clean-requires : tie.Need-part-clean-requires
+part-clean-requires c κs = search needs
 
 class-table-size-plus-one-requires : tie.Need-class-table-size-plus-one-requires
 class-table-size-plus-one-requires c κs = search needs
@@ -58,7 +60,7 @@ is-inside-requires-2 c κs = search needs
 
 returns : tie.Need-returns
 unfolding abiClassRecord
-returns c = cc
+returns c = let e = c .before .before .before .before .before .before .before .before .before .before .part-clean .ensures ∙ clean-is _ _ _ (c .before .before .before .before .before .before .before .before .before .before .before .before .before .before .before .pre) in cc
 
 pub class-ok-spec : {M : Type 1} → statement M
 class-ok-spec =
@@ -66,7 +68,7 @@ class-ok-spec =
     (tie.spec
     class-name-start-requires
     class-name-length-requires
-    part-ok-requires
+    part-clean-requires
     class-table-size-plus-one-requires
     class-instance-words-plus-one-requires
     class-first-slot-requires

@@ -5,8 +5,8 @@ use mathlib.Core.Bool.{true}
 use Prim.Native.Nat.{_+_, _-_, _≤_}
 use Rattle.words.specs.Folds.{allOf}
 use Rattle.words.proofs.FoldLaws.{all-none, all-turn, all-stop, all-done}
-use Rattle.abi_rules.specs.AbiRules.{abiClassRecord}
 use Rattle.abi_sheet.specs.AbiSheet.{abiClassCount}
+use Rattle.abi_rules.specs.AbiRules.{abiClassRecord}
 use borrow.Author.Needs.{needs}
 use Rattle.abi_rules.proofs.classes_ok.Statement.{statement}
 use Rattle.abi_rules.proofs.classes_ok.Tie as tie
@@ -16,10 +16,10 @@ use Rattle.abi_rules.proofs.class_ok.Reads as class-ok-reads
 use Rattle.abi_sheet.proofs.class_count.Reads as class-count-reads
 
 abbrev Inv-loop : tie.InvT-loop
-Inv-loop abi text n a₀ a = (a ≤ n) × (allOf a (abiClassRecord abi text) ≡ true) × (n ≡ abiClassCount abi)
+Inv-loop abi text clean n a₀ a = (a ≤ n) × (allOf a (abiClassRecord abi text) ≡ true) × (n ≡ abiClassCount abi)
 
 abbrev μ-loop : tie.MeasureT-loop
-μ-loop abi text n a₀ a = n - a
+μ-loop abi text clean n a₀ a = n - a
 
 class-count-requires : tie.Need-class-count-requires Inv-loop μ-loop
 class-count-requires c κs = search needs

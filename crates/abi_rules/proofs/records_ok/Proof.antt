@@ -7,6 +7,10 @@ use Rattle.abi_rules.proofs.records_ok.Lts as lts
 use Rattle.abi_rules.proofs.classes_ok.Reads as classes-ok-reads
 use Rattle.abi_rules.proofs.fields_ok.Reads as fields-ok-reads
 use Rattle.abi_rules.proofs.slots_ok.Reads as slots-ok-reads
+use Rattle.text.proofs.is_printable.Reads as is-printable-reads
+
+is-printable-requires : tie.Need-is-printable-requires
+is-printable-requires c κs = search needs
 
 classes-ok-requires : tie.Need-classes-ok-requires
 classes-ok-requires c κs = search needs
@@ -23,4 +27,10 @@ returns c = cc
 
 pub records-ok-spec : {M : Type 1} → statement M
 records-ok-spec =
-    tie.close (tie.spec classes-ok-requires slots-ok-requires fields-ok-requires returns)
+    tie.close
+    (tie.spec
+    is-printable-requires
+    classes-ok-requires
+    slots-ok-requires
+    fields-ok-requires
+    returns)

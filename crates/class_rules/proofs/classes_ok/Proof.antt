@@ -5,8 +5,8 @@ use mathlib.Core.Bool.{true}
 use Prim.Native.Nat.{_+_, _-_, _≤_}
 use Rattle.words.specs.Folds.{allOf}
 use Rattle.words.proofs.FoldLaws.{all-none, all-turn, all-stop, all-done}
-use Rattle.class_rules.specs.ClassRules.{classRecord}
 use Rattle.class_sheet.specs.ClassSheet.{classCount}
+use Rattle.class_rules.specs.ClassRules.{classRecord}
 use borrow.Author.Needs.{needs}
 use Rattle.class_rules.proofs.classes_ok.Statement.{statement}
 use Rattle.class_rules.proofs.classes_ok.Tie as tie
@@ -16,10 +16,10 @@ use Rattle.class_rules.proofs.class_ok.Reads as class-ok-reads
 use Rattle.class_sheet.proofs.class_count.Reads as class-count-reads
 
 abbrev Inv-loop : tie.InvT-loop
-Inv-loop ws text n i₀ i = (i ≤ n) × (allOf i (λ k. classRecord ws text (k + 1)) ≡ true) × (n ≡ classCount ws)
+Inv-loop ws text clean n i₀ i = (i ≤ n) × (allOf i (λ k. classRecord ws text (k + 1)) ≡ true) × (n ≡ classCount ws)
 
 abbrev μ-loop : tie.MeasureT-loop
-μ-loop ws text n i₀ i = n - i
+μ-loop ws text clean n i₀ i = n - i
 
 class-count-requires : tie.Need-class-count-requires Inv-loop μ-loop
 class-count-requires c κs = search needs

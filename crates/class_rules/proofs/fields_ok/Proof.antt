@@ -1,61 +1,35 @@
-use native.Mathlib.Omega.{arith}
-use borrow.Author.Tests.{not-true, not-false}
-use mathlib.Core.Path.{_≡_}
-use mathlib.Core.Bool.{true}
-use Prim.Native.Nat.{_+_, _-_, _≤_}
-use Rattle.words.specs.Folds.{allOf}
-use Rattle.words.proofs.FoldLaws.{all-none, all-turn, all-stop, all-done}
-use Rattle.class_rules.specs.ClassRules.{fieldRecord}
-use Rattle.class_sheet.specs.ClassSheet.{fieldCount}
+use Rattle.class_rules.proofs.Laws.{fields-are}
 use borrow.Author.Needs.{needs}
 use Rattle.class_rules.proofs.fields_ok.Statement.{statement}
 use Rattle.class_rules.proofs.fields_ok.Tie as tie
 use Rattle.class_rules.proofs.fields_ok.Reads as reads
 use Rattle.class_rules.proofs.fields_ok.Lts as lts
-use Rattle.class_rules.proofs.field_ok.Reads as field-ok-reads
 use Rattle.class_sheet.proofs.field_count.Reads as field-count-reads
+use Rattle.class_sheet.proofs.fields_at.Reads as fields-at-reads
+use Rattle.text.proofs.members_clean.Reads as members-clean-reads
+use Rattle.words.proofs.word_part.Reads as word-part-reads
 
-abbrev Inv-loop : tie.InvT-loop
-Inv-loop ws text n f₀ f = (f ≤ n) × (allOf f (fieldRecord ws text) ≡ true) × (n ≡ fieldCount ws)
+fields-at-requires : tie.Need-fields-at-requires
+fields-at-requires c κs = search needs
 
-abbrev μ-loop : tie.MeasureT-loop
-μ-loop ws text n f₀ f = n - f
-
-field-count-requires : tie.Need-field-count-requires Inv-loop μ-loop
+field-count-requires : tie.Need-field-count-requires
 field-count-requires c κs = search needs
 
-loop-holds : tie.Need-loop-holds Inv-loop μ-loop
-loop-holds c = (omega arith, all-none _, omega arith)
+word-part-requires : tie.Need-word-part-requires
+word-part-requires c κs = search needs
 
-field-ok-requires : tie.Need-field-ok-requires Inv-loop μ-loop
-field-ok-requires c κs = search needs
+members-clean-requires : tie.Need-members-clean-requires
+members-clean-requires c κs = search needs
 
-returns : tie.Need-returns Inv-loop μ-loop
-returns c = all-stop _ _ (c .before .before .before .loop .f) (omega arith) (c .before .field-ok .ensures) (not-true _ (c .if1 .taken))
-
-add-f : tie.Need-add-f Inv-loop μ-loop
-add-f c = search needs
-
-loop-less : tie.Need-loop-less Inv-loop μ-loop
-loop-less c = search needs
-
-loop-again : tie.Need-loop-again Inv-loop μ-loop
-loop-again c = (omega arith, all-turn (c .before .before .before .loop .f) _ (c .before .before .before .loop .inv .1) (c .before .field-ok .ensures) (not-false _ (c .if1 .left)), omega arith)
-
-returns-2 : tie.Need-returns-2 Inv-loop μ-loop
-returns-2 c = all-done _ _ _ (c .before .loop .inv .1) (omega arith)
+returns : tie.Need-returns
+returns c = fields-are _ _ (c .before .before .before .before .before .before .pre) (c .before .before .before .fields-at .ensures .0) (c .before .word-part .ensures) (c .before .before .field-count .ensures) (c .members-clean .ensures)
 
 pub fields-ok-spec : {M : Type 1} → statement M
 fields-ok-spec =
     tie.close
     (tie.spec
-    Inv-loop
-    μ-loop
+    fields-at-requires
     field-count-requires
-    loop-holds
-    field-ok-requires
-    returns
-    add-f
-    loop-less
-    loop-again
-    returns-2)
+    word-part-requires
+    members-clean-requires
+    returns)

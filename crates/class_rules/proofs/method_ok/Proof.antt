@@ -1,55 +1,55 @@
-use Rattle.class_rules.specs.ClassRules.{methodRecord}
+use Rattle.class_rules.proofs.Laws.{method-stop, method-on}
 use borrow.Author.Needs.{needs}
 use Rattle.class_rules.proofs.method_ok.Statement.{statement}
 use Rattle.class_rules.proofs.method_ok.Tie as tie
 use Rattle.class_rules.proofs.method_ok.Reads as reads
 use Rattle.class_rules.proofs.method_ok.Lts as lts
 use Rattle.class_rules.proofs.method_flags_ok.Reads as method-flags-ok-reads
-use Rattle.class_sheet.proofs.method_descriptor_length.Reads as method-descriptor-length-reads
-use Rattle.class_sheet.proofs.method_descriptor_start.Reads as method-descriptor-start-reads
-use Rattle.class_sheet.proofs.method_flags.Reads as method-flags-reads
-use Rattle.class_sheet.proofs.method_name_length.Reads as method-name-length-reads
-use Rattle.class_sheet.proofs.method_name_start.Reads as method-name-start-reads
-use Rattle.text.proofs.part_ok.Reads as part-ok-reads
+use Rattle.text.proofs.signature_clean.Reads as signature-clean-reads
+use Rattle.words.proofs.wide.Reads as wide-reads
+use Rattle.words.proofs.word_at.Reads as word-at-reads
 
-method-name-start-requires : tie.Need-method-name-start-requires
-method-name-start-requires c κs = search needs
+cast-place : tie.Need-cast-place
+cast-place c = search needs
 
-method-name-length-requires : tie.Need-method-name-length-requires
-method-name-length-requires c κs = search needs
+wide-requires : tie.Need-wide-requires
+wide-requires c κs = search needs
 
-method-descriptor-start-requires : tie.Need-method-descriptor-start-requires
-method-descriptor-start-requires c κs = search needs
+mul-place : tie.Need-mul-place
+mul-place c = search needs
 
-method-descriptor-length-requires : tie.Need-method-descriptor-length-requires
-method-descriptor-length-requires c κs = search needs
+add-place : tie.Need-add-place
+add-place c = search needs
 
-part-ok-requires : tie.Need-part-ok-requires
-part-ok-requires c κs = search needs
+signature-clean-requires : tie.Need-signature-clean-requires
+signature-clean-requires c κs = search needs
 
-part-ok-requires-2 : tie.Need-part-ok-requires-2
-part-ok-requires-2 c κs = search needs
+returns : tie.Need-returns
+returns c = method-stop _ _ (c .before .before .before .before .before .pre .2) _ (c .before .before .before .before .before .pre .0) (c .before .before .wide .ensures) (c .before .signature-clean .ensures) (c .if1 .taken)
 
-method-flags-requires : tie.Need-method-flags-requires
-method-flags-requires c κs = search needs
+add-word-at : tie.Need-add-word-at
+add-word-at c = search needs
+
+word-at-requires : tie.Need-word-at-requires
+word-at-requires c κs = search needs
 
 method-flags-ok-requires : tie.Need-method-flags-ok-requires
 method-flags-ok-requires c κs = search needs
 
-returns : tie.Need-returns
-unfolding methodRecord
-returns c = cc
+returns-2 : tie.Need-returns-2
+returns-2 c = method-on _ _ (c .before .before .before .before .before .before .before .pre .2) _ (c .before .before .before .before .before .before .before .pre .0) (c .before .before .before .before .wide .ensures) (c .before .before .before .signature-clean .ensures) (c .before .before .if1 .left) (c .before .word-at .ensures) (c .method-flags-ok .ensures)
 
 pub method-ok-spec : {M : Type 1} → statement M
 method-ok-spec =
     tie.close
     (tie.spec
-    method-name-start-requires
-    method-name-length-requires
-    method-descriptor-start-requires
-    method-descriptor-length-requires
-    part-ok-requires
-    part-ok-requires-2
-    method-flags-requires
+    cast-place
+    wide-requires
+    mul-place
+    add-place
+    signature-clean-requires
+    returns
+    add-word-at
+    word-at-requires
     method-flags-ok-requires
-    returns)
+    returns-2)

@@ -5,8 +5,9 @@ use mathlib.Core.Bool.{true}
 use Prim.Native.Nat.{_+_, _-_, _≤_}
 use Rattle.words.specs.Folds.{allOf}
 use Rattle.words.proofs.FoldLaws.{all-none, all-turn, all-stop, all-done}
+use Prim.Native.Nat.{_<_, _^_}
+use Rattle.class_sheet.specs.ClassSheet.{methodCount, methodsAt}
 use Rattle.class_rules.specs.ClassRules.{methodRecord}
-use Rattle.class_sheet.specs.ClassSheet.{methodCount}
 use borrow.Author.Needs.{needs}
 use Rattle.class_rules.proofs.methods_ok.Statement.{statement}
 use Rattle.class_rules.proofs.methods_ok.Tie as tie
@@ -14,12 +15,16 @@ use Rattle.class_rules.proofs.methods_ok.Reads as reads
 use Rattle.class_rules.proofs.methods_ok.Lts as lts
 use Rattle.class_rules.proofs.method_ok.Reads as method-ok-reads
 use Rattle.class_sheet.proofs.method_count.Reads as method-count-reads
+use Rattle.class_sheet.proofs.methods_at.Reads as methods-at-reads
 
 abbrev Inv-loop : tie.InvT-loop
-Inv-loop ws text n m₀ m = (m ≤ n) × (allOf m (methodRecord ws text) ≡ true) × (n ≡ methodCount ws)
+Inv-loop ws text clean at n m₀ m = (m ≤ n) × (allOf m (methodRecord ws text) ≡ true) × (n ≡ methodCount ws)
 
 abbrev μ-loop : tie.MeasureT-loop
-μ-loop ws text n m₀ m = n - m
+μ-loop ws text clean at n m₀ m = n - m
+
+methods-at-requires : tie.Need-methods-at-requires Inv-loop μ-loop
+methods-at-requires c κs = search needs
 
 method-count-requires : tie.Need-method-count-requires Inv-loop μ-loop
 method-count-requires c κs = search needs
@@ -51,6 +56,7 @@ methods-ok-spec =
     (tie.spec
     Inv-loop
     μ-loop
+    methods-at-requires
     method-count-requires
     loop-holds
     method-ok-requires

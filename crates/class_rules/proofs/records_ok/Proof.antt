@@ -9,6 +9,10 @@ use Rattle.class_rules.proofs.classes_ok.Reads as classes-ok-reads
 use Rattle.class_rules.proofs.fields_ok.Reads as fields-ok-reads
 use Rattle.class_rules.proofs.interfaces_ok.Reads as interfaces-ok-reads
 use Rattle.class_rules.proofs.methods_ok.Reads as methods-ok-reads
+use Rattle.text.proofs.is_printable.Reads as is-printable-reads
+
+is-printable-requires : tie.Need-is-printable-requires
+is-printable-requires c κs = search needs
 
 classes-ok-requires : tie.Need-classes-ok-requires
 classes-ok-requires c κs = search needs
@@ -33,6 +37,7 @@ pub records-ok-spec : {M : Type 1} → statement M
 records-ok-spec =
     tie.close
     (tie.spec
+    is-printable-requires
     classes-ok-requires
     methods-ok-requires
     fields-ok-requires

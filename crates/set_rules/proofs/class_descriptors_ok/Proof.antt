@@ -1,22 +1,37 @@
-use Rattle.set_rules.specs.SetRules.{classDescriptors}
+use Rattle.set_rules.proofs.KnownLaws.{class-typed}
 use borrow.Author.Needs.{needs}
 use Rattle.set_rules.proofs.class_descriptors_ok.Statement.{statement}
 use Rattle.set_rules.proofs.class_descriptors_ok.Tie as tie
-use Rattle.set_rules.proofs.class_descriptors_ok.Reads as reads
-use Rattle.set_rules.proofs.class_descriptors_ok.Lts as lts
-use Rattle.set_rules.proofs.fields_typed.Reads as fields-typed-reads
-use Rattle.set_rules.proofs.methods_typed.Reads as methods-typed-reads
 
-methods-typed-requires : tie.Need-methods-typed-requires
-methods-typed-requires c κs = search needs
+methods-at-requires : tie.Need-methods-at-requires
+methods-at-requires c κs = search needs
 
-fields-typed-requires : tie.Need-fields-typed-requires
-fields-typed-requires c κs = search needs
+method-count-requires : tie.Need-method-count-requires
+method-count-requires c κs = search needs
+
+records-typed-requires : tie.Need-records-typed-requires
+records-typed-requires c κs = search needs
+
+fields-at-requires : tie.Need-fields-at-requires
+fields-at-requires c κs = search needs
+
+field-count-requires : tie.Need-field-count-requires
+field-count-requires c κs = search needs
+
+records-typed-requires-2 : tie.Need-records-typed-requires-2
+records-typed-requires-2 c κs = search needs
 
 returns : tie.Need-returns
-unfolding classDescriptors
-returns c = cc
+returns c = class-typed _ _ (c .before .before .before .before .before .methods-at .ensures .0) (c .before .before .before .before .method-count .ensures) (c .before .before .before .records-typed .ensures) (c .before .before .fields-at .ensures .0) (c .before .field-count .ensures) (c .records-typed2 .ensures)
 
 pub class-descriptors-ok-spec : {M : Type 1} → statement M
 class-descriptors-ok-spec =
-    tie.close (tie.spec methods-typed-requires fields-typed-requires returns)
+    tie.close
+    (tie.spec
+    methods-at-requires
+    method-count-requires
+    records-typed-requires
+    fields-at-requires
+    field-count-requires
+    records-typed-requires-2
+    returns)
