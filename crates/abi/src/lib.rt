@@ -11,7 +11,11 @@ ghost use Rattle.text.specs.Text.{sameBytes};
 ghost use Rattle.abi_sheet.specs.AbiSheet.{abiClassName, abiClassFirstSlot, abiClassSlotCount, abiClassFirstField, abiClassFieldCount};
 ghost use Rattle.linking.specs.Chain.{listCount, chain};
 ghost use Rattle.linking.specs.Abi.{abiNamed, abiSlots, slotIndex, fixedFieldIndex, slotIs, vtableIndex, slotAt, fieldIs, fixedField, classSize, givenWords, classAbi, chainAbi, fixedIndex, minimumSize};
-ghost use Rattle.abi.specs.Abis.{abisOf};
+ghost use Rattle.chain.specs.Records.{recordWord};
+ghost use Rattle.abi.specs.Abis.{abisOf, slotRecords, fieldRecords};
+
+// How many words a slot record or a field record has.
+const MEMBER_WIDTH: u32 = 5;
 
 // The ABI classes that a chain names, nearest first: the first n of the array.
 pub struct AbiChain {
@@ -33,11 +37,21 @@ pub fn larger(a: u32, b: u32) -> u32
     if a < b { b } else { a }
 }
 
-// Whether ABI class a has this name.
+// The place of a name's last byte, 0 where it has none.
+fn last_place(name: &[u8]) -> usize {
+    if name.len() == 0 { 0 } else { name.len() - 1 }
+}
+
+// Whether ABI class a has this name. Class names begin alike, with their package, so the last byte is looked at first.
 fn name_is(abi: &[u32], labels: &[u8], a: u32, name: &[u8]) -> bool
     ensures { λ r. ⌜ r ≡ sameBytes (abiClassName (now (abi .entry)) (now (labels .entry)) a) (now (name .entry)) ⌝ }
 {
-    text::same(abi_sheet::class_name(abi, labels, a), name)
+    let own = abi_sheet::class_name(abi, labels, a);
+    let last = last_place(name);
+    if words::byte_at(own, last) != words::byte_at(name, last) {
+        return false;
+    }
+    text::same(own, name)
 }
 
 // The first ABI class of this name.
@@ -91,23 +105,30 @@ pub fn fixed_field_index(abi: &[u32], f: u32) -> u32
     smaller(abi_sheet::field_index(abi, f), 4095)
 }
 
-// Whether slot record s has this signature.
-pub fn slot_is(abi: &[u32], labels: &[u8], s: u32, name: &[u8], descriptor: &[u8]) -> bool
-    ensures { λ r. ⌜ r ≡ slotIs (now (abi .entry)) (now (labels .entry)) s (now (name .entry)) (now (descriptor .entry)) ⌝ }
+// The words from the first slot record on: a loop over slots takes them once.
+fn slot_records(abi: &[u32]) -> &[u32]
+    ensures { λ r. ⌜ now r ≡ slotRecords (now (abi .entry)) ⌝ }
 {
-    text::same(abi_sheet::slot_name(abi, labels, s), name)
-        & text::same(abi_sheet::slot_descriptor(abi, labels, s), descriptor)
+    words::word_part(abi, abi_sheet::slots_at(abi), abi.len())
+}
+
+// The words from the first field record on.
+fn field_records(abi: &[u32]) -> &[u32]
+    ensures { λ r. ⌜ now r ≡ fieldRecords (now (abi .entry)) ⌝ }
+{
+    words::word_part(abi, abi_sheet::fields_at(abi), abi.len())
 }
 
 // ABI class a's first slot record of this signature.
 fn slot_of(abi: &[u32], labels: &[u8], name: &[u8], descriptor: &[u8], a: u32) -> Found
     ensures { λ r. ⌜ r ≡ find (λ s. slotIs (now (abi .entry)) (now (labels .entry)) s (now (name .entry)) (now (descriptor .entry))) (abiSlots (now (abi .entry)) a) ⌝ }
 {
+    let records = slot_records(abi);
     let first = abi_sheet::class_first_slot(abi, a);
     let n = slot_count(abi, a);
     let mut i: u32 = 0;
     while i < n {
-        if slot_is(abi, labels, first + i, name, descriptor) {
+        if chain::record_is(records, MEMBER_WIDTH, labels, first + i, name, descriptor) {
             return Found::At(first + i);
         }
         i += 1;
@@ -125,22 +146,23 @@ pub fn vtable_index(abi: &[u32], labels: &[u8], name: &[u8], descriptor: &[u8], 
     }
 }
 
-// Whether slot record s fixes index i.
-fn index_is(abi: &[u32], s: u32, i: u32) -> bool
-    ensures { λ r. ⌜ r ≡ eqb (slotIndex (now (abi .entry)) s) i ⌝ }
+// Whether record s of the slot records fixes index i.
+fn index_is(records: &[u32], s: u32, i: u32) -> bool
+    ensures { λ r. ⌜ r ≡ eqb (min (recordWord (now (records .entry)) 5 s 4) 1023) i ⌝ }
 {
-    slot_index(abi, s) == i
+    smaller(words::word_at(records, 5 * words::wide(s) + 4), 1023) == i
 }
 
 // ABI class a's first slot record that fixes index i.
 pub fn slot_at(abi: &[u32], i: u32, a: u32) -> Found
     ensures { λ r. ⌜ r ≡ slotAt (now (abi .entry)) i a ⌝ }
 {
+    let records = slot_records(abi);
     let first = abi_sheet::class_first_slot(abi, a);
     let n = slot_count(abi, a);
     let mut k: u32 = 0;
     while k < n {
-        if index_is(abi, first + k, i) {
+        if index_is(records, first + k, i) {
             return Found::At(first + k);
         }
         k += 1;
@@ -152,8 +174,14 @@ pub fn slot_at(abi: &[u32], i: u32, a: u32) -> Found
 pub fn field_is(abi: &[u32], labels: &[u8], f: u32, name: &[u8], descriptor: &[u8]) -> bool
     ensures { λ r. ⌜ r ≡ fieldIs (now (abi .entry)) (now (labels .entry)) f (now (name .entry)) (now (descriptor .entry)) ⌝ }
 {
-    text::same(abi_sheet::field_name(abi, labels, f), name)
-        & text::same(abi_sheet::field_descriptor(abi, labels, f), descriptor)
+    chain::record_is(
+        field_records(abi),
+        MEMBER_WIDTH,
+        labels,
+        f,
+        name,
+        descriptor,
+    )
 }
 
 // ABI class a's first field record of this signature.

@@ -118,14 +118,6 @@ module _ (ws : List ℕ) (c t : ℕ) where
   unfolding findByTarget
   target-none e = along-none (ownTarget ws t) ws c e
 
-  pub target-hit : (m : ℕ) → 0 < c → ownTarget ws t c ≡ At m → findByTarget ws c t ≡ At m
-  unfolding findByTarget
-  target-hit m h e = along-hit (ownTarget ws t) ws c m h e
-
-  pub target-up : 0 < c → ownTarget ws t c ≡ Nothing → findByTarget ws c t ≡ findByTarget ws (parentOf ws c) t
-  unfolding findByTarget
-  target-up h e = along-up (ownTarget ws t) ws c h e
-
 -- ---- a class's own lists: their lengths, their elements, and that each number is below the section's limit
 
 module _ (ws : List ℕ) (c : ℕ) where

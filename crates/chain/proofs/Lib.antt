@@ -1,2 +1,3 @@
 pub mod ChainLaws
 pub mod Examples
+pub mod RecordLaws

@@ -1,10 +1,13 @@
-// A class's own members, its parents, and searches along them. Every function is total: a list that runs past its section's limit is
+// A class's own members, its parents, and searches among its methods. Every function is total: a list that runs past its section's limit is
 // cut there, and a parent that is not below its child counts as none.
 use words::Found;
 ghost use mathlib.Core.Path.{_≡_};
-ghost use lib.Dec.{eqb};
-ghost use Rattle.class_sheet.specs.ClassSheet.{classFirstMethod, classMethodCount, classFirstField, classFieldCount, classFirstInterface, classInterfaceCount, methodTarget};
-ghost use Rattle.linking.specs.Chain.{listCount, parentOf, isVirtual, isEligible, eligible, methodIs, ownTarget, findByTarget, ownMethod};
+ghost use Rattle.class_sheet.specs.ClassSheet.{classFirstMethod, classMethodCount, classFirstField, classFieldCount, classFirstInterface, classInterfaceCount};
+ghost use Rattle.linking.specs.Chain.{listCount, parentOf, isVirtual, isEligible, eligible, methodIs, ownMethod};
+ghost use Rattle.chain.specs.Records.{methodRecords, recordWord, recordIs};
+
+// How many words a method record has.
+const MEMBER_WIDTH: u32 = 6;
 
 // How many of `count` elements from `first` on lie below the limit.
 pub fn list_count(first: u32, count: u32, limit: u32) -> u32
@@ -87,59 +90,59 @@ pub fn eligible(ws: &[u32], text: &[u8], m: u32) -> bool
     )
 }
 
+// The words from the first method record on: a loop over methods takes them once.
+pub fn method_records(ws: &[u32]) -> &[u32]
+    ensures { λ r. ⌜ now r ≡ methodRecords (now (ws .entry)) ⌝ }
+{
+    words::word_part(ws, class_sheet::methods_at(ws), ws.len())
+}
+
+// Whether record m, of records of this width, has this name and descriptor. Most records already differ in the name.
+pub fn record_is(
+    records: &[u32],
+    width: u32,
+    text: &[u8],
+    m: u32,
+    name: &[u8],
+    descriptor: &[u8],
+) -> bool
+    ensures { λ r. ⌜ r ≡ recordIs (now (records .entry)) width (now (text .entry)) m (now (name .entry)) (now (descriptor .entry)) ⌝ }
+{
+    let at = words::wide(width) * words::wide(m);
+    let start = words::word_at(records, at);
+    let len = words::word_at(records, at + 1);
+    if !text::same(text::name_at(text, start, len), name) {
+        return false;
+    }
+    let start = words::word_at(records, at + 2);
+    let len = words::word_at(records, at + 3);
+    text::same(text::name_at(text, start, len), descriptor)
+}
+
 // Whether method m has this name and descriptor.
 pub fn method_is(ws: &[u32], text: &[u8], m: u32, name: &[u8], descriptor: &[u8]) -> bool
     ensures { λ r. ⌜ r ≡ methodIs (now (ws .entry)) (now (text .entry)) m (now (name .entry)) (now (descriptor .entry)) ⌝ }
 {
-    text::same(class_sheet::method_name(ws, text, m), name)
-        & text::same(class_sheet::method_descriptor(ws, text, m), descriptor)
+    record_is(method_records(ws), MEMBER_WIDTH, text, m, name, descriptor)
 }
 
-// Whether method m has this target.
-fn has_target(ws: &[u32], m: u32, t: u32) -> bool
-    ensures { λ r. ⌜ r ≡ eqb (methodTarget (now (ws .entry)) m) t ⌝ }
+// The target of method record m.
+pub fn record_target(records: &[u32], m: u32) -> u32
+    ensures { λ r. ⌜ r ≡ recordWord (now (records .entry)) 6 m 5 ⌝ }
 {
-    class_sheet::method_target(ws, m) == t
-}
-
-// Class c's first method with this target.
-pub fn own_target(ws: &[u32], t: u32, c: u32) -> Found
-    ensures { λ r. ⌜ r ≡ ownTarget (now (ws .entry)) t c ⌝ }
-{
-    let first = class_sheet::class_first_method(ws, c);
-    let n = method_count(ws, c);
-    let mut i: u32 = 0;
-    while i < n {
-        if has_target(ws, first + i, t) {
-            return Found::At(first + i);
-        }
-        i += 1;
-    }
-    Found::Nothing
-}
-
-// The first method with this target: class c's, then its ancestors'.
-pub fn find_by_target(ws: &[u32], c: u32, t: u32) -> Found
-    ensures { λ r. ⌜ r ≡ findByTarget (now (ws .entry)) c t ⌝ }
-{
-    if c == 0 {
-        return Found::Nothing;
-    }
-    match own_target(ws, t, c) {
-        Found::At(m) => Found::At(m),
-        Found::Nothing => find_by_target(ws, parent_of(ws, c), t),
-    }
+    words::word_at(records, 6 * words::wide(m) + 5)
 }
 
 // Class c's first method of this signature, of any flags.
 pub fn own_method(ws: &[u32], text: &[u8], name: &[u8], descriptor: &[u8], c: u32) -> Found
     ensures { λ r. ⌜ r ≡ ownMethod (now (ws .entry)) (now (text .entry)) (now (name .entry)) (now (descriptor .entry)) c ⌝ }
 {
+    let records = method_records(ws);
     let first = class_sheet::class_first_method(ws, c);
     let n = method_count(ws, c);
     let mut i: u32 = 0;
     while i < n {
-        if method_is(ws, text, first + i, name, descriptor) {
+        if record_is(records, MEMBER_WIDTH, text, first + i, name, descriptor) {
             return Found::At(first + i);
         }
         i += 1;

@@ -1,11 +1,10 @@
 -- Laws of Reading, as the code goes through it. Assumes nothing.
-use mathlib.Core.Path.{_≡_, refl, sym, ap, _∙_}
-use mathlib.Core.List.{List, [], _∷_, _++_}
-use lib.ListN.{length, getD, set}
-use Prim.Native.Nat.{ℕ, zero, suc, _+_, _-_, _≤_, _<_, min}
+use mathlib.Core.Path.{_≡_, refl, _∙_}
+use mathlib.Core.List.{List, []}
+use Prim.Native.Nat.{ℕ, _-_, _<_, min}
 use native.Mathlib.Omega.{arith}
 use borrow.Author.Tests.{eq-eqb, ne-eqb}
-use Rattle.words.specs.Lists.{listFrom, orElse, andThen, firstFound}
+use Rattle.words.specs.Lists.{listFrom, andThen}
 use Rattle.words.proofs.ListLaws.{by-found, found-by}
 use Rattle.words.specs.declared.Found.{Found}
 use Rattle.words.specs.declared.Found.the-variants.{At, Nothing}
@@ -14,18 +13,9 @@ use Rattle.abi_sheet.specs.AbiSheet.{abiSlotName, abiSlotDescriptor}
 use Rattle.linking.specs.Chain.{parentOf, chain, ownMethod, findByTarget}
 use Rattle.linking.specs.Abi.{slotAt, classAbi}
 use Rattle.linking.specs.Vtable.{Entry, ownFixed, findByIndex, readEntry, readSlot, tableEntries, parentEntries}
-use Rattle.chain.proofs.ChainLaws.{along-none, along-hit, along-up, target-room, found-method-room}
-use Rattle.vtable.specs.Arrays.{markOf, marked, entriesOf, slotRead}
-use Rattle.vtable.proofs.ArrayLaws.{marked-found, push-slot}
-
--- one element more at the end
-list-snoc {ℓ} : {A : Type ℓ} (f : ℕ → A) (m n : ℕ) → listFrom f m (n + 1) ≡ listFrom f m n ++ (f (m + n) ∷ [])
-unfolding listFrom
-list-snoc f m zero = let e : m + 0 ≡ m = omega arith in rw e
-list-snoc f m (suc n) =
-    let e : m + 1 + n ≡ m + suc n = omega arith in
-    let g : suc n + 1 ≡ suc (n + 1) = omega arith in
-    rw g (ap (λ (l : List _). f m ∷ l) (list-snoc f (m + 1) n ∙ rw e))
+use Rattle.chain.proofs.ChainLaws.{target-room, found-method-room}
+use Rattle.vtable.specs.Arrays.{markOf, marked, slotRead}
+use Rattle.vtable.proofs.ArrayLaws.{marked-found}
 
 module _ (ws text abi labels : List ℕ) where
   -- ---- a class's own method of the signature that its ABI entry fixes
@@ -45,37 +35,9 @@ module _ (ws text abi labels : List ℕ) where
       unfolding ownFixed
       fixed-here s e f g k = k ∙ rw (f, g, ← entry, h) (rw (← slot, e))
 
-  -- ---- along the chain
-
-  module _ (c i : ℕ) where
-    pub index-none : c ≡ 0 → findByIndex ws text abi labels c i ≡ Nothing
-    unfolding findByIndex
-    index-none e = along-none (ownFixed ws text abi labels i) ws c e
-
-    pub index-hit : (m : ℕ) → 0 < c → ownFixed ws text abi labels i c ≡ At m → findByIndex ws text abi labels c i ≡ At m
-    unfolding findByIndex
-    index-hit m h e = along-hit (ownFixed ws text abi labels i) ws c m h e
-
-    pub index-up : 0 < c → ownFixed ws text abi labels i c ≡ Nothing
-        → findByIndex ws text abi labels c i ≡ findByIndex ws text abi labels (parentOf ws c) i
-    unfolding findByIndex
-    index-up h e = along-up (ownFixed ws text abi labels i) ws c h e
-
-  -- ---- a slot's mark
-
-  module _ (c i w : ℕ) {r : Found} (found : r ≡ findByTarget ws c w) where
-    pub mark-target : (m k : ℕ) → r ≡ At m → k ≡ markOf (At m) → k ≡ markOf ((readEntry ws text abi labels c i w) .method)
-    unfolding readEntry
-    mark-target m k e f = f ∙ rw (← found, e)
-
-    pub mark-index : (k : ℕ) {q : Found} → r ≡ Nothing → q ≡ findByIndex ws text abi labels c i → k ≡ markOf q
-        → k ≡ markOf ((readEntry ws text abi labels c i w) .method)
-    unfolding readEntry
-    mark-index k e g f = f ∙ rw (← found, e, g)
-
   -- ---- what Reading finds is one of the sheet's methods
 
-  own-fixed-room : (i c m : ℕ) → ownFixed ws text abi labels i c ≡ At m → m < 512
+  pub own-fixed-room : (i c m : ℕ) → ownFixed ws text abi labels i c ≡ At m → m < 512
   unfolding ownFixed
   own-fixed-room i c m e =
       by-found (andThen (classAbi ws text abi labels c) (slotAt abi i))
@@ -102,23 +64,6 @@ module _ (ws text abi labels : List ℕ) where
       read-is : marked (markOf ((readEntry ws text abi labels c i w) .method)) ≡ (readEntry ws text abi labels c i w) .method
           → _≡_ {A = Entry} (record { word = w; method = marked (markOf ((readEntry ws text abi labels c i w) .method)) }) (readEntry ws text abi labels c i w)
       read-is e = rw e (entry-eta c i w)
-
-  -- ---- the loop that reads a table
-
-  module _ (area : List ℕ) (place c : ℕ) where
-    pub read-start : (ts ms : List ℕ) → entriesOf ts ms 0 ≡ listFrom (slotRead ws text abi labels area place c) 0 0
-    unfolding entriesOf listFrom
-    read-start ts ms = refl
-
-    pub read-turn : (i a : ℕ) (ts ms us ns : List ℕ) {j l w k : ℕ} → a ≡ place + 1 + i → entriesOf ts ms i ≡ listFrom (slotRead ws text abi labels area place c) 0 i
-        → i < length ts → i < length ms → us ≡ set ts j w → j ≡ i → ns ≡ set ms l k → l ≡ i → w ≡ getD area a 0
-        → k ≡ markOf ((readEntry ws text abi labels c i w) .method) → entriesOf us ns (i + 1) ≡ listFrom (slotRead ws text abi labels area place c) 0 (i + 1)
-    unfolding slotRead
-    read-turn i a ts ms us ns {w = w} {k = k} e h r s f g o q v u =
-        let x : _≡_ {A = Entry} (record { word = w; method = marked k }) (readEntry ws text abi labels c i w) = rw u (read-back c i w) in
-        let z : 0 + i ≡ i = omega arith in
-        let y = rw z at (list-snoc (slotRead ws text abi labels area place c) 0 i) in
-        rw (f, g, o, q, push-slot ts ms i w k r s, h, x, v, e) (sym y)
 
   module _ (area : List ℕ) (c : ℕ) where
     -- what is read at class c's place is its table

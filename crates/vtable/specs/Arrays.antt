@@ -4,6 +4,7 @@ use mathlib.Core.Bool.{Bool, false, cond, not}
 use mathlib.Core.List.{List}
 use lib.ListN.{getD}
 use lib.Dec.{eqb, ltb}
+use Rattle.words.specs.Folds.{stores}
 use Rattle.words.specs.Lists.{listFrom, numbers, find}
 use Rattle.words.specs.declared.Found.{Found}
 use Rattle.words.specs.declared.Found.the-variants.{At, Nothing}
@@ -17,6 +18,13 @@ use Rattle.vtable.specs.declared.Step.the-variants.{Next, Moved, Taken}
 abbrev pub markOf : Found → ℕ
 markOf (At m) = cond (ltb m 512) (m + 1) 0
 markOf Nothing = 0
+
+-- a slot's mark, or where it has none the mark of what is found for it; and n slots' marks after that
+unfoldable pub orMark : ℕ → Found → ℕ
+orMark k f = cond (eqb k 0) (markOf f) k
+
+unfoldable pub marksWith : (ℕ → Found) → ℕ → List ℕ → List ℕ
+marksWith f n ms = stores n (λ i. orMark (getD ms i 0) (f i)) ms
 
 abbrev pub marked : ℕ → Found
 marked k = cond (eqb k 0) Nothing (At (k - 1))
@@ -48,7 +56,7 @@ otherIn ws text m ms n i =
     (onFound (marked (getD ms i 0)) (λ k. not (methodIs ws text k (methodName ws text m) (methodDescriptor ws text m))) false)
     false
 
--- the table that a step leaves in the arrays, or the row that refuses the method; and how many slots there are
+-- the table that a step leaves in the arrays, or the row that refuses the method; how many slots there are; and the row, or 0
 abbrev pub stepOf : Step → List ℕ → List ℕ → Built
 stepOf (Next n) ts ms = built (entriesOf ts ms n)
 stepOf Moved ts ms = refused 11

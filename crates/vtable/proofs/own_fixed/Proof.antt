@@ -1,21 +1,14 @@
-use mathlib.Core.Path.{sym, _∙_}
-use Rattle.vtable.proofs.ReadLaws.{fixed-none, fixed-free, fixed-here}
+use mathlib.Core.Path.{refl}
+use Rattle.vtable.proofs.ReadLaws.{fixed-free, fixed-here}
 use borrow.Author.Needs.{needs}
 use Rattle.vtable.proofs.own_fixed.Statement.{statement}
 use Rattle.vtable.proofs.own_fixed.Tie as tie
 use Rattle.vtable.proofs.own_fixed.Reads as reads
 use Rattle.vtable.proofs.own_fixed.Lts as lts
-use Rattle.abi.proofs.class_abi.Reads as class-abi-reads
 use Rattle.abi.proofs.slot_at.Reads as slot-at-reads
 use Rattle.abi_sheet.proofs.slot_descriptor.Reads as slot-descriptor-reads
 use Rattle.abi_sheet.proofs.slot_name.Reads as slot-name-reads
 use Rattle.chain.proofs.own_method.Reads as own-method-reads
-
-class-abi-requires : tie.Need-class-abi-requires
-class-abi-requires c κs = search needs
-
-enum-known-a : tie.Need-enum-known-a
-enum-known-a c = search needs
 
 slot-at-requires : tie.Need-slot-at-requires
 slot-at-requires c κs = search needs
@@ -35,31 +28,21 @@ own-method-requires c κs = search needs
 enum-told : tie.Need-enum-told
 enum-told c = search needs
 
-enum-told-2 : tie.Need-enum-told-2
-enum-told-2 c = search needs
-
 returns : tie.Need-returns
-returns c = fixed-here _ _ _ _ _ _ (c .before .before .before .before .before .before .before .before .before .before .class-abi .ensures) _ (c .before .before .before .before .before .before .before .before .a .given .1) (c .before .before .before .before .before .before .slot-at .ensures) _ (c .before .before .before .before .s .given .1) (c .before .before .slot-name .ensures) (c .before .slot-descriptor .ensures) (c .own-method .ensures)
+returns c = fixed-here _ _ _ _ _ _ (c .before .before .before .before .before .before .before .before .before .before .before .pre) _ refl (c .before .before .before .before .before .before .slot-at .ensures) _ (c .before .before .before .before .s .given .1) (c .before .before .slot-name .ensures) (c .before .slot-descriptor .ensures) (c .own-method .ensures)
 
 returns-2 : tie.Need-returns-2
-returns-2 c = fixed-free _ _ _ _ _ _ (c .before .before .before .before .before .before .class-abi .ensures) _ (c .before .before .before .before .a .given .1) (c .before .before .slot-at .ensures) (c .enum-told .given .1)
-
-returns-3 : tie.Need-returns-3
-returns-3 c = fixed-none _ _ _ _ _ _ (c .before .before .class-abi .ensures) (c .enum-told2 .given .1)
+returns-2 c = fixed-free _ _ _ _ _ _ (c .before .before .before .before .before .before .before .pre) _ refl (c .before .before .slot-at .ensures) (c .enum-told .given .1)
 
 pub own-fixed-spec : {M : Type 1} → statement M
 own-fixed-spec =
     tie.close
     (tie.spec
-    class-abi-requires
-    enum-known-a
     slot-at-requires
     enum-known-s
     slot-name-requires
     slot-descriptor-requires
     own-method-requires
     enum-told
-    enum-told-2
     returns
-    returns-2
-    returns-3)
+    returns-2)

@@ -1,0 +1,71 @@
+-- Laws of ABI records that are read from the part of the words that begins with the first of them. Assumes nothing.
+use mathlib.Core.Path.{_≡_, sym, _∙_}
+use mathlib.Core.Bool.{false}
+use mathlib.Core.List.{List}
+use Prim.Native.Nat.{ℕ, _+_, _*_, min}
+use native.Mathlib.Omega.{arith}
+use lib.ListN.{length, getD, take, drop}
+use lib.Seq.{getD-drop}
+use lib.Dec.{eqb}
+use Rattle.text.specs.Text.{sameBytes}
+use Rattle.text.proofs.Laws.{same-is}
+use Rattle.words.proofs.Bools.{by}
+use Rattle.words.proofs.Laws.{part-rest}
+use Rattle.abi_sheet.specs.AbiSheet.{abiSlotsAt, abiFieldsAt, abiSlotWord, abiFieldWord}
+use Rattle.chain.specs.Records.{recordWord, recordIs}
+use Rattle.linking.specs.Abi.{slotIndex, slotIs, fieldIs}
+use Rattle.abi.specs.Abis.{slotRecords, fieldRecords}
+
+-- ---- slots
+
+module _ (abi : List ℕ) {r : List ℕ} where
+  pub slots-are : {a n : ℕ} → a ≡ abiSlotsAt abi → n ≡ length abi → r ≡ take n (drop a abi) → r ≡ slotRecords abi
+  unfolding slotRecords
+  slots-are e f g = g ∙ rw (f, e) (part-rest abi (abiSlotsAt abi))
+
+  pub fields-are : {a n : ℕ} → a ≡ abiFieldsAt abi → n ≡ length abi → r ≡ take n (drop a abi) → r ≡ fieldRecords abi
+  unfolding fieldRecords
+  fields-are e f g = g ∙ rw (f, e) (part-rest abi (abiFieldsAt abi))
+
+slot-word : (abi : List ℕ) (s k : ℕ) → recordWord (slotRecords abi) 5 s k ≡ abiSlotWord abi s k
+unfolding recordWord slotRecords abiSlotWord
+slot-word abi s k =
+    let e : abiSlotsAt abi + (5 * s + k) ≡ abiSlotsAt abi + 5 * s + k = omega arith in
+    getD-drop (abiSlotsAt abi) abi (5 * s + k) 0 ∙ rw e
+
+pub record-slot : (abi labels : List ℕ) (s : ℕ) (name descriptor : List ℕ) {r : List ℕ} → r ≡ slotRecords abi
+    → recordIs r 5 labels s name descriptor ≡ slotIs abi labels s name descriptor
+unfolding recordIs slotIs
+record-slot abi labels s name descriptor e = rw (e, slot-word abi s 0, slot-word abi s 1, slot-word abi s 2, slot-word abi s 3)
+
+pub record-index : (abi : List ℕ) (s i : ℕ) {r : List ℕ} → r ≡ slotRecords abi
+    → eqb (min (recordWord r 5 s 4) 1023) i ≡ eqb (slotIndex abi s) i
+unfolding slotIndex
+record-index abi s i e = rw (e, slot-word abi s 4)
+
+-- the index as the code reads it
+pub index-read : (records : List ℕ) (s i : ℕ) {j w k : ℕ} → j ≡ s → w ≡ getD records (5 * j + 4) 0 → k ≡ min w 1023
+    → eqb k i ≡ eqb (min (recordWord records 5 s 4) 1023) i
+unfolding recordWord
+index-read records s i e f g = rw (g, f, e)
+
+-- ---- fields
+
+field-word : (abi : List ℕ) (f k : ℕ) → recordWord (fieldRecords abi) 5 f k ≡ abiFieldWord abi f k
+unfolding recordWord fieldRecords abiFieldWord
+field-word abi f k =
+    let e : abiFieldsAt abi + (5 * f + k) ≡ abiFieldsAt abi + 5 * f + k = omega arith in
+    getD-drop (abiFieldsAt abi) abi (5 * f + k) 0 ∙ rw e
+
+pub record-field : (abi labels : List ℕ) (f : ℕ) (name descriptor : List ℕ) {r : List ℕ} → r ≡ fieldRecords abi
+    → recordIs r 5 labels f name descriptor ≡ fieldIs abi labels f name descriptor
+unfolding recordIs fieldIs
+record-field abi labels f name descriptor e = rw (e, field-word abi f 0, field-word abi f 1, field-word abi f 2, field-word abi f 3)
+
+-- ---- names
+
+-- names of which one byte differs
+pub name-other : (own name : List ℕ) (i : ℕ) {n : List ℕ} {x y : ℕ} → own ≡ n → x ≡ getD own i 0 → y ≡ getD name i 0 → (x ≡ y → ⊥)
+    → false ≡ sameBytes n name
+name-other own name i {n = n} e f g h =
+    by (sameBytes n name) (λ t. let q : own ≡ name = e ∙ same-is n name t in absurd (h (f ∙ rw q (sym g)))) (λ t. sym t)
