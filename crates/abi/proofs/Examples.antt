@@ -9,7 +9,6 @@ use Rattle.class_sheet.specs.ClassSheet.{classWord}
 use Rattle.abi_sheet.specs.AbiSheet.{abiCountAt, abiSlotsAt, abiFieldsAt, abiClassWord, abiSlotWord, abiFieldWord}
 use Rattle.linking.specs.Chain.{parentOf, chainOf, chain}
 use Rattle.linking.specs.Abi.{abiNamed, abiSlots, abiFields, slotIndex, fixedFieldIndex, slotIs, vtableIndex, slotAt, fieldIs, fixedField, classSize, givenWords, classAbi, chainAbi, fixedIndex, minimumSize}
-use Rattle.abi.specs.Abis.{abisOf}
 
 -- the text `ab()VI` of the ABI sheet, and names and descriptors
 abbrev labels : List ℕ
@@ -99,11 +98,9 @@ pub record Rows : Type 0 where
   pub largest-index : minimumSize abi (3 ∷ 0 ∷ []) ≡ 7
   pub no-classes : minimumSize abi [] ≡ 0
   -- as the code holds them: the first n of the array, all of it where n is larger
-  pub first-two : abisOf (record { at = 1 ∷ 0 ∷ 0 ∷ []; n = 2 }) ≡ 1 ∷ 0 ∷ []
-  pub past-array : abisOf (record { at = 1 ∷ 0 ∷ 0 ∷ []; n = 70 }) ≡ 1 ∷ 0 ∷ 0 ∷ []
 
 pub rows : Rows
-unfolding abiNamed abiSlots abiFields slotIndex fixedFieldIndex slotIs vtableIndex slotAt fieldIs fixedField classSize givenWords classAbi chainAbi fixedIndex minimumSize abisOf parentOf chainOf chain classWord abiCountAt abiSlotsAt abiFieldsAt abiClassWord abiSlotWord abiFieldWord nameAt sameBytes listFrom find firstFound allFound fold
+unfolding abiNamed abiSlots abiFields slotIndex fixedFieldIndex slotIs vtableIndex slotAt fieldIs fixedField classSize givenWords classAbi chainAbi fixedIndex minimumSize parentOf chainOf chain classWord abiCountAt abiSlotsAt abiFieldsAt abiClassWord abiSlotWord abiFieldWord nameAt sameBytes listFrom find firstFound allFound fold
 rows =
     record {
       first-named = refl;
@@ -137,6 +134,4 @@ rows =
       largest = refl;
       largest-index = refl;
       no-classes = refl;
-      first-two = refl;
-      past-array = refl;
     }

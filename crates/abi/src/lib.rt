@@ -2,9 +2,9 @@
 // past its section's limit is cut there, and an index or a size above its limit counts as the limit.
 use words::Found;
 ghost use mathlib.Core.Path.{_≡_};
-ghost use Prim.Native.Nat.{min, max};
-ghost use mathlib.Core.List.{_∷_, [], _++_};
-ghost use lib.ListN.{take};
+ghost use Prim.Native.Nat.{_≤_, min, max};
+ghost use mathlib.Core.List.{[], _∷_, _++_};
+ghost use lib.ListN.{length, take};
 ghost use lib.Dec.{eqb};
 ghost use Rattle.words.specs.Lists.{find, allFound};
 ghost use Rattle.text.specs.Text.{sameBytes};
@@ -12,16 +12,10 @@ ghost use Rattle.abi_sheet.specs.AbiSheet.{abiClassName, abiClassFirstSlot, abi
 ghost use Rattle.linking.specs.Chain.{listCount, chain};
 ghost use Rattle.linking.specs.Abi.{abiNamed, abiSlots, slotIndex, fixedFieldIndex, slotIs, vtableIndex, slotAt, fieldIs, fixedField, classSize, givenWords, classAbi, chainAbi, fixedIndex, minimumSize};
 ghost use Rattle.chain.specs.Records.{recordWord};
-ghost use Rattle.abi.specs.Abis.{abisOf, slotRecords, fieldRecords};
+ghost use Rattle.abi.specs.Abis.{slotRecords, fieldRecords};
 
 // How many words a slot record or a field record has.
 const MEMBER_WIDTH: u32 = 5;
-
-// The ABI classes that a chain names, nearest first: the first n of the array.
-pub struct AbiChain {
-    pub at: [u32; 64],
-    pub n: u32,
-}
 
 // The smaller of two numbers.
 fn smaller(a: u32, b: u32) -> u32
@@ -229,51 +223,58 @@ pub fn class_abi(ws: &[u32], text: &[u8], abi: &[u32], labels: &[u8], c: u32) ->
     abi_named(abi, labels, class_sheet::class_name(ws, text, c))
 }
 
-// The chain with one ABI class more, as far as there is room.
-fn push(abis: AbiChain, a: u32) -> AbiChain
-    ensures { λ r. ⌜ abisOf r ≡ take 64 (abisOf abis ++ (a ∷ [])) ⌝ }
+// Stores ABI class a after the first n, if there is room, and answers how many there are.
+fn push(at: &mut [u32], n: u32, a: u32) -> u32
+    requires { ⌜ (length (now at) ≡ 64) × (n ≤ 64) ⌝ }
+    ensures is { λ r. ⌜ take r (now (at .exit)) ≡ take 64 (take n (now (at .entry)) ++ (a ∷ [])) ⌝ }
+    ensures count { λ r. ⌜ r ≤ 64 ⌝ }
 {
-    let n = abis.n;
     if 64 <= n {
-        return abis;
+        return n;
     }
-    let mut at = abis.at;
-    at[n as usize] = a;
-    AbiChain { at: at, n: n + 1 }
+    words::put_word(at, words::wide(n), a);
+    n + 1
 }
 
-// The chain with the ABI classes of class c and its ancestors after it, as far as there is room.
+// Stores the ABI classes of class c and its ancestors after the first n, as far as there is room, and answers how many there are.
 fn push_chain(
     ws: &[u32],
     text: &[u8],
     abi: &[u32],
     labels: &[u8],
     c: u32,
-    abis: AbiChain,
-) -> AbiChain
-    ensures { λ r. ⌜ abisOf r ≡ take 64 (abisOf abis ++ allFound (classAbi (now (ws .entry)) (now (text .entry)) (now (abi .entry)) (now (labels .entry))) (chain (now (ws .entry)) c)) ⌝ }
+    at: &mut [u32],
+    n: u32,
+) -> u32
+    requires { ⌜ (length (now at) ≡ 64) × (n ≤ 64) ⌝ }
+    ensures is { λ r. ⌜ take r (now (at .exit)) ≡ take 64 (take n (now (at .entry)) ++ allFound (classAbi (now (ws .entry)) (now (text .entry)) (now (abi .entry)) (now (labels .entry))) (chain (now (ws .entry)) c)) ⌝ }
+    ensures count { λ r. ⌜ r ≤ 64 ⌝ }
 {
     if c == 0 {
-        return abis;
+        return n;
     }
     match class_abi(ws, text, abi, labels, c) {
-        Found::At(a) => push_chain(
-            ws,
-            text,
-            abi,
-            labels,
-            chain::parent_of(ws, c),
-            push(abis, a),
-        ),
-        Found::Nothing => push_chain(ws, text, abi, labels, chain::parent_of(ws, c), abis),
+        Found::At(a) => {
+            let k = push(at, n, a);
+            push_chain(ws, text, abi, labels, chain::parent_of(ws, c), at, k)
+        }
+        Found::Nothing => push_chain(ws, text, abi, labels, chain::parent_of(ws, c), at, n),
     }
 }
 
-// The ABI classes that the chain of class c names, nearest first.
-pub fn chain_abi(ws: &[u32], text: &[u8], abi: &[u32], labels: &[u8], c: u32) -> AbiChain
-    ensures { λ r. ⌜ abisOf r ≡ chainAbi (now (ws .entry)) (now (text .entry)) (now (abi .entry)) (now (labels .entry)) c ⌝ }
+// Stores the ABI classes that the chain of class c names, nearest first, and answers how many there are.
+pub fn chain_abi(
+    ws: &[u32],
+    text: &[u8],
+    abi: &[u32],
+    labels: &[u8],
+    c: u32,
+    at: &mut [u32; 64],
+) -> u32
+    ensures is { λ r. ⌜ take r (now (at .exit)) ≡ chainAbi (now (ws .entry)) (now (text .entry)) (now (abi .entry)) (now (labels .entry)) c ⌝ }
+    ensures array { λ r. ⌜ length (now (at .exit)) ≡ 64 ⌝ }
 {
-    push_chain(ws, text, abi, labels, c, AbiChain { at: [0; 64], n: 0 })
+    push_chain(ws, text, abi, labels, c, at, 0)
 }
 
 // The fixed index of a signature: that of the first ABI class that fixes one.

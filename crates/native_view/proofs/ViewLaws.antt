@@ -19,8 +19,6 @@ use Rattle.linking.specs.Abi.{chainAbi}
 use Rattle.linking.specs.Vtable.{Entry, empty, readEntry, readSlot, tableEntries, parentEntries, fixedOf}
 use Rattle.linking.specs.Compiler.{New, ownerState, isEmptied, viewFrom, nativeView, entryMethods}
 use Rattle.vtable.specs.Arrays.{markOf, marked, entryAt, entriesOf}
-use Rattle.abi.specs.Abis.{abisOf}
-use Rattle.abi.specs.declared.AbiChain.{AbiChain}
 use Rattle.vtable.proofs.ArrayLaws.{length-entries, entry-is, push-slot}
 use Rattle.vtable.proofs.ReadLaws.{read-back}
 use Rattle.native_view.specs.Native.{below, SmallMarks, markMethods}
@@ -47,9 +45,8 @@ slot-below ts ms n i =
     rw q (List·getD-eq-default (entriesOf ts ms n) empty h))
 
 -- the ABI classes of a chain, as a part of the array that holds them
-pub abis-are : (r : AbiChain) (X : List ℕ) {l : List ℕ} {k : ℕ} → abisOf r ≡ X → k ≡ r .n → l ≡ take k (drop 0 (r .at)) → l ≡ X
-unfolding abisOf
-abis-are r X e f g = g ∙ rw f e
+pub abis-are : (at : List ℕ) (n : ℕ) (X : List ℕ) {l : List ℕ} {k : ℕ} → take n at ≡ X → k ≡ n → l ≡ take k (drop 0 at) → l ≡ X
+abis-are at n X e f g = g ∙ rw f e
 
 module _ (ws text abi labels : List ℕ) where
   -- ---- a slot that is emptied

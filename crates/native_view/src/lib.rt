@@ -373,10 +373,10 @@ fn view_parent<'a>(
     ensures members { λ r. ⌜ firstNews (now (ws .entry)) (now (text .entry)) (now (abi .entry)) (now (labels .entry)) (now (refs .exit)) (now (flags .exit)) (now (lasts .exit)) r ≡ addedMethods (now (ws .entry)) (now (text .entry)) (now (abi .entry)) (now (labels .entry)) (now (area .entry)) c ⌝ }
     ensures count { λ r. ⌜ r ≤ 1024 ⌝ }
 {
-    let abis = abi::chain_abi(ws, text, abi, labels, chain::parent_of(ws, c));
-    let at = abis.at;
-    let part = words::word_part(&at, 0, words::wide(abis.n));
-    view_entries(ws, text, abi, labels, part, ts, ms, n, vs, vm);
+    let mut at = [0u32; 64];
+    let k = abi::chain_abi(ws, text, abi, labels, chain::parent_of(ws, c), &mut at);
+    let abis = words::word_part(&at, 0, words::wide(k));
+    view_entries(ws, text, abi, labels, abis, ts, ms, n, vs, vm);
     add_methods(ws, text, abi, labels, c, vs, vm, n, refs, flags, lasts)
 }
 

@@ -701,9 +701,9 @@ pub fn build_methods(
     ensures count { λ r. ⌜ stepCount r ≤ 2560 ⌝ }
     ensures arrays { λ r. ⌜ (length (now (ts .exit)) ≡ 3584) × (length (now (ms .exit)) ≡ 3584) ⌝ }
 {
-    let chain = abi::chain_abi(ws, text, abi, labels, c);
-    let at = chain.at;
-    let abis = words::word_part(&at, 0, words::wide(chain.n));
+    let mut at = [0u32; 64];
+    let n = abi::chain_abi(ws, text, abi, labels, c, &mut at);
+    let abis = words::word_part(&at, 0, words::wide(n));
     build_with(ws, text, abi, labels, area, abis, c, ts, ms)
 }
 

@@ -1,5 +1,4 @@
 use Rattle.linking.specs.Abi.{chainAbi}
-use Rattle.abi.specs.Abis.{abisOf}
 use borrow.Author.Needs.{needs}
 use Rattle.abi.proofs.chain_abi.Statement.{statement}
 use Rattle.abi.proofs.chain_abi.Tie as tie
@@ -11,8 +10,8 @@ push-chain-requires : tie.Need-push-chain-requires
 push-chain-requires c κs = search needs
 
 returns : tie.Need-returns
-unfolding abisOf chainAbi
-returns c = c .push-chain .ensures
+unfolding chainAbi
+returns c = (c .push-chain .ensures .0, search needs)
 
 pub chain-abi-spec : {M : Type 1} → statement M
 chain-abi-spec = tie.close (tie.spec push-chain-requires returns)

@@ -1,31 +1,33 @@
-use Rattle.abi.proofs.Laws.{push-full, push-more}
-use Rattle.abi.specs.Abis.{abisOf}
 use native.Mathlib.Omega.{arith}
+use Rattle.abi.proofs.Laws.{push-full, push-more}
 use borrow.Author.Needs.{needs}
 use Rattle.abi.proofs.push.Statement.{statement}
 use Rattle.abi.proofs.push.Tie as tie
 use Rattle.abi.proofs.push.Reads as reads
 use Rattle.abi.proofs.push.Lts as lts
+use Rattle.words.proofs.put_word.Reads as put-word-reads
+use Rattle.words.proofs.wide.Reads as wide-reads
 
 returns : tie.Need-returns
-unfolding abisOf
-returns c = let a = c .before .args in push-full (a .abis .at) (a .abis .n) (search needs) (a .a) (c .if1 .taken)
+returns c =
+    let a = c .before .before .args in let p = c .before .before .pre in (push-full (a .at .now) (a .n) (p .0) (a .a) (c .if1 .taken), p .1)
 
-cast-at : tie.Need-cast-at
-cast-at c = search needs
+wide-requires : tie.Need-wide-requires
+wide-requires c κs = search needs
 
-mul-at : tie.Need-mul-at
-mul-at c = search needs
+put-word-requires : tie.Need-put-word-requires
+put-word-requires c κs = search needs
 
-array-write-at : tie.Need-array-write-at
-array-write-at c = search needs
+add-result : tie.Need-add-result
+add-result c = search needs
 
-add-t11 : tie.Need-add-t11
-add-t11 c = search needs
+same-length : tie.Need-same-length
+same-length c = search needs
 
 returns-2 : tie.Need-returns-2
-unfolding abisOf
-returns-2 c = let a = c .before .before .args in push-more (a .abis .at) (a .abis .n) (search needs) (a .a) (omega arith)
+returns-2 c =
+    let a = c .before .before .before .before .before .before .before .args in let p = c .before .before .before .before .before .before .before .pre in (rw (c .before .before .put-word .ensures, c .before .before .before .wide .ensures) (push-more (a .at .now) (a .n) (p .0) (a .a) (omega arith)), omega arith)
 
 pub push-spec : {M : Type 1} → statement M
-push-spec = tie.close (tie.spec returns cast-at mul-at array-write-at add-t11 returns-2)
+push-spec =
+    tie.close (tie.spec returns wide-requires put-word-requires add-result same-length returns-2)

@@ -1,4 +1,4 @@
-use Rattle.abi.specs.Abis.{abisOf}
+use mathlib.Core.Path.{_∙_}
 use borrow.Author.Needs.{needs}
 use Rattle.vtable.proofs.build_methods.Statement.{statement}
 use Rattle.vtable.proofs.build_methods.Tie as tie
@@ -22,8 +22,7 @@ word-part-requires : tie.Need-word-part-requires
 word-part-requires c κs = search needs
 
 build-with-requires : tie.Need-build-with-requires
-unfolding abisOf
-build-with-requires c κs = (cc, search needs, search needs)
+build-with-requires c κs = (c .before .before .word-part .ensures ∙ (rw (c .before .before .before .wide .ensures) (c .before .before .before .before .before .chain-abi .ensures .0)), search needs, search needs)
 
 returns : tie.Need-returns
 returns c = (c .build-with .ensures .0, (c .build-with .ensures .1, (search needs, search needs)))
