@@ -11,6 +11,9 @@ use crate::side::{Answer, Linker};
 
 use machine::{Linked, Machine, Member};
 
+/// Makes a call into the original that it is handed: whoever measures gives its own.
+pub type Watch = fn(&mut dyn FnMut());
+
 /// The Rust over its emulated machine, behind the rows that the harness adds.
 #[derive(Default)]
 pub struct Oracle {
@@ -25,6 +28,30 @@ impl Oracle {
     pub fn new_case(&mut self, rebuilds: bool) {
         self.machine.clear();
         self.rebuilds = rebuilds;
+    }
+
+    /// Links every class of an unlinked set by the original, in number order; `watch` makes the
+    /// calls, one a class, and nothing else is inside it. Answers each table's slots, or the row that
+    /// refuses the sheets or, by the original, a class.
+    pub fn link_all(&mut self, words: &[u32], abi_words: &[u32], stubs: &[u32], watch: Watch) -> Result<Vec<Vec<u32>>, u32> {
+        let (set, abi) = rows::sheets(words, abi_words)?;
+        self.new_case(false);
+        self.machine.install_abi(abi_words, &abi);
+        self.machine.watch = Some(watch);
+        let tables = (1..=set.classes.len() as u32).map(|class| {
+            let (definition, linked) = self.machine.link(&set, class, &[], stubs)?;
+            self.machine.keep(class, definition);
+            Ok(linked.table)
+        });
+        let tables = tables.collect();
+        self.machine.watch = None;
+        tables
+    }
+
+    /// Asks the original, of classes that `link_all` linked; `watch` makes the call, any number of
+    /// times. Whether a table was built; unless `keeps`, its node is taken off the list again.
+    pub fn ask_alone(&mut self, class: u32, interface: u32, keeps: bool, watch: Watch) -> bool {
+        self.machine.ask_alone(class, interface, keeps, watch)
     }
 
     fn fresh_call(&mut self) {

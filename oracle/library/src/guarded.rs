@@ -33,19 +33,24 @@ enum Guard {
 }
 
 /// Whole pages between pages that may not be touched.
-struct Pages {
+pub struct Pages {
     start: *mut u8,
     length: usize,
 }
 
 impl Pages {
-    fn new(length: usize) -> Self {
+    pub fn new(length: usize) -> Self {
         let length = length.next_multiple_of(PAGE);
         let whole = unsafe { mmap(std::ptr::null_mut(), length + 2 * GUARD, NO_ACCESS, PRIVATE_AND_ANONYMOUS, -1, 0) };
         assert_ne!(whole as isize, -1, "no pages");
         let pages = Self { start: unsafe { whole.cast::<u8>().add(GUARD) }, length };
         pages.allow(READ_AND_WRITE);
         pages
+    }
+
+    /// All bytes; only while they may be written.
+    pub fn bytes(&mut self) -> &mut [u8] {
+        unsafe { slice::from_raw_parts_mut(self.start, self.length) }
     }
 
     fn allow(&self, access: c_int) {

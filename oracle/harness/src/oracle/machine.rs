@@ -15,6 +15,7 @@ use wie_util::{WieError, read_generic, write_generic};
 
 use crate::sheet::{Abi, Set, class_word};
 
+use super::Watch;
 use super::layout::{Form, lay_out, words};
 
 /// A method or field as the Rust left it. Only added ones have their name and descriptor.
@@ -63,6 +64,8 @@ pub struct Machine {
     built: Option<Built>,
     abi: Option<(Vec<u32>, JavaAbi)>,
     names: HashMap<String, &'static str>,
+    /// Makes the calls into the original, if somebody measures them.
+    pub watch: Option<Watch>,
 }
 
 impl Machine {
@@ -140,7 +143,7 @@ impl Machine {
         };
         self.core.set_stubs(methods.iter().map(|method| method.last), stubs);
         let (core, jvm) = (&mut self.core.clone(), &self.jvm);
-        self.with_abi(|| run(JavaClassDefinition::new(core, jvm, proto, Box::new(()), JavaSvcFunctions)))
+        self.original(|| run(JavaClassDefinition::new(core, jvm, proto, Box::new(()), JavaSvcFunctions)))
     }
 
     /// Instance words before the Rust cuts them to 16 bits, by the indices it gave.
@@ -171,7 +174,7 @@ impl Machine {
         let form = Form::Generated { parent_by_name: class.is_multiple_of(2) };
         let mut definition = lay_out(&mut self.core, set, class, parent.as_ref(), &form).unwrap();
         let (core, jvm) = (&mut self.core.clone(), &self.jvm);
-        self.with_abi(|| run(definition.prepare_generated(core, jvm, 0))).map_err(row_of)?;
+        self.original(|| run(definition.prepare_generated(core, jvm, 0))).map_err(row_of)?;
         let linked = self.linked(set, class, &definition, true);
         Ok((definition, linked))
     }
@@ -181,7 +184,7 @@ impl Machine {
         self.core.set_stubs(std::iter::empty(), stubs);
         let (core, jvm) = (&mut self.core.clone(), &self.jvm);
         let definition =
-            self.with_abi(|| run(JavaClassDefinition::new_array(core, jvm, set.name(class), JavaSvcFunctions))).map_err(row_of)?;
+            self.original(|| run(JavaClassDefinition::new_array(core, jvm, set.name(class), JavaSvcFunctions))).map_err(row_of)?;
         let state = set.class(class).get(class_word::LINK_STATE);
         definition.set_link_state(state as u16).unwrap();
         let linked = self.linked(set, class, &definition, false);
@@ -229,7 +232,7 @@ impl Machine {
         let is_kept = self.classes.contains_key(&class);
         let definition = self.load(set, class, area).expect("row 6 holds");
         let asked = self.load(set, interface, area).expect("row 6 holds");
-        let ptr_head = definition.ptr_vtable().unwrap() + 4 * (u32::from(definition.descriptor().unwrap().vtable_count) + 1);
+        let ptr_head = ptr_head(&definition);
         if !is_kept {
             self.lay_out_nodes(ptr_head, area, nodes, interface, asked.ptr_raw);
         }
@@ -237,7 +240,7 @@ impl Machine {
 
         self.core.set_stubs(std::iter::empty(), stubs);
         self.core.note_reads();
-        let result = self.with_abi(|| run(definition.interface_dispatch_table(&self.jvm, &asked)));
+        let result = self.original(|| run(definition.interface_dispatch_table(&self.jvm, &asked)));
         let reads = self.core.noted_reads();
         let ptr_table = result.map_err(row_of)?;
         let nodes = reads.iter().filter(|&address| self.tables.contains_key(address)).count() as u32;
@@ -252,6 +255,23 @@ impl Machine {
         let table = (1..=slots).map(|slot| self.word(ptr_table + 4 * slot)).collect();
         self.built = Some(Built { ptr_head, head, ptr_table });
         Ok(Asked { found: 0, nodes, built: Some(table) })
+    }
+
+    /// Asks the original alone, of classes that it has linked; `watch` makes the call, any number
+    /// of times. Whether a table was built; unless `keeps`, its node is taken off the list again.
+    pub fn ask_alone(&mut self, class: u32, interface: u32, keeps: bool, watch: Watch) -> bool {
+        let (definition, asked) = (self.classes[&class].clone(), &self.classes[&interface]);
+        let ptr_head = ptr_head(&definition);
+        let head = self.word(ptr_head);
+        let mut ask = || {
+            run(definition.interface_dispatch_table(&self.jvm, asked)).expect("no interface method is missing");
+        };
+        JAVA_ABI::with(self.abi(), || watch(&mut ask));
+        let is_built = self.word(ptr_head) != head;
+        if is_built && !keeps {
+            write_generic(&mut self.core, ptr_head, head).unwrap();
+        }
+        is_built
     }
 
     /// A class's list as the area has it; numbers of other classes become odd pointers, which
@@ -309,8 +329,12 @@ impl Machine {
         &self.abi.as_ref().expect("each call installs its ABI").1
     }
 
-    fn with_abi<R>(&self, body: impl FnOnce() -> R) -> R {
-        JAVA_ABI::with(self.abi(), body)
+    /// Calls the original, by the case's ABI and through the watch.
+    fn original<R>(&self, call: impl FnOnce() -> R) -> R {
+        let Some(watch) = self.watch else { return JAVA_ABI::with(self.abi(), call) };
+        let (mut call, mut result) = (Some(call), None);
+        JAVA_ABI::with(self.abi(), || watch(&mut || result = call.take().map(|call| call())));
+        result.expect("the watch makes the call once")
     }
 
     /// A name for the `'static` parts of a class's prototype; each is kept once.
@@ -322,6 +346,11 @@ impl Machine {
         self.names.insert(name.to_owned(), kept);
         kept
     }
+}
+
+/// Where a class's list begins.
+fn ptr_head(definition: &JavaClassDefinition) -> u32 {
+    definition.ptr_vtable().unwrap() + 4 * (u32::from(definition.descriptor().unwrap().vtable_count) + 1)
 }
 
 fn raw_fields(definition: &JavaClassDefinition) -> Vec<JavaField> {
