@@ -11,8 +11,8 @@
  * been written; its pointer is aligned for the element. With length 0 the pointer may be anything, NULL too. `answer` is never
  * NULL. What a call may write (every pointer without const) overlaps nothing else that is lent to the same call, and nobody
  * else touches the lent memory while the call runs. What is const may overlap what is const. Nothing is kept between
- * calls, so calls on different memory may run at once in several threads. Give a call 256 KiB of stack: the gate
- * measures that none takes more (docs/PERFORMANCE.md).
+ * calls, so calls on different memory may run at once in several threads. Give a call 256 KiB of stack; those
+ * that the gate measures take at most 137,000 bytes (docs/PERFORMANCE.md).
  *
  * Refusals, in the order in which they are judged:
  *    1  bytes that are no whole blocks of 512 or too many, or fewer than 127 words lent a block

@@ -272,6 +272,7 @@ pub fn chain_abi(
     at: &mut [u32; 64],
 ) -> u32
     ensures is { λ r. ⌜ take r (now (at .exit)) ≡ chainAbi (now (ws .entry)) (now (text .entry)) (now (abi .entry)) (now (labels .entry)) c ⌝ }
+    ensures count { λ r. ⌜ r ≤ 64 ⌝ }
     ensures array { λ r. ⌜ length (now (at .exit)) ≡ 64 ⌝ }
 {
     push_chain(ws, text, abi, labels, c, at, 0)

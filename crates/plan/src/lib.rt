@@ -312,8 +312,9 @@ fn plan_generated<'a>(
     )
 }
 
-// What a link of class c comes to before anything is written. Fills the arrays with the table's words and marks, the indices of the class's own fields, and
-// what names the members to add, their flags, and their targets or indices. What the arrays hold past the counts, or of a refused link, means nothing.
+// What a link of class c comes to before anything is written. Fills the arrays with the table's words, the indices of the class's own
+// fields, and what names the members to add, their flags, and their targets or indices. `ms` is room to work in. What it holds, and what
+// the others hold past the counts, or of a refused link, means nothing.
 pub fn plan_link<'a>(
     ws: &[u32],
     text: &'a [u8],

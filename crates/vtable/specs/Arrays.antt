@@ -56,7 +56,7 @@ otherIn ws text m ms n i =
     (onFound (marked (getD ms i 0)) (λ k. not (methodIs ws text k (methodName ws text m) (methodDescriptor ws text m))) false)
     false
 
--- the table that a step leaves in the arrays, or the row that refuses the method; how many slots there are; and the row, or 0
+-- the table that a step leaves in the arrays, or the row that refuses the method; and how many slots there are
 abbrev pub stepOf : Step → List ℕ → List ℕ → Built
 stepOf (Next n) ts ms = built (entriesOf ts ms n)
 stepOf Moved ts ms = refused 11

@@ -16,8 +16,9 @@ ghost use Rattle.chain.specs.Records.{firstTarget};
 ghost use Rattle.linking.specs.Vtable.{ownFixed, findByIndex, tableEntries, parentEntries, fixedOf, relayStep, relayed, extended, inheritedTable, putMethod, addMethod, addMethods, buildMethods, methodEntries, buildInterfaceMethods, empty};
 ghost use Rattle.vtable.specs.Arrays.{markOf, orMark, marksWith, marked, entriesOf, markIs, slotIn, otherIn, slotRead, stepOf, stepCount};
 
-// A table lies in two arrays of the caller: its slots' words, 0 where empty, and their methods' marks (a method's number plus 1, 0 where unknown). What they hold
-// past the slots that are answered, or of a refused table, is the program's choice and means nothing.
+// A table lies in two arrays of the caller: its slots' words, 0 where empty, and their methods' marks (a method's number plus 1, 0 where
+// unknown). What they hold past the slots that are answered, or of a refused table, is the program's choice and means nothing. The arrays of
+// a table that is built have 3,584 elements: 1,024 slots of a compiler table, 512 declared methods, 1,024 added ones and 1,024 of the parent.
 
 // What adding a method comes to: so many slots, or row 11 (its fixed index differs from the inherited one), or row 12 (its fixed slot
 // holds another signature).
@@ -685,8 +686,8 @@ fn build_with(
     add_methods(ws, text, abi, labels, abis, c, ts, ms, n)
 }
 
-// Fills the arrays with class c's table: the parent's entries, relayed or extended as the chain's ABI classes ask, and its own methods. Answers how many slots it has, or the
-// row that refuses it.
+// Fills the arrays with class c's table: the parent's entries, relayed or extended as the chain's ABI classes ask, and its own methods.
+// Answers how many slots it has, or the row that refuses it.
 pub fn build_methods(
     ws: &[u32],
     text: &[u8],

@@ -11,7 +11,7 @@ push-chain-requires c κs = search needs
 
 returns : tie.Need-returns
 unfolding chainAbi
-returns c = (c .push-chain .ensures .0, search needs)
+returns c = (c .push-chain .ensures .0, (c .push-chain .ensures .1, search needs))
 
 pub chain-abi-spec : {M : Type 1} → statement M
 chain-abi-spec = tie.close (tie.spec push-chain-requires returns)
