@@ -26,9 +26,10 @@ TOP = WORD - 1
 vectors.make_all()
 
 
-def sheet(*args):
-    """Runs the command; answers status, standard output, standard error."""
-    done = subprocess.run([sys.executable, os.path.join(HERE, "sheet"), *args], capture_output=True, text=True, check=False)
+def sheet(*args, given=""):
+    """Runs the command on this standard input; answers status, standard output, standard error."""
+    command = [sys.executable, os.path.join(HERE, "sheet"), *args]
+    done = subprocess.run(command, input=given, capture_output=True, text=True, check=False)
     return done.returncode, done.stdout, done.stderr
 
 
@@ -396,7 +397,7 @@ class Commands(unittest.TestCase):
         return path
 
     def test_help(self):
-        for args in (["--help"], ["make", "--help"], ["show", "--help"], ["check", "--help"]):
+        for args in (["--help"], ["make", "--help"], ["show", "--help"], ["check", "--help"], ["explain", "--help"]):
             status, out, _ = sheet(*args)
             self.assertEqual(status, 0)
             self.assertIn("usage: sheet", out)
@@ -453,10 +454,26 @@ class Commands(unittest.TestCase):
         self.assertEqual((status, out), (1, ""))
         self.assertIn("refused 2: block 1", err)
 
+    def table(self):
+        """The sentences of docs/REFUSALS.md by their numbers."""
+        with open(os.path.join(HERE, "..", "docs", "REFUSALS.md"), encoding="utf-8") as file:
+            return dict(re.findall(r"^\| (\d+) \| [^|]* \| ([^|]*) \|$", file.read(), re.M))
+
+    def test_explain(self):
+        """Every number, and the refused lines of a listing alone."""
+        table = self.table()
+        for number, sentence in table.items():
+            self.assertEqual(sheet("explain", number), (0, f"refused {number}\n  To mend: {sentence}\n", ""))
+        listing = "class 1 A words 0 slots 1\n0 refused ()V 11\nclass 2 refused 11\nabi refused 3\n"
+        told = f"class 2 refused 11\n  To mend: {table['11']}\nabi refused 3\n  To mend: {table['3']}\n"
+        self.assertEqual(sheet("explain", given=listing), (0, told, ""))
+        status, out, err = sheet("explain", "17")
+        self.assertEqual((status, out), (2, ""))
+        self.assertIn("no refusal has the number 17", err)
+
     def test_messages(self):
         """Each row of both sheets: the number, the place and the sentence of docs/REFUSALS.md."""
-        with open(os.path.join(HERE, "..", "docs", "REFUSALS.md"), encoding="utf-8") as file:
-            table = dict(re.findall(r"^\| (\d+) \| [^|]* \| ([^|]*) \|$", file.read(), re.M))
+        table = self.table()
         self.assertEqual(sorted(map(int, table)), list(range(1, 17)))
         for name, place in (
                 ("class-r1-513-bytes", "the file has 513 bytes"), ("abi-r1-no-bytes", "the file is empty"),

@@ -145,7 +145,7 @@ impl Refusal {
         REFUSALS.get((number as usize).checked_sub(1)?).copied()
     }
 
-    /// What to mend, in a sentence; the longer one of `docs/REFUSALS.md` has the limits.
+    /// What is wrong, in a sentence; `docs/REFUSALS.md` says for each number what to mend.
     pub fn sentence(self) -> &'static str {
         match self {
             SheetSize => "the sheet's size is not that of 1 to 92 (ABI: 51) whole blocks of 512 bytes, or fewer than 127 words a block were lent",
