@@ -41,9 +41,13 @@ push-chain-returns : (t : ℕ) → push-chain-lts.Need-returns (
   push-chain.Post,
 ) (push-chain-at t) push-chain.Post
 push-chain-returns t c =
-    let a = c .before .before .before .before .before .before .args in
-    let p = c .before .before .before .before .before .before .pre .1 in
-    (push-end (classAbi (now (a .ws)) (now (a .text)) (now (a .abi)) (now (a .labels))) (now (a .ws)) (a .c) (take (a .n) (now (a .at))) (c .if1 .taken) (push-none (now (a .at)) (a .n) (p .0)), p .1)
+    let start = c .before .before .before .before .before .before in
+    let a = start .args in
+    let p = start .pre .1 in (
+      push-end (classAbi (now (a .ws)) (now (a .text)) (now (a .abi)) (now (a .labels))) (now (a .ws)) (a .c) (take (a .n) (now (a .at)))
+          (c .if1 .taken) (push-none (now (a .at)) (a .n) (p .0)),
+      p .1,
+    )
 
 push-chain-class-abi-requires : (t : ℕ) → push-chain-lts.Need-class-abi-requires (
   class-abi-reads.Asked,
@@ -80,7 +84,8 @@ push-chain-push-requires : (t : ℕ) → push-chain-lts.Need-push-requires (
   push-chain.Post,
 ) (push-chain-at t) push-chain.Post
 push-chain-push-requires t c κs =
-    c .before .before .before .before .before .before .before .before .before .before .before .pre .1
+    let start = c .before .before .before .before .before .before .before .before .before .before .before in
+    start .pre .1
 
 push-chain-parent-of-requires : (t : ℕ) → push-chain-lts.Need-parent-of-requires (
   class-abi-reads.Asked,
@@ -105,9 +110,18 @@ push-chain-push-chain-requires : (t : ℕ) → push-chain-lts.Need-push-chain-re
   push-chain.Post,
 ) (push-chain-at t) push-chain.Post
 push-chain-push-chain-requires t c κs =
-    let a = c .before .before .before .before .before .before .before .before .before .before .before .before .before .before .before .before .args in
-    let p = c .before .before .before .before .before .before .before .before .before .before .before .before .before .before .before .before .pre .1 in
-    (omega (arith, parent-below (now (a .ws)) (a .c) (pos-of-ne-zero (c .before .before .before .before .before .before .before .before .before .before .if1 .left))), (c .before .before .before .before .push .kept .0 ∙ p .0, c .before .before .before .before .push .ensures .1))
+    let at-push = c .before .before .before .before in
+    let at-if1 = at-push .before .before .before .before .before .before in
+    let start = at-if1 .before .before .before .before .before .before in
+    let a = start .args in
+    let p = start .pre .1 in (
+      omega (
+        arith,
+        parent-below (now (a .ws)) (a .c)
+            (pos-of-ne-zero (at-if1 .if1 .left)),
+      ),
+      (at-push .push .kept .0 ∙ p .0, at-push .push .ensures .1),
+    )
 
 push-chain-enum-told : (t : ℕ) → push-chain-lts.Need-enum-told (
   class-abi-reads.Asked,
@@ -144,8 +158,12 @@ push-chain-push-chain-requires-2 : (t : ℕ) → push-chain-lts.Need-push-chain-
   push-chain.Post,
 ) (push-chain-at t) push-chain.Post
 push-chain-push-chain-requires-2 t c κs =
-    let a = c .before .before .before .before .before .before .before .before .before .before .before .args in
-    (omega (arith, parent-below (now (a .ws)) (a .c) (pos-of-ne-zero (c .before .before .before .before .before .if1 .left))), c .before .before .before .before .before .before .before .before .before .before .before .pre .1)
+    let at-if1 = c .before .before .before .before .before in
+    let start = at-if1 .before .before .before .before .before .before in
+    let a = start .args in (
+      omega (arith, parent-below (now (a .ws)) (a .c) (pos-of-ne-zero (at-if1 .if1 .left))),
+      start .pre .1,
+    )
 
 push-chain-same-length : (t : ℕ) → push-chain-lts.Need-same-length (
   class-abi-reads.Asked,
@@ -170,8 +188,20 @@ push-chain-returns-2 : (t : ℕ) → push-chain-lts.Need-returns-2 (
   push-chain.Post,
 ) (push-chain-at t) push-chain.Post
 push-chain-returns-2 t c =
-    let a = c .before .before .before .before .before .before .before .before .before .before .before .before .before .before .before .before .before .before .before .args in
-    (push-hit (classAbi (now (a .ws)) (now (a .text)) (now (a .abi)) (now (a .labels))) (now (a .ws)) (a .c) (take (a .n) (now (a .at))) _ (pos-of-ne-zero (c .before .before .before .before .before .before .before .before .before .before .before .before .before .if1 .left)) (c .before .before .before .before .before .before .before .before .before .before .before .before .class-abi .ensures) (c .before .before .before .before .before .before .before .before .before .before .a .given .1) (c .before .before .before .before .parent-of .ensures) (c .before .before .before .before .before .before .before .push .ensures .0) (c .before .before .push-chain .ensures .0), c .before .before .push-chain .ensures .1)
+    let at-parent-of = c .before .before .before .before in
+    let at-push = at-parent-of .before .before .before in
+    let at-a = at-push .before .before .before in
+    let at-if1 = at-a .before .before .before in
+    let start = at-if1 .before .before .before .before .before .before in
+    let a = start .args in (
+      push-hit (classAbi (now (a .ws)) (now (a .text)) (now (a .abi)) (now (a .labels))) (now (a .ws)) (a .c) (take (a .n) (now (a .at))) _
+          (pos-of-ne-zero (at-if1 .if1 .left))
+          (at-a .before .before .class-abi .ensures)
+          (at-a .a .given .1)
+          (at-parent-of .parent-of .ensures) (at-push .push .ensures .0)
+          (c .before .before .push-chain .ensures .0),
+      c .before .before .push-chain .ensures .1,
+    )
 
 push-chain-same-length-2 : (t : ℕ) → push-chain-lts.Need-same-length-2 (
   class-abi-reads.Asked,
@@ -196,8 +226,17 @@ push-chain-returns-3 : (t : ℕ) → push-chain-lts.Need-returns-3 (
   push-chain.Post,
 ) (push-chain-at t) push-chain.Post
 push-chain-returns-3 t c =
-    let a = c .before .before .before .before .before .before .before .before .before .before .before .before .before .before .args in
-    (push-miss (classAbi (now (a .ws)) (now (a .text)) (now (a .abi)) (now (a .labels))) (now (a .ws)) (a .c) (take (a .n) (now (a .at))) (pos-of-ne-zero (c .before .before .before .before .before .before .before .before .if1 .left)) (c .before .before .before .before .before .before .before .class-abi .ensures) (c .before .before .before .before .before .enum-told .given .1) (c .before .before .before .before .parent-of2 .ensures) (c .before .before .push-chain2 .ensures .0), c .before .before .push-chain2 .ensures .1)
+    let at-parent-of2 = c .before .before .before .before in
+    let at-class-abi = at-parent-of2 .before .before .before in
+    let start = at-class-abi .before .before .before .before .before .before .before in
+    let a = start .args in (
+      push-miss (classAbi (now (a .ws)) (now (a .text)) (now (a .abi)) (now (a .labels))) (now (a .ws)) (a .c) (take (a .n) (now (a .at)))
+          (pos-of-ne-zero (at-class-abi .before .if1 .left))
+          (at-class-abi .class-abi .ensures)
+          (at-parent-of2 .before .enum-told .given .1) (at-parent-of2 .parent-of2 .ensures)
+          (c .before .before .push-chain2 .ensures .0),
+      c .before .before .push-chain2 .ensures .1,
+    )
 
 pub +push-chain-spec : {M : Type 1} → statement M
 +push-chain-spec = close μ-push-chain λ t. push-chain-lts.spec (

@@ -7,13 +7,10 @@ use Prim.Native.Nat.{_-_, _≤_}
 use borrow.Author.Needs.{needs}
 use Rattle.abi.proofs.first_fixed.Statement.{statement}
 use Rattle.abi.proofs.first_fixed.Tie as tie
-use Rattle.abi.proofs.first_fixed.Reads as reads
-use Rattle.abi.proofs.first_fixed.Lts as lts
-use Rattle.abi.proofs.vtable_index.Reads as vtable-index-reads
-use Rattle.words.proofs.word_at.Reads as word-at-reads
 
 abbrev Inv-loop : tie.InvT-loop
-Inv-loop abi labels abis name descriptor i₀ i = (i ≤ length abis) × (foundFrom (vtableIndex abi labels name descriptor) abis i ≡ fixedIndex abi labels abis name descriptor)
+Inv-loop abi labels abis name descriptor i₀ i =
+    (i ≤ length abis) × (foundFrom (vtableIndex abi labels name descriptor) abis i ≡ fixedIndex abi labels abis name descriptor)
 
 abbrev μ-loop : tie.MeasureT-loop
 μ-loop abi labels abis name descriptor i₀ i = length abis - i
@@ -22,33 +19,18 @@ loop-holds : tie.Need-loop-holds Inv-loop μ-loop
 unfolding fixedIndex
 loop-holds c = (omega arith, found-start _ _)
 
-word-at-requires : tie.Need-word-at-requires Inv-loop μ-loop
-word-at-requires c κs = search needs
-
-vtable-index-requires : tie.Need-vtable-index-requires Inv-loop μ-loop
-vtable-index-requires c κs = search needs
-
-enum-known-k : tie.Need-enum-known-k Inv-loop μ-loop
-enum-known-k c = search needs
-
 returns : tie.Need-returns Inv-loop μ-loop
 returns c =
     let v = c .before .before .before in
     found-hit _ _ _ 0 _ (v .before .before .loop-test .taken) (cc) (c .before .k .given .1) ∙ v .before .before .before .loop .inv .1
 
-enum-told : tie.Need-enum-told Inv-loop μ-loop
-enum-told c = search needs
-
-add-i : tie.Need-add-i Inv-loop μ-loop
-add-i c = search needs
-
-loop-less : tie.Need-loop-less Inv-loop μ-loop
-loop-less c = search needs
-
 loop-again : tie.Need-loop-again Inv-loop μ-loop
 loop-again c =
-    let v = c .before .before in
-    (omega arith, found-miss _ _ _ 0 (v .before .before .loop-test .taken) (v .vtable-index .ensures ∙ (cc)) (c .enum-told .given .1) ∙ v .before .before .before .loop .inv .1)
+    let v = c .before .before in (
+      omega arith,
+      found-miss _ _ _ 0 (v .before .before .loop-test .taken) (v .vtable-index .ensures ∙ (cc)) (c .enum-told .given .1)
+          ∙ v .before .before .before .loop .inv .1,
+    )
 
 returns-2 : tie.Need-returns-2 Inv-loop μ-loop
 returns-2 c = found-end _ _ _ (c .loop-test .left) ∙ c .before .loop .inv .1
@@ -60,12 +42,12 @@ first-fixed-spec =
     Inv-loop
     μ-loop
     loop-holds
-    word-at-requires
-    vtable-index-requires
-    enum-known-k
+    (λ c κs. search needs)
+    (λ c κs. search needs)
+    (λ c. search needs)
     returns
-    enum-told
-    add-i
-    loop-less
+    (λ c. search needs)
+    (λ c. search needs)
+    (λ c. search needs)
     loop-again
     returns-2)

@@ -2,7 +2,7 @@ use native.Mathlib.Omega.{arith}
 use borrow.Author.Tests.{not-true, not-false}
 use mathlib.Core.Path.{_≡_}
 use mathlib.Core.Bool.{true}
-use Prim.Native.Nat.{_+_, _-_, _≤_}
+use Prim.Native.Nat.{_-_, _≤_}
 use Rattle.words.specs.Folds.{allOf}
 use Rattle.words.proofs.FoldLaws.{all-none, all-turn, all-stop, all-done}
 use Rattle.abi_sheet.specs.AbiSheet.{abiClassCount}
@@ -10,10 +10,6 @@ use Rattle.abi_rules.specs.AbiRules.{abiClassRecord}
 use borrow.Author.Needs.{needs}
 use Rattle.abi_rules.proofs.classes_ok.Statement.{statement}
 use Rattle.abi_rules.proofs.classes_ok.Tie as tie
-use Rattle.abi_rules.proofs.classes_ok.Reads as reads
-use Rattle.abi_rules.proofs.classes_ok.Lts as lts
-use Rattle.abi_rules.proofs.class_ok.Reads as class-ok-reads
-use Rattle.abi_sheet.proofs.class_count.Reads as class-count-reads
 
 abbrev Inv-loop : tie.InvT-loop
 Inv-loop abi text clean n a₀ a = (a ≤ n) × (allOf a (abiClassRecord abi text) ≡ true) × (n ≡ abiClassCount abi)
@@ -21,26 +17,14 @@ Inv-loop abi text clean n a₀ a = (a ≤ n) × (allOf a (abiClassRecord abi tex
 abbrev μ-loop : tie.MeasureT-loop
 μ-loop abi text clean n a₀ a = n - a
 
-class-count-requires : tie.Need-class-count-requires Inv-loop μ-loop
-class-count-requires c κs = search needs
-
 loop-holds : tie.Need-loop-holds Inv-loop μ-loop
 loop-holds c = (omega arith, all-none _, omega arith)
-
-class-ok-requires : tie.Need-class-ok-requires Inv-loop μ-loop
-class-ok-requires c κs = search needs
 
 returns : tie.Need-returns Inv-loop μ-loop
 returns c = all-stop _ _ (c .before .before .before .loop .a) (omega arith) (c .before .class-ok .ensures) (not-true _ (c .if1 .taken))
 
-add-a : tie.Need-add-a Inv-loop μ-loop
-add-a c = search needs
-
-loop-less : tie.Need-loop-less Inv-loop μ-loop
-loop-less c = search needs
-
 loop-again : tie.Need-loop-again Inv-loop μ-loop
-loop-again c = (omega arith, all-turn (c .before .before .before .loop .a) _ (c .before .before .before .loop .inv .1) (c .before .class-ok .ensures) (not-false _ (c .if1 .left)), omega arith)
+loop-again c = (omega arith, search (not-false, all-turn), omega arith)
 
 returns-2 : tie.Need-returns-2 Inv-loop μ-loop
 returns-2 c = all-done _ _ _ (c .before .loop .inv .1) (omega arith)
@@ -51,11 +35,11 @@ classes-ok-spec =
     (tie.spec
     Inv-loop
     μ-loop
-    class-count-requires
+    (λ c κs. search needs)
     loop-holds
-    class-ok-requires
+    (λ c κs. search needs)
     returns
-    add-a
-    loop-less
+    (λ c. search needs)
+    (λ c. search needs)
     loop-again
     returns-2)

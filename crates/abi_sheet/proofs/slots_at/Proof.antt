@@ -3,22 +3,6 @@ use Rattle.abi_sheet.specs.AbiSheet.{abiSlotsAt}
 use borrow.Author.Needs.{needs}
 use Rattle.abi_sheet.proofs.slots_at.Statement.{statement}
 use Rattle.abi_sheet.proofs.slots_at.Tie as tie
-use Rattle.abi_sheet.proofs.slots_at.Reads as reads
-use Rattle.abi_sheet.proofs.slots_at.Lts as lts
-use Rattle.abi_sheet.proofs.class_count.Reads as class-count-reads
-use Rattle.words.proofs.wide.Reads as wide-reads
-
-class-count-requires : tie.Need-class-count-requires
-class-count-requires c κs = search needs
-
-wide-requires : tie.Need-wide-requires
-wide-requires c κs = search needs
-
-mul-result : tie.Need-mul-result
-mul-result c = search needs
-
-add-result : tie.Need-add-result
-add-result c = search needs
 
 returns : tie.Need-returns
 unfolding abiSlotsAt
@@ -26,4 +10,4 @@ returns c = (omega arith, omega arith)
 
 pub slots-at-spec : {M : Type 1} → statement M
 slots-at-spec =
-    tie.close (tie.spec class-count-requires wide-requires mul-result add-result returns)
+    tie.close (tie.spec (λ c κs. search needs) (λ c κs. search needs) (λ c. search needs) (λ c. search needs) returns)

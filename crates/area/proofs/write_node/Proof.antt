@@ -4,37 +4,9 @@ use Rattle.area.proofs.AreaLaws.{code-may-write, node-not, node-put}
 use borrow.Author.Needs.{needs}
 use Rattle.area.proofs.write_node.Statement.{statement}
 use Rattle.area.proofs.write_node.Tie as tie
-use Rattle.area.proofs.write_node.Reads as reads
-use Rattle.area.proofs.write_node.Lts as lts
-use Rattle.area.proofs.fill_node.Reads as fill-node-reads
-use Rattle.area.proofs.may_not_write.Reads as may-not-write-reads
-use Rattle.words.proofs.put_word.Reads as put-word-reads
-use Rattle.words.proofs.wide.Reads as wide-reads
-use Rattle.words.proofs.word_at.Reads as word-at-reads
-
-may-not-write-requires : tie.Need-may-not-write-requires
-may-not-write-requires c κs = search needs
-
-same-length : tie.Need-same-length
-same-length c = search needs
 
 returns : tie.Need-returns
-returns c =
-    let at-may-not-write = c .before in
-    let a = at-may-not-write .before .before .before .before .before .args in
-    node-not (a .area .now) (a .ts .now) (a .stubs .now) (a .n) (at-may-not-write .may-not-write .ensures) _ _ (c .if1 .taken)
-
-word-at-requires : tie.Need-word-at-requires
-word-at-requires c κs = search needs
-
-word-at-requires-2 : tie.Need-word-at-requires-2
-word-at-requires-2 c κs = search needs
-
-wide-requires : tie.Need-wide-requires
-wide-requires c κs = search needs
-
-mul-fill-node : tie.Need-mul-fill-node
-mul-fill-node c = search needs
+returns c = search node-not
 
 sub-fill-node : tie.Need-sub-fill-node
 sub-fill-node c =
@@ -42,7 +14,8 @@ sub-fill-node c =
     let at-if1 = at-word-at .before .before in
     let at-may-not-write = at-if1 .before in
     let a = at-may-not-write .before .before .before .before .before .args in
-    let p = code-may-write (a .area .now) (a .ts .now) (a .stubs .now) (a .n) (at-may-not-write .may-not-write .ensures) (at-if1 .if1 .left) in
+    let p = code-may-write (a .area .now) (a .ts .now) (a .stubs .now) (a .n) (at-may-not-write .may-not-write .ensures)
+    (at-if1 .if1 .left) in
     let u = c .wide .ensures in
     let v = at-word-at .word-at .ensures in
     omega (arith, p .0 .free)
@@ -53,13 +26,11 @@ part-fill-node-start c =
     let at-if1 = at-word-at .before .before in
     let at-may-not-write = at-if1 .before in
     let a = at-may-not-write .before .before .before .before .before .args in
-    let p = code-may-write (a .area .now) (a .ts .now) (a .stubs .now) (a .n) (at-may-not-write .may-not-write .ensures) (at-if1 .if1 .left) in
+    let p = code-may-write (a .area .now) (a .ts .now) (a .stubs .now) (a .n) (at-may-not-write .may-not-write .ensures)
+    (at-if1 .if1 .left) in
     let u = c .wide .ensures in
     let v = at-word-at .word-at .ensures in
     omega (arith, p .0 .free)
-
-part-fill-node-end : tie.Need-part-fill-node-end
-part-fill-node-end c = search needs
 
 fill-node-requires : tie.Need-fill-node-requires
 fill-node-requires c κs =
@@ -68,22 +39,11 @@ fill-node-requires c κs =
     let at-if1 = at-word-at .before .before in
     let at-may-not-write = at-if1 .before in
     let a = at-may-not-write .before .before .before .before .before .args in
-    let p = code-may-write (a .area .now) (a .ts .now) (a .stubs .now) (a .n) (at-may-not-write .may-not-write .ensures) (at-if1 .if1 .left) in
+    let p = code-may-write (a .area .now) (a .ts .now) (a .stubs .now) (a .n) (at-may-not-write .may-not-write .ensures)
+    (at-if1 .if1 .left) in
     let u = at-wide .wide .ensures in
     let v = at-word-at .word-at .ensures in
     omega (arith, p .0 .free)
-
-put-word-requires : tie.Need-put-word-requires
-put-word-requires c κs = search needs
-
-wide-requires-2 : tie.Need-wide-requires-2
-wide-requires-2 c κs = search needs
-
-add-put-word : tie.Need-add-put-word
-add-put-word c = search needs
-
-add-put-word-2 : tie.Need-add-put-word-2
-add-put-word-2 c = search needs
 
 cast-put-word : tie.Need-cast-put-word
 cast-put-word c =
@@ -92,17 +52,12 @@ cast-put-word c =
     let at-if1 = at-word-at .before .before in
     let at-may-not-write = at-if1 .before in
     let a = at-may-not-write .before .before .before .before .before .args in
-    let p = code-may-write (a .area .now) (a .ts .now) (a .stubs .now) (a .n) (at-may-not-write .may-not-write .ensures) (at-if1 .if1 .left) in
+    let p = code-may-write (a .area .now) (a .ts .now) (a .stubs .now) (a .n) (at-may-not-write .may-not-write .ensures)
+    (at-if1 .if1 .left) in
     let w = c .wide2 .ensures in
     let u = at-wide .wide .ensures in
     let v = at-word-at .word-at .ensures in
     omega (arith, p .0 .free, p .1)
-
-put-word-requires-2 : tie.Need-put-word-requires-2
-put-word-requires-2 c κs = search needs
-
-same-length-2 : tie.Need-same-length-2
-same-length-2 c = search needs
 
 returns-2 : tie.Need-returns-2
 returns-2 c =
@@ -116,7 +71,8 @@ returns-2 c =
     let at-if1 = at-word-at .before .before in
     let at-may-not-write = at-if1 .before in
     let a = at-may-not-write .before .before .before .before .before .args in
-    node-put (a .area .now) (a .ts .now) (a .stubs .now) (a .n) (at-may-not-write .may-not-write .ensures) _ (at-wide .wide .ensures ∙ at-word-at .word-at .ensures) (at-if1 .if1 .left)
+    node-put (a .area .now) (a .ts .now) (a .stubs .now) (a .n) (at-may-not-write .may-not-write .ensures) _
+    (at-wide .wide .ensures ∙ at-word-at .word-at .ensures) (at-if1 .if1 .left)
     _ _ (at-word-at2 .word-at2 .ensures) (at-fill-node .fill-node .ensures) (sym (at-wide .wide .ensures)) (at-wide2 .wide2 .ensures)
     (at-put-word .put-word .ensures) (at-put-word2 .put-word2 .ensures)
 
@@ -124,22 +80,22 @@ pub write-node-spec : {M : Type 1} → statement M
 write-node-spec =
     tie.close
     (tie.spec
-    may-not-write-requires
-    same-length
+    (λ c κs. search needs)
+    (λ c. search needs)
     returns
-    word-at-requires
-    word-at-requires-2
-    wide-requires
-    mul-fill-node
+    (λ c κs. search needs)
+    (λ c κs. search needs)
+    (λ c κs. search needs)
+    (λ c. search needs)
     sub-fill-node
     part-fill-node-start
-    part-fill-node-end
+    (λ c. search needs)
     fill-node-requires
-    put-word-requires
-    wide-requires-2
-    add-put-word
-    add-put-word-2
+    (λ c κs. search needs)
+    (λ c κs. search needs)
+    (λ c. search needs)
+    (λ c. search needs)
     cast-put-word
-    put-word-requires-2
-    same-length-2
+    (λ c κs. search needs)
+    (λ c. search needs)
     returns-2)

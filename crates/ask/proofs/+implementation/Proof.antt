@@ -171,7 +171,8 @@ implementation-returns-2 t c =
     let at-method-descriptor = at-own-implementation .before in
     let at-method-name = at-method-descriptor .before in
     let at-if1 = at-method-name .before in
-    implementation-hit _ _ _ _ (pos-of-ne-zero (at-if1 .if1 .left)) (at-method-name .method-name .ensures) (at-method-descriptor .method-descriptor .ensures)
+    implementation-hit _ _ _ _ (pos-of-ne-zero (at-if1 .if1 .left)) (at-method-name .method-name .ensures)
+    (at-method-descriptor .method-descriptor .ensures)
     (at-own-implementation .own-implementation .ensures) _ (at-k .k .given .1)
 
 implementation-returns-3 : (t : ℕ) → implementation-lts.Need-returns-3 (
@@ -194,7 +195,8 @@ implementation-returns-3 t c =
     let at-method-name = at-method-descriptor .before in
     let at-if1 = at-method-name .before in
     let a = at-if1 .before .before .before .args in
-    cc (implementation-up (a .ws .now) (a .text .now) (a .c) (a .m) (pos-of-ne-zero (at-if1 .if1 .left)) (at-method-name .method-name .ensures) (at-method-descriptor .method-descriptor .ensures)
+    cc (implementation-up (a .ws .now) (a .text .now) (a .c) (a .m) (pos-of-ne-zero (at-if1 .if1 .left))
+    (at-method-name .method-name .ensures) (at-method-descriptor .method-descriptor .ensures)
     (at-own-implementation .own-implementation .ensures) (at-enum-told .enum-told .given .1))
 
 pub +implementation-spec : {M : Type 1} → statement M

@@ -8,39 +8,17 @@ use Rattle.ask.proofs.DispatchLaws.{soFar, dispatch-start, dispatch-sto
 use borrow.Author.Needs.{needs}
 use Rattle.ask.proofs.dispatch_slots.Statement.{statement}
 use Rattle.ask.proofs.dispatch_slots.Tie as tie
-use Rattle.ask.proofs.dispatch_slots.Reads as reads
-use Rattle.ask.proofs.dispatch_slots.Lts as lts
-use Rattle.ask.proofs.dispatch_slot.Reads as dispatch-slot-reads
-use Rattle.words.proofs.put_word.Reads as put-word-reads
-use Rattle.words.proofs.wide.Reads as wide-reads
-use Rattle.words.proofs.word_at.Reads as word-at-reads
 
 abbrev Inv-loop : tie.InvT-loop
-Inv-loop ws text c ts ms n us₀ ns₀ i₀ us ns i = (i ≤ n) × (length us ≡ length us₀) × (length ns ≡ length ns₀) × ((n ≤ length us₀) × (n ≤ length ns₀)) × (soFar ws text c ts ms n us ns i ≡ dispatchEntries ws text c (entriesOf ts ms n))
+Inv-loop ws text c ts ms n us₀ ns₀ i₀ us ns i =
+    (i ≤ n) × (length us ≡ length us₀) × (length ns ≡ length ns₀) × ((n ≤ length us₀) × (n ≤ length ns₀))
+    × (soFar ws text c ts ms n us ns i ≡ dispatchEntries ws text c (entriesOf ts ms n))
 
 abbrev μ-loop : tie.MeasureT-loop
 μ-loop ws text c ts ms n us₀ ns₀ i₀ us ns i = n - i
 
 loop-holds : tie.Need-loop-holds Inv-loop μ-loop
 loop-holds c = (omega arith, omega arith, omega arith, omega arith, dispatch-start _ _ _ _ _ _ _ _)
-
-wide-requires : tie.Need-wide-requires Inv-loop μ-loop
-wide-requires c κs = search needs
-
-word-at-requires : tie.Need-word-at-requires Inv-loop μ-loop
-word-at-requires c κs = search needs
-
-word-at-requires-2 : tie.Need-word-at-requires-2 Inv-loop μ-loop
-word-at-requires-2 c κs = search needs
-
-dispatch-slot-requires : tie.Need-dispatch-slot-requires Inv-loop μ-loop
-dispatch-slot-requires c κs = search needs
-
-same-length : tie.Need-same-length Inv-loop μ-loop
-same-length c = search needs
-
-same-length-2 : tie.Need-same-length-2 Inv-loop μ-loop
-same-length-2 c = search needs
 
 returns : tie.Need-returns Inv-loop μ-loop
 returns c =
@@ -51,21 +29,11 @@ returns c =
     let at-loop-test = at-wide .before in
     let at-loop = at-loop-test .before in
     let a = at-loop .before .before .before .before .before .before .before .args in
-    dispatch-stop (a .ws .now) (a .text .now) (a .c) (a .ts .now) (a .ms .now) (a .n) (at-loop .loop .i) _ _ (at-dispatch-slot .dispatch-slot .result) (at-loop-test .loop-test .taken) (at-wide .wide .ensures) (at-word-at .word-at .ensures) (at-word-at2 .word-at2 .ensures)
+    dispatch-stop (a .ws .now) (a .text .now) (a .c) (a .ts .now) (a .ms .now) (a .n) (at-loop .loop .i) _ _
+    (at-dispatch-slot .dispatch-slot .result) (at-loop-test .loop-test .taken) (at-wide .wide .ensures) (at-word-at .word-at .ensures)
+    (at-word-at2 .word-at2 .ensures)
     (at-dispatch-slot .dispatch-slot .ensures) (at-loop .loop .us) (at-loop .loop .ns) (c .if1 .taken)
     ∙ at-loop .loop .inv .4
-
-put-word-requires : tie.Need-put-word-requires Inv-loop μ-loop
-put-word-requires c κs = search needs
-
-put-word-requires-2 : tie.Need-put-word-requires-2 Inv-loop μ-loop
-put-word-requires-2 c κs = search needs
-
-add-i : tie.Need-add-i Inv-loop μ-loop
-add-i c = search needs
-
-loop-less : tie.Need-loop-less Inv-loop μ-loop
-loop-less c = search needs
 
 loop-again : tie.Need-loop-again Inv-loop μ-loop
 loop-again c =
@@ -83,22 +51,19 @@ loop-again c =
       search needs,
       search needs,
       omega arith,
-      dispatch-turn (a .ws .now) (a .text .now) (a .c) (a .ts .now) (a .ms .now) (a .n) (at-loop .loop .i) _ _ (at-dispatch-slot .dispatch-slot .result) (at-loop-test .loop-test .taken) (at-wide .wide .ensures) (at-word-at .word-at .ensures) (at-word-at2 .word-at2 .ensures)
+      dispatch-turn (a .ws .now) (a .text .now) (a .c) (a .ts .now) (a .ms .now) (a .n) (at-loop .loop .i) _ _
+          (at-dispatch-slot .dispatch-slot .result) (at-loop-test .loop-test .taken) (at-wide .wide .ensures) (at-word-at .word-at .ensures)
+          (at-word-at2 .word-at2 .ensures)
           (at-dispatch-slot .dispatch-slot .ensures) (at-loop .loop .us) (at-loop .loop .ns) _ _ (omega arith) (omega arith)
           (at-if1 .if1 .left) (at-put-word .put-word .ensures) (at-put-word2 .put-word2 .ensures) ∙ at-loop .loop .inv .4,
     )
-
-same-length-3 : tie.Need-same-length-3 Inv-loop μ-loop
-same-length-3 c = search needs
-
-same-length-4 : tie.Need-same-length-4 Inv-loop μ-loop
-same-length-4 c = search needs
 
 returns-2 : tie.Need-returns-2 Inv-loop μ-loop
 returns-2 c =
     let at-loop = c .before in
     let a = at-loop .before .before .before .before .before .before .before .args in
-    dispatch-end (a .ws .now) (a .text .now) (a .c) (a .ts .now) (a .ms .now) (a .n) (at-loop .loop .us) (at-loop .loop .ns) (at-loop .loop .i) (omega arith) ∙ at-loop .loop .inv .4
+    dispatch-end (a .ws .now) (a .text .now) (a .c) (a .ts .now) (a .ms .now) (a .n) (at-loop .loop .us) (at-loop .loop .ns)
+    (at-loop .loop .i) (omega arith) ∙ at-loop .loop .inv .4
 
 pub dispatch-slots-spec : {M : Type 1} → statement M
 dispatch-slots-spec =
@@ -107,18 +72,18 @@ dispatch-slots-spec =
     Inv-loop
     μ-loop
     loop-holds
-    wide-requires
-    word-at-requires
-    word-at-requires-2
-    dispatch-slot-requires
-    same-length
-    same-length-2
+    (λ c κs. search needs)
+    (λ c κs. search needs)
+    (λ c κs. search needs)
+    (λ c κs. search needs)
+    (λ c. search needs)
+    (λ c. search needs)
     returns
-    put-word-requires
-    put-word-requires-2
-    add-i
-    loop-less
+    (λ c κs. search needs)
+    (λ c κs. search needs)
+    (λ c. search needs)
+    (λ c. search needs)
     loop-again
-    same-length-3
-    same-length-4
+    (λ c. search needs)
+    (λ c. search needs)
     returns-2)

@@ -9,48 +9,31 @@ use mathlib.Core.Bool.{_&&_}
 use borrow.Author.Needs.{needs}
 use Rattle.ask.proofs.own_implementation.Statement.{statement}
 use Rattle.ask.proofs.own_implementation.Tie as tie
-use Rattle.ask.proofs.own_implementation.Reads as reads
-use Rattle.ask.proofs.own_implementation.Lts as lts
-use Rattle.ask.proofs.implements.Reads as implements-reads
-use Rattle.chain.proofs.method_count.Reads as method-count-reads
-use Rattle.class_sheet.proofs.class_first_method.Reads as class-first-method-reads
 
 abbrev Inv-loop : tie.InvT-loop
-Inv-loop ws text name descriptor c first n i₀ i = (i ≤ n) × (n ≤ 512 - first) × (findFrom (λ m. isVirtual (methodFlags ws m) && methodIs ws text m name descriptor) first n i ≡ ownImplementation ws text name descriptor c)
+Inv-loop ws text name descriptor c first n i₀ i =
+    (i ≤ n) × (n ≤ 512 - first) × (findFrom
+    (λ m. isVirtual (methodFlags ws m) && methodIs ws text m name descriptor) first n i ≡ ownImplementation ws text name descriptor c)
 
 abbrev μ-loop : tie.MeasureT-loop
 μ-loop ws text name descriptor c first n i₀ i = n - i
-
-class-first-method-requires : tie.Need-class-first-method-requires Inv-loop μ-loop
-class-first-method-requires c κs = search needs
-
-method-count-requires : tie.Need-method-count-requires Inv-loop μ-loop
-method-count-requires c κs = search needs
 
 loop-holds : tie.Need-loop-holds Inv-loop μ-loop
 unfolding ownImplementation ownMethods
 loop-holds c = (omega arith, omega arith, find-start _ _ _ ∙ cc)
 
-add-implements : tie.Need-add-implements Inv-loop μ-loop
-add-implements c = search needs
-
-implements-requires : tie.Need-implements-requires Inv-loop μ-loop
-implements-requires c κs = search needs
-
-add-t12 : tie.Need-add-t12 Inv-loop μ-loop
-add-t12 c = search needs
-
 returns : tie.Need-returns Inv-loop μ-loop
-returns c = find-hit _ _ _ _ (c .before .before .loop-test .taken) (c .before .implements .ensures) (c .if1 .taken) ∙ c .before .before .before .loop .inv .2
-
-add-i : tie.Need-add-i Inv-loop μ-loop
-add-i c = search needs
-
-loop-less : tie.Need-loop-less Inv-loop μ-loop
-loop-less c = search needs
+returns c =
+    find-hit _ _ _ _ (c .before .before .loop-test .taken) (c .before .implements .ensures) (c .if1 .taken)
+    ∙ c .before .before .before .loop .inv .2
 
 loop-again : tie.Need-loop-again Inv-loop μ-loop
-loop-again c = (omega arith, omega arith, find-miss _ _ _ _ (c .before .before .loop-test .taken) (c .before .implements .ensures) (c .if1 .left) ∙ c .before .before .before .loop .inv .2)
+loop-again c = (
+  omega arith,
+  omega arith,
+  find-miss _ _ _ _ (c .before .before .loop-test .taken) (c .before .implements .ensures) (c .if1 .left)
+      ∙ c .before .before .before .loop .inv .2,
+)
 
 returns-2 : tie.Need-returns-2 Inv-loop μ-loop
 returns-2 c = find-end _ _ _ _ (c .loop-test .left) ∙ c .before .loop .inv .2
@@ -61,14 +44,14 @@ own-implementation-spec =
     (tie.spec
     Inv-loop
     μ-loop
-    class-first-method-requires
-    method-count-requires
+    (λ c κs. search needs)
+    (λ c κs. search needs)
     loop-holds
-    add-implements
-    implements-requires
-    add-t12
+    (λ c. search needs)
+    (λ c κs. search needs)
+    (λ c. search needs)
     returns
-    add-i
-    loop-less
+    (λ c. search needs)
+    (λ c. search needs)
     loop-again
     returns-2)

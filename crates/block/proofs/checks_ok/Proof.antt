@@ -9,9 +9,6 @@ use native.Mathlib.Omega.{arith}
 use borrow.Author.Needs.{needs}
 use Rattle.block.proofs.checks_ok.Statement.{statement}
 use Rattle.block.proofs.checks_ok.Tie as tie
-use Rattle.block.proofs.checks_ok.Reads as reads
-use Rattle.block.proofs.checks_ok.Lts as lts
-use Rattle.block.proofs.check_ok.Reads as check-ok-reads
 
 abbrev Inv-loop : tie.InvT-loop
 Inv-loop bytes n k₀ k = (k ≤ n) × (allOf k (checkOk bytes) ≡ true)
@@ -22,20 +19,11 @@ abbrev μ-loop : tie.MeasureT-loop
 loop-holds : tie.Need-loop-holds Inv-loop μ-loop
 loop-holds c = (omega arith, all-none _)
 
-check-ok-requires : tie.Need-check-ok-requires Inv-loop μ-loop
-check-ok-requires c κs = search needs
-
 returns : tie.Need-returns Inv-loop μ-loop
-returns c = all-stop _ _ _ (c .before .before .loop-test .taken) (c .before .check-ok .ensures) (not-true _ (c .if1 .taken))
-
-add-k : tie.Need-add-k Inv-loop μ-loop
-add-k c = search needs
-
-loop-less : tie.Need-loop-less Inv-loop μ-loop
-loop-less c = search needs
+returns c = search (all-stop, not-true)
 
 loop-again : tie.Need-loop-again Inv-loop μ-loop
-loop-again c = (omega arith, all-turn _ _ (c .before .before .before .loop .inv .1) (c .before .check-ok .ensures) (not-false _ (c .if1 .left)))
+loop-again c = (omega arith, search (all-turn, not-false))
 
 returns-2 : tie.Need-returns-2 Inv-loop μ-loop
 returns-2 c = all-done _ _ _ (c .before .loop .inv .1) (omega arith)
@@ -47,9 +35,9 @@ checks-ok-spec =
     Inv-loop
     μ-loop
     loop-holds
-    check-ok-requires
+    (λ c κs. search needs)
     returns
-    add-k
-    loop-less
+    (λ c. search needs)
+    (λ c. search needs)
     loop-again
     returns-2)

@@ -3,15 +3,10 @@ use mathlib.Core.Path.{refl}
 use borrow.Author.Needs.{needs}
 use Rattle.block.proofs.shape_ok.Statement.{statement}
 use Rattle.block.proofs.shape_ok.Tie as tie
-use Rattle.block.proofs.shape_ok.Reads as reads
-use Rattle.block.proofs.shape_ok.Lts as lts
-
-mul-result : tie.Need-mul-result
-mul-result c = search needs
 
 returns : tie.Need-returns
 unfolding shapeOk
 returns c = refl
 
 pub shape-ok-spec : {M : Type 1} → statement M
-shape-ok-spec = tie.close (tie.spec mul-result returns)
+shape-ok-spec = tie.close (tie.spec (λ c. search needs) returns)

@@ -10,10 +10,6 @@ use Rattle.class_sheet.specs.ClassSheet.{classCount}
 use borrow.Author.Needs.{needs}
 use Rattle.call_rules.proofs.all_below.Statement.{statement}
 use Rattle.call_rules.proofs.all_below.Tie as tie
-use Rattle.call_rules.proofs.all_below.Reads as reads
-use Rattle.call_rules.proofs.all_below.Lts as lts
-use Rattle.call_rules.proofs.ends_below.Reads as ends-below-reads
-use Rattle.class_sheet.proofs.class_count.Reads as class-count-reads
 
 abbrev Inv-loop : tie.InvT-loop
 Inv-loop ws area n i₀ i = (i ≤ n) × (allOf i (λ k. endsBelow ws area (k + 1)) ≡ true) × (n ≡ classCount ws)
@@ -21,29 +17,14 @@ Inv-loop ws area n i₀ i = (i ≤ n) × (allOf i (λ k. endsBelow ws area (k + 
 abbrev μ-loop : tie.MeasureT-loop
 μ-loop ws area n i₀ i = n - i
 
-class-count-requires : tie.Need-class-count-requires Inv-loop μ-loop
-class-count-requires c κs = search needs
-
 loop-holds : tie.Need-loop-holds Inv-loop μ-loop
 loop-holds c = (omega arith, all-none _, omega arith)
-
-add-ends-below : tie.Need-add-ends-below Inv-loop μ-loop
-add-ends-below c = search needs
-
-ends-below-requires : tie.Need-ends-below-requires Inv-loop μ-loop
-ends-below-requires c κs = search needs
 
 returns : tie.Need-returns Inv-loop μ-loop
 returns c = all-stop _ _ (c .before .before .before .loop .i) (omega arith) (c .before .ends-below .ensures) (not-true _ (c .if1 .taken))
 
-add-i : tie.Need-add-i Inv-loop μ-loop
-add-i c = search needs
-
-loop-less : tie.Need-loop-less Inv-loop μ-loop
-loop-less c = search needs
-
 loop-again : tie.Need-loop-again Inv-loop μ-loop
-loop-again c = (omega arith, all-turn (c .before .before .before .loop .i) _ (c .before .before .before .loop .inv .1) (c .before .ends-below .ensures) (not-false _ (c .if1 .left)), omega arith)
+loop-again c = (omega arith, search (not-false, all-turn), omega arith)
 
 returns-2 : tie.Need-returns-2 Inv-loop μ-loop
 returns-2 c = all-done _ _ _ (c .before .loop .inv .1) (omega arith)
@@ -54,12 +35,12 @@ all-below-spec =
     (tie.spec
     Inv-loop
     μ-loop
-    class-count-requires
+    (λ c κs. search needs)
     loop-holds
-    add-ends-below
-    ends-below-requires
+    (λ c. search needs)
+    (λ c κs. search needs)
     returns
-    add-i
-    loop-less
+    (λ c. search needs)
+    (λ c. search needs)
     loop-again
     returns-2)

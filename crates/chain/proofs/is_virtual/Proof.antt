@@ -2,8 +2,6 @@ use mathlib.Core.Path.{refl}
 use Rattle.linking.specs.Chain.{isVirtual}
 use Rattle.chain.proofs.is_virtual.Statement.{statement}
 use Rattle.chain.proofs.is_virtual.Tie as tie
-use Rattle.chain.proofs.is_virtual.Reads as reads
-use Rattle.chain.proofs.is_virtual.Lts as lts
 
 returns : tie.Need-returns
 unfolding isVirtual

@@ -3,12 +3,6 @@ use Rattle.linking.specs.Chain.{parentOf}
 use borrow.Author.Needs.{needs}
 use Rattle.chain.proofs.parent_of.Statement.{statement}
 use Rattle.chain.proofs.parent_of.Tie as tie
-use Rattle.chain.proofs.parent_of.Reads as reads
-use Rattle.chain.proofs.parent_of.Lts as lts
-use Rattle.class_sheet.proofs.class_parent.Reads as class-parent-reads
-
-class-parent-requires : tie.Need-class-parent-requires
-class-parent-requires c κs = search needs
 
 returns : tie.Need-returns
 unfolding parentOf
@@ -19,4 +13,4 @@ unfolding parentOf
 returns-2 c = simp (← (c .before .class-parent .ensures), le-ltb _ _ (c .if1 .left))
 
 pub parent-of-spec : {M : Type 1} → statement M
-parent-of-spec = tie.close (tie.spec class-parent-requires returns returns-2)
+parent-of-spec = tie.close (search (tie.spec, returns, returns-2, needs))

@@ -6,14 +6,9 @@ use Prim.Native.Nat.{_+_, _-_, _≤_}
 use Rattle.words.specs.Folds.{allOf}
 use Rattle.words.proofs.FoldLaws.{all-none, all-turn, all-stop, all-done}
 use Rattle.class_rules.specs.ClassRules.{classesApart, apartBefore}
-use Rattle.class_sheet.specs.ClassSheet.{classCount}
 use borrow.Author.Needs.{needs}
 use Rattle.class_rules.proofs.apart_before.Statement.{statement}
 use Rattle.class_rules.proofs.apart_before.Tie as tie
-use Rattle.class_rules.proofs.apart_before.Reads as reads
-use Rattle.class_rules.proofs.apart_before.Lts as lts
-use Rattle.class_rules.proofs.classes_apart.Reads as classes-apart-reads
-use Rattle.words.proofs.before.Reads as before-reads
 
 abbrev Inv-loop : tie.InvT-loop
 Inv-loop ws text d n i₀ i = (i ≤ n) × (allOf i (λ k. classesApart ws text (k + 1) d) ≡ true) × (n ≡ d - 1)
@@ -21,30 +16,15 @@ Inv-loop ws text d n i₀ i = (i ≤ n) × (allOf i (λ k. classesApart ws text 
 abbrev μ-loop : tie.MeasureT-loop
 μ-loop ws text d n i₀ i = n - i
 
-before-requires : tie.Need-before-requires Inv-loop μ-loop
-before-requires c κs = search needs
-
 loop-holds : tie.Need-loop-holds Inv-loop μ-loop
 loop-holds c = (omega arith, all-none _, omega arith)
-
-add-classes-apart : tie.Need-add-classes-apart Inv-loop μ-loop
-add-classes-apart c = search needs
-
-classes-apart-requires : tie.Need-classes-apart-requires Inv-loop μ-loop
-classes-apart-requires c κs = search needs
 
 returns : tie.Need-returns Inv-loop μ-loop
 unfolding apartBefore
 returns c = all-stop _ _ (c .before .before .before .loop .i) (omega arith) (c .before .classes-apart .ensures) (not-true _ (c .if1 .taken))
 
-add-i : tie.Need-add-i Inv-loop μ-loop
-add-i c = search needs
-
-loop-less : tie.Need-loop-less Inv-loop μ-loop
-loop-less c = search needs
-
 loop-again : tie.Need-loop-again Inv-loop μ-loop
-loop-again c = (omega arith, all-turn (c .before .before .before .loop .i) _ (c .before .before .before .loop .inv .1) (c .before .classes-apart .ensures) (not-false _ (c .if1 .left)), omega arith)
+loop-again c = (omega arith, search (not-false, all-turn), omega arith)
 
 returns-2 : tie.Need-returns-2 Inv-loop μ-loop
 unfolding apartBefore
@@ -56,12 +36,12 @@ apart-before-spec =
     (tie.spec
     Inv-loop
     μ-loop
-    before-requires
+    (λ c κs. search needs)
     loop-holds
-    add-classes-apart
-    classes-apart-requires
+    (λ c. search needs)
+    (λ c κs. search needs)
     returns
-    add-i
-    loop-less
+    (λ c. search needs)
+    (λ c. search needs)
     loop-again
     returns-2)

@@ -1,10 +1,7 @@
 use mathlib.Core.Path.{refl}
 use Rattle.class_rules.specs.ClassRules.{methodFlagsOk}
-use borrow.Author.Needs.{needs}
 use Rattle.class_rules.proofs.method_flags_ok.Statement.{statement}
 use Rattle.class_rules.proofs.method_flags_ok.Tie as tie
-use Rattle.class_rules.proofs.method_flags_ok.Reads as reads
-use Rattle.class_rules.proofs.method_flags_ok.Lts as lts
 
 returns : tie.Need-returns
 unfolding methodFlagsOk

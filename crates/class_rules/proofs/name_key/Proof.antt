@@ -7,9 +7,6 @@ use Rattle.words.proofs.ListLaws.{foldAt, fold-at-start, fold-at-turn, fold-at-
 use borrow.Author.Needs.{needs}
 use Rattle.class_rules.proofs.name_key.Statement.{statement}
 use Rattle.class_rules.proofs.name_key.Tie as tie
-use Rattle.class_rules.proofs.name_key.Reads as reads
-use Rattle.class_rules.proofs.name_key.Lts as lts
-use Rattle.class_rules.proofs.key_step.Reads as key-step-reads
 
 abbrev Inv-loop : tie.InvT-loop
 Inv-loop name key₀ i₀ key i = (i ≤ length name) × (foldAt keyStep key name i ≡ nameKey name)
@@ -21,20 +18,12 @@ loop-holds : tie.Need-loop-holds Inv-loop μ-loop
 unfolding nameKey
 loop-holds c = (omega arith, sym (fold-at-start keyStep 0 _))
 
-shared-slice-read-key-step : tie.Need-shared-slice-read-key-step Inv-loop μ-loop
-shared-slice-read-key-step c = search needs
-
-key-step-requires : tie.Need-key-step-requires Inv-loop μ-loop
-key-step-requires c κs = search needs
-
-add-i : tie.Need-add-i Inv-loop μ-loop
-add-i c = search needs
-
-loop-less : tie.Need-loop-less Inv-loop μ-loop
-loop-less c = search needs
-
 loop-again : tie.Need-loop-again Inv-loop μ-loop
-loop-again c = (omega arith, sym (fold-at-turn keyStep _ _ 0 _ (c .before .before .loop-test .taken) refl (c .key-step .ensures)) ∙ c .before .before .before .loop .inv .1)
+loop-again c = (
+  omega arith,
+  sym (fold-at-turn keyStep _ _ 0 _ (c .before .before .loop-test .taken) refl (c .key-step .ensures))
+      ∙ c .before .before .before .loop .inv .1,
+)
 
 returns : tie.Need-returns Inv-loop μ-loop
 returns c = sym (fold-at-end keyStep _ _ _ (c .loop-test .left)) ∙ c .before .loop .inv .1
@@ -46,9 +35,9 @@ name-key-spec =
     Inv-loop
     μ-loop
     loop-holds
-    shared-slice-read-key-step
-    key-step-requires
-    add-i
-    loop-less
+    (λ c. search needs)
+    (λ c κs. search needs)
+    (λ c. search needs)
+    (λ c. search needs)
     loop-again
     returns)

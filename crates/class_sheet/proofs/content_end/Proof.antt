@@ -3,26 +3,6 @@ use Rattle.class_sheet.specs.ClassSheet.{contentEnd}
 use borrow.Author.Needs.{needs}
 use Rattle.class_sheet.proofs.content_end.Statement.{statement}
 use Rattle.class_sheet.proofs.content_end.Tie as tie
-use Rattle.class_sheet.proofs.content_end.Reads as reads
-use Rattle.class_sheet.proofs.content_end.Lts as lts
-use Rattle.class_sheet.proofs.text_at.Reads as text-at-reads
-use Rattle.class_sheet.proofs.text_length.Reads as text-length-reads
-use Rattle.words.proofs.wide.Reads as wide-reads
-
-text-at-requires : tie.Need-text-at-requires
-text-at-requires c κs = search needs
-
-text-length-requires : tie.Need-text-length-requires
-text-length-requires c κs = search needs
-
-wide-requires : tie.Need-wide-requires
-wide-requires c κs = search needs
-
-add-result : tie.Need-add-result
-add-result c = search needs
-
-add-result-2 : tie.Need-add-result-2
-add-result-2 c = search needs
 
 returns : tie.Need-returns
 unfolding contentEnd
@@ -31,4 +11,4 @@ returns c = (omega arith, omega arith)
 pub content-end-spec : {M : Type 1} → statement M
 content-end-spec =
     tie.close
-    (tie.spec text-at-requires text-length-requires wide-requires add-result add-result-2 returns)
+    (tie.spec (λ c κs. search needs) (λ c κs. search needs) (λ c κs. search needs) (λ c. search needs) (λ c. search needs) returns)

@@ -1,18 +1,11 @@
-use native.Mathlib.Omega.{arith}
 use Rattle.class_sheet.specs.ClassSheet.{countAt}
 use borrow.Author.Needs.{needs}
 use Rattle.class_sheet.proofs.count_at.Statement.{statement}
 use Rattle.class_sheet.proofs.count_at.Tie as tie
-use Rattle.class_sheet.proofs.count_at.Reads as reads
-use Rattle.class_sheet.proofs.count_at.Lts as lts
-use Rattle.words.proofs.word_at.Reads as word-at-reads
-
-word-at-requires : tie.Need-word-at-requires
-word-at-requires c κs = search needs
 
 returns : tie.Need-returns
 unfolding countAt
 returns c = c .word-at .ensures
 
 pub count-at-spec : {M : Type 1} → statement M
-count-at-spec = tie.close (tie.spec word-at-requires returns)
+count-at-spec = tie.close (tie.spec (λ c κs. search needs) returns)

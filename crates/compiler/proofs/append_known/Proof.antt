@@ -12,14 +12,12 @@ use Rattle.compiler.proofs.AppendLaws.{knownRest, known-all, known-turn
 use borrow.Author.Needs.{needs}
 use Rattle.compiler.proofs.append_known.Statement.{statement}
 use Rattle.compiler.proofs.append_known.Tie as tie
-use Rattle.compiler.proofs.append_known.Reads as reads
-use Rattle.compiler.proofs.append_known.Lts as lts
-use Rattle.compiler.proofs.append_mark.Reads as append-mark-reads
-use Rattle.words.proofs.wide.Reads as wide-reads
-use Rattle.words.proofs.word_at.Reads as word-at-reads
 
 abbrev Inv-loop : tie.InvT-loop
-Inv-loop ws text abi labels refs flags lasts n known count ts₀ ms₀ size r₀ i₀ ts ms r i = (i ≤ count) × (r ≤ size + i) × ((size + count ≤ 3584) × (3584 ≤ length ts₀) × (3584 ≤ length ms₀)) × (length ts ≡ length ts₀) × (length ms ≡ length ms₀) × (knownRest ws text abi labels refs flags lasts n known count (entriesOf ts ms r) i ≡ fold (appendMethod ws text abi labels (firstNews ws text abi labels refs flags lasts n)) (entriesOf ts₀ ms₀ size) (markMethods known count))
+Inv-loop ws text abi labels refs flags lasts n known count ts₀ ms₀ size r₀ i₀ ts ms r i =
+    (i ≤ count) × (r ≤ size + i) × ((size + count ≤ 3584) × (3584 ≤ length ts₀) × (3584 ≤ length ms₀)) × (length ts ≡ length ts₀)
+    × (length ms ≡ length ms₀) × (knownRest ws text abi labels refs flags lasts n known count (entriesOf ts ms r) i ≡ fold
+    (appendMethod ws text abi labels (firstNews ws text abi labels refs flags lasts n)) (entriesOf ts₀ ms₀ size) (markMethods known count))
 
 abbrev μ-loop : tie.MeasureT-loop
 μ-loop ws text abi labels refs flags lasts n known count ts₀ ms₀ size r₀ i₀ ts ms r i = count - i
@@ -27,37 +25,29 @@ abbrev μ-loop : tie.MeasureT-loop
 loop-holds : tie.Need-loop-holds Inv-loop μ-loop
 loop-holds c = (omega arith, omega arith, omega arith, omega arith, omega arith, known-all _ _ _ _ _ _ _ _ _ _ _)
 
-wide-requires : tie.Need-wide-requires Inv-loop μ-loop
-wide-requires c κs = search needs
-
-word-at-requires : tie.Need-word-at-requires Inv-loop μ-loop
-word-at-requires c κs = search needs
-
 append-mark-requires : tie.Need-append-mark-requires Inv-loop μ-loop
 append-mark-requires c κs = (omega arith, omega arith, omega arith)
 
-add-i : tie.Need-add-i Inv-loop μ-loop
-add-i c = search needs
-
-loop-less : tie.Need-loop-less Inv-loop μ-loop
-loop-less c = search needs
-
 loop-again : tie.Need-loop-again Inv-loop μ-loop
 loop-again c =
-    let l = c .before .before .before .before .before .before .before .before .before .before .loop in
-    let a = c .before .before .before .before .before .before .before .before .before .before .before .before .before .before .before .before .before .before .before .before .before .args in
-    (omega arith, omega arith, omega arith, omega arith, omega arith, known-turn (now (a .ws)) (now (a .text)) (now (a .abi)) (now (a .labels)) (now (a .refs)) (now (a .flags)) (now (a .lasts)) (a .n) (now (a .known)) (a .count) _ _ _ (l .i) (c .before .before .before .before .before .before .before .before .before .loop-test .taken) (c .before .before .before .before .before .before .before .before .wide .ensures) (c .before .before .before .before .before .before .before .word-at .ensures) (c .before .before .before .before .append-mark .ensures .0) (l .inv .5))
-
-same-length : tie.Need-same-length Inv-loop μ-loop
-same-length c = search needs
-
-same-length-2 : tie.Need-same-length-2 Inv-loop μ-loop
-same-length-2 c = search needs
+    let at-append-mark : tie.After-append-mark Inv-loop μ-loop = search in
+    let at-word-at : tie.After-word-at Inv-loop μ-loop = search in
+    let at-loop : tie.At-loop Inv-loop μ-loop = search in
+    let start = at-loop .before .before .before .before .before .before .before .before .before .before .before in
+    let l = at-loop .loop in
+    let a = start .args in (
+      omega arith,
+      omega arith,
+      omega arith,
+      omega arith,
+      omega arith,
+      known-turn (now (a .ws)) (now (a .text)) (now (a .abi)) (now (a .labels)) (now (a .refs)) (now (a .flags)) (now (a .lasts)) (a .n)
+          (now (a .known)) (a .count) _ _ _ (l .i) (at-word-at .before .before .loop-test .taken) (at-word-at .before .wide .ensures)
+          (at-word-at .word-at .ensures) (at-append-mark .append-mark .ensures .0) (l .inv .5),
+    )
 
 returns : tie.Need-returns Inv-loop μ-loop
-returns c =
-    let l = c .before .loop in
-    (known-end _ _ _ _ _ _ _ _ _ _ _ _ (l .i) (c .loop-test .left) (l .inv .5), omega arith)
+returns c = (search known-end, omega arith)
 
 pub append-known-spec : {M : Type 1} → statement M
 append-known-spec =
@@ -66,12 +56,12 @@ append-known-spec =
     Inv-loop
     μ-loop
     loop-holds
-    wide-requires
-    word-at-requires
+    (λ c κs. search needs)
+    (λ c κs. search needs)
     append-mark-requires
-    add-i
-    loop-less
+    (λ c. search needs)
+    (λ c. search needs)
     loop-again
-    same-length
-    same-length-2
+    (λ c. search needs)
+    (λ c. search needs)
     returns)

@@ -8,12 +8,11 @@ use Rattle.words.proofs.ListLaws.{findFrom, find-start, find-hit, find-miss, fi
 use borrow.Author.Needs.{needs}
 use Rattle.compiler.proofs.target_in.Statement.{statement}
 use Rattle.compiler.proofs.target_in.Tie as tie
-use Rattle.compiler.proofs.target_in.Reads as reads
-use Rattle.compiler.proofs.target_in.Lts as lts
-use Rattle.compiler.proofs.target_is.Reads as target-is-reads
 
 abbrev Inv-loop : tie.InvT-loop
-Inv-loop ws lasts n first count t i₀ i = (i ≤ count) × (first + count ≤ 4294967295) × (findFrom (λ m. eqb (targetIn ws lasts n m) t) first count i ≡ find (λ m. eqb (targetIn ws lasts n m) t) (numbers first count))
+Inv-loop ws lasts n first count t i₀ i =
+    (i ≤ count) × (first + count ≤ 4294967295)
+    × (findFrom (λ m. eqb (targetIn ws lasts n m) t) first count i ≡ find (λ m. eqb (targetIn ws lasts n m) t) (numbers first count))
 
 abbrev μ-loop : tie.MeasureT-loop
 μ-loop ws lasts n first count t i₀ i = count - i
@@ -21,26 +20,18 @@ abbrev μ-loop : tie.MeasureT-loop
 loop-holds : tie.Need-loop-holds Inv-loop μ-loop
 loop-holds c = (omega arith, omega arith, find-start _ _ _)
 
-add-target-is : tie.Need-add-target-is Inv-loop μ-loop
-add-target-is c = search needs
-
-target-is-requires : tie.Need-target-is-requires Inv-loop μ-loop
-target-is-requires c κs = search needs
-
-add-t11 : tie.Need-add-t11 Inv-loop μ-loop
-add-t11 c = search needs
-
 returns : tie.Need-returns Inv-loop μ-loop
-returns c = find-hit _ _ _ _ (c .before .before .loop-test .taken) (c .before .target-is .ensures) (c .if1 .taken) ∙ c .before .before .before .loop .inv .2
-
-add-i : tie.Need-add-i Inv-loop μ-loop
-add-i c = search needs
-
-loop-less : tie.Need-loop-less Inv-loop μ-loop
-loop-less c = search needs
+returns c =
+    find-hit _ _ _ _ (c .before .before .loop-test .taken) (c .before .target-is .ensures) (c .if1 .taken)
+    ∙ c .before .before .before .loop .inv .2
 
 loop-again : tie.Need-loop-again Inv-loop μ-loop
-loop-again c = (omega arith, omega arith, find-miss _ _ _ _ (c .before .before .loop-test .taken) (c .before .target-is .ensures) (c .if1 .left) ∙ c .before .before .before .loop .inv .2)
+loop-again c = (
+  omega arith,
+  omega arith,
+  find-miss _ _ _ _ (c .before .before .loop-test .taken) (c .before .target-is .ensures) (c .if1 .left)
+      ∙ c .before .before .before .loop .inv .2,
+)
 
 returns-2 : tie.Need-returns-2 Inv-loop μ-loop
 returns-2 c = find-end _ _ _ _ (c .loop-test .left) ∙ c .before .loop .inv .2
@@ -52,11 +43,11 @@ target-in-spec =
     Inv-loop
     μ-loop
     loop-holds
-    add-target-is
-    target-is-requires
-    add-t11
+    (λ c. search needs)
+    (λ c κs. search needs)
+    (λ c. search needs)
     returns
-    add-i
-    loop-less
+    (λ c. search needs)
+    (λ c. search needs)
     loop-again
     returns-2)

@@ -6,11 +6,11 @@ use Rattle.descriptor.proofs.at_begin.Tie as tie
 
 returns : tie.Need-returns
 unfolding methodNext
-returns c = simp (eq-eqb _ _ (c .if1 .taken))
+returns c = search eq-eqb
 
 returns-2 : tie.Need-returns-2
 unfolding methodNext
-returns-2 c = simp (ne-eqb _ _ (c .if1 .left))
+returns-2 c = search ne-eqb
 
 pub at-begin-spec : {M : Type 1} → statement M
 at-begin-spec = tie.close (tie.spec returns returns-2)

@@ -5,9 +5,6 @@ use borrow.Author.Needs.{needs}
 use Rattle.descriptor.proofs.at_identifier.Statement.{statement}
 use Rattle.descriptor.proofs.at_identifier.Tie as tie
 
-is-name-byte-requires : tie.Need-is-name-byte-requires
-is-name-byte-requires c κs = search needs
-
 returns : tie.Need-returns
 unfolding fieldNext
 returns c = simp (sym (c .before .is-name-byte .ensures) ∙ c .if1 .taken)
@@ -17,4 +14,4 @@ unfolding fieldNext
 returns-2 c = simp (sym (c .before .is-name-byte .ensures) ∙ c .if1 .left)
 
 pub at-identifier-spec : {M : Type 1} → statement M
-at-identifier-spec = tie.close (tie.spec is-name-byte-requires returns returns-2)
+at-identifier-spec = tie.close (tie.spec (λ c κs. search needs) returns returns-2)

@@ -7,14 +7,11 @@ use Rattle.descriptor.proofs.at_parameter.Tie as tie
 
 returns : tie.Need-returns
 unfolding methodNext
-returns c = simp (eq-eqb _ _ (c .if1 .taken))
-
-at-type-requires : tie.Need-at-type-requires
-at-type-requires c κs = search needs
+returns c = search eq-eqb
 
 returns-2 : tie.Need-returns-2
 unfolding methodNext
-returns-2 c = simp (ne-eqb _ _ (c .before .if1 .left), c .at-type .ensures)
+returns-2 c = search ne-eqb
 
 pub at-parameter-spec : {M : Type 1} → statement M
-at-parameter-spec = tie.close (tie.spec returns at-type-requires returns-2)
+at-parameter-spec = tie.close (tie.spec returns (λ c κs. search needs) returns-2)

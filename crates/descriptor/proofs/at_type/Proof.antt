@@ -8,14 +8,11 @@ use Rattle.descriptor.proofs.at_type.Tie as tie
 
 returns : tie.Need-returns
 unfolding fieldNext
-returns c = simp (eq-eqb _ _ (c .if1 .taken))
+returns c = search eq-eqb
 
 returns-2 : tie.Need-returns-2
 unfolding fieldNext
-returns-2 c = simp (ne-eqb _ _ (c .before .if1 .left), eq-eqb _ _ (c .if2 .taken))
-
-is-base-byte-requires : tie.Need-is-base-byte-requires
-is-base-byte-requires c κs = search needs
+returns-2 c = search (eq-eqb, ne-eqb)
 
 returns-3 : tie.Need-returns-3
 unfolding fieldNext
@@ -36,4 +33,4 @@ returns-4 c =
     )
 
 pub at-type-spec : {M : Type 1} → statement M
-at-type-spec = tie.close (tie.spec returns returns-2 is-base-byte-requires returns-3 returns-4)
+at-type-spec = tie.close (tie.spec returns returns-2 (λ c κs. search needs) returns-3 returns-4)

@@ -5,12 +5,6 @@ use borrow.Author.Needs.{needs}
 use Rattle.descriptor.proofs.begun_words.Statement.{statement}
 use Rattle.descriptor.proofs.begun_words.Tie as tie
 
-between-parameters-requires : tie.Need-between-parameters-requires
-between-parameters-requires c κs = search needs
-
-byte-width-requires : tie.Need-byte-width-requires
-byte-width-requires c κs = search needs
-
 returns : tie.Need-returns
 unfolding begunWords
 returns c = c .byte-width .ensures ∙ rw (← (c .before .before .between-parameters .ensures), c .before .if1 .taken)
@@ -21,4 +15,4 @@ returns-2 c = rw (← (c .before .between-parameters .ensures), c .if1 .left)
 
 pub begun-words-spec : {M : Type 1} → statement M
 begun-words-spec =
-    tie.close (tie.spec between-parameters-requires byte-width-requires returns returns-2)
+    tie.close (tie.spec (λ c κs. search needs) (λ c κs. search needs) returns returns-2)

@@ -4,30 +4,6 @@ use borrow.Author.Needs.{needs}
 use Rattle.descriptor.proofs.field_next.Statement.{statement}
 use Rattle.descriptor.proofs.field_next.Tie as tie
 
-enum-told : tie.Need-enum-told
-enum-told c = search needs
-
-at-type-requires : tie.Need-at-type-requires
-at-type-requires c κs = search needs
-
-enum-told-2 : tie.Need-enum-told-2
-enum-told-2 c = search needs
-
-at-identifier-requires : tie.Need-at-identifier-requires
-at-identifier-requires c κs = search needs
-
-enum-told-3 : tie.Need-enum-told-3
-enum-told-3 c = search needs
-
-in-identifier-requires : tie.Need-in-identifier-requires
-in-identifier-requires c κs = search needs
-
-enum-told-4 : tie.Need-enum-told-4
-enum-told-4 c = search needs
-
-enum-told-5 : tie.Need-enum-told-5
-enum-told-5 c = search needs
-
 returns : tie.Need-returns
 returns c = cc
 
@@ -49,14 +25,14 @@ pub field-next-spec : {M : Type 1} → statement M
 field-next-spec =
     tie.close
     (tie.spec
-    enum-told
-    at-type-requires
-    enum-told-2
-    at-identifier-requires
-    enum-told-3
-    in-identifier-requires
-    enum-told-4
-    enum-told-5
+    (λ c. search needs)
+    (λ c κs. search needs)
+    (λ c. search needs)
+    (λ c κs. search needs)
+    (λ c. search needs)
+    (λ c κs. search needs)
+    (λ c. search needs)
+    (λ c. search needs)
     returns
     returns-2
     returns-3

@@ -4,33 +4,6 @@ use borrow.Author.Needs.{needs}
 use Rattle.descriptor.proofs.in_parameters.Statement.{statement}
 use Rattle.descriptor.proofs.in_parameters.Tie as tie
 
-enum-told : tie.Need-enum-told
-enum-told c = search needs
-
-at-type-requires : tie.Need-at-type-requires
-at-type-requires c κs = search needs
-
-enum-told-2 : tie.Need-enum-told-2
-enum-told-2 c = search needs
-
-at-identifier-requires : tie.Need-at-identifier-requires
-at-identifier-requires c κs = search needs
-
-enum-told-3 : tie.Need-enum-told-3
-enum-told-3 c = search needs
-
-in-identifier-requires : tie.Need-in-identifier-requires
-in-identifier-requires c κs = search needs
-
-enum-told-4 : tie.Need-enum-told-4
-enum-told-4 c = search needs
-
-at-parameter-requires : tie.Need-at-parameter-requires
-at-parameter-requires c κs = search needs
-
-enum-told-5 : tie.Need-enum-told-5
-enum-told-5 c = search needs
-
 returns : tie.Need-returns
 unfolding methodNext
 returns c = rw (c .before .enum-told .given .1, c .at-type .ensures)
@@ -54,15 +27,15 @@ pub in-parameters-spec : {M : Type 1} → statement M
 in-parameters-spec =
     tie.close
     (tie.spec
-    enum-told
-    at-type-requires
-    enum-told-2
-    at-identifier-requires
-    enum-told-3
-    in-identifier-requires
-    enum-told-4
-    at-parameter-requires
-    enum-told-5
+    (λ c. search needs)
+    (λ c κs. search needs)
+    (λ c. search needs)
+    (λ c κs. search needs)
+    (λ c. search needs)
+    (λ c κs. search needs)
+    (λ c. search needs)
+    (λ c κs. search needs)
+    (λ c. search needs)
     returns
     returns-2
     returns-3

@@ -21,32 +21,15 @@ abbrev μ-loop : tie.MeasureT-loop
 loop-holds : tie.Need-loop-holds Inv-loop μ-loop
 loop-holds c = fold-at-start _ _ _
 
-byte-at-requires : tie.Need-byte-at-requires Inv-loop μ-loop
-byte-at-requires c κs = search needs
-
-field-next-requires : tie.Need-field-next-requires Inv-loop μ-loop
-field-next-requires c κs = search needs
-
-field-inside-requires : tie.Need-field-inside-requires Inv-loop μ-loop
-field-inside-requires c κs = search needs
-
-add-read-on : tie.Need-add-read-on Inv-loop μ-loop
-add-read-on c = search needs
-
-read-on-requires : tie.Need-read-on-requires Inv-loop μ-loop
-read-on-requires c κs = search needs
-
 loop-less : tie.Need-loop-less Inv-loop μ-loop
 loop-less c = omega (arith, read-on _ _ _ (c .read-on .ensures))
 
 loop-again : tie.Need-loop-again Inv-loop μ-loop
 loop-again c =
-    c .before .before .before .before .before .loop .inv
-    ∙ fold-at-turn _ _ _ 0 _ (c .before .before .before .before .loop-test .taken) (c .before .before .before .byte-at .ensures) (c .before .before .field-next .ensures)
+    let at-byte-at : tie.After-byte-at Inv-loop μ-loop = search in
+    at-byte-at .before .before .loop .inv
+    ∙ fold-at-turn _ _ _ 0 _ (at-byte-at .before .loop-test .taken) (at-byte-at .byte-at .ensures) (c .before .before .field-next .ensures)
     ∙ field-on _ _ _ _ (c .before .field-inside .ensures) (c .read-on .ensures)
-
-field-done-requires : tie.Need-field-done-requires Inv-loop μ-loop
-field-done-requires c κs = search needs
 
 returns : tie.Need-returns Inv-loop μ-loop
 unfolding isFieldDescriptor
@@ -59,12 +42,12 @@ is-field-descriptor-spec =
     Inv-loop
     μ-loop
     loop-holds
-    byte-at-requires
-    field-next-requires
-    field-inside-requires
-    add-read-on
-    read-on-requires
+    (λ c κs. search needs)
+    (λ c κs. search needs)
+    (λ c κs. search needs)
+    (λ c. search needs)
+    (λ c κs. search needs)
     loop-less
     loop-again
-    field-done-requires
+    (λ c κs. search needs)
     returns)

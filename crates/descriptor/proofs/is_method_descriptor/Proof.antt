@@ -21,32 +21,15 @@ abbrev μ-loop : tie.MeasureT-loop
 loop-holds : tie.Need-loop-holds Inv-loop μ-loop
 loop-holds c = fold-at-start _ _ _
 
-byte-at-requires : tie.Need-byte-at-requires Inv-loop μ-loop
-byte-at-requires c κs = search needs
-
-method-next-requires : tie.Need-method-next-requires Inv-loop μ-loop
-method-next-requires c κs = search needs
-
-method-inside-requires : tie.Need-method-inside-requires Inv-loop μ-loop
-method-inside-requires c κs = search needs
-
-add-read-on : tie.Need-add-read-on Inv-loop μ-loop
-add-read-on c = search needs
-
-read-on-requires : tie.Need-read-on-requires Inv-loop μ-loop
-read-on-requires c κs = search needs
-
 loop-less : tie.Need-loop-less Inv-loop μ-loop
 loop-less c = omega (arith, read-on _ _ _ (c .read-on .ensures))
 
 loop-again : tie.Need-loop-again Inv-loop μ-loop
 loop-again c =
-    c .before .before .before .before .before .loop .inv
-    ∙ fold-at-turn _ _ _ 0 _ (c .before .before .before .before .loop-test .taken) (c .before .before .before .byte-at .ensures) (c .before .before .method-next .ensures)
+    let at-byte-at : tie.After-byte-at Inv-loop μ-loop = search in
+    at-byte-at .before .before .loop .inv
+    ∙ fold-at-turn _ _ _ 0 _ (at-byte-at .before .loop-test .taken) (at-byte-at .byte-at .ensures) (c .before .before .method-next .ensures)
     ∙ method-on _ _ _ _ (c .before .method-inside .ensures) (c .read-on .ensures)
-
-method-done-requires : tie.Need-method-done-requires Inv-loop μ-loop
-method-done-requires c κs = search needs
 
 returns : tie.Need-returns Inv-loop μ-loop
 unfolding isMethodDescriptor
@@ -59,12 +42,12 @@ is-method-descriptor-spec =
     Inv-loop
     μ-loop
     loop-holds
-    byte-at-requires
-    method-next-requires
-    method-inside-requires
-    add-read-on
-    read-on-requires
+    (λ c κs. search needs)
+    (λ c κs. search needs)
+    (λ c κs. search needs)
+    (λ c. search needs)
+    (λ c κs. search needs)
     loop-less
     loop-again
-    method-done-requires
+    (λ c κs. search needs)
     returns)

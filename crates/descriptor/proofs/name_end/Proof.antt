@@ -18,23 +18,15 @@ abbrev μ-loop : tie.MeasureT-loop
 loop-holds : tie.Need-loop-holds Inv-loop μ-loop
 loop-holds c = refl
 
-shared-slice-read-is-name-byte : tie.Need-shared-slice-read-is-name-byte Inv-loop μ-loop
-shared-slice-read-is-name-byte c = search needs
-
-is-name-byte-requires : tie.Need-is-name-byte-requires Inv-loop μ-loop
-is-name-byte-requires c κs = search needs
-
 returns : tie.Need-returns Inv-loop μ-loop
-returns c = run-stop _ _ (c .before .before .before .loop-test .taken) (c .before .is-name-byte .ensures) (not-true _ (c .if1 .taken)) ∙ c .before .before .before .before .loop .inv
-
-add-j : tie.Need-add-j Inv-loop μ-loop
-add-j c = search needs
-
-loop-less : tie.Need-loop-less Inv-loop μ-loop
-loop-less c = search needs
+returns c =
+    run-stop _ _ (c .before .before .before .loop-test .taken) (c .before .is-name-byte .ensures) (not-true _ (c .if1 .taken))
+    ∙ c .before .before .before .before .loop .inv
 
 loop-again : tie.Need-loop-again Inv-loop μ-loop
-loop-again c = run-turn _ _ (c .before .before .before .loop-test .taken) (c .before .is-name-byte .ensures) (not-false _ (c .if1 .left)) ∙ c .before .before .before .before .loop .inv
+loop-again c =
+    run-turn _ _ (c .before .before .before .loop-test .taken) (c .before .is-name-byte .ensures) (not-false _ (c .if1 .left))
+    ∙ c .before .before .before .before .loop .inv
 
 returns-2 : tie.Need-returns-2 Inv-loop μ-loop
 returns-2 c = run-end _ _ (c .loop-test .left) ∙ c .before .loop .inv
@@ -46,10 +38,10 @@ name-end-spec =
     Inv-loop
     μ-loop
     loop-holds
-    shared-slice-read-is-name-byte
-    is-name-byte-requires
+    (λ c. search needs)
+    (λ c κs. search needs)
     returns
-    add-j
-    loop-less
+    (λ c. search needs)
+    (λ c. search needs)
     loop-again
     returns-2)

@@ -19,38 +19,11 @@ abbrev μ-loop : tie.MeasureT-loop
 loop-holds : tie.Need-loop-holds Inv-loop μ-loop
 loop-holds c = (omega arith, omega arith, begun-start _)
 
-byte-at-requires : tie.Need-byte-at-requires Inv-loop μ-loop
-byte-at-requires c κs = search needs
-
-begun-words-requires : tie.Need-begun-words-requires Inv-loop μ-loop
-begun-words-requires c κs = search needs
-
-cast-wrapping-add-u64 : tie.Need-cast-wrapping-add-u64 Inv-loop μ-loop
-cast-wrapping-add-u64 c = search needs
-
-wrapping-add-u64-requires : tie.Need-wrapping-add-u64-requires Inv-loop μ-loop
-wrapping-add-u64-requires c κs = search needs
-
-method-next-requires : tie.Need-method-next-requires Inv-loop μ-loop
-method-next-requires c κs = search needs
-
-add-i : tie.Need-add-i Inv-loop μ-loop
-add-i c = search needs
-
-loop-less : tie.Need-loop-less Inv-loop μ-loop
-loop-less c = search needs
-
 loop-again : tie.Need-loop-again Inv-loop μ-loop
-loop-again c =
-    let l = c .before .before .before .before .before .loop in (
-      omega arith,
-      omega (arith, c .before .wrapping-add-u64 .ensures),
-      begun-turn _ _ _ (l .n) (c .before .before .before .before .loop-test .taken) (c .before .before .before .byte-at .ensures)
-          (c .before .before .begun-words .ensures) (c .before .wrapping-add-u64 .ensures) (c .method-next .ensures) (l .inv .2),
-    )
+loop-again c = (omega arith, omega (arith, c .before .wrapping-add-u64 .ensures), search begun-turn)
 
 returns : tie.Need-returns Inv-loop μ-loop
-returns c = begun-end _ _ _ (c .loop-test .left) (omega arith) (c .before .loop .inv .2)
+returns c = search begun-end
 
 pub parameter-words-spec : {M : Type 1} → statement M
 parameter-words-spec =
@@ -59,12 +32,12 @@ parameter-words-spec =
     Inv-loop
     μ-loop
     loop-holds
-    byte-at-requires
-    begun-words-requires
-    cast-wrapping-add-u64
-    wrapping-add-u64-requires
-    method-next-requires
-    add-i
-    loop-less
+    (λ c κs. search needs)
+    (λ c κs. search needs)
+    (λ c. search needs)
+    (λ c κs. search needs)
+    (λ c κs. search needs)
+    (λ c. search needs)
+    (λ c. search needs)
     loop-again
     returns)

@@ -4,9 +4,6 @@ use borrow.Author.Needs.{needs}
 use Rattle.descriptor.proofs.read_on.Statement.{statement}
 use Rattle.descriptor.proofs.read_on.Tie as tie
 
-name-end-requires : tie.Need-name-end-requires
-name-end-requires c κs = search needs
-
 returns : tie.Need-returns
 unfolding readOn
 returns c = rw (c .before .if1 .taken) (c .name-end .ensures)
@@ -16,4 +13,4 @@ unfolding readOn
 returns-2 c = rw (c .if1 .left)
 
 pub read-on-spec : {M : Type 1} → statement M
-read-on-spec = tie.close (tie.spec name-end-requires returns returns-2)
+read-on-spec = tie.close (tie.spec (λ c κs. search needs) returns returns-2)

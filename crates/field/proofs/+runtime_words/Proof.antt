@@ -68,7 +68,10 @@ runtime-words-runtime-words-requires : (t : ℕ) → runtime-words-lts.Need-runt
   runtime-words-below t,
   runtime-words.Post,
 ) (runtime-words-at t) runtime-words.Post
-runtime-words-runtime-words-requires t c κs = let a = c .before .before .before .before .before .args in (omega (arith, parent-below (now (a .ws)) (a .c) (pos-of-ne-zero (c .before .before .if1 .left))), tt)
+runtime-words-runtime-words-requires t c κs =
+    let start = c .before .before .before .before .before in
+    let a = start .args in
+    (omega (arith, parent-below (now (a .ws)) (a .c) (pos-of-ne-zero (c .before .before .if1 .left))), tt)
 
 runtime-words-returns-2 : (t : ℕ) → runtime-words-lts.Need-returns-2 (
   parent-of-reads.Asked,
@@ -78,7 +81,9 @@ runtime-words-returns-2 : (t : ℕ) → runtime-words-lts.Need-returns-2 (
   runtime-words-below t,
   runtime-words.Post,
 ) (runtime-words-at t) runtime-words.Post
-runtime-words-returns-2 t c = runtime-up _ _ _ _ (pos-of-ne-zero (c .before .before .before .if1 .left)) (c .before .before .parent-of .ensures) (c .before .own-runtime .ensures) (c .runtime-words .ensures)
+runtime-words-returns-2 t c =
+    runtime-up _ _ _ _ (pos-of-ne-zero (c .before .before .before .if1 .left)) (c .before .before .parent-of .ensures)
+    (c .before .own-runtime .ensures) (c .runtime-words .ensures)
 
 pub +runtime-words-spec : {M : Type 1} → statement M
 +runtime-words-spec = close μ-runtime-words λ t. runtime-words-lts.spec (

@@ -9,35 +9,27 @@ use Rattle.field.proofs.declared_words.Statement.{statement}
 use Rattle.field.proofs.declared_words.Tie as tie
 
 abbrev Inv-loop : tie.InvT-loop
-Inv-loop ws text c first n sum₀ i₀ sum i = (i ≤ n) × (n ≤ 512 - first) × (sum ≤ 2 * i) × (foldFrom (λ k. k) (addWidth ws text) sum first n i ≡ declaredWords ws text c)
+Inv-loop ws text c first n sum₀ i₀ sum i =
+    (i ≤ n) × (n ≤ 512 - first) × (sum ≤ 2 * i) × (foldFrom (λ k. k) (addWidth ws text) sum first n i ≡ declaredWords ws text c)
 
 abbrev μ-loop : tie.MeasureT-loop
 μ-loop ws text c first n sum₀ i₀ sum i = n - i
-
-class-first-field-requires : tie.Need-class-first-field-requires Inv-loop μ-loop
-class-first-field-requires c κs = search needs
-
-field-count-requires : tie.Need-field-count-requires Inv-loop μ-loop
-field-count-requires c κs = search needs
 
 loop-holds : tie.Need-loop-holds Inv-loop μ-loop
 unfolding declaredWords ownFields
 loop-holds c = (omega arith, omega arith, omega arith, fold-start _ _ _ _ _ ∙ cc)
 
-add-add-width : tie.Need-add-add-width Inv-loop μ-loop
-add-add-width c = search needs
-
 add-width-requires : tie.Need-add-width-requires Inv-loop μ-loop
 add-width-requires c κs = omega arith
 
-add-i : tie.Need-add-i Inv-loop μ-loop
-add-i c = search needs
-
-loop-less : tie.Need-loop-less Inv-loop μ-loop
-loop-less c = search needs
-
 loop-again : tie.Need-loop-again Inv-loop μ-loop
-loop-again c = (omega arith, omega arith, omega arith, fold-turn _ _ _ _ _ (c .before .loop-test .taken) (c .add-width .ensures .0) ∙ c .before .before .loop .inv .3)
+loop-again c = (
+  omega arith,
+  omega arith,
+  omega arith,
+  fold-turn _ _ _ _ _ (c .before .loop-test .taken) (c .add-width .ensures .0)
+      ∙ c .before .before .loop .inv .3,
+)
 
 returns : tie.Need-returns Inv-loop μ-loop
 returns c = fold-end _ _ _ _ _ _ (c .loop-test .left) ∙ c .before .loop .inv .3
@@ -48,12 +40,12 @@ declared-words-spec =
     (tie.spec
     Inv-loop
     μ-loop
-    class-first-field-requires
-    field-count-requires
+    (λ c κs. search needs)
+    (λ c κs. search needs)
     loop-holds
-    add-add-width
+    (λ c. search needs)
     add-width-requires
-    add-i
-    loop-less
+    (λ c. search needs)
+    (λ c. search needs)
     loop-again
     returns)

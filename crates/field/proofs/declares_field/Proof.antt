@@ -11,37 +11,31 @@ use Rattle.field.proofs.declares_field.Statement.{statement}
 use Rattle.field.proofs.declares_field.Tie as tie
 
 abbrev Inv-loop : tie.InvT-loop
-Inv-loop ws text abi labels c g first n i₀ i = (i ≤ n) × (first ≡ classFirstField ws c) × (n ≡ listCount (classFirstField ws c) (classFieldCount ws c) 512) × (declaresAt ws text abi labels g c i ≡ declaresField ws text abi labels Nothing c g)
+Inv-loop ws text abi labels c g first n i₀ i =
+    (i ≤ n) × (first ≡ classFirstField ws c) × (n ≡ listCount (classFirstField ws c) (classFieldCount ws c) 512)
+    × (declaresAt ws text abi labels g c i ≡ declaresField ws text abi labels Nothing c g)
 
 abbrev μ-loop : tie.MeasureT-loop
 μ-loop ws text abi labels c g first n i₀ i = n - i
 
-class-first-field-requires : tie.Need-class-first-field-requires Inv-loop μ-loop
-class-first-field-requires c κs = search needs
-
-field-count-requires : tie.Need-field-count-requires Inv-loop μ-loop
-field-count-requires c κs = search needs
-
 loop-holds : tie.Need-loop-holds Inv-loop μ-loop
-loop-holds c = (omega arith, c .before .class-first-field .ensures, c .field-count .ensures, declares-start _ _ _ _ _ _)
-
-add-declares : tie.Need-add-declares Inv-loop μ-loop
-add-declares c = search needs
-
-declares-requires : tie.Need-declares-requires Inv-loop μ-loop
-declares-requires c κs = search needs
+loop-holds c = (omega arith, c .before .class-first-field .ensures, c .field-count .ensures, search declares-start)
 
 returns : tie.Need-returns Inv-loop μ-loop
-returns c = let l = c .before .before .before .loop in declares-hit _ _ _ _ _ _ _ (l .inv .1) (l .inv .2) (c .before .before .loop-test .taken) (c .before .declares .ensures) (c .if1 .taken) ∙ l .inv .3
-
-add-i : tie.Need-add-i Inv-loop μ-loop
-add-i c = search needs
-
-loop-less : tie.Need-loop-less Inv-loop μ-loop
-loop-less c = search needs
+returns c =
+    let l = c .before .before .before .loop in
+    declares-hit _ _ _ _ _ _ _ (l .inv .1) (l .inv .2) (c .before .before .loop-test .taken) (c .before .declares .ensures) (c .if1 .taken)
+    ∙ l .inv .3
 
 loop-again : tie.Need-loop-again Inv-loop μ-loop
-loop-again c = let l = c .before .before .before .loop in (omega arith, l .inv .1, l .inv .2, declares-miss _ _ _ _ _ _ _ (l .inv .1) (l .inv .2) (c .before .before .loop-test .taken) (c .before .declares .ensures) (c .if1 .left) ∙ l .inv .3)
+loop-again c =
+    let l = c .before .before .before .loop in (
+      omega arith,
+      l .inv .1,
+      l .inv .2,
+      declares-miss _ _ _ _ _ _ _ (l .inv .1) (l .inv .2) (c .before .before .loop-test .taken)
+          (c .before .declares .ensures) (c .if1 .left) ∙ l .inv .3,
+    )
 
 returns-2 : tie.Need-returns-2 Inv-loop μ-loop
 returns-2 c = let l = c .before .loop in declares-end _ _ _ _ _ _ _ (l .inv .1) (l .inv .2) (c .loop-test .left) ∙ l .inv .3
@@ -52,13 +46,13 @@ declares-field-spec =
     (tie.spec
     Inv-loop
     μ-loop
-    class-first-field-requires
-    field-count-requires
+    (λ c κs. search needs)
+    (λ c κs. search needs)
     loop-holds
-    add-declares
-    declares-requires
+    (λ c. search needs)
+    (λ c κs. search needs)
     returns
-    add-i
-    loop-less
+    (λ c. search needs)
+    (λ c. search needs)
     loop-again
     returns-2)

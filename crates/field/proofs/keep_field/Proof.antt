@@ -4,23 +4,8 @@ use borrow.Author.Needs.{needs}
 use Rattle.field.proofs.keep_field.Statement.{statement}
 use Rattle.field.proofs.keep_field.Tie as tie
 
-declares-field-requires : tie.Need-declares-field-requires
-declares-field-requires c κs = search needs
-
 returns : tie.Need-returns
-returns c = let a = c .before .before .before .before .before .before .before .args in (keep-none _ _ _ _ _ (a .k) _ (a .gs .now) (c .before .declares-field .ensures) (c .if1 .taken), omega arith)
-
-wide-requires : tie.Need-wide-requires
-wide-requires c κs = search needs
-
-put-word-requires : tie.Need-put-word-requires
-put-word-requires c κs = search needs
-
-add-result : tie.Need-add-result
-add-result c = search needs
-
-same-length : tie.Need-same-length
-same-length c = search needs
+returns c = (search keep-none, omega arith)
 
 returns-2 : tie.Need-returns-2
 returns-2 c =
@@ -29,16 +14,20 @@ returns-2 c =
     let at-if1 = at-wide .before .before in
     let at-declares-field = at-if1 .before in
     let entry = at-declares-field .before .before .before .before .before .before in
-    let a = entry .args in (keep-one _ _ _ _ _ (a .k) _ (a .gs .now) _ (at-declares-field .declares-field .ensures) (at-if1 .if1 .left) (omega arith) (at-put-word .put-word .ensures) (at-wide .wide .ensures), omega arith)
+    let a = entry .args in (
+      keep-one _ _ _ _ _ (a .k) _ (a .gs .now) _ (at-declares-field .declares-field .ensures) (at-if1 .if1 .left)
+          (omega arith) (at-put-word .put-word .ensures) (at-wide .wide .ensures),
+      omega arith,
+    )
 
 pub keep-field-spec : {M : Type 1} → statement M
 keep-field-spec =
     tie.close
     (tie.spec
-    declares-field-requires
+    (λ c κs. search needs)
     returns
-    wide-requires
-    put-word-requires
-    add-result
-    same-length
+    (λ c κs. search needs)
+    (λ c κs. search needs)
+    (λ c. search needs)
+    (λ c. search needs)
     returns-2)

@@ -10,37 +10,30 @@ use Rattle.field.proofs.keep_fields.Statement.{statement}
 use Rattle.field.proofs.keep_fields.Tie as tie
 
 abbrev Inv-loop : tie.InvT-loop
-Inv-loop ws text abi labels a c gs₀ first n k₀ i₀ gs k i = (i ≤ n) × (n ≤ 256 - first) × (k ≤ i) × (length gs ≡ length gs₀) × (256 ≤ length gs₀) × (keptAt ws text abi labels c first n gs k i ≡ addedFields ws text abi labels (At a) c)
+Inv-loop ws text abi labels a c gs₀ first n k₀ i₀ gs k i =
+    (i ≤ n) × (n ≤ 256 - first) × (k ≤ i) × (length gs ≡ length gs₀) × (256 ≤ length gs₀)
+    × (keptAt ws text abi labels c first n gs k i ≡ addedFields ws text abi labels (At a) c)
 
 abbrev μ-loop : tie.MeasureT-loop
 μ-loop ws text abi labels a c gs₀ first n k₀ i₀ gs k i = n - i
 
-class-first-field-requires : tie.Need-class-first-field-requires Inv-loop μ-loop
-class-first-field-requires c κs = search needs
-
-field-count-requires : tie.Need-field-count-requires Inv-loop μ-loop
-field-count-requires c κs = search needs
-
 loop-holds : tie.Need-loop-holds Inv-loop μ-loop
-loop-holds c = (omega arith, omega arith, omega arith, omega arith, omega arith, kept-start _ _ _ _ _ _ (c .before .before .before .before .before .before .before .args .gs .now) (c .before .class-first-field .ensures) (c .field-count .ensures))
-
-add-keep-field : tie.Need-add-keep-field Inv-loop μ-loop
-add-keep-field c = search needs
+loop-holds c = (omega arith, omega arith, omega arith, omega arith, omega arith, search kept-start)
 
 keep-field-requires : tie.Need-keep-field-requires Inv-loop μ-loop
 keep-field-requires c κs = (omega arith, omega arith)
 
-add-i : tie.Need-add-i Inv-loop μ-loop
-add-i c = search needs
-
-loop-less : tie.Need-loop-less Inv-loop μ-loop
-loop-less c = search needs
-
 loop-again : tie.Need-loop-again Inv-loop μ-loop
-loop-again c = let l = c .before .before .before .before .before .loop in (omega arith, omega arith, omega arith, omega arith, omega arith, kept-turn _ _ _ _ _ _ _ _ _ _ (l .gs) _ (c .before .before .before .before .loop-test .taken) (c .before .before .keep-field .ensures .0) ∙ l .inv .5)
-
-same-length : tie.Need-same-length Inv-loop μ-loop
-same-length c = search needs
+loop-again c =
+    let at-loop-test : tie.In-loop Inv-loop μ-loop = search in
+    let l = at-loop-test .before .loop in (
+      omega arith,
+      omega arith,
+      omega arith,
+      omega arith,
+      omega arith,
+      kept-turn _ _ _ _ _ _ _ _ _ _ (l .gs) _ (at-loop-test .loop-test .taken) (c .before .before .keep-field .ensures .0) ∙ l .inv .5,
+    )
 
 returns : tie.Need-returns Inv-loop μ-loop
 returns c = let l = c .before .loop in (kept-end _ _ _ _ _ _ _ _ _ (l .gs) (c .loop-test .left) ∙ l .inv .5, omega arith)
@@ -51,13 +44,13 @@ keep-fields-spec =
     (tie.spec
     Inv-loop
     μ-loop
-    class-first-field-requires
-    field-count-requires
+    (λ c κs. search needs)
+    (λ c κs. search needs)
     loop-holds
-    add-keep-field
+    (λ c. search needs)
     keep-field-requires
-    add-i
-    loop-less
+    (λ c. search needs)
+    (λ c. search needs)
     loop-again
-    same-length
+    (λ c. search needs)
     returns)

@@ -14,40 +14,18 @@ use Rattle.field.proofs.moved.Statement.{statement}
 use Rattle.field.proofs.moved.Tie as tie
 
 abbrev Inv-loop : tie.InvT-loop
-Inv-loop ws c base first n indices₀ i₀ indices i = (i ≤ n) × (first ≡ classFirstField ws c) × (n ≡ listCount (classFirstField ws c) (classFieldCount ws c) 512) × (length indices ≡ 512) × Movable ws c base × (movedAt ws base first n indices i ≡ indicesPlus ws [] base (ownFields ws c))
+Inv-loop ws c base first n indices₀ i₀ indices i =
+    (i ≤ n) × (first ≡ classFirstField ws c) × (n ≡ listCount (classFirstField ws c) (classFieldCount ws c) 512) × (length indices ≡ 512)
+    × Movable ws c base × (movedAt ws base first n indices i ≡ indicesPlus ws [] base (ownFields ws c))
 
 abbrev μ-loop : tie.MeasureT-loop
 μ-loop ws c base first n indices₀ i₀ indices i = n - i
 
-class-first-field-requires : tie.Need-class-first-field-requires Inv-loop μ-loop
-class-first-field-requires c κs = search needs
-
-field-count-requires : tie.Need-field-count-requires Inv-loop μ-loop
-field-count-requires c κs = search needs
-
 loop-holds : tie.Need-loop-holds Inv-loop μ-loop
-loop-holds c = (omega arith, c .before .class-first-field .ensures, c .field-count .ensures, search needs, c .before .before .before .pre, moved-start _ _ _ _ (c .before .class-first-field .ensures) (c .field-count .ensures))
-
-add-moved-index : tie.Need-add-moved-index Inv-loop μ-loop
-add-moved-index c = search needs
+loop-holds c = (omega arith, c .before .class-first-field .ensures, c .field-count .ensures, search needs, search, search moved-start)
 
 moved-index-requires : tie.Need-moved-index-requires Inv-loop μ-loop
 moved-index-requires c κs = let v = c .before .loop .inv in rw (v .1) (v .4 _ (rw (← (v .2)) (c .loop-test .taken)))
-
-slice-aggregate-put-word : tie.Need-slice-aggregate-put-word Inv-loop μ-loop
-slice-aggregate-put-word c = search needs
-
-wide-requires : tie.Need-wide-requires Inv-loop μ-loop
-wide-requires c κs = search needs
-
-put-word-requires : tie.Need-put-word-requires Inv-loop μ-loop
-put-word-requires c κs = search needs
-
-add-i : tie.Need-add-i Inv-loop μ-loop
-add-i c = search needs
-
-loop-less : tie.Need-loop-less Inv-loop μ-loop
-loop-less c = search needs
 
 loop-again : tie.Need-loop-again Inv-loop μ-loop
 loop-again c =
@@ -56,7 +34,15 @@ loop-again c =
     let at-moved-index = at-wide .before .before in
     let at-test = at-moved-index .before in
     let at-loop = at-test .before in
-    let l = at-loop .loop in (omega arith, l .inv .1, l .inv .2, search needs, l .inv .4, moved-turn _ _ _ _ _ (l .indices) _ (at-test .loop-test .taken) (omega arith) (at-moved-index .moved-index .ensures) (at-put-word .put-word .ensures) (at-wide .wide .ensures) ∙ l .inv .5)
+    let l = at-loop .loop in (
+      omega arith,
+      l .inv .1,
+      l .inv .2,
+      search needs,
+      l .inv .4,
+      moved-turn _ _ _ _ _ (l .indices) _ (at-test .loop-test .taken) (omega arith) (at-moved-index .moved-index .ensures)
+          (at-put-word .put-word .ensures) (at-wide .wide .ensures) ∙ l .inv .5,
+    )
 
 returns : tie.Need-returns Inv-loop μ-loop
 returns c = ap (λ l. numbered l 0) (moved-end _ _ _ _ _ _ (omega arith) ∙ c .before .loop .inv .5)
@@ -67,15 +53,15 @@ moved-spec =
     (tie.spec
     Inv-loop
     μ-loop
-    class-first-field-requires
-    field-count-requires
+    (λ c κs. search needs)
+    (λ c κs. search needs)
     loop-holds
-    add-moved-index
+    (λ c. search needs)
     moved-index-requires
-    slice-aggregate-put-word
-    wide-requires
-    put-word-requires
-    add-i
-    loop-less
+    (λ c. search needs)
+    (λ c κs. search needs)
+    (λ c κs. search needs)
+    (λ c. search needs)
+    (λ c. search needs)
     loop-again
     returns)

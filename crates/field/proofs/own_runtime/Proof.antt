@@ -9,38 +9,19 @@ use Rattle.field.proofs.own_runtime.Statement.{statement}
 use Rattle.field.proofs.own_runtime.Tie as tie
 
 abbrev Inv-loop : tie.InvT-loop
-Inv-loop ws text c before first n end₀ i₀ end i = (i ≤ n) × (n ≤ 512 - first) × (foldFrom (λ k. k) (λ k f. max k (runtimeEnd ws text f)) end first n i ≡ ownRuntime ws text before c)
+Inv-loop ws text c before first n end₀ i₀ end i =
+    (i ≤ n) × (n ≤ 512 - first) × (foldFrom (λ k. k) (λ k f. max k (runtimeEnd ws text f)) end first n i ≡ ownRuntime ws text before c)
 
 abbrev μ-loop : tie.MeasureT-loop
 μ-loop ws text c before first n end₀ i₀ end i = n - i
-
-class-first-field-requires : tie.Need-class-first-field-requires Inv-loop μ-loop
-class-first-field-requires c κs = search needs
-
-field-count-requires : tie.Need-field-count-requires Inv-loop μ-loop
-field-count-requires c κs = search needs
 
 loop-holds : tie.Need-loop-holds Inv-loop μ-loop
 unfolding ownRuntime ownFields
 loop-holds c = (omega arith, omega arith, fold-start _ _ _ _ _ ∙ cc)
 
-add-runtime-end : tie.Need-add-runtime-end Inv-loop μ-loop
-add-runtime-end c = search needs
-
-runtime-end-requires : tie.Need-runtime-end-requires Inv-loop μ-loop
-runtime-end-requires c κs = search needs
-
-larger-requires : tie.Need-larger-requires Inv-loop μ-loop
-larger-requires c κs = search needs
-
-add-i : tie.Need-add-i Inv-loop μ-loop
-add-i c = search needs
-
-loop-less : tie.Need-loop-less Inv-loop μ-loop
-loop-less c = search needs
-
 loop-again : tie.Need-loop-again Inv-loop μ-loop
-loop-again c = (omega arith, omega arith, fold-turn _ _ _ _ _ (c .before .before .loop-test .taken) (cc) ∙ c .before .before .before .loop .inv .2)
+loop-again c =
+    (omega arith, omega arith, fold-turn _ _ _ _ _ (c .before .before .loop-test .taken) (cc) ∙ c .before .before .before .loop .inv .2)
 
 returns : tie.Need-returns Inv-loop μ-loop
 returns c = fold-end _ _ _ _ _ _ (c .loop-test .left) ∙ c .before .loop .inv .2
@@ -51,13 +32,13 @@ own-runtime-spec =
     (tie.spec
     Inv-loop
     μ-loop
-    class-first-field-requires
-    field-count-requires
+    (λ c κs. search needs)
+    (λ c κs. search needs)
     loop-holds
-    add-runtime-end
-    runtime-end-requires
-    larger-requires
-    add-i
-    loop-less
+    (λ c. search needs)
+    (λ c κs. search needs)
+    (λ c κs. search needs)
+    (λ c. search needs)
+    (λ c. search needs)
     loop-again
     returns)

@@ -16,7 +16,9 @@ use Rattle.field.proofs.raised.Statement.{statement}
 use Rattle.field.proofs.raised.Tie as tie
 
 abbrev Inv-loop : tie.InvT-loop
-Inv-loop abi labels running gs word₀ i₀ word i = (i ≤ length gs) × (foldAt (λ n g. max n (fixedFieldIndex abi g + width (abiFieldDescriptor abi labels g))) word gs i ≡ raised [] [] abi labels Nothing running gs)
+Inv-loop abi labels running gs word₀ i₀ word i =
+    (i ≤ length gs) × (foldAt (λ n g. max n
+    (fixedFieldIndex abi g + width (abiFieldDescriptor abi labels g))) word gs i ≡ raised [] [] abi labels Nothing running gs)
 
 abbrev μ-loop : tie.MeasureT-loop
 μ-loop abi labels running gs word₀ i₀ word i = length gs - i
@@ -25,33 +27,15 @@ loop-holds : tie.Need-loop-holds Inv-loop μ-loop
 unfolding raised
 loop-holds c = (omega arith, sym (fold-at-start _ _ _))
 
-word-at-requires : tie.Need-word-at-requires Inv-loop μ-loop
-word-at-requires c κs = search needs
-
-field-descriptor-requires : tie.Need-field-descriptor-requires Inv-loop μ-loop
-field-descriptor-requires c κs = search needs
-
-width-requires : tie.Need-width-requires Inv-loop μ-loop
-width-requires c κs = search needs
-
-fixed-field-index-requires : tie.Need-fixed-field-index-requires Inv-loop μ-loop
-fixed-field-index-requires c κs = search needs
-
 add-larger : tie.Need-add-larger Inv-loop μ-loop
 unfolding fixedFieldIndex
 add-larger c = let w : c .before .width .result ≤ 2 = rw (c .before .width .ensures) (width-room _) in omega arith
 
-larger-requires : tie.Need-larger-requires Inv-loop μ-loop
-larger-requires c κs = search needs
-
-add-i : tie.Need-add-i Inv-loop μ-loop
-add-i c = search needs
-
-loop-less : tie.Need-loop-less Inv-loop μ-loop
-loop-less c = search needs
-
 loop-again : tie.Need-loop-again Inv-loop μ-loop
-loop-again c = let l = c .before .before .before .before .before .before .loop in (omega arith, sym (fold-at-turn _ _ _ 0 _ (c .before .before .before .before .before .loop-test .taken) (c .before .before .before .before .word-at .ensures) (cc)) ∙ l .inv .1)
+loop-again c =
+    let at-word-at : tie.After-word-at Inv-loop μ-loop = search in
+    let l = at-word-at .before .before .loop in
+    (omega arith, sym (fold-at-turn _ _ _ 0 _ (at-word-at .before .loop-test .taken) (at-word-at .word-at .ensures) (cc)) ∙ l .inv .1)
 
 returns : tie.Need-returns Inv-loop μ-loop
 returns c = let l = c .before .loop in sym (fold-at-end _ _ _ _ (c .loop-test .left)) ∙ l .inv .1
@@ -63,13 +47,13 @@ raised-spec =
     Inv-loop
     μ-loop
     loop-holds
-    word-at-requires
-    field-descriptor-requires
-    width-requires
-    fixed-field-index-requires
+    (λ c κs. search needs)
+    (λ c κs. search needs)
+    (λ c κs. search needs)
+    (λ c κs. search needs)
     add-larger
-    larger-requires
-    add-i
-    loop-less
+    (λ c κs. search needs)
+    (λ c. search needs)
+    (λ c. search needs)
     loop-again
     returns)

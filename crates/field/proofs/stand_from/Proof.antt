@@ -10,43 +10,31 @@ use Rattle.field.proofs.stand_from.Statement.{statement}
 use Rattle.field.proofs.stand_from.Tie as tie
 
 abbrev Inv-loop : tie.InvT-loop
-Inv-loop ws text c from first n at₀ i₀ at i = (i ≤ n) × (n ≤ 512 - first) × (at ≤ 65535 + 2 * i) × (standAt ws text first n at i ≡ standFrom ws text from (ownFields ws c))
+Inv-loop ws text c from first n at₀ i₀ at i =
+    (i ≤ n) × (n ≤ 512 - first) × (at ≤ 65535 + 2 * i) × (standAt ws text first n at i ≡ standFrom ws text from (ownFields ws c))
 
 abbrev μ-loop : tie.MeasureT-loop
 μ-loop ws text c from first n at₀ i₀ at i = n - i
 
-class-first-field-requires : tie.Need-class-first-field-requires Inv-loop μ-loop
-class-first-field-requires c κs = search needs
-
-field-count-requires : tie.Need-field-count-requires Inv-loop μ-loop
-field-count-requires c κs = search needs
-
 loop-holds : tie.Need-loop-holds Inv-loop μ-loop
-loop-holds c = (omega arith, omega arith, omega arith, stand-start _ _ _ _ (c .before .class-first-field .ensures) (c .field-count .ensures))
-
-add-stands-at : tie.Need-add-stands-at Inv-loop μ-loop
-add-stands-at c = search needs
-
-stands-at-requires : tie.Need-stands-at-requires Inv-loop μ-loop
-stands-at-requires c κs = search needs
+loop-holds c = (omega arith, omega arith, omega arith, search stand-start)
 
 returns : tie.Need-returns Inv-loop μ-loop
-returns c = stand-stop _ _ _ _ _ _ (c .before .before .loop-test .taken) (c .before .stands-at .ensures) (not-true _ (c .if1 .taken)) ∙ c .before .before .before .loop .inv .3
-
-add-add-width : tie.Need-add-add-width Inv-loop μ-loop
-add-add-width c = search needs
+returns c =
+    stand-stop _ _ _ _ _ _ (c .before .before .loop-test .taken) (c .before .stands-at .ensures) (not-true _ (c .if1 .taken))
+    ∙ c .before .before .before .loop .inv .3
 
 add-width-requires : tie.Need-add-width-requires Inv-loop μ-loop
 add-width-requires c κs = omega arith
 
-add-i : tie.Need-add-i Inv-loop μ-loop
-add-i c = search needs
-
-loop-less : tie.Need-loop-less Inv-loop μ-loop
-loop-less c = search needs
-
 loop-again : tie.Need-loop-again Inv-loop μ-loop
-loop-again c = (omega arith, omega arith, omega arith, stand-turn _ _ _ _ _ _ (c .before .before .before .loop-test .taken) (c .before .before .stands-at .ensures) (not-false _ (c .before .if1 .left)) (c .add-width .ensures .0) ∙ c .before .before .before .before .loop .inv .3)
+loop-again c = (
+  omega arith,
+  omega arith,
+  omega arith,
+  stand-turn _ _ _ _ _ _ (c .before .before .before .loop-test .taken) (c .before .before .stands-at .ensures)
+      (not-false _ (c .before .if1 .left)) (c .add-width .ensures .0) ∙ c .before .before .before .before .loop .inv .3,
+)
 
 returns-2 : tie.Need-returns-2 Inv-loop μ-loop
 returns-2 c = stand-end _ _ _ _ _ _ (c .loop-test .left) ∙ c .before .loop .inv .3
@@ -57,15 +45,15 @@ stand-from-spec =
     (tie.spec
     Inv-loop
     μ-loop
-    class-first-field-requires
-    field-count-requires
+    (λ c κs. search needs)
+    (λ c κs. search needs)
     loop-holds
-    add-stands-at
-    stands-at-requires
+    (λ c. search needs)
+    (λ c κs. search needs)
     returns
-    add-add-width
+    (λ c. search needs)
     add-width-requires
-    add-i
-    loop-less
+    (λ c. search needs)
+    (λ c. search needs)
     loop-again
     returns-2)

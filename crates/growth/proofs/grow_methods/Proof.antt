@@ -6,35 +6,6 @@ use native.Mathlib.Omega.{arith}
 use borrow.Author.Needs.{needs}
 use Rattle.growth.proofs.grow_methods.Statement.{statement}
 use Rattle.growth.proofs.grow_methods.Tie as tie
-use Rattle.growth.proofs.grow_methods.Reads as reads
-use Rattle.growth.proofs.grow_methods.Lts as lts
-use Rattle.class_sheet.proofs.class_first_method.Reads as class-first-method-reads
-use Rattle.class_sheet.proofs.class_method_count.Reads as class-method-count-reads
-use Rattle.class_sheet.proofs.fields_at.Reads as fields-at-reads
-use Rattle.class_sheet.proofs.method_count.Reads as method-count-reads
-use Rattle.class_sheet.proofs.methods_at.Reads as methods-at-reads
-use Rattle.class_sheet.proofs.text_length.Reads as text-length-reads
-use Rattle.growth.proofs.can_grow.Reads as can-grow-reads
-use Rattle.growth.proofs.insert.Reads as insert-reads
-use Rattle.growth.proofs.new_count.Reads as new-count-reads
-use Rattle.growth.proofs.new_text_length.Reads as new-text-length-reads
-use Rattle.growth.proofs.put_counts.Reads as put-counts-reads
-use Rattle.words.proofs.wide.Reads as wide-reads
-
-method-count-requires : tie.Need-method-count-requires
-method-count-requires c κs = search needs
-
-class-first-method-requires : tie.Need-class-first-method-requires
-class-first-method-requires c κs = search needs
-
-class-method-count-requires : tie.Need-class-method-count-requires
-class-method-count-requires c κs = search needs
-
-can-grow-requires : tie.Need-can-grow-requires
-can-grow-requires c κs = search needs
-
-same-length : tie.Need-same-length
-same-length c = search needs
 
 returns : tie.Need-returns
 returns c =
@@ -48,45 +19,14 @@ returns c =
     (a .c) _ _ _ (at-can-grow .can-grow .ensures) (at-method-count .method-count .ensures)
     (at-class-first-method .class-first-method .ensures) (at-class-method-count .class-method-count .ensures) (c .if1 .taken)
 
-new-count-requires : tie.Need-new-count-requires
-new-count-requires c κs = search needs
-
 add-members : tie.Need-add-members
 add-members c =
     let at-if1 = c .before in
     let at-can-grow = at-if1 .before in
     let entry = at-can-grow .before .before .before .before .before .before .before .before .before .before .before .before .before .before .before in
     let a = entry .args in
-    let g = code-grows (a .set .now) (a .text .now) (a .abi .now) (a .labels .now) (a .refs .now) (a .flags .now) (a .lasts .now)
-    (a .c) _ _ _ (at-can-grow .can-grow .ensures) (at-if1 .if1 .left) in
+    let g = code-grows _ _ _ _ _ (at-can-grow .can-grow .ensures) (at-if1 .if1 .left) in
     omega (arith, g .members)
-
-text-length-requires : tie.Need-text-length-requires
-text-length-requires c κs = search needs
-
-wide-requires : tie.Need-wide-requires
-wide-requires c κs = search needs
-
-new-text-length-requires : tie.Need-new-text-length-requires
-new-text-length-requires c κs = search needs
-
-add-bytes : tie.Need-add-bytes
-add-bytes c = search needs
-
-fields-at-requires : tie.Need-fields-at-requires
-fields-at-requires c κs = search needs
-
-methods-at-requires : tie.Need-methods-at-requires
-methods-at-requires c κs = search needs
-
-wide-requires-2 : tie.Need-wide-requires-2
-wide-requires-2 c κs = search needs
-
-mul-from : tie.Need-mul-from
-mul-from c = search needs
-
-add-from : tie.Need-add-from
-add-from c = search needs
 
 insert-requires : tie.Need-insert-requires
 insert-requires c κs =
@@ -98,8 +38,7 @@ insert-requires c κs =
     let at-method-count = at-can-grow .before .before .before .before .before .before in
     let entry = at-method-count .before .before .before .before .before .before .before .before .before in
     let a = entry .args in
-    let g = code-grows (a .set .now) (a .text .now) (a .abi .now) (a .labels .now) (a .refs .now) (a .flags .now) (a .lasts .now)
-    (a .c) _ _ _ (at-can-grow .can-grow .ensures) (at-if1 .if1 .left) in
+    let g = code-grows _ _ _ _ _ (at-can-grow .can-grow .ensures) (at-if1 .if1 .left) in
     methods-room (a .set .now) _ (at-method-count .method-count .ensures) (at-fields-at .fields-at .ensures .0)
     (at-methods-at .methods-at .ensures .0) (at-wide2 .wide2 .ensures) g
 
@@ -112,8 +51,7 @@ cast-put-counts c =
     let at-can-grow = at-if1 .before in
     let entry = at-can-grow .before .before .before .before .before .before .before .before .before .before .before .before .before .before .before in
     let a = entry .args in
-    let g = code-grows (a .set .now) (a .text .now) (a .abi .now) (a .labels .now) (a .refs .now) (a .flags .now) (a .lasts .now)
-    (a .c) _ _ _ (at-can-grow .can-grow .ensures) (at-if1 .if1 .left) in
+    let g = code-grows _ _ _ _ _ (at-can-grow .can-grow .ensures) (at-if1 .if1 .left) in
     let e0 = at-new-text-length .new-text-length .ensures .0 in
     let e1 = at-wide .wide .ensures in
     let e2 = at-text-length .text-length .ensures in
@@ -126,13 +64,9 @@ put-counts-requires c κs =
     let at-can-grow = at-if1 .before in
     let entry = at-can-grow .before .before .before .before .before .before .before .before .before .before .before .before .before .before .before in
     let a = entry .args in
-    let g = code-grows (a .set .now) (a .text .now) (a .abi .now) (a .labels .now) (a .refs .now) (a .flags .now) (a .lasts .now)
-    (a .c) _ _ _ (at-can-grow .can-grow .ensures) (at-if1 .if1 .left) in
+    let g = code-grows _ _ _ _ _ (at-can-grow .can-grow .ensures) (at-if1 .if1 .left) in
     let l = length-news (a .set .now) (a .text .now) (a .abi .now) (a .labels .now) (a .refs .now) [] [] in
     (omega (arith, g .members, at-new-count .new-count .ensures .0), omega arith)
-
-same-length-2 : tie.Need-same-length-2
-same-length-2 c = search needs
 
 returns-2 : tie.Need-returns-2
 returns-2 c =
@@ -163,25 +97,25 @@ pub grow-methods-spec : {M : Type 1} → statement M
 grow-methods-spec =
     tie.close
     (tie.spec
-    method-count-requires
-    class-first-method-requires
-    class-method-count-requires
-    can-grow-requires
-    same-length
+    (λ c κs. search needs)
+    (λ c κs. search needs)
+    (λ c κs. search needs)
+    (λ c κs. search needs)
+    (λ c. search needs)
     returns
-    new-count-requires
+    (λ c κs. search needs)
     add-members
-    text-length-requires
-    wide-requires
-    new-text-length-requires
-    add-bytes
-    fields-at-requires
-    methods-at-requires
-    wide-requires-2
-    mul-from
-    add-from
+    (λ c κs. search needs)
+    (λ c κs. search needs)
+    (λ c κs. search needs)
+    (λ c. search needs)
+    (λ c κs. search needs)
+    (λ c κs. search needs)
+    (λ c κs. search needs)
+    (λ c. search needs)
+    (λ c. search needs)
     insert-requires
     cast-put-counts
     put-counts-requires
-    same-length-2
+    (λ c. search needs)
     returns-2)

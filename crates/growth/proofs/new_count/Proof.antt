@@ -3,11 +3,6 @@ use native.Mathlib.Omega.{arith}
 use borrow.Author.Needs.{needs}
 use Rattle.growth.proofs.new_count.Statement.{statement}
 use Rattle.growth.proofs.new_count.Tie as tie
-use Rattle.growth.proofs.new_count.Reads as reads
-use Rattle.growth.proofs.new_count.Lts as lts
-
-cast-result : tie.Need-cast-result
-cast-result c = search needs
 
 returns : tie.Need-returns
 returns c = (count-few _ (omega arith), omega arith)
@@ -16,4 +11,4 @@ returns-2 : tie.Need-returns-2
 returns-2 c = (count-many _ (omega arith), omega arith)
 
 pub new-count-spec : {M : Type 1} → statement M
-new-count-spec = tie.close (tie.spec cast-result returns returns-2)
+new-count-spec = tie.close (tie.spec (λ c. search needs) returns returns-2)

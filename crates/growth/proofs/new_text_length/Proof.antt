@@ -7,57 +7,22 @@ use native.Mathlib.Omega.{arith}
 use borrow.Author.Needs.{needs}
 use Rattle.growth.proofs.new_text_length.Statement.{statement}
 use Rattle.growth.proofs.new_text_length.Tie as tie
-use Rattle.growth.proofs.new_text_length.Reads as reads
-use Rattle.growth.proofs.new_text_length.Lts as lts
-use Rattle.growth.proofs.new_count.Reads as new-count-reads
-use Rattle.growth.proofs.ref_descriptor.Reads as ref-descriptor-reads
-use Rattle.growth.proofs.ref_name.Reads as ref-name-reads
-use Rattle.words.proofs.wide.Reads as wide-reads
-use Rattle.words.proofs.word_at.Reads as word-at-reads
 
 abbrev Inv-loop : tie.InvT-loop
-Inv-loop ws text abi labels refs n sum₀ i₀ sum i = (i ≤ n) × (n ≡ newCount refs) × (n < 1025) × (sum ≡ length (textTo ws text abi labels refs i)) × (sum ≤ 8589934592 * i)
+Inv-loop ws text abi labels refs n sum₀ i₀ sum i =
+    (i ≤ n) × (n ≡ newCount refs) × (n < 1025) × (sum ≡ length (textTo ws text abi labels refs i)) × (sum ≤ 8589934592 * i)
 
 abbrev μ-loop : tie.MeasureT-loop
 μ-loop ws text abi labels refs n sum₀ i₀ sum i = n - i
 
-new-count-requires : tie.Need-new-count-requires Inv-loop μ-loop
-new-count-requires c κs = search needs
-
-wide-requires : tie.Need-wide-requires Inv-loop μ-loop
-wide-requires c κs = search needs
-
 loop-holds : tie.Need-loop-holds Inv-loop μ-loop
-loop-holds c =
-    let entry = c .before .before .before .before .before .before .before in
-    let a = entry .args in (
-      omega arith,
-      omega arith,
-      omega arith,
-      length-none (a .ws .now) (a .text .now) (a .abi .now) (a .labels .now) (a .refs .now),
-      omega arith,
-    )
-
-word-at-requires : tie.Need-word-at-requires Inv-loop μ-loop
-word-at-requires c κs = search needs
-
-ref-name-requires : tie.Need-ref-name-requires Inv-loop μ-loop
-ref-name-requires c κs = search needs
-
-ref-descriptor-requires : tie.Need-ref-descriptor-requires Inv-loop μ-loop
-ref-descriptor-requires c κs = search needs
+loop-holds c = (omega arith, omega arith, omega arith, search length-none, omega arith)
 
 add-sum : tie.Need-add-sum Inv-loop μ-loop
 add-sum c = omega (arith, c .ref-descriptor .ensures .1, c .before .ref-name .ensures .1)
 
 add-sum-2 : tie.Need-add-sum-2 Inv-loop μ-loop
 add-sum-2 c = omega (arith, c .ref-descriptor .ensures .1, c .before .ref-name .ensures .1)
-
-add-i : tie.Need-add-i Inv-loop μ-loop
-add-i c = search needs
-
-loop-less : tie.Need-loop-less Inv-loop μ-loop
-loop-less c = search needs
 
 loop-again : tie.Need-loop-again Inv-loop μ-loop
 loop-again c =
@@ -88,15 +53,15 @@ new-text-length-spec =
     (tie.spec
     Inv-loop
     μ-loop
-    new-count-requires
-    wide-requires
+    (λ c κs. search needs)
+    (λ c κs. search needs)
     loop-holds
-    word-at-requires
-    ref-name-requires
-    ref-descriptor-requires
+    (λ c κs. search needs)
+    (λ c κs. search needs)
+    (λ c κs. search needs)
     add-sum
     add-sum-2
-    add-i
-    loop-less
+    (λ c. search needs)
+    (λ c. search needs)
     loop-again
     returns)

@@ -9,24 +9,15 @@ use native.Mathlib.Omega.{arith}
 use borrow.Author.Needs.{needs}
 use Rattle.growth.proofs.put_names.Statement.{statement}
 use Rattle.growth.proofs.put_names.Tie as tie
-use Rattle.growth.proofs.put_names.Reads as reads
-use Rattle.growth.proofs.put_names.Lts as lts
-use Rattle.growth.proofs.new_count.Reads as new-count-reads
-use Rattle.growth.proofs.put_name.Reads as put-name-reads
-use Rattle.words.proofs.wide.Reads as wide-reads
-use Rattle.words.proofs.word_at.Reads as word-at-reads
 
 abbrev Inv-loop : tie.InvT-loop
-Inv-loop bytes₀ at ws text abi labels refs n next₀ i₀ bytes next i = (i ≤ n) × (n ≡ newCount refs) × (bytes ≡ writeAt bytes₀ at (textTo ws text abi labels refs i)) × (next ≡ at + length (textTo ws text abi labels refs i)) × (length bytes ≡ length bytes₀) × (at + length (newText (named ws text abi labels refs)) ≤ length bytes₀)
+Inv-loop bytes₀ at ws text abi labels refs n next₀ i₀ bytes next i =
+    (i ≤ n) × (n ≡ newCount refs) × (bytes ≡ writeAt bytes₀ at (textTo ws text abi labels refs i))
+    × (next ≡ at + length (textTo ws text abi labels refs i)) × (length bytes ≡ length bytes₀)
+    × (at + length (newText (named ws text abi labels refs)) ≤ length bytes₀)
 
 abbrev μ-loop : tie.MeasureT-loop
 μ-loop bytes₀ at ws text abi labels refs n next₀ i₀ bytes next i = n - i
-
-new-count-requires : tie.Need-new-count-requires Inv-loop μ-loop
-new-count-requires c κs = search needs
-
-wide-requires : tie.Need-wide-requires Inv-loop μ-loop
-wide-requires c κs = search needs
 
 loop-holds : tie.Need-loop-holds Inv-loop μ-loop
 loop-holds c =
@@ -41,9 +32,6 @@ loop-holds c =
       entry .pre,
     )
 
-word-at-requires : tie.Need-word-at-requires Inv-loop μ-loop
-word-at-requires c κs = search needs
-
 put-name-requires : tie.Need-put-name-requires Inv-loop μ-loop
 put-name-requires c κs =
     let at-loop = c .before .before .before in
@@ -56,12 +44,6 @@ put-name-requires c κs =
       text-most (a .ws .now) (a .text .now) (a .abi .now) (a .labels .now) (a .refs .now)
           (at-loop .loop .i + 1) (omega arith),
     )
-
-add-i : tie.Need-add-i Inv-loop μ-loop
-add-i c = search needs
-
-loop-less : tie.Need-loop-less Inv-loop μ-loop
-loop-less c = search needs
 
 loop-again : tie.Need-loop-again Inv-loop μ-loop
 loop-again c =
@@ -85,9 +67,6 @@ loop-again c =
       omega arith,
     )
 
-same-length : tie.Need-same-length Inv-loop μ-loop
-same-length c = search needs
-
 returns : tie.Need-returns Inv-loop μ-loop
 returns c =
     let at-loop = c .before in
@@ -102,13 +81,13 @@ put-names-spec =
     (tie.spec
     Inv-loop
     μ-loop
-    new-count-requires
-    wide-requires
+    (λ c κs. search needs)
+    (λ c κs. search needs)
     loop-holds
-    word-at-requires
+    (λ c κs. search needs)
     put-name-requires
-    add-i
-    loop-less
+    (λ c. search needs)
+    (λ c. search needs)
     loop-again
-    same-length
+    (λ c. search needs)
     returns)

@@ -7,13 +7,11 @@ use native.Mathlib.Omega.{arith}
 use borrow.Author.Needs.{needs}
 use Rattle.growth.proofs.put_packed.Statement.{statement}
 use Rattle.growth.proofs.put_packed.Tie as tie
-use Rattle.growth.proofs.put_packed.Reads as reads
-use Rattle.growth.proofs.put_packed.Lts as lts
-use Rattle.words.proofs.le_word.Reads as le-word-reads
-use Rattle.words.proofs.put_word.Reads as put-word-reads
 
 abbrev Inv-loop : tie.InvT-loop
-Inv-loop out₀ at bytes n i₀ out i = (i ≤ n) × (out ≡ writeAt out₀ at (packedTo bytes i)) × (length out ≡ length out₀) × (at + (length bytes + 3) / 4 ≤ length out₀) × (n ≡ (length bytes + 3) / 4)
+Inv-loop out₀ at bytes n i₀ out i =
+    (i ≤ n) × (out ≡ writeAt out₀ at (packedTo bytes i)) × (length out ≡ length out₀) × (at + (length bytes + 3) / 4 ≤ length out₀)
+    × (n ≡ (length bytes + 3) / 4)
 
 abbrev μ-loop : tie.MeasureT-loop
 μ-loop out₀ at bytes n i₀ out i = n - i
@@ -26,24 +24,6 @@ loop-holds c =
     let entry = c .before .before in
     let a = entry .args in
     (omega arith, packed-none (a .out .now) (a .at) (a .bytes .now), omega arith, entry .pre .0, omega arith)
-
-add-put-word : tie.Need-add-put-word Inv-loop μ-loop
-add-put-word c = search needs
-
-mul-le-word : tie.Need-mul-le-word Inv-loop μ-loop
-mul-le-word c = search needs
-
-le-word-requires : tie.Need-le-word-requires Inv-loop μ-loop
-le-word-requires c κs = search needs
-
-put-word-requires : tie.Need-put-word-requires Inv-loop μ-loop
-put-word-requires c κs = search needs
-
-add-i : tie.Need-add-i Inv-loop μ-loop
-add-i c = search needs
-
-loop-less : tie.Need-loop-less Inv-loop μ-loop
-loop-less c = search needs
 
 loop-again : tie.Need-loop-again Inv-loop μ-loop
 loop-again c =
@@ -60,9 +40,6 @@ loop-again c =
       omega arith,
     )
 
-same-length : tie.Need-same-length Inv-loop μ-loop
-same-length c = search needs
-
 returns : tie.Need-returns Inv-loop μ-loop
 returns c =
     let at-loop = c .before in
@@ -78,12 +55,12 @@ put-packed-spec =
     μ-loop
     add-n
     loop-holds
-    add-put-word
-    mul-le-word
-    le-word-requires
-    put-word-requires
-    add-i
-    loop-less
+    (λ c. search needs)
+    (λ c. search needs)
+    (λ c κs. search needs)
+    (λ c κs. search needs)
+    (λ c. search needs)
+    (λ c. search needs)
     loop-again
-    same-length
+    (λ c. search needs)
     returns)

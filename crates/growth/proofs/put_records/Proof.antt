@@ -9,26 +9,15 @@ use native.Mathlib.Omega.{arith}
 use borrow.Author.Needs.{needs}
 use Rattle.growth.proofs.put_records.Statement.{statement}
 use Rattle.growth.proofs.put_records.Tie as tie
-use Rattle.growth.proofs.put_records.Reads as reads
-use Rattle.growth.proofs.put_records.Lts as lts
-use Rattle.growth.proofs.new_count.Reads as new-count-reads
-use Rattle.growth.proofs.put_record.Reads as put-record-reads
-use Rattle.growth.proofs.ref_descriptor.Reads as ref-descriptor-reads
-use Rattle.growth.proofs.ref_name.Reads as ref-name-reads
-use Rattle.words.proofs.wide.Reads as wide-reads
-use Rattle.words.proofs.word_at.Reads as word-at-reads
 
 abbrev Inv-loop : tie.InvT-loop
-Inv-loop out₀ at start ws text abi labels refs flags lasts n next₀ i₀ out next i = (i ≤ n) × (n ≡ newCount refs) × (out ≡ writeAt out₀ at (recordsTo start ws text abi labels refs flags lasts i)) × (next ≡ start + length (textTo ws text abi labels refs i)) × (length out ≡ length out₀) × (at + 6 * newCount refs ≤ length out₀) × (start + length (newText (named ws text abi labels refs)) ≤ 8192)
+Inv-loop out₀ at start ws text abi labels refs flags lasts n next₀ i₀ out next i =
+    (i ≤ n) × (n ≡ newCount refs) × (out ≡ writeAt out₀ at (recordsTo start ws text abi labels refs flags lasts i))
+    × (next ≡ start + length (textTo ws text abi labels refs i)) × (length out ≡ length out₀) × (at + 6 * newCount refs ≤ length out₀)
+    × (start + length (newText (named ws text abi labels refs)) ≤ 8192)
 
 abbrev μ-loop : tie.MeasureT-loop
 μ-loop out₀ at start ws text abi labels refs flags lasts n next₀ i₀ out next i = n - i
-
-new-count-requires : tie.Need-new-count-requires Inv-loop μ-loop
-new-count-requires c κs = search needs
-
-wide-requires : tie.Need-wide-requires Inv-loop μ-loop
-wide-requires c κs = search needs
 
 loop-holds : tie.Need-loop-holds Inv-loop μ-loop
 loop-holds c =
@@ -48,32 +37,11 @@ loop-holds c =
       entry .pre .1,
     )
 
-word-at-requires : tie.Need-word-at-requires Inv-loop μ-loop
-word-at-requires c κs = search needs
-
-ref-name-requires : tie.Need-ref-name-requires Inv-loop μ-loop
-ref-name-requires c κs = search needs
-
 cast-name : tie.Need-cast-name Inv-loop μ-loop
 cast-name c = omega (arith, c .ref-name .ensures .1)
 
-ref-descriptor-requires : tie.Need-ref-descriptor-requires Inv-loop μ-loop
-ref-descriptor-requires c κs = search needs
-
 cast-descriptor : tie.Need-cast-descriptor Inv-loop μ-loop
 cast-descriptor c = omega (arith, c .ref-descriptor .ensures .1)
-
-word-at-requires-2 : tie.Need-word-at-requires-2 Inv-loop μ-loop
-word-at-requires-2 c κs = search needs
-
-word-at-requires-3 : tie.Need-word-at-requires-3 Inv-loop μ-loop
-word-at-requires-3 c κs = search needs
-
-mul-put-record : tie.Need-mul-put-record Inv-loop μ-loop
-mul-put-record c = search needs
-
-add-put-record : tie.Need-add-put-record Inv-loop μ-loop
-add-put-record c = search needs
 
 put-record-requires : tie.Need-put-record-requires Inv-loop μ-loop
 put-record-requires c κs =
@@ -117,12 +85,6 @@ add-next-2 c =
     (omega arith) in
     omega arith
 
-add-i : tie.Need-add-i Inv-loop μ-loop
-add-i c = search needs
-
-loop-less : tie.Need-loop-less Inv-loop μ-loop
-loop-less c = search needs
-
 loop-again : tie.Need-loop-again Inv-loop μ-loop
 loop-again c =
     let at-put-record = c .before .before in
@@ -151,9 +113,6 @@ loop-again c =
       omega arith,
     )
 
-same-length : tie.Need-same-length Inv-loop μ-loop
-same-length c = search needs
-
 returns : tie.Need-returns Inv-loop μ-loop
 returns c =
     let at-loop = c .before in
@@ -168,23 +127,23 @@ put-records-spec =
     (tie.spec
     Inv-loop
     μ-loop
-    new-count-requires
-    wide-requires
+    (λ c κs. search needs)
+    (λ c κs. search needs)
     loop-holds
-    word-at-requires
-    ref-name-requires
+    (λ c κs. search needs)
+    (λ c κs. search needs)
     cast-name
-    ref-descriptor-requires
+    (λ c κs. search needs)
     cast-descriptor
-    word-at-requires-2
-    word-at-requires-3
-    mul-put-record
-    add-put-record
+    (λ c κs. search needs)
+    (λ c κs. search needs)
+    (λ c. search needs)
+    (λ c. search needs)
     put-record-requires
     add-next
     add-next-2
-    add-i
-    loop-less
+    (λ c. search needs)
+    (λ c. search needs)
     loop-again
-    same-length
+    (λ c. search needs)
     returns)

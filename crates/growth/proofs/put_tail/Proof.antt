@@ -4,48 +4,6 @@ use native.Mathlib.Omega.{arith}
 use borrow.Author.Needs.{needs}
 use Rattle.growth.proofs.put_tail.Statement.{statement}
 use Rattle.growth.proofs.put_tail.Tie as tie
-use Rattle.growth.proofs.put_tail.Reads as reads
-use Rattle.growth.proofs.put_tail.Lts as lts
-use Rattle.class_sheet.proofs.text_at.Reads as text-at-reads
-use Rattle.class_sheet.proofs.text_length.Reads as text-length-reads
-use Rattle.growth.proofs.new_count.Reads as new-count-reads
-use Rattle.growth.proofs.new_text_length.Reads as new-text-length-reads
-use Rattle.growth.proofs.put_packed.Reads as put-packed-reads
-use Rattle.growth.proofs.put_records.Reads as put-records-reads
-use Rattle.growth.proofs.put_text.Reads as put-text-reads
-use Rattle.words.proofs.copy_words.Reads as copy-words-reads
-use Rattle.words.proofs.part.Reads as part-reads
-use Rattle.words.proofs.wide.Reads as wide-reads
-
-wide-requires : tie.Need-wide-requires
-wide-requires c κs = search needs
-
-mul-kept : tie.Need-mul-kept
-mul-kept c = search needs
-
-new-count-requires : tie.Need-new-count-requires
-new-count-requires c κs = search needs
-
-wide-requires-2 : tie.Need-wide-requires-2
-wide-requires-2 c κs = search needs
-
-mul-grown : tie.Need-mul-grown
-mul-grown c = search needs
-
-add-grown : tie.Need-add-grown
-add-grown c = search needs
-
-text-at-requires : tie.Need-text-at-requires
-text-at-requires c κs = search needs
-
-sub-rest : tie.Need-sub-rest
-sub-rest c = search needs
-
-copy-words-requires : tie.Need-copy-words-requires
-copy-words-requires c κs = search needs
-
-text-length-requires : tie.Need-text-length-requires
-text-length-requires c κs = search needs
 
 put-records-requires : tie.Need-put-records-requires
 put-records-requires c κs =
@@ -56,12 +14,6 @@ put-records-requires c κs =
     let p = entry .pre .0 in
     (omega arith, omega (arith, p .bytes))
 
-copy-words-requires-2 : tie.Need-copy-words-requires-2
-copy-words-requires-2 c κs = search needs
-
-slice-aggregate-put-text : tie.Need-slice-aggregate-put-text
-slice-aggregate-put-text c = search needs
-
 put-text-requires : tie.Need-put-text-requires
 put-text-requires c κs =
     let entry = c .before .before .before .before .before .before .before .before .before .before .before .before .before .before .before .before .before .before .before .before .before .before .before .before .before .before in
@@ -70,18 +22,6 @@ put-text-requires c κs =
     (entry .pre .0) in
     let p = entry .pre .0 in
     omega (arith, p .bytes)
-
-text-length-requires-2 : tie.Need-text-length-requires-2
-text-length-requires-2 c κs = search needs
-
-wide-requires-3 : tie.Need-wide-requires-3
-wide-requires-3 c κs = search needs
-
-new-text-length-requires : tie.Need-new-text-length-requires
-new-text-length-requires c κs = search needs
-
-add-n : tie.Need-add-n
-add-n c = search needs
 
 add-put-packed : tie.Need-add-put-packed
 add-put-packed c =
@@ -99,12 +39,6 @@ add-put-packed c =
     let e2 = at-new-count .new-count .ensures .0 in
     let e3 = at-wide .wide .ensures in
     omega arith
-
-slice-aggregate-part : tie.Need-slice-aggregate-part
-slice-aggregate-part c = search needs
-
-part-requires : tie.Need-part-requires
-part-requires c κs = search needs
 
 put-packed-requires : tie.Need-put-packed-requires
 put-packed-requires c κs =
@@ -133,9 +67,6 @@ put-packed-requires c κs =
     (a .flags .now) (a .lasts .now) (a .out .now) (entry .pre .1) e₁ e₂ e₃ (at-text-length .text-length .ensures)
     (at-copy-words .copy-words .ensures) (at-put-records .put-records .ensures) (at-copy-words2 .copy-words2 .ensures) in
     (omega (arith, entry .pre .1, r .most, w .2), omega (arith, r .bytes))
-
-same-length : tie.Need-same-length
-same-length c = search needs
 
 returns : tie.Need-returns
 returns c =
@@ -167,27 +98,27 @@ pub put-tail-spec : {M : Type 1} → statement M
 put-tail-spec =
     tie.close
     (tie.spec
-    wide-requires
-    mul-kept
-    new-count-requires
-    wide-requires-2
-    mul-grown
-    add-grown
-    text-at-requires
-    sub-rest
-    copy-words-requires
-    text-length-requires
+    (λ c κs. search needs)
+    (λ c. search needs)
+    (λ c κs. search needs)
+    (λ c κs. search needs)
+    (λ c. search needs)
+    (λ c. search needs)
+    (λ c κs. search needs)
+    (λ c. search needs)
+    (λ c κs. search needs)
+    (λ c κs. search needs)
     put-records-requires
-    copy-words-requires-2
-    slice-aggregate-put-text
+    (λ c κs. search needs)
+    (λ c. search needs)
     put-text-requires
-    text-length-requires-2
-    wide-requires-3
-    new-text-length-requires
-    add-n
+    (λ c κs. search needs)
+    (λ c κs. search needs)
+    (λ c κs. search needs)
+    (λ c. search needs)
     add-put-packed
-    slice-aggregate-part
-    part-requires
+    (λ c. search needs)
+    (λ c κs. search needs)
     put-packed-requires
-    same-length
+    (λ c. search needs)
     returns)

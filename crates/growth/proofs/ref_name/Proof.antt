@@ -3,14 +3,6 @@ use native.Mathlib.Omega.{arith}
 use borrow.Author.Needs.{needs}
 use Rattle.growth.proofs.ref_name.Statement.{statement}
 use Rattle.growth.proofs.ref_name.Tie as tie
-use Rattle.growth.proofs.ref_name.Reads as reads
-use Rattle.growth.proofs.ref_name.Lts as lts
-use Rattle.abi_sheet.proofs.field_name.Reads as field-name-reads
-use Rattle.abi_sheet.proofs.slot_name.Reads as slot-name-reads
-use Rattle.class_sheet.proofs.method_name.Reads as method-name-reads
-
-method-name-requires : tie.Need-method-name-requires
-method-name-requires c κs = search needs
 
 returns : tie.Need-returns
 returns c =
@@ -22,9 +14,6 @@ returns c =
       at-shared-slice-known .shared-slice-known .given i,
     )) (omega arith) (c .method-name .ensures)
 
-slot-name-requires : tie.Need-slot-name-requires
-slot-name-requires c κs = search needs
-
 returns-2 : tie.Need-returns-2
 returns-2 c =
     let at-shared-slice-known3 = c .before .before .before .before in
@@ -34,9 +23,6 @@ returns-2 c =
       arith,
       at-shared-slice-known3 .shared-slice-known3 .given i,
     )) (omega arith) (omega arith) (c .slot-name .ensures)
-
-field-name-requires : tie.Need-field-name-requires
-field-name-requires c κs = search needs
 
 returns-3 : tie.Need-returns-3
 returns-3 c =
@@ -51,10 +37,4 @@ returns-3 c =
 pub ref-name-spec : {M : Type 1} → statement M
 ref-name-spec =
     tie.close
-    (tie.spec
-    method-name-requires
-    returns
-    slot-name-requires
-    returns-2
-    field-name-requires
-    returns-3)
+    (search (tie.spec, returns, returns-2, returns-3, needs))

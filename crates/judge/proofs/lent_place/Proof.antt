@@ -11,41 +11,17 @@ Inv-loop name place₀ i₀ place i = Unit {0}
 abbrev μ-loop : tie.MeasureT-loop
 μ-loop name place₀ i₀ place i = length name - i
 
-loop-holds : tie.Need-loop-holds Inv-loop μ-loop
-loop-holds c = search needs
-
-part-requires : tie.Need-part-requires Inv-loop μ-loop
-part-requires c κs = search needs
-
-is-lent-requires : tie.Need-is-lent-requires Inv-loop μ-loop
-is-lent-requires c κs = search needs
-
-add-place : tie.Need-add-place Inv-loop μ-loop
-add-place c = search needs
-
-add-i : tie.Need-add-i Inv-loop μ-loop
-add-i c = search needs
-
-loop-less : tie.Need-loop-less Inv-loop μ-loop
-loop-less c = search needs
-
-loop-again : tie.Need-loop-again Inv-loop μ-loop
-loop-again c = search needs
-
-returns : tie.Need-returns Inv-loop μ-loop
-returns c = search needs
-
 pub lent-place-spec : {M : Type 1} → statement M
 lent-place-spec =
     tie.close
     (tie.spec
     Inv-loop
     μ-loop
-    loop-holds
-    part-requires
-    is-lent-requires
-    add-place
-    add-i
-    loop-less
-    loop-again
-    returns)
+    (λ c. search needs)
+    (λ c κs. search needs)
+    (λ c κs. search needs)
+    (λ c. search needs)
+    (λ c. search needs)
+    (λ c. search needs)
+    (λ c. search needs)
+    (λ c. search needs))

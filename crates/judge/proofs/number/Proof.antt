@@ -11,37 +11,16 @@ Inv-loop bytes n₀ i₀ n i = Unit {0}
 abbrev μ-loop : tie.MeasureT-loop
 μ-loop bytes n₀ i₀ n i = length bytes - i
 
-loop-holds : tie.Need-loop-holds Inv-loop μ-loop
-loop-holds c = search needs
-
-byte-at-requires : tie.Need-byte-at-requires Inv-loop μ-loop
-byte-at-requires c κs = search needs
-
-with-digit-requires : tie.Need-with-digit-requires Inv-loop μ-loop
-with-digit-requires c κs = search needs
-
-add-i : tie.Need-add-i Inv-loop μ-loop
-add-i c = search needs
-
-loop-less : tie.Need-loop-less Inv-loop μ-loop
-loop-less c = search needs
-
-loop-again : tie.Need-loop-again Inv-loop μ-loop
-loop-again c = search needs
-
-returns : tie.Need-returns Inv-loop μ-loop
-returns c = search needs
-
 pub number-spec : {M : Type 1} → statement M
 number-spec =
     tie.close
     (tie.spec
     Inv-loop
     μ-loop
-    loop-holds
-    byte-at-requires
-    with-digit-requires
-    add-i
-    loop-less
-    loop-again
-    returns)
+    (λ c. search needs)
+    (λ c κs. search needs)
+    (λ c κs. search needs)
+    (λ c. search needs)
+    (λ c. search needs)
+    (λ c. search needs)
+    (λ c. search needs))

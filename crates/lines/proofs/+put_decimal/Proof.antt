@@ -61,7 +61,10 @@ put-decimal-returns : (t : ℕ) → put-decimal-lts.Need-returns (
   put-decimal-below t,
   put-decimal.Post,
 ) (put-decimal-at t) put-decimal.Post
-put-decimal-returns t c = put-digit _ _ (c .before .before .before .before .before .if1 .taken) (c .before .before .before .digit .ensures) (c .before .before .put-byte .ensures)
+put-decimal-returns t c =
+    let at-digit = c .before .before .before in
+    put-digit _ _ (at-digit .before .before .if1 .taken) (at-digit .digit .ensures)
+    (c .before .before .put-byte .ensures)
 
 put-decimal-put-decimal-requires : (t : ℕ) → put-decimal-lts.Need-put-decimal-requires (
   digit-reads.Asked,
@@ -111,7 +114,12 @@ put-decimal-returns-2 : (t : ℕ) → put-decimal-lts.Need-returns-2 (
   put-decimal-below t,
   put-decimal.Post,
 ) (put-decimal-at t) put-decimal.Post
-put-decimal-returns-2 t c = put-digits _ _ (c .before .before .before .before .before .before .before .before .before .if1 .left) (c .before .before .before .before .before .before .before .put-decimal .ensures) (c .before .before .before .digit2 .ensures) (c .before .before .put-byte2 .ensures)
+put-decimal-returns-2 t c =
+    let at-digit2 = c .before .before .before in
+    let at-put-decimal = at-digit2 .before .before .before .before in
+    put-digits _ _ (at-put-decimal .before .before .if1 .left)
+    (at-put-decimal .put-decimal .ensures) (at-digit2 .digit2 .ensures)
+    (c .before .before .put-byte2 .ensures)
 
 pub +put-decimal-spec : {M : Type 1} → statement M
 +put-decimal-spec = close μ-put-decimal λ t. put-decimal-lts.spec (

@@ -7,13 +7,10 @@ use Rattle.words.proofs.ListLaws.{foldAt, fold-at-start, fold-at-turn, fold-at-
 use borrow.Author.Needs.{needs}
 use Rattle.lines.proofs.put_bytes.Statement.{statement}
 use Rattle.lines.proofs.put_bytes.Tie as tie
-use Rattle.lines.proofs.put_bytes.Reads as reads
-use Rattle.lines.proofs.put_bytes.Lts as lts
-use Rattle.lines.proofs.put_byte.Reads as put-byte-reads
-use Rattle.words.proofs.byte_at.Reads as byte-at-reads
 
 abbrev Inv-loop : tie.InvT-loop
-Inv-loop out₀ at bytes place₀ i₀ out place i = (i ≤ length bytes) × (length out ≡ length out₀) × (put (out₀, at) bytes ≡ foldAt putByte (out, place) bytes i)
+Inv-loop out₀ at bytes place₀ i₀ out place i =
+    (i ≤ length bytes) × (length out ≡ length out₀) × (put (out₀, at) bytes ≡ foldAt putByte (out, place) bytes i)
 
 abbrev μ-loop : tie.MeasureT-loop
 μ-loop out₀ at bytes place₀ i₀ out place i = length bytes - i
@@ -22,20 +19,19 @@ loop-holds : tie.Need-loop-holds Inv-loop μ-loop
 unfolding put
 loop-holds c = (omega arith, omega arith, fold-at-start _ _ _)
 
-byte-at-requires : tie.Need-byte-at-requires Inv-loop μ-loop
-byte-at-requires c κs = search needs
-
-put-byte-requires : tie.Need-put-byte-requires Inv-loop μ-loop
-put-byte-requires c κs = search needs
-
-add-i : tie.Need-add-i Inv-loop μ-loop
-add-i c = search needs
-
 loop-less : tie.Need-loop-less Inv-loop μ-loop
 loop-less c = omega arith
 
 loop-again : tie.Need-loop-again Inv-loop μ-loop
-loop-again c = (omega arith, omega arith, c .before .before .before .before .before .before .loop .inv .2 ∙ fold-at-turn _ _ _ 0 _ (c .before .before .before .before .before .loop-test .taken) (c .before .before .before .byte-at .ensures) (c .before .before .put-byte .ensures))
+loop-again c =
+    let at-byte-at : tie.After-byte-at Inv-loop μ-loop = search in
+    let at-loop : tie.At-loop Inv-loop μ-loop = search in (
+      omega arith,
+      omega arith,
+      at-loop .loop .inv .2
+          ∙ fold-at-turn _ _ _ 0 _ (at-byte-at .before .before .loop-test .taken) (at-byte-at .byte-at .ensures)
+          (c .before .before .put-byte .ensures),
+    )
 
 same-length : tie.Need-same-length Inv-loop μ-loop
 same-length c = omega arith
@@ -50,9 +46,9 @@ put-bytes-spec =
     Inv-loop
     μ-loop
     loop-holds
-    byte-at-requires
-    put-byte-requires
-    add-i
+    (λ c κs. search needs)
+    (λ c κs. search needs)
+    (λ c. search needs)
     loop-less
     loop-again
     same-length

@@ -13,72 +13,62 @@ use Rattle.native_view.proofs.AddLaws.{addRest, small-mark, none-yet, r
 use borrow.Author.Needs.{needs}
 use Rattle.native_view.proofs.add_methods.Statement.{statement}
 use Rattle.native_view.proofs.add_methods.Tie as tie
-use Rattle.native_view.proofs.add_methods.Reads as reads
-use Rattle.native_view.proofs.add_methods.Lts as lts
-use Rattle.native_view.proofs.add.Reads as add-reads
-use Rattle.native_view.proofs.compiler_count.Reads as compiler-count-reads
-use Rattle.native_view.proofs.compiler_target.Reads as compiler-target-reads
-use Rattle.native_view.proofs.word_below.Reads as word-below-reads
 
 abbrev Inv-loop : tie.InvT-loop
 Inv-loop ws text abi labels c vs vm n refs₀ flags₀ lasts₀ count new₀ i₀ refs flags lasts new i =
     (i ≤ count) × (count ≡ min (classCompilerSlots ws c) 1024) × (new ≤ i) × (SmallMarks vm n)
     × ((1024 ≤ length refs₀) × (1024 ≤ length flags₀) × (1024 ≤ length lasts₀))
     × (length refs ≡ length refs₀) × (length flags ≡ length flags₀) × (length lasts ≡ length lasts₀)
-    × (firstNews ws text abi labels refs flags lasts new ++ addRest ws text abi labels c vs vm n count i ≡ addedFrom ws text abi labels c (entriesOf vs vm n) 0 (compilerTargets ws text abi labels c))
+    × (firstNews ws text abi labels refs flags lasts new ++ addRest ws text abi labels c vs vm n count i ≡ addedFrom ws text abi labels c
+    (entriesOf vs vm n) 0 (compilerTargets ws text abi labels c))
 
 abbrev μ-loop : tie.MeasureT-loop
 μ-loop ws text abi labels c vs vm n refs₀ flags₀ lasts₀ count new₀ i₀ refs flags lasts new i = count - i
 
-compiler-count-requires : tie.Need-compiler-count-requires Inv-loop μ-loop
-compiler-count-requires c κs = search needs
-
 loop-holds : tie.Need-loop-holds Inv-loop μ-loop
 loop-holds c =
-    let a = c .before .before .before .before .before .before .before .before .before .before .args in
-    let pre = c .before .before .before .before .before .before .before .before .before .before .pre in
-    (omega arith, c .compiler-count .ensures, omega arith, pre .0, (pre .1, pre .2, pre .3), refl, refl, refl, rest-all (now (a .ws)) (now (a .text)) (now (a .abi)) (now (a .labels)) (a .c) (now (a .vs)) (now (a .vm)) (a .n) _ (firstNews (now (a .ws)) (now (a .text)) (now (a .abi)) (now (a .labels)) (now (a .refs)) (now (a .flags)) (now (a .lasts)) 0) (c .compiler-count .ensures) (none-yet _ _ _ _ _ _ _))
-
-compiler-target-requires : tie.Need-compiler-target-requires Inv-loop μ-loop
-compiler-target-requires c κs = search needs
-
-word-below-requires : tie.Need-word-below-requires Inv-loop μ-loop
-word-below-requires c κs = search needs
-
-word-below-requires-2 : tie.Need-word-below-requires-2 Inv-loop μ-loop
-word-below-requires-2 c κs = search needs
+    let start : tie.Start Inv-loop μ-loop = search in
+    let a = start .args in
+    let pre = start .pre in (
+      omega arith,
+      c .compiler-count .ensures,
+      omega arith,
+      pre .0,
+      (pre .1, pre .2, pre .3),
+      refl,
+      refl,
+      refl,
+      rest-all (now (a .ws)) (now (a .text)) (now (a .abi)) (now (a .labels)) (a .c) (now (a .vs)) (now (a .vm)) (a .n) _
+          (firstNews (now (a .ws)) (now (a .text)) (now (a .abi)) (now (a .labels)) (now (a .refs)) (now (a .flags)) (now (a .lasts)) 0)
+          (c .compiler-count .ensures) (none-yet _ _ _ _ _ _ _),
+    )
 
 add-requires : tie.Need-add-requires Inv-loop μ-loop
-add-requires c κs =
-    let l = c .before .before .before .before .before .before .before .loop in
-    (omega arith, small-mark _ _ (l .i) (l .inv .3) (c .before .before .before .word-below2 .ensures), omega arith, omega arith, omega arith)
-
-add-i : tie.Need-add-i Inv-loop μ-loop
-add-i c = search needs
-
-loop-less : tie.Need-loop-less Inv-loop μ-loop
-loop-less c = search needs
+add-requires c κs = (omega arith, search small-mark, omega arith, omega arith, omega arith)
 
 loop-again : tie.Need-loop-again Inv-loop μ-loop
 loop-again c =
     let l = c .before .before .before .before .before .before .before .before .before .before .before .before .before .before .loop in
-    let a = c .before .before .before .before .before .before .before .before .before .before .before .before .before .before .before .before .before .before .before .before .before .before .before .before .before .args in
-    (omega arith, omega arith, omega arith, l .inv .3, l .inv .4, omega arith, omega arith, omega arith, rest-add (now (a .ws)) (now (a .text)) (now (a .abi)) (now (a .labels)) (a .c) (now (a .vs)) (now (a .vm)) (a .n) _ (l .i) (firstNews (now (a .ws)) (now (a .text)) (now (a .abi)) (now (a .labels)) (l .refs) (l .flags) (l .lasts) (l .new)) _ _ (c .before .before .before .before .before .before .before .before .before .before .before .before .before .loop-test .taken) (c .before .before .before .before .before .before .before .before .before .before .before .before .compiler-target .ensures) (c .before .before .before .before .before .before .before .before .before .before .before .word-below .ensures) (c .before .before .before .before .before .before .before .before .before .before .word-below2 .ensures) (c .before .before .before .before .before .before .add .ensures .0) (l .inv .8))
-
-same-length : tie.Need-same-length Inv-loop μ-loop
-same-length c = search needs
-
-same-length-2 : tie.Need-same-length-2 Inv-loop μ-loop
-same-length-2 c = search needs
-
-same-length-3 : tie.Need-same-length-3 Inv-loop μ-loop
-same-length-3 c = search needs
+    let a = c .before .before .before .before .before .before .before .before .before .before .before .before .before .before .before .before .before .before .before .before .before .before .before .before .before .args in (
+      omega arith,
+      omega arith,
+      omega arith,
+      l .inv .3,
+      l .inv .4,
+      omega arith,
+      omega arith,
+      omega arith,
+      rest-add (now (a .ws)) (now (a .text)) (now (a .abi)) (now (a .labels)) (a .c) (now (a .vs)) (now (a .vm)) (a .n) _ (l .i)
+          (firstNews (now (a .ws)) (now (a .text)) (now (a .abi)) (now (a .labels)) (l .refs) (l .flags) (l .lasts) (l .new)) _ _
+          (c .before .before .before .before .before .before .before .before .before .before .before .before .before .loop-test .taken)
+          (c .before .before .before .before .before .before .before .before .before .before .before .before .compiler-target .ensures)
+          (c .before .before .before .before .before .before .before .before .before .before .before .word-below .ensures)
+          (c .before .before .before .before .before .before .before .before .before .before .word-below2 .ensures)
+          (c .before .before .before .before .before .before .add .ensures .0) (l .inv .8),
+    )
 
 returns : tie.Need-returns Inv-loop μ-loop
-returns c =
-    let l = c .before .loop in
-    let a = c .before .before .before .before .before .before .before .before .before .before .before .before .args in
-    (rest-none (now (a .ws)) (now (a .text)) (now (a .abi)) (now (a .labels)) (a .c) (now (a .vs)) (now (a .vm)) (a .n) _ (l .i) (firstNews (now (a .ws)) (now (a .text)) (now (a .abi)) (now (a .labels)) (l .refs) (l .flags) (l .lasts) (l .new)) _ (c .loop-test .left) (l .inv .8), omega arith)
+returns c = (search rest-none, omega arith)
 
 pub add-methods-spec : {M : Type 1} → statement M
 add-methods-spec =
@@ -86,16 +76,16 @@ add-methods-spec =
     (tie.spec
     Inv-loop
     μ-loop
-    compiler-count-requires
+    (λ c κs. search needs)
     loop-holds
-    compiler-target-requires
-    word-below-requires
-    word-below-requires-2
+    (λ c κs. search needs)
+    (λ c κs. search needs)
+    (λ c κs. search needs)
     add-requires
-    add-i
-    loop-less
+    (λ c. search needs)
+    (λ c. search needs)
     loop-again
-    same-length
-    same-length-2
-    same-length-3
+    (λ c. search needs)
+    (λ c. search needs)
+    (λ c. search needs)
     returns)

@@ -3,30 +3,14 @@ use Rattle.native_view.proofs.FoundLaws.{then-at, then-nothing}
 use borrow.Author.Needs.{needs}
 use Rattle.native_view.proofs.class_slot.Statement.{statement}
 use Rattle.native_view.proofs.class_slot.Tie as tie
-use Rattle.native_view.proofs.class_slot.Reads as reads
-use Rattle.native_view.proofs.class_slot.Lts as lts
-use Rattle.abi.proofs.class_abi.Reads as class-abi-reads
-use Rattle.abi.proofs.slot_at.Reads as slot-at-reads
-
-class-abi-requires : tie.Need-class-abi-requires
-class-abi-requires c κs = search needs
-
-enum-known-a : tie.Need-enum-known-a
-enum-known-a c = search needs
-
-slot-at-requires : tie.Need-slot-at-requires
-slot-at-requires c κs = search needs
-
-enum-told : tie.Need-enum-told
-enum-told c = search needs
 
 returns : tie.Need-returns
 returns c = c .slot-at .ensures ∙ then-at _ _ (c .before .before .before .before .class-abi .ensures) _ (c .before .before .a .given .1)
 
 returns-2 : tie.Need-returns-2
-returns-2 c = then-nothing _ _ (c .before .before .class-abi .ensures) (c .enum-told .given .1)
+returns-2 c = search then-nothing
 
 pub class-slot-spec : {M : Type 1} → statement M
 class-slot-spec =
     tie.close
-    (tie.spec class-abi-requires enum-known-a slot-at-requires enum-told returns returns-2)
+    (tie.spec (λ c κs. search needs) (λ c. search needs) (λ c κs. search needs) (λ c. search needs) returns returns-2)

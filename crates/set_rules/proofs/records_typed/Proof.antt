@@ -13,7 +13,9 @@ use Rattle.set_rules.proofs.records_typed.Statement.{statement}
 use Rattle.set_rules.proofs.records_typed.Tie as tie
 
 abbrev Inv-loop : tie.InvT-loop
-Inv-loop method ws first width n text known₀ at₀ i₀ known at i = (i ≤ n) × (allOf i (recordTyped method ws first width text) ≡ true) × Known method text known × (length known ≡ 8192) × (at ≡ first + width * i) × (at ≤ first + 6 * i)
+Inv-loop method ws first width n text known₀ at₀ i₀ known at i =
+    (i ≤ n) × (allOf i (recordTyped method ws first width text) ≡ true) × Known method text known × (length known ≡ 8192)
+    × (at ≡ first + width * i) × (at ≤ first + 6 * i)
 
 abbrev μ-loop : tie.MeasureT-loop
 μ-loop method ws first width n text known₀ at₀ i₀ known at i = n - i
@@ -21,55 +23,23 @@ abbrev μ-loop : tie.MeasureT-loop
 loop-holds : tie.Need-loop-holds Inv-loop μ-loop
 loop-holds c = (omega arith, all-none _, known-none 8192 _ _, omega arith, omega arith, omega arith)
 
-add-if1 : tie.Need-add-if1 Inv-loop μ-loop
-add-if1 c = search needs
-
 returns : tie.Need-returns Inv-loop μ-loop
-returns c = all-stop _ _ (c .before .before .loop .i) (omega arith) (past-typed _ _ _ _ _ _ (c .before .before .loop .inv .4) (c .if1 .taken)) refl
-
-add-part-typed : tie.Need-add-part-typed Inv-loop μ-loop
-add-part-typed c = search needs
-
-mul-part-typed : tie.Need-mul-part-typed Inv-loop μ-loop
-mul-part-typed c = search needs
-
-shared-slice-read-part-typed : tie.Need-shared-slice-read-part-typed Inv-loop μ-loop
-shared-slice-read-part-typed c = search needs
-
-add-part-typed-2 : tie.Need-add-part-typed-2 Inv-loop μ-loop
-add-part-typed-2 c = search needs
-
-mul-part-typed-2 : tie.Need-mul-part-typed-2 Inv-loop μ-loop
-mul-part-typed-2 c = search needs
-
-shared-slice-read-part-typed-2 : tie.Need-shared-slice-read-part-typed-2 Inv-loop μ-loop
-shared-slice-read-part-typed-2 c = search needs
-
-slice-aggregate-part-typed : tie.Need-slice-aggregate-part-typed Inv-loop μ-loop
-slice-aggregate-part-typed c = search needs
+returns c =
+    all-stop _ _ (c .before .before .loop .i) (omega arith) (past-typed _ _ _ _ _ _ (c .before .before .loop .inv .4) (c .if1 .taken)) refl
 
 part-typed-requires : tie.Need-part-typed-requires Inv-loop μ-loop
-part-typed-requires c κs = (c .before .before .before .before .before .loop .inv .2)
+part-typed-requires c κs = search
 
 returns-2 : tie.Need-returns-2 Inv-loop μ-loop
-returns-2 c = all-stop _ _ (c .before .before .before .before .before .before .before .before .loop .i) (omega arith) (record-typed _ _ _ _ _ _ (c .before .before .before .before .before .before .before .before .loop .at) (c .before .before .before .before .before .before .before .before .loop .inv .4) (c .before .before .part-typed .ensures .0)) (not-true _ (c .if2 .taken))
-
-add-at : tie.Need-add-at Inv-loop μ-loop
-add-at c = search needs
-
-add-i : tie.Need-add-i Inv-loop μ-loop
-add-i c = search needs
-
-loop-less : tie.Need-loop-less Inv-loop μ-loop
-loop-less c = search needs
+returns-2 c = search (not-true, all-stop, record-typed)
 
 loop-again : tie.Need-loop-again Inv-loop μ-loop
 loop-again c = (
   omega arith,
-  all-turn (c .before .before .before .before .before .before .before .before .loop .i) _ (c .before .before .before .before .before .before .before .before .loop .inv .1) (record-typed _ _ _ _ _ _ (c .before .before .before .before .before .before .before .before .loop .at) (c .before .before .before .before .before .before .before .before .loop .inv .4) (c .before .before .part-typed .ensures .0)) (not-false _ (c .if2 .left)),
+  search (not-false, all-turn, record-typed),
   c .before .before .part-typed .ensures .1,
   omega arith,
-  next-record _ _ _ (c .before .before .before .before .before .before .before .before .loop .inv .4),
+  search next-record,
   omega arith,
 )
 
@@ -83,19 +53,19 @@ records-typed-spec =
     Inv-loop
     μ-loop
     loop-holds
-    add-if1
+    (λ c. search needs)
     returns
-    add-part-typed
-    mul-part-typed
-    shared-slice-read-part-typed
-    add-part-typed-2
-    mul-part-typed-2
-    shared-slice-read-part-typed-2
-    slice-aggregate-part-typed
+    (λ c. search needs)
+    (λ c. search needs)
+    (λ c. search needs)
+    (λ c. search needs)
+    (λ c. search needs)
+    (λ c. search needs)
+    (λ c. search needs)
     part-typed-requires
     returns-2
-    add-at
-    add-i
-    loop-less
+    (λ c. search needs)
+    (λ c. search needs)
+    (λ c. search needs)
     loop-again
     returns-3)

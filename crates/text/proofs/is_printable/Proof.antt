@@ -8,8 +8,6 @@ use Rattle.text.proofs.Laws.{printFrom, print-start, print-turn, print-
 use borrow.Author.Needs.{needs}
 use Rattle.text.proofs.is_printable.Statement.{statement}
 use Rattle.text.proofs.is_printable.Tie as tie
-use Rattle.text.proofs.is_printable.Reads as reads
-use Rattle.text.proofs.is_printable.Lts as lts
 
 abbrev Inv-loop : tie.InvT-loop
 Inv-loop s ok₀ i₀ ok i = (i ≤ length s) × (printable s ≡ (ok && printFrom s i))
@@ -20,15 +18,6 @@ abbrev μ-loop : tie.MeasureT-loop
 loop-holds : tie.Need-loop-holds Inv-loop μ-loop
 loop-holds c = (omega arith, print-start _)
 
-shared-slice-read-b : tie.Need-shared-slice-read-b Inv-loop μ-loop
-shared-slice-read-b c = search needs
-
-add-i : tie.Need-add-i Inv-loop μ-loop
-add-i c = search needs
-
-loop-less : tie.Need-loop-less Inv-loop μ-loop
-loop-less c = search needs
-
 loop-again : tie.Need-loop-again Inv-loop μ-loop
 loop-again c = (omega arith, c .before .before .loop .inv .1 ∙ print-turn _ _ (c .before .before .loop .ok) (omega arith))
 
@@ -38,4 +27,4 @@ returns c = sym (c .before .loop .inv .1 ∙ print-end _ _ (c .before .loop .ok)
 pub is-printable-spec : {M : Type 1} → statement M
 is-printable-spec =
     tie.close
-    (tie.spec Inv-loop μ-loop loop-holds shared-slice-read-b add-i loop-less loop-again returns)
+    (tie.spec Inv-loop μ-loop loop-holds (λ c. search needs) (λ c. search needs) (λ c. search needs) loop-again returns)

@@ -2,16 +2,13 @@ use native.Mathlib.Omega.{arith}
 use borrow.Author.Tests.{not-true, not-false}
 use mathlib.Core.Path.{_≡_}
 use mathlib.Core.Bool.{true}
-use Prim.Native.Nat.{_+_, _-_, _≤_}
+use Prim.Native.Nat.{_-_, _≤_}
 use Rattle.words.specs.Folds.{allOf}
 use Rattle.words.proofs.FoldLaws.{all-none, all-turn, all-stop, all-done}
 use Rattle.text.specs.Text.{memberClean}
 use borrow.Author.Needs.{needs}
 use Rattle.text.proofs.members_clean.Statement.{statement}
 use Rattle.text.proofs.members_clean.Tie as tie
-use Rattle.text.proofs.members_clean.Reads as reads
-use Rattle.text.proofs.members_clean.Lts as lts
-use Rattle.text.proofs.member_clean.Reads as member-clean-reads
 
 abbrev Inv-loop : tie.InvT-loop
 Inv-loop ws width n most text clean i₀ i = (i ≤ n) × (allOf i (memberClean ws width most text clean) ≡ true) × (n ≡ n)
@@ -22,20 +19,11 @@ abbrev μ-loop : tie.MeasureT-loop
 loop-holds : tie.Need-loop-holds Inv-loop μ-loop
 loop-holds c = (omega arith, all-none _, omega arith)
 
-member-clean-requires : tie.Need-member-clean-requires Inv-loop μ-loop
-member-clean-requires c κs = search needs
-
 returns : tie.Need-returns Inv-loop μ-loop
-returns c = all-stop _ _ (c .before .before .before .loop .i) (omega arith) (c .before .member-clean .ensures) (not-true _ (c .if1 .taken))
-
-add-i : tie.Need-add-i Inv-loop μ-loop
-add-i c = search needs
-
-loop-less : tie.Need-loop-less Inv-loop μ-loop
-loop-less c = search needs
+returns c = search (not-true, all-stop)
 
 loop-again : tie.Need-loop-again Inv-loop μ-loop
-loop-again c = (omega arith, all-turn (c .before .before .before .loop .i) _ (c .before .before .before .loop .inv .1) (c .before .member-clean .ensures) (not-false _ (c .if1 .left)), omega arith)
+loop-again c = (omega arith, search (not-false, all-turn), omega arith)
 
 returns-2 : tie.Need-returns-2 Inv-loop μ-loop
 returns-2 c = all-done _ _ _ (c .before .loop .inv .1) (omega arith)
@@ -47,9 +35,9 @@ members-clean-spec =
     Inv-loop
     μ-loop
     loop-holds
-    member-clean-requires
+    (λ c κs. search needs)
     returns
-    add-i
-    loop-less
+    (λ c. search needs)
+    (λ c. search needs)
     loop-again
     returns-2)

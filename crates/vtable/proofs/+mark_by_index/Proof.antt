@@ -68,7 +68,13 @@ mark-by-index-mark-by-index-requires : (t : ℕ) → mark-by-index-lts.Need-mark
   mark-by-index-below t,
   mark-by-index.Post,
 ) (mark-by-index-at t) mark-by-index.Post
-mark-by-index-mark-by-index-requires t c κs = let a = c .before .before .before .before .before .before .before .before .before .before .before .before .args in (omega (arith, parent-below (now (a .ws)) (a .c) (pos-of-ne-zero (c .before .before .before .before .before .before .if1 .left))), omega arith)
+mark-by-index-mark-by-index-requires t c κs =
+    let at-if1 = c .before .before .before .before .before .before in
+    let start = at-if1 .before .before .before .before .before .before in
+    let a = start .args in (
+      omega (arith, parent-below (now (a .ws)) (a .c) (pos-of-ne-zero (at-if1 .if1 .left))),
+      omega arith,
+    )
 
 mark-by-index-same-length : (t : ℕ) → mark-by-index-lts.Need-same-length (
   mark-own-reads.Asked,
@@ -88,7 +94,12 @@ mark-by-index-returns-2 : (t : ℕ) → mark-by-index-lts.Need-returns-2 (
   mark-by-index-below t,
   mark-by-index.Post,
 ) (mark-by-index-at t) mark-by-index.Post
-mark-by-index-returns-2 t c = indices-all _ _ _ _ _ _ _ (c .before .before .before .before .before .before .before .mark-own .ensures) (c .before .before .before .before .parent-of .ensures) (c .before .before .mark-by-index .ensures) (pos-of-ne-zero (c .before .before .before .before .before .before .before .before .before .if1 .left)) (omega arith)
+mark-by-index-returns-2 t c =
+    let at-parent-of = c .before .before .before .before in
+    let at-mark-own = at-parent-of .before .before .before in
+    indices-all _ _ _ _ _ _ _ (at-mark-own .mark-own .ensures)
+    (at-parent-of .parent-of .ensures) (c .before .before .mark-by-index .ensures)
+    (pos-of-ne-zero (at-mark-own .before .before .if1 .left)) (omega arith)
 
 pub +mark-by-index-spec : {M : Type 1} → statement M
 +mark-by-index-spec = close μ-mark-by-index λ t. mark-by-index-lts.spec (

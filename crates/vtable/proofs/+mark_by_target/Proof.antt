@@ -51,7 +51,8 @@ mark-by-target-returns : (t : ℕ) → mark-by-target-lts.Need-returns (
   mark-by-target-below t,
   mark-by-target.Post,
 ) (mark-by-target-at t) mark-by-target.Post
-mark-by-target-returns t c = let a = c .before .before .before .before .args in targets-none (now (a .ws)) (now (a .ts)) (a .c) (a .n) _ (c .if1 .taken)
+mark-by-target-returns t c =
+    let a = c .before .before .before .before .args in targets-none (now (a .ws)) (now (a .ts)) (a .c) (a .n) _ (c .if1 .taken)
 
 mark-by-target-class-first-method-requires :
     (t : ℕ) → mark-by-target-lts.Need-class-first-method-requires (
@@ -149,7 +150,17 @@ mark-by-target-mark-by-target-requires : (t : ℕ) → mark-by-target-lts.Need-m
   mark-by-target-below t,
   mark-by-target.Post,
 ) (mark-by-target-at t) mark-by-target.Post
-mark-by-target-mark-by-target-requires t c κs = let a = c .before .before .before .before .before .before .before .before .before .before .before .before .before .args in (omega (arith, parent-below (now (a .ws)) (a .c) (pos-of-ne-zero (c .before .before .before .before .before .before .before .before .before .if1 .left))), (omega arith, omega arith))
+mark-by-target-mark-by-target-requires t c κs =
+    let at-if1 = c .before .before .before .before .before .before .before .before .before in
+    let start = at-if1 .before .before .before .before in
+    let a = start .args in (
+      omega (
+        arith,
+        parent-below (now (a .ws)) (a .c)
+            (pos-of-ne-zero (at-if1 .if1 .left)),
+      ),
+      (omega arith, omega arith),
+    )
 
 mark-by-target-same-length : (t : ℕ) → mark-by-target-lts.Need-same-length (
   class-first-method-reads.Asked,
@@ -181,7 +192,15 @@ mark-by-target-returns-2 : (t : ℕ) → mark-by-target-lts.Need-returns-2 (
   mark-by-target-below t,
   mark-by-target.Post,
 ) (mark-by-target-at t) mark-by-target.Post
-mark-by-target-returns-2 t c = let a = c .before .before .before .before .before .before .before .before .before .before .before .before .before .before .before .before .args in targets-all (now (a .ws)) (now (a .ts)) (a .c) (a .n) _ (c .before .before .before .before .before .before .before .before .before .method-records .ensures) (c .before .before .before .before .before .before .before .before .before .before .before .class-first-method .ensures) (c .before .before .before .before .before .before .before .before .before .before .class-method-count .ensures) (c .before .before .before .before .before .before .before .mark-targets .ensures) (c .before .before .before .before .parent-of .ensures) (c .before .before .mark-by-target .ensures) (pos-of-ne-zero (c .before .before .before .before .before .before .before .before .before .before .before .before .if1 .left)) (omega arith)
+mark-by-target-returns-2 t c =
+    let at-parent-of = c .before .before .before .before in
+    let at-mark-targets = at-parent-of .before .before .before in
+    let at-class-method-count = at-mark-targets .before .before .before in
+    let start = at-class-method-count .before .before .before .before .before .before in
+    let a = start .args in targets-all (now (a .ws)) (now (a .ts)) (a .c) (a .n) _
+    (at-mark-targets .before .before .method-records .ensures) (at-class-method-count .before .class-first-method .ensures)
+    (at-class-method-count .class-method-count .ensures) (at-mark-targets .mark-targets .ensures) (at-parent-of .parent-of .ensures)
+    (c .before .before .mark-by-target .ensures) (pos-of-ne-zero (at-class-method-count .before .before .if1 .left)) (omega arith)
 
 pub +mark-by-target-spec : {M : Type 1} → statement M
 +mark-by-target-spec = close μ-mark-by-target λ t. mark-by-target-lts.spec (

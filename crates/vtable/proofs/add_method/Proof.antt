@@ -1,86 +1,57 @@
 use mathlib.Core.Path.{_∙_}
 use native.Mathlib.Omega.{arith}
-use denote.Ref.{now}
 use borrow.Author.Tests.{not-true, not-false}
 use Rattle.vtable.proofs.AddLaws.{add-none, add-put}
 use borrow.Author.Needs.{needs}
 use Rattle.vtable.proofs.add_method.Statement.{statement}
 use Rattle.vtable.proofs.add_method.Tie as tie
-use Rattle.vtable.proofs.add_method.Reads as reads
-use Rattle.vtable.proofs.add_method.Lts as lts
-use Rattle.chain.proofs.eligible.Reads as eligible-reads
-use Rattle.class_sheet.proofs.method_descriptor.Reads as method-descriptor-reads
-use Rattle.class_sheet.proofs.method_name.Reads as method-name-reads
-use Rattle.vtable.proofs.find_slot.Reads as find-slot-reads
-use Rattle.vtable.proofs.fixed_of.Reads as fixed-of-reads
-use Rattle.vtable.proofs.put_fixed.Reads as put-fixed-reads
-use Rattle.vtable.proofs.put_found.Reads as put-found-reads
-
-eligible-requires : tie.Need-eligible-requires
-eligible-requires c κs = search needs
 
 returns : tie.Need-returns
-returns c = (add-none _ _ _ _ _ _ _ _ _ (c .before .eligible .ensures) (not-true _ (c .if1 .taken)), omega arith)
-
-method-name-requires : tie.Need-method-name-requires
-method-name-requires c κs = search needs
-
-method-descriptor-requires : tie.Need-method-descriptor-requires
-method-descriptor-requires c κs = search needs
-
-find-slot-requires : tie.Need-find-slot-requires
-find-slot-requires c κs = search needs
-
-fixed-of-requires : tie.Need-fixed-of-requires
-fixed-of-requires c κs = search needs
-
-enum-known-i : tie.Need-enum-known-i
-enum-known-i c = search needs
-
-put-fixed-requires : tie.Need-put-fixed-requires
-put-fixed-requires c κs = search needs
-
-enum-told : tie.Need-enum-told
-enum-told c = search needs
-
-put-found-requires : tie.Need-put-found-requires
-put-found-requires c κs = search needs
-
-same-length : tie.Need-same-length
-same-length c = search needs
-
-same-length-2 : tie.Need-same-length-2
-same-length-2 c = search needs
+returns c = (search (not-true, add-none), omega arith)
 
 returns-2 : tie.Need-returns-2
-returns-2 c = (add-put _ _ _ _ _ _ _ _ _ (c .before .before .before .before .before .before .before .before .before .before .before .before .before .before .before .before .eligible .ensures) _ (not-false _ (c .before .before .before .before .before .before .before .before .before .before .before .before .before .before .before .if1 .left)) (c .before .before .before .before .before .before .before .before .before .before .fixed-of .ensures) (c .before .before .before .before .before .before .before .before .before .before .before .before .before .before .method-name .ensures) (c .before .before .before .before .before .before .before .before .before .before .before .before .before .method-descriptor .ensures) (c .before .before .before .before .before .before .before .before .before .before .before .find-slot .ensures) (c .before .before .before .before .put-fixed .ensures .0 ∙ rw (c .before .before .before .before .before .before .before .before .i .given .1)), omega arith)
-
-same-length-3 : tie.Need-same-length-3
-same-length-3 c = search needs
-
-same-length-4 : tie.Need-same-length-4
-same-length-4 c = search needs
+returns-2 c =
+    let at-put-fixed : tie.After-put-fixed = search in
+    let at-i : tie.After-i = search in
+    let at-find-slot : tie.After-find-slot = search in
+    let at-method-name : tie.After-method-name = search in (
+      add-put _ _ _ _ _ _ _ _ _ (at-method-name .before .before .eligible .ensures) _ (not-false _ (at-method-name .before .if1 .left))
+          (at-i .before .before .fixed-of .ensures) (at-method-name .method-name .ensures)
+          (at-find-slot .before .before .method-descriptor .ensures) (at-find-slot .find-slot .ensures)
+          (at-put-fixed .put-fixed .ensures .0 ∙ rw (at-i .i .given .1)),
+      omega arith,
+    )
 
 returns-3 : tie.Need-returns-3
-returns-3 c = (add-put _ _ _ _ _ _ _ _ _ (c .before .before .before .before .before .before .before .before .before .before .before .before .before .before .before .eligible .ensures) _ (not-false _ (c .before .before .before .before .before .before .before .before .before .before .before .before .before .before .if1 .left)) (c .before .before .before .before .before .before .before .before .before .fixed-of .ensures) (c .before .before .before .before .before .before .before .before .before .before .before .before .before .method-name .ensures) (c .before .before .before .before .before .before .before .before .before .before .before .before .method-descriptor .ensures) (c .before .before .before .before .before .before .before .before .before .before .find-slot .ensures) (c .before .before .before .before .put-found .ensures .0 ∙ rw (c .before .before .before .before .before .before .before .enum-told .given .1)), omega arith)
+returns-3 c =
+    let at-put-found : tie.After-put-found = search in
+    let at-enum-told : tie.After-enum-told = search in
+    let at-find-slot : tie.After-find-slot = search in
+    let at-method-name : tie.After-method-name = search in (
+      add-put _ _ _ _ _ _ _ _ _ (at-method-name .before .before .eligible .ensures) _ (not-false _ (at-method-name .before .if1 .left))
+          (at-enum-told .before .before .fixed-of .ensures) (at-method-name .method-name .ensures)
+          (at-find-slot .before .before .method-descriptor .ensures) (at-find-slot .find-slot .ensures)
+          (at-put-found .put-found .ensures .0 ∙ rw (at-enum-told .enum-told .given .1)),
+      omega arith,
+    )
 
 pub add-method-spec : {M : Type 1} → statement M
 add-method-spec =
     tie.close
     (tie.spec
-    eligible-requires
+    (λ c κs. search needs)
     returns
-    method-name-requires
-    method-descriptor-requires
-    find-slot-requires
-    fixed-of-requires
-    enum-known-i
-    put-fixed-requires
-    enum-told
-    put-found-requires
-    same-length
-    same-length-2
+    (λ c κs. search needs)
+    (λ c κs. search needs)
+    (λ c κs. search needs)
+    (λ c κs. search needs)
+    (λ c. search needs)
+    (λ c κs. search needs)
+    (λ c. search needs)
+    (λ c κs. search needs)
+    (λ c. search needs)
+    (λ c. search needs)
     returns-2
-    same-length-3
-    same-length-4
+    (λ c. search needs)
+    (λ c. search needs)
     returns-3)

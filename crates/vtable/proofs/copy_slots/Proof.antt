@@ -9,14 +9,11 @@ use Rattle.vtable.proofs.MarkLaws.{copied-word}
 use borrow.Author.Needs.{needs}
 use Rattle.vtable.proofs.copy_slots.Statement.{statement}
 use Rattle.vtable.proofs.copy_slots.Tie as tie
-use Rattle.vtable.proofs.copy_slots.Reads as reads
-use Rattle.vtable.proofs.copy_slots.Lts as lts
-use Rattle.vtable.proofs.put_slot.Reads as put-slot-reads
-use Rattle.words.proofs.wide.Reads as wide-reads
-use Rattle.words.proofs.word_at.Reads as word-at-reads
 
 abbrev Inv-loop : tie.InvT-loop
-Inv-loop area place n ts₀ ms₀ i₀ ts ms i = (i ≤ n) × (length ts ≡ length ts₀) × (length ms ≡ length ms₀) × (ts ≡ stores i (λ j. getD area (place + 1 + j) 0) ts₀) × (ms ≡ stores i (λ j. 0) ms₀)
+Inv-loop area place n ts₀ ms₀ i₀ ts ms i =
+    (i ≤ n) × (length ts ≡ length ts₀) × (length ms ≡ length ms₀) × (ts ≡ stores i (λ j. getD area (place + 1 + j) 0) ts₀)
+    × (ms ≡ stores i (λ j. 0) ms₀)
 
 abbrev μ-loop : tie.MeasureT-loop
 μ-loop area place n ts₀ ms₀ i₀ ts ms i = n - i
@@ -24,41 +21,26 @@ abbrev μ-loop : tie.MeasureT-loop
 loop-holds : tie.Need-loop-holds Inv-loop μ-loop
 loop-holds c = (omega arith, omega arith, omega arith, stores-none _ _, stores-none _ _)
 
-wide-requires : tie.Need-wide-requires Inv-loop μ-loop
-wide-requires c κs = search needs
-
-add-word-at : tie.Need-add-word-at Inv-loop μ-loop
-add-word-at c = search needs
-
-wide-requires-2 : tie.Need-wide-requires-2 Inv-loop μ-loop
-wide-requires-2 c κs = search needs
-
-add-word-at-2 : tie.Need-add-word-at-2 Inv-loop μ-loop
-add-word-at-2 c = search needs
-
-word-at-requires : tie.Need-word-at-requires Inv-loop μ-loop
-word-at-requires c κs = search needs
-
-put-slot-requires : tie.Need-put-slot-requires Inv-loop μ-loop
-put-slot-requires c κs = search needs
-
-add-i : tie.Need-add-i Inv-loop μ-loop
-add-i c = search needs
-
-loop-less : tie.Need-loop-less Inv-loop μ-loop
-loop-less c = search needs
-
 loop-again : tie.Need-loop-again Inv-loop μ-loop
-loop-again c = let l = c .before .before .before .before .before .before .before .before .before .before .before .loop in (omega arith, omega arith, omega arith, stores-turn _ _ _ (c .before .before .before .before .put-slot .ensures .0) (l .inv .3) (copied-word (c .before .before .before .before .before .before .before .before .before .before .before .before .before .before .before .args .area .now) (c .before .before .before .before .before .before .before .before .before .before .before .before .before .before .before .args .place) (l .i) (c .before .before .before .before .before .before .before .before .before .wide .ensures) (c .before .before .before .before .before .before .before .before .wide2 .ensures) (c .before .before .before .before .before .before .before .word-at .ensures)), stores-turn _ (λ (j : ℕ). 0) _ (c .before .before .before .before .put-slot .ensures .1) (l .inv .4) refl)
-
-same-length : tie.Need-same-length Inv-loop μ-loop
-same-length c = search needs
-
-same-length-2 : tie.Need-same-length-2 Inv-loop μ-loop
-same-length-2 c = search needs
+loop-again c =
+    let at-put-slot : tie.After-put-slot Inv-loop μ-loop = search in
+    let at-word-at : tie.After-word-at Inv-loop μ-loop = search in
+    let at-loop : tie.At-loop Inv-loop μ-loop = search in
+    let start : tie.Start Inv-loop μ-loop = search in
+    let l = at-loop .loop in (
+      omega arith,
+      omega arith,
+      omega arith,
+      stores-turn _ _ _ (at-put-slot .put-slot .ensures .0) (l .inv .3)
+          (copied-word (start .args .area .now) (start .args .place) (l .i) (at-word-at .before .before .wide .ensures)
+          (at-word-at .before .wide2 .ensures) (at-word-at .word-at .ensures)),
+      stores-turn _ (λ (j : ℕ). 0) _ (at-put-slot .put-slot .ensures .1) (l .inv .4) refl,
+    )
 
 returns : tie.Need-returns Inv-loop μ-loop
-returns c = let e : c .before .loop .i ≡ c .before .before .before .before .before .args .n = omega arith in (rw e at (c .before .loop .inv .3), rw e at (c .before .loop .inv .4))
+returns c =
+    let start : tie.Start Inv-loop μ-loop = search in
+    let e : c .before .loop .i ≡ start .args .n = omega arith in (rw e at (c .before .loop .inv .3), rw e at (c .before .loop .inv .4))
 
 pub copy-slots-spec : {M : Type 1} → statement M
 copy-slots-spec =
@@ -67,15 +49,15 @@ copy-slots-spec =
     Inv-loop
     μ-loop
     loop-holds
-    wide-requires
-    add-word-at
-    wide-requires-2
-    add-word-at-2
-    word-at-requires
-    put-slot-requires
-    add-i
-    loop-less
+    (λ c κs. search needs)
+    (λ c. search needs)
+    (λ c κs. search needs)
+    (λ c. search needs)
+    (λ c κs. search needs)
+    (λ c κs. search needs)
+    (λ c. search needs)
+    (λ c. search needs)
     loop-again
-    same-length
-    same-length-2
+    (λ c. search needs)
+    (λ c. search needs)
     returns)

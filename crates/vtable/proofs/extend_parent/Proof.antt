@@ -1,44 +1,28 @@
 use native.Mathlib.Omega.{arith}
 use denote.Ref.{now}
-use Prim.Native.Nat.{_≤_}
-use mathlib.Core.Path.{_≡_, sym}
-use Rattle.linking.specs.Abi.{minimumSize}
-use Rattle.vtable.proofs.BuildLaws.{extended-is, relayed-is}
+use Rattle.vtable.proofs.BuildLaws.{extended-is}
 use Rattle.abi.proofs.Laws.{minimum-size-room}
 use borrow.Author.Needs.{needs}
 use Rattle.vtable.proofs.extend_parent.Statement.{statement}
 use Rattle.vtable.proofs.extend_parent.Tie as tie
-use Rattle.vtable.proofs.extend_parent.Reads as reads
-use Rattle.vtable.proofs.extend_parent.Lts as lts
-use Rattle.abi.proofs.largest_size.Reads as largest-size-reads
-use Rattle.vtable.proofs.extend.Reads as extend-reads
-use Rattle.vtable.proofs.read_parent.Reads as read-parent-reads
-
-read-parent-requires : tie.Need-read-parent-requires
-read-parent-requires c κs = search needs
-
-largest-size-requires : tie.Need-largest-size-requires
-largest-size-requires c κs = search needs
 
 extend-requires : tie.Need-extend-requires
-extend-requires c κs = let a = c .before .before .before .before .before .before .before .before .before .before .before .before .before .before .before .before .before .before .args in let m = minimum-size-room (now (a .abi)) (now (a .abis)) in let e = c .largest-size .ensures in (omega arith, omega arith, omega arith, omega arith)
-
-same-length : tie.Need-same-length
-same-length c = search needs
-
-same-length-2 : tie.Need-same-length-2
-same-length-2 c = search needs
+extend-requires c κs =
+    let start = c .before .before .before .before .before .before .before .before .before .before .before .before .before .before .before .before .before .before in
+    let a = start .args in
+    let m = minimum-size-room (now (a .abi)) (now (a .abis)) in
+    let e = c .largest-size .ensures in (omega arith, omega arith, omega arith, omega arith)
 
 returns : tie.Need-returns
-returns c = (extended-is _ _ _ _ _ _ (c .before .before .before .before .before .largest-size .ensures) _ _ _ (c .before .before .before .before .before .before .before .before .before .before .before .before .read-parent .ensures .0) (c .before .before .before .before .extend .ensures .0), omega arith)
+returns c = (search extended-is, omega arith)
 
 pub extend-parent-spec : {M : Type 1} → statement M
 extend-parent-spec =
     tie.close
     (tie.spec
-    read-parent-requires
-    largest-size-requires
+    (λ c κs. search needs)
+    (λ c κs. search needs)
     extend-requires
-    same-length
-    same-length-2
+    (λ c. search needs)
+    (λ c. search needs)
     returns)
