@@ -196,6 +196,9 @@ ij                  0           (IJ)V                4
 ij-static           8           (IJ)V                3
 ij-public           1           (IJ)V                4
 ij-public-static    9           (IJ)V                3
+ij-every-other-flag 0x1DF7      (IJ)V                4
+text-and-longs      0           (Ljava/lang/String;[J)D 3
+text-longs-static   8           (Ljava/lang/String;[J)D 2
 none                0           ()V                  1
 none-static         8           ()V                  0
 flags-all-but-8     0xFFFFFFF7  ()V                  1

@@ -2,7 +2,7 @@
 
 Each vector is a good sheet, or a good sheet with one change that breaks one clause of rows 1
 to 5; `refused` and `accepted` below say which clause it is about. The judge of sheetlib.py,
-written from document 01, must find in each refused vector just the clause that is named (and
+written from docs/SPECIFICATION.md, must find in each refused vector just the clause that is named (and
 what is said under `also`, where one fault brings another).
 
 A file's name tells the sheet (`abi-` or `class-`), the row or `ok`, and, after `-lent-`, how

@@ -3,7 +3,7 @@
 
 The vectors are those of sheetvectors.py (sheets to read) and setvectors.py (words already
 read, and descriptors whose argument words are counted). The judge of sheetlib.py, written from
-document 01, gives the answers.
+docs/SPECIFICATION.md, gives the answers.
 """
 
 import argparse

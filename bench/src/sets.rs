@@ -58,7 +58,7 @@ pub fn all() -> Vec<ClassSet> {
     vec![card(), made("middle", MIDDLE), made("chains of 8", LARGEST), made("chain of 64", LARGEST_CHAIN)]
 }
 
-/// The example of document 01; VipCard is asked for Card's table.
+/// The example of the specification; VipCard is asked for Card's table.
 fn card() -> ClassSet {
     let class_sheet = include_bytes!("../../examples/card/classes.bin").to_vec();
     let abi_sheet = include_bytes!("../../examples/card/abi.bin").to_vec();

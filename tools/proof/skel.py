@@ -4,7 +4,7 @@ holes, and prints a short digest: what is not proved, errors, and the goals of h
 import os, re, subprocess, sys, time
 crate, extra = sys.argv[1], sys.argv[2:]
 t0 = time.time()
-p = subprocess.run(['rt', 'dev', crate] + extra, capture_output=True, text=True, env=dict(os.environ, RT_CUT='0'))
+p = subprocess.run([os.environ.get('RT', 'rt'), 'dev', crate] + extra, capture_output=True, text=True, env=dict(os.environ, RT_CUT='0'))
 out = p.stdout + p.stderr
 os.makedirs('target', exist_ok=True)
 open('target/dev-%s.out' % crate, 'w').write(out)

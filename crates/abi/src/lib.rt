@@ -4,13 +4,15 @@ use words::Found;
 ghost use mathlib.Core.Path.{_≡_};
 ghost use Prim.Native.Nat.{_≤_, min, max};
 ghost use mathlib.Core.List.{[], _∷_, _++_};
-ghost use lib.ListN.{length, take};
+ghost use lib.ListN.{length, take, drop};
 ghost use lib.Dec.{eqb};
+ghost use Rattle.class_sheet.specs.ClassSheet.{classLimit};
 ghost use Rattle.words.specs.Lists.{find, allFound};
 ghost use Rattle.text.specs.Text.{sameBytes};
-ghost use Rattle.abi_sheet.specs.AbiSheet.{abiClassName, abiClassFirstSlot, abiClassSlotCount, abiClassFirstField, abiClassFieldCount};
+ghost use Rattle.abi_sheet.specs.AbiSheet.{abiClassName, abiClassFirstSlot, abiClassSlotCount, abiClassFirstField, abiClassFieldCount, abiSlotLimit, abiFieldLimit};
 ghost use Rattle.linking.specs.Chain.{listCount, chain};
 ghost use Rattle.linking.specs.Abi.{abiNamed, abiSlots, slotIndex, fixedFieldIndex, slotIs, vtableIndex, slotAt, fieldIs, fixedField, classSize, givenWords, classAbi, chainAbi, fixedIndex, minimumSize};
+ghost use Rattle.linking.specs.Vtable.{fixedOf};
 ghost use Rattle.chain.specs.Records.{recordWord};
 ghost use Rattle.abi.specs.Abis.{slotRecords, fieldRecords};
 
@@ -64,29 +66,29 @@ pub fn abi_named(abi: &[u32], labels: &[u8], name: &[u8]) -> Found
 }
 
 // How many slot records ABI class a has.
-pub fn slot_count(abi: &[u32], a: u32) -> u32
-    ensures { λ r. ⌜ r ≡ listCount (abiClassFirstSlot (now (abi .entry)) a) (abiClassSlotCount (now (abi .entry)) a) 512 ⌝ }
+fn slot_count(abi: &[u32], a: u32) -> u32
+    ensures { λ r. ⌜ r ≡ listCount (abiClassFirstSlot (now (abi .entry)) a) (abiClassSlotCount (now (abi .entry)) a) abiSlotLimit ⌝ }
 {
     chain::list_count(
         abi_sheet::class_first_slot(abi, a),
         abi_sheet::class_slot_count(abi, a),
-        512,
+        abi_sheet::SLOT_LIMIT,
     )
 }
 
 // How many field records ABI class a has.
 pub fn field_count(abi: &[u32], a: u32) -> u32
-    ensures { λ r. ⌜ r ≡ listCount (abiClassFirstField (now (abi .entry)) a) (abiClassFieldCount (now (abi .entry)) a) 256 ⌝ }
+    ensures { λ r. ⌜ r ≡ listCount (abiClassFirstField (now (abi .entry)) a) (abiClassFieldCount (now (abi .entry)) a) abiFieldLimit ⌝ }
 {
     chain::list_count(
         abi_sheet::class_first_field(abi, a),
         abi_sheet::class_field_count(abi, a),
-        256,
+        abi_sheet::FIELD_LIMIT,
     )
 }
 
 // The index that slot record s fixes.
-pub fn slot_index(abi: &[u32], s: u32) -> u32
+fn slot_index(abi: &[u32], s: u32) -> u32
     ensures { λ r. ⌜ r ≡ slotIndex (now (abi .entry)) s ⌝ }
 {
     smaller(abi_sheet::slot_index(abi, s), 1023)
@@ -131,7 +133,7 @@ fn slot_of(abi: &[u32], labels: &[u8], name: &[u8], descriptor: &[u8], a: u32) -
 }
 
 // The index that ABI class a fixes for this signature.
-pub fn vtable_index(abi: &[u32], labels: &[u8], name: &[u8], descriptor: &[u8], a: u32) -> Found
+fn vtable_index(abi: &[u32], labels: &[u8], name: &[u8], descriptor: &[u8], a: u32) -> Found
     ensures { λ r. ⌜ r ≡ vtableIndex (now (abi .entry)) (now (labels .entry)) (now (name .entry)) (now (descriptor .entry)) a ⌝ }
 {
     match slot_of(abi, labels, name, descriptor, a) {
@@ -195,7 +197,7 @@ pub fn fixed_field(abi: &[u32], labels: &[u8], name: &[u8], descriptor: &[u8], a
 }
 
 // How many slots ABI class a asks for: its table size, and its largest fixed index + 1.
-pub fn class_size(abi: &[u32], a: u32) -> u32
+fn class_size(abi: &[u32], a: u32) -> u32
     ensures { λ r. ⌜ r ≡ classSize (now (abi .entry)) a ⌝ }
 {
     let first = abi_sheet::class_first_slot(abi, a);
@@ -225,11 +227,12 @@ pub fn class_abi(ws: &[u32], text: &[u8], abi: &[u32], labels: &[u8], c: u32) ->
 
 // Stores ABI class a after the first n, if there is room, and answers how many there are.
 fn push(at: &mut [u32], n: u32, a: u32) -> u32
-    requires { ⌜ (length (now at) ≡ 64) × (n ≤ 64) ⌝ }
-    ensures is { λ r. ⌜ take r (now (at .exit)) ≡ take 64 (take n (now (at .entry)) ++ (a ∷ [])) ⌝ }
-    ensures count { λ r. ⌜ r ≤ 64 ⌝ }
+    requires { ⌜ (length (now at) ≡ classLimit) × (n ≤ classLimit) ⌝ }
+    ensures is { λ r. ⌜ take r (now (at .exit)) ≡ take classLimit (take n (now (at .entry)) ++ (a ∷ [])) ⌝ }
+    ensures count { λ r. ⌜ (n ≤ r) × (r ≤ classLimit) ⌝ }
+    ensures rest { λ r. ⌜ drop r (now (at .exit)) ≡ drop r (now (at .entry)) ⌝ }
 {
-    if 64 <= n {
+    if class_sheet::CLASS_LIMIT <= n {
         return n;
     }
     words::put_word(at, words::wide(n), a);
@@ -246,9 +249,10 @@ fn push_chain(
     at: &mut [u32],
     n: u32,
 ) -> u32
-    requires { ⌜ (length (now at) ≡ 64) × (n ≤ 64) ⌝ }
-    ensures is { λ r. ⌜ take r (now (at .exit)) ≡ take 64 (take n (now (at .entry)) ++ allFound (classAbi (now (ws .entry)) (now (text .entry)) (now (abi .entry)) (now (labels .entry))) (chain (now (ws .entry)) c)) ⌝ }
-    ensures count { λ r. ⌜ r ≤ 64 ⌝ }
+    requires { ⌜ (length (now at) ≡ classLimit) × (n ≤ classLimit) ⌝ }
+    ensures is { λ r. ⌜ take r (now (at .exit)) ≡ take classLimit (take n (now (at .entry)) ++ allFound (classAbi (now (ws .entry)) (now (text .entry)) (now (abi .entry)) (now (labels .entry))) (chain (now (ws .entry)) c)) ⌝ }
+    ensures count { λ r. ⌜ (n ≤ r) × (r ≤ classLimit) ⌝ }
+    ensures rest { λ r. ⌜ drop r (now (at .exit)) ≡ drop r (now (at .entry)) ⌝ }
 {
     if c == 0 {
         return n;
@@ -262,18 +266,19 @@ fn push_chain(
     }
 }
 
-// Stores the ABI classes that the chain of class c names, nearest first, and answers how many there are.
+// Stores the ABI classes that the chain of class c names, nearest first, and answers how many there are. The rest of the array stays.
 pub fn chain_abi(
     ws: &[u32],
     text: &[u8],
     abi: &[u32],
     labels: &[u8],
     c: u32,
-    at: &mut [u32; 64],
+    at: &mut [u32; class_sheet::CLASS_LIMIT as usize],
 ) -> u32
     ensures is { λ r. ⌜ take r (now (at .exit)) ≡ chainAbi (now (ws .entry)) (now (text .entry)) (now (abi .entry)) (now (labels .entry)) c ⌝ }
-    ensures count { λ r. ⌜ r ≤ 64 ⌝ }
-    ensures array { λ r. ⌜ length (now (at .exit)) ≡ 64 ⌝ }
+    ensures count { λ r. ⌜ r ≤ classLimit ⌝ }
+    ensures array { λ r. ⌜ length (now (at .exit)) ≡ classLimit ⌝ }
+    ensures rest { λ r. ⌜ drop r (now (at .exit)) ≡ drop r (now (at .entry)) ⌝ }
 {
     push_chain(ws, text, abi, labels, c, at, 0)
 }
@@ -300,6 +305,19 @@ pub fn first_fixed(
         }
     }
     Found::Nothing
+}
+
+// The index that the first of the ABI classes fixes for method m's signature.
+pub fn fixed_of(ws: &[u32], text: &[u8], abi: &[u32], labels: &[u8], abis: &[u32], m: u32) -> Found
+    ensures { λ r. ⌜ r ≡ fixedOf (now (ws .entry)) (now (text .entry)) (now (abi .entry)) (now (labels .entry)) (now (abis .entry)) m ⌝ }
+{
+    first_fixed(
+        abi,
+        labels,
+        abis,
+        class_sheet::method_name(ws, text, m),
+        class_sheet::method_descriptor(ws, text, m),
+    )
 }
 
 // How many slots a table has at least: the largest fixed index + 1 or table size among the ABI classes.

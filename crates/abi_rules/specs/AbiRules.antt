@@ -8,17 +8,17 @@ use Rattle.words.specs.Folds.{allOf}
 use Rattle.words.specs.Words.{inside}
 use Rattle.block.specs.Block.{leastFit}
 use Rattle.text.specs.Text.{zeroRest, partOk}
-use Rattle.abi_sheet.specs.AbiSheet.{abiClassCount, abiSlotCount, abiFieldCount, abiTextLength, abiTextAt, abiContentEnd, abiClassNameStart, abiClassNameLength, abiClassTableSizePlusOne, abiClassInstanceWordsPlusOne, abiClassFirstSlot, abiClassSlotCount, abiClassFirstField, abiClassFieldCount, abiSlotNameStart, abiSlotNameLength, abiSlotDescriptorStart, abiSlotDescriptorLength, abiSlotIndex, abiFieldNameStart, abiFieldNameLength, abiFieldDescriptorStart, abiFieldDescriptorLength, abiFieldIndex}
+use Rattle.abi_sheet.specs.AbiSheet.{abiClassLimit, abiSlotLimit, abiFieldLimit, abiTextLimit, abiClassCount, abiSlotCount, abiFieldCount, abiTextLength, abiTextAt, abiContentEnd, abiClassNameStart, abiClassNameLength, abiClassTableSizePlusOne, abiClassInstanceWordsPlusOne, abiClassFirstSlot, abiClassSlotCount, abiClassFirstField, abiClassFieldCount, abiSlotNameStart, abiSlotNameLength, abiSlotDescriptorStart, abiSlotDescriptorLength, abiSlotIndex, abiFieldNameStart, abiFieldNameLength, abiFieldDescriptorStart, abiFieldDescriptorLength, abiFieldIndex}
 
 -- ---- row 3
 
 -- "four counts (classes ≤ 64, slots ≤ 512, fields ≤ 256, text bytes ≤ 8,192)"
 unfoldable pub abiLimits : List ℕ → Bool
 abiLimits abi =
-    leb (abiClassCount abi) 64
-    && leb (abiSlotCount abi) 512
-    && leb (abiFieldCount abi) 256
-    && leb (abiTextLength abi) 8192
+    leb (abiClassCount abi) abiClassLimit
+    && leb (abiSlotCount abi) abiSlotLimit
+    && leb (abiFieldCount abi) abiFieldLimit
+    && leb (abiTextLength abi) abiTextLimit
 
 -- at a link or an ask: "of rows 1 to 3 only the count limits and the content's fit in the lent slice apply, as 3"
 unfoldable pub abiFits : List ℕ → Bool

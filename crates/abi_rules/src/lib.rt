@@ -6,16 +6,16 @@ ghost use Rattle.abi_sheet.specs.AbiSheet.{abiClassCount, abiSlotCount, abiFiel
 ghost use Rattle.abi_rules.specs.AbiRules.{abiLimits, abiFits, abiForm, abiClassRecord, abiSlotRecord, abiFieldRecord, abiRecords};
 
 // The words of a slot record, and of a field record.
-const MEMBER_WIDTH: u32 = 5;
+const MEMBER_WIDTH: u32 = abi_sheet::MEMBER_WIDTH as u32;
 
 // Whether each count is within its limit.
 fn limits_ok(abi: &[u32]) -> bool
     ensures { λ r. ⌜ r ≡ abiLimits (now (abi .entry)) ⌝ }
 {
-    (abi_sheet::class_count(abi) <= 64)
-        & (abi_sheet::slot_count(abi) <= 512)
-        & (abi_sheet::field_count(abi) <= 256)
-        & (abi_sheet::text_length(abi) <= 8192)
+    (abi_sheet::class_count(abi) <= abi_sheet::CLASS_LIMIT)
+        & (abi_sheet::slot_count(abi) <= abi_sheet::SLOT_LIMIT)
+        & (abi_sheet::field_count(abi) <= abi_sheet::FIELD_LIMIT)
+        & (abi_sheet::text_length(abi) <= abi_sheet::TEXT_LIMIT)
 }
 
 // Row 3 of a link or an ask: whether the counts are within their limits and the content fits the slice.

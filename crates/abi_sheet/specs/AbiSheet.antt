@@ -4,6 +4,7 @@
 use Prim.Native.Nat.{ℕ, _+_, _*_, _/_}
 use mathlib.Core.List.{List}
 use lib.ListN.{getD, drop}
+use Rattle.words.specs.Words.{wordsFor}
 use Rattle.text.specs.Text.{textOfWords, nameAt}
 
 -- ---- widths, in words
@@ -17,6 +18,30 @@ abiClassWidth = 8
 -- of a slot record, and of a field record
 abbrev pub abiMemberWidth : ℕ
 abiMemberWidth = 5
+
+-- ---- what each count may be at most; the most words that the content has, the blocks of 127 words that hold them, and their words
+
+abbrev pub abiClassLimit : ℕ
+abiClassLimit = 64
+
+abbrev pub abiSlotLimit : ℕ
+abiSlotLimit = 512
+
+abbrev pub abiFieldLimit : ℕ
+abiFieldLimit = 256
+
+abbrev pub abiTextLimit : ℕ
+abiTextLimit = 8192
+
+abbrev pub abiContentLimit : ℕ
+abiContentLimit =
+    abiCountsWidth + abiClassWidth * abiClassLimit + abiMemberWidth * abiSlotLimit + abiMemberWidth * abiFieldLimit + wordsFor abiTextLimit
+
+abbrev pub abiBlockLimit : ℕ
+abiBlockLimit = (abiContentLimit + 126) / 127
+
+abbrev pub abiSheetWords : ℕ
+abiSheetWords = 127 * abiBlockLimit
 
 -- ---- counts
 
@@ -47,7 +72,7 @@ unfoldable pub abiTextAt : List ℕ → ℕ
 abiTextAt abi = abiFieldsAt abi + abiMemberWidth * abiFieldCount abi
 
 unfoldable pub abiContentEnd : List ℕ → ℕ
-abiContentEnd abi = abiTextAt abi + (abiTextLength abi + 3) / 4
+abiContentEnd abi = abiTextAt abi + wordsFor (abiTextLength abi)
 
 -- ---- words of records
 

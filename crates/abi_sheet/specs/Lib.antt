@@ -1,1 +1,2 @@
 pub mod AbiSheet
+pub mod Sections

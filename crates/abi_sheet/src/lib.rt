@@ -4,11 +4,32 @@ ghost use Prim.Native.Nat.{_<_, _^_};
 ghost use Rattle.text.specs.Text.{unpackedText};
 ghost use Rattle.abi_sheet.specs.AbiSheet.{abiCountAt, abiClassCount, abiSlotCount, abiFieldCount, abiTextLength, abiSlotsAt, abiFieldsAt, abiTextAt, abiContentEnd, abiClassWord, abiSlotWord, abiFieldWord, abiTextWords, abiClassNameStart, abiClassNameLength, abiClassTableSizePlusOne, abiClassInstanceWordsPlusOne, abiClassFirstSlot, abiClassSlotCount, abiClassFirstField, abiClassFieldCount, abiSlotNameStart, abiSlotNameLength, abiSlotDescriptorStart, abiSlotDescriptorLength, abiSlotIndex, abiFieldNameStart, abiFieldNameLength, abiFieldDescriptorStart, abiFieldDescriptorLength, abiFieldIndex, abiClassName, abiSlotName, abiSlotDescriptor, abiFieldName, abiFieldDescriptor};
 
-const COUNTS_WIDTH: usize = 4;
+// Widths, in words: of the counts, of a class record, and of a slot or field record.
+pub const COUNTS_WIDTH: usize = 4;
 
-const CLASS_WIDTH: usize = 8;
+pub const CLASS_WIDTH: usize = 8;
 
-const MEMBER_WIDTH: usize = 5;
+pub const MEMBER_WIDTH: usize = 5;
+
+// What each count may be at most.
+pub const CLASS_LIMIT: u32 = 64;
+
+pub const SLOT_LIMIT: u32 = 512;
+
+pub const FIELD_LIMIT: u32 = 256;
+
+pub const TEXT_LIMIT: u32 = 8192;
+
+// The most words that the content has, 6,404; the blocks of 127 words that hold them, 51; and the words of those blocks, 6,477.
+pub const CONTENT_LIMIT: usize = COUNTS_WIDTH
+    + CLASS_WIDTH * (CLASS_LIMIT as usize)
+    + MEMBER_WIDTH * (SLOT_LIMIT as usize)
+    + MEMBER_WIDTH * (FIELD_LIMIT as usize)
+    + ((TEXT_LIMIT as usize) + 3) / 4;
+
+pub const BLOCK_LIMIT: u32 = ((CONTENT_LIMIT + 126) / 127) as u32;
+
+pub const SHEET_WORDS: usize = 127 * (BLOCK_LIMIT as usize);
 
 // Count k of the four.
 fn count_at(abi: &[u32], k: usize) -> u32

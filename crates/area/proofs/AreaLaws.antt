@@ -1,25 +1,24 @@
 -- Laws of the words that are written into the table area. Assumes nothing.
 use mathlib.Core.Path.{_≡_, refl, sym, ap, _∙_}
-use mathlib.Core.Bool.{Bool, true, false, not, _||_}
+use mathlib.Core.Bool.{Bool, true, false, _||_}
 use mathlib.Core.List.{List, [], _∷_, _++_, append-nil}
 use Prim.Native.Nat.{ℕ, zero, suc, _+_, _-_, _≤_, _<_}
 use native.Mathlib.Omega.{arith}
 use lib.ListN.{length, getD, set, take, drop, length-drop, drop-of-length-le}
 use lib.Seq.{take-all, drop-drop}
-use lib.Dec.{eqb, ltb}
-use borrow.Author.Tests.{lt-ltb, le-ltb, ltb-true, ltb-false, eqb-true, eqb-false}
-use Rattle.words.specs.Folds.{allOf}
+use lib.Dec.{ltb}
+use borrow.Author.Tests.{lt-ltb, le-ltb, ltb-true, ltb-false}
 use Rattle.words.specs.Lists.{listFrom}
 use Rattle.words.proofs.Bools.{by, or-neither}
 use Rattle.words.proofs.ListLaws.{length-list-from}
-use Rattle.class_sheet.specs.ClassSheet.{classCount}
-use Rattle.growth.proofs.Lists.{list-more}
-use Rattle.growth.proofs.Writes.{write-none, write-more, write-set, write-next}
+use Rattle.words.proofs.Ext.{list-more}
+use Rattle.linking.proofs.Writes.{write-none, write-more, write-set, write-next}
+use Rattle.linking.proofs.Rows.{Fits, fits}
 use Rattle.linking.specs.Vtable.{Entry, slotWord, slotWords}
-use Rattle.linking.specs.Link.{nextFree, endsBelow, badArea, noRoom, writeAt, linkedArea}
+use Rattle.linking.specs.Link.{nextFree, noRoom, writeAt, linkedArea}
 use Rattle.linking.specs.Ask.{headPlace, askedArea}
-use Rattle.vtable.specs.Arrays.{entryAt, entriesOf}
-use Rattle.vtable.proofs.ArrayLaws.{length-entries}
+use Rattle.reading.specs.Arrays.{entryAt, entriesOf}
+use Rattle.reading.proofs.ArrayLaws.{length-entries}
 use Rattle.area.specs.Area.{slotsOf, tableWords, nodeWords, mayNotWrite, tableWritten, nodeWritten}
 
 -- ---- room
@@ -36,43 +35,11 @@ pub room-is : (area stubs : List ℕ) (n : ℕ) {s w : ℕ} → s ≡ n → w �
 unfolding noRoom
 room-is area stubs n e f = rw (e, f, left-short (length area) (nextFree area) n)
 
--- there are n stubs, and room for n slots and two words
-pub record Fits (area stubs : List ℕ) (n : ℕ) : Type 0 where
-  pub stubbed : n ≤ length stubs
-  pub free : nextFree area + n + 2 ≤ length area
-
-pub fits : (area stubs : List ℕ) (n : ℕ) → noRoom area stubs n ≡ false → Fits area stubs n
-unfolding noRoom
-fits area stubs n e =
-    let p = or-neither (ltb (length stubs) n) (ltb (length area - nextFree area) (n + 2)) e in
-    let a = ltb-false (length stubs) n (p .0) in
-    let b = ltb-false (length area - nextFree area) (n + 2) (p .1) in
-    record { stubbed = omega arith; free = omega arith }
-
 pub may-write : (area stubs : List ℕ) (n : ℕ) → mayNotWrite area stubs n ≡ false → (Fits area stubs n) × (length area ≤ 4294967295)
 unfolding mayNotWrite
 may-write area stubs n e =
     let p = or-neither (noRoom area stubs n) (ltb 4294967295 (length area)) e in
     (fits area stubs n (p .0), ltb-false 4294967295 (length area) (p .1))
-
--- an area that row 7 does not refuse
-pub record Sound (area : List ℕ) : Type 0 where
-  pub some : (nextFree area ≡ 0) → ⊥
-  pub within : nextFree area ≤ length area
-  pub short : length area ≤ 4294967295
-
-pub sound : (ws area : List ℕ) → badArea ws area ≡ false → Sound area
-unfolding badArea
-sound ws area e =
-    let a = or-neither (eqb (length area) 0 || ltb 4294967295 (length area) || eqb (nextFree area) 0 || ltb (length area) (nextFree area)) (not (allOf (classCount ws) (λ i. endsBelow ws area (i + 1)))) e in
-    let b = or-neither (eqb (length area) 0 || ltb 4294967295 (length area) || eqb (nextFree area) 0) (ltb (length area) (nextFree area)) (a .0) in
-    let d = or-neither (eqb (length area) 0 || ltb 4294967295 (length area)) (eqb (nextFree area) 0) (b .0) in
-    let f = or-neither (eqb (length area) 0) (ltb 4294967295 (length area)) (d .0) in
-    record {
-      some = eqb-false (nextFree area) 0 (d .1);
-      within = ltb-false (length area) (nextFree area) (b .1);
-      short = ltb-false 4294967295 (length area) (f .1);
-    }
 
 -- ---- the slots, word by word
 
@@ -131,10 +98,12 @@ written-part l xs ys k h e =
 
 -- ---- the area, as the code leaves it
 
-module _ (area ts stubs : List ℕ) (n : ℕ) {b : Bool} (test : b ≡ mayNotWrite area stubs n) where
-  pub code-may-write : b ≡ false → (Fits area stubs n) × (length area ≤ 4294967295)
-  code-may-write f = may-write area stubs n (sym test ∙ f)
+-- where the code may write, n slots and two words fit after the next free word, and a place fits into a word
+pub next-fits : (area stubs : List ℕ) (n : ℕ) {b : Bool} {k w : ℕ} → b ≡ mayNotWrite area stubs n → b ≡ false → w ≡ nextFree area → k ≡ w
+    → (k + n + 2 ≤ length area) × (length area ≤ 4294967295)
+next-fits area stubs n test f e g = let p = may-write area stubs n (sym test ∙ f) in (omega (arith, p .0 .free), p .1)
 
+module _ (area ts stubs : List ℕ) (n : ℕ) {b : Bool} (test : b ≡ mayNotWrite area stubs n) where
   pub table-not : (c : ℕ) → b ≡ true → area ≡ tableWritten area c ts n stubs
   unfolding tableWritten
   table-not c t = rw (← test, t)
@@ -143,25 +112,26 @@ module _ (area ts stubs : List ℕ) (n : ℕ) {b : Bool} (test : b ≡ mayNotWri
   unfolding nodeWritten
   node-not head i t = rw (← test, t)
 
-  module _ (k : ℕ) (free : k ≡ nextFree area) (f : b ≡ false) where
+  -- as the code reads it: the next free word x, and k, the same in the width of an index
+  module _ (k : ℕ) {x : ℕ} (word : x ≡ nextFree area) (free : k ≡ x) (f : b ≡ false) where
     start : k ≤ length area
-    start = let p = code-may-write f in omega (arith, p .0 .free)
+    start = omega (arith, next-fits area stubs n test f word free .0)
 
     pub table-put : (c : ℕ) {w : ℕ} {ys l₂ : List ℕ} → ys ≡ writeAt (take (length area - k) (drop k area)) 0 (tableWords c ts stubs n)
         → w ≡ n → l₂ ≡ set (take k area ++ (ys ++ drop (length area - k) (drop k area))) 0 (k + w + 2) → l₂ ≡ tableWritten area c ts n stubs
     unfolding tableWritten
     table-put c {ys = ys} p e q =
         let g = written-part area (tableWords c ts stubs n) ys k start p in
-        q ∙ rw (g, e, ← test, f, free)
+        q ∙ rw (g, e, ← test, f, free, word)
 
-    pub node-put : (head i : ℕ) {old v w : ℕ} {ys l₂ l₃ : List ℕ} → old ≡ getD area head 0
-        → ys ≡ writeAt (take (length area - k) (drop k area)) 0 (nodeWords old i ts stubs n) → v ≡ k → w ≡ n
-        → l₂ ≡ set (take k area ++ (ys ++ drop (length area - k) (drop k area))) head v → l₃ ≡ set l₂ 0 (k + w + 2)
+    pub node-put : (head i : ℕ) {old w : ℕ} {ys l₂ l₃ : List ℕ} → old ≡ getD area head 0
+        → ys ≡ writeAt (take (length area - k) (drop k area)) 0 (nodeWords old i ts stubs n) → w ≡ n
+        → l₂ ≡ set (take k area ++ (ys ++ drop (length area - k) (drop k area))) head x → l₃ ≡ set l₂ 0 (k + w + 2)
         → l₃ ≡ nodeWritten area head i ts n stubs
     unfolding nodeWritten
-    node-put head i {old = old} {ys = ys} o p u e q r =
+    node-put head i {old = old} {ys = ys} o p e q r =
         let g = written-part area (nodeWords old i ts stubs n) ys k start p in
-        r ∙ rw (q, g, e, u, ← test, f, o, free)
+        r ∙ rw (q, g, e, ← test, f, o, free, word)
 
 -- ---- what the definitions of link and ask say of it
 

@@ -1,3 +1,3 @@
+pub mod Answers
 pub mod AreaLaws
-pub mod Examples
 pub mod WalkLaws

@@ -1,5 +1,6 @@
 -- What the code reads from the table area and writes into it, and what a call answers. Assumes nothing.
-use Prim.Native.Nat.{ℕ, zero, suc, _+_}
+use Prim.Native.Nat.{ℕ, zero, suc, _+_, _≤_}
+use mathlib.Core.Path.{_≡_}
 use mathlib.Core.Bool.{Bool, cond, _||_}
 use mathlib.Core.List.{List, [], _∷_, _++_}
 use lib.ListN.{length, getD, set}
@@ -27,11 +28,28 @@ walkOf (Hit n nodes) = hit n nodes
 walkOf (Missed nodes) = missed nodes
 walkOf Broken = broken
 
+-- its number: row 7 refuses a broken list
+abbrev pub walkRow : Walked → ℕ
+walkRow (Hit n nodes) = 0
+walkRow (Missed nodes) = 0
+walkRow Broken = 7
+
+-- the nodes that it counts
+abbrev pub nodesRead : Walked → ℕ
+nodesRead (Hit n nodes) = nodes
+nodesRead (Missed nodes) = nodes
+nodesRead Broken = 0
+
 -- the nodes of a list from n on, up to interface i's and with it, as many as may be read
 unfoldable pub nodesTo : List ℕ → ℕ → ℕ → ℕ → List ℕ
 nodesTo area i zero n = []
 nodesTo area i (suc left) n =
     cond (eqb n 0) [] (n ∷ cond (eqb (getD area (n + 1) 0) i) [] (nodesTo area i left (getD area n 0)))
+
+-- "Nodes read equal those the walk's definition passes, at most 64": a walk that row 7 does not refuse counts the nodes that it passes
+pub record Counted (r : Walked) (passed : List ℕ) : Type 0 where
+  pub all : walkRow r ≡ 0 → nodesRead r ≡ length passed
+  pub few : nodesRead r ≤ 64
 
 -- ---- tables and nodes, by the words of n slots
 

@@ -5,7 +5,7 @@ ghost use lib.ListN.{length};
 ghost use Rattle.linking.specs.Vtable.{slotWord};
 ghost use Rattle.linking.specs.Link.{noRoom, writeAt};
 ghost use Rattle.linking.specs.Ask.{walk};
-ghost use Rattle.area.specs.Area.{walkOf, slotsOf, tableWords, nodeWords, mayNotWrite, tableWritten, nodeWritten};
+ghost use Rattle.area.specs.Area.{walkOf, nodesTo, Counted, slotsOf, tableWords, nodeWords, mayNotWrite, tableWritten, nodeWritten};
 
 // What a link or an ask answers: its two values, or the row that refuses it.
 pub enum Answer {
@@ -23,9 +23,10 @@ pub enum Walked {
 // The most nodes that a walk reads.
 const MOST_NODES: u32 = 64;
 
-// Walks from the head to interface i's node, and counts the nodes read.
+// Walks from the head to interface i's node, and counts the nodes read: those of the list up to the hit, or all of it, at most 64.
 pub fn walk(area: &[u32], i: u32, head: u32) -> Walked
-    ensures { λ r. ⌜ walkOf r ≡ walk (now (area .entry)) i 64 0 head ⌝ }
+    ensures walked { λ r. ⌜ walkOf r ≡ walk (now (area .entry)) i 64 0 head ⌝ }
+    ensures counted { λ r. ⌜ Counted r (nodesTo (now (area .entry)) i 64 head) ⌝ }
 {
     let next = words::wide(words::word_at(area, 0));
     let mut n: u32 = head;

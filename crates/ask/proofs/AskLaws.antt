@@ -14,11 +14,12 @@ use Rattle.set_rules.specs.SetRules.{setRefusal}
 use Rattle.linking.specs.Vtable.{Built, tableEntries}
 use Rattle.linking.specs.Link.{nextFree, badArea, noRoom, Outcome, refusedCall}
 use Rattle.linking.specs.Ask.{Walk, hit, missed, broken, walk, headPlace, dispatchEntries, buildNode, badAsk, askDef}
-use Rattle.vtable.specs.Arrays.{entriesOf}
-use Rattle.vtable.proofs.ArrayLaws.{length-entries}
+use Rattle.reading.specs.Arrays.{entriesOf}
+use Rattle.reading.proofs.ArrayLaws.{length-entries}
 use Rattle.area.specs.declared.Answer.the-variants.{Done}
 use Rattle.area.specs.Area.{outcome, nodeWritten}
-use Rattle.area.proofs.AreaLaws.{sound, fits, node-asked}
+use Rattle.linking.proofs.Rows.{sound, fits}
+use Rattle.area.proofs.AreaLaws.{node-asked}
 use Rattle.area.proofs.WalkLaws.{hit-is}
 use Rattle.ask.specs.Dispatch.{tableBuilt, askRefusal, finishAsk}
 
@@ -105,6 +106,17 @@ node-built ws abi c i area stubs nodes e f = f ∙ rw e
 
 -- ---- the call
 
+-- rows 3 to 7, and the walk from the class's head
+module _ (ws abi : List ℕ) (c i : ℕ) (area : List ℕ) {r : ℕ} (rows : r ≡ askRefusal ws abi c i area) (zero : r ≡ 0) where
+  pub code-asks : Asks ws abi c i area
+  code-asks = asks ws abi c i area (sym rows ∙ zero)
+
+  -- the place that is answered is a word
+  pub hit-fits : (head : ℕ) {u : Walk} → u ≡ walk area i 64 0 head → (n nodes : ℕ) → u ≡ hit n nodes → n + 1 < 4294967296
+  hit-fits head walked n nodes e =
+      let s = sound ws area (code-asks .tables) in
+      omega (arith, hit-is area i 64 0 head n nodes (sym walked ∙ e) .0, s .within, s .short)
+
 module _ (ws abi : List ℕ) (c i : ℕ) (area stubs : List ℕ) {r : ℕ} (rows : r ≡ askRefusal ws abi c i area) where
   refused-by : (x : ℕ) → askRefusal ws abi c i area ≡ x → (x ≡ 0 → ⊥) → refusedCall x ws area ≡ askDef ws abi c i area stubs
   unfolding askRefusal askDef
@@ -122,35 +134,25 @@ module _ (ws abi : List ℕ) (c i : ℕ) (area stubs : List ℕ) {r : ℕ} (rows
   pub ask-refused : (r ≡ 0 → ⊥) → refusedCall r ws area ≡ askDef ws abi c i area stubs
   ask-refused h = refused-by r (sym rows) h
 
-  pub code-asks : r ≡ 0 → Asks ws abi c i area
-  code-asks h = asks ws abi c i area (sym rows ∙ h)
-
   module _ (zero : r ≡ 0) {place head : ℕ} {u : Walk} (at : place ≡ headPlace ws c) (from : head ≡ getD area place 0)
       (walked : u ≡ walk area i 64 0 head) where
     head-is : walk area i 64 0 (getD area (headPlace ws c) 0) ≡ u
     head-is = rw (← at, ← from) (sym walked)
 
-    -- the place that is answered is a word
-    pub hit-fits : (n nodes : ℕ) → u ≡ hit n nodes → n + 1 < 4294967296
-    hit-fits n nodes e =
-        let a = code-asks zero in
-        let s = sound ws area (a .tables) in
-        omega (arith, hit-is area i 64 0 head n nodes (sym walked ∙ e) .0, s .within, s .short)
-
     pub ask-hit : (n nodes : ℕ) → u ≡ hit n nodes → outcome (Done (n + 1) nodes) ws area ≡ askDef ws abi c i area stubs
     unfolding askDef
     ask-hit n nodes e =
-        let a = code-asks zero in
+        let a = code-asks ws abi c i area rows zero in
         rw (eq-eqb (setRefusal ws abi) 0 (a .accepted), a .classes, a .tables, head-is, e)
 
     pub ask-built : (nodes : ℕ) {o : Outcome} → u ≡ missed nodes → o ≡ buildNode ws abi c i area stubs nodes → o ≡ askDef ws abi c i area stubs
     unfolding askDef
     ask-built nodes e f =
-        let a = code-asks zero in
+        let a = code-asks ws abi c i area rows zero in
         f ∙ rw (eq-eqb (setRefusal ws abi) 0 (a .accepted), a .classes, a .tables, head-is, e)
 
     pub ask-broken : u ≡ broken → refusedCall 7 ws area ≡ askDef ws abi c i area stubs
     unfolding askDef
     ask-broken e =
-        let a = code-asks zero in
+        let a = code-asks ws abi c i area rows zero in
         rw (eq-eqb (setRefusal ws abi) 0 (a .accepted), a .classes, a .tables, head-is, e)

@@ -5,18 +5,17 @@ use mathlib.Core.List.{List, [], _∷_, _++_, append-assoc, append-nil}
 use Prim.Native.Nat.{ℕ, _+_, _-_, _≤_, _<_}
 use native.Mathlib.Omega.{arith}
 use lib.ListN.{length, getD, set}
-use borrow.Author.Tests.{ne-eqb}
 use Rattle.words.specs.Lists.{listFrom}
 use Rattle.words.specs.declared.Found.{Found}
 use Rattle.words.specs.declared.Found.the-variants.{At, Nothing}
 use Rattle.words.proofs.ListLaws.{restFrom, rest-start, rest-turn, rest-end, find-member, found-by}
-use Rattle.class_sheet.specs.ClassSheet.{methodName, methodDescriptor, methodFlags, methodTarget}
+use Rattle.class_sheet.specs.ClassSheet.{methodName, methodDescriptor, methodFlags, methodTarget, methodLimit}
 use Rattle.linking.specs.Chain.{ownMethods, parentOf, chain, isVirtual, methodIs}
 use Rattle.linking.specs.Vtable.{Entry, Built, built, refused}
 use Rattle.linking.specs.Ask.{ownImplementation, implementation, consEntry, dispatchEntries}
-use Rattle.chain.proofs.ChainLaws.{along-none, along-hit, along-up, own-method-room}
-use Rattle.vtable.specs.Arrays.{marked, entryAt, entriesOf}
-use Rattle.vtable.proofs.ArrayLaws.{push-slot}
+use Rattle.linking.proofs.ChainLaws.{along-none, along-hit, along-up, own-method-room}
+use Rattle.reading.specs.Arrays.{markOf, methodOf, entryAt, entriesOf}
+use Rattle.reading.proofs.ArrayLaws.{method-back, push-slot}
 use Rattle.ask.specs.Dispatch.{slotBuilt, dispatched}
 use Rattle.ask.specs.declared.Slot.{Slot}
 
@@ -41,13 +40,13 @@ module _ (ws text : List ℕ) where
       unfolding implementation
       implementation-up e = sym (along-up (ownImplementation ws text (methodName ws text m) (methodDescriptor ws text m)) ws c h (own-is ∙ e))
 
-  own-room : (name descriptor : List ℕ) (c k : ℕ) → ownImplementation ws text name descriptor c ≡ At k → k < 512
+  own-room : (name descriptor : List ℕ) (c k : ℕ) → ownImplementation ws text name descriptor c ≡ At k → k < methodLimit
   unfolding ownImplementation
   own-room name descriptor c k e =
       own-method-room ws c k (find-member (λ m. isVirtual (methodFlags ws m) && methodIs ws text m name descriptor) (ownMethods ws c) k e)
 
   -- an implementation is one of the sheet's methods
-  pub implementation-room : (c m k : ℕ) → implementation ws text c m ≡ At k → k < 512
+  implementation-room : (c m k : ℕ) → implementation ws text c m ≡ At k → k < methodLimit
   unfolding implementation
   implementation-room c m k e =
       found-by (ownImplementation ws text (methodName ws text m) (methodDescriptor ws text m)) (chain ws c) k
@@ -56,21 +55,22 @@ module _ (ws text : List ℕ) where
   -- ---- one slot
 
   module _ (c w k : ℕ) where
-    pub slot-kept : k ≡ 0 → built (record { word = w; method = Nothing } ∷ []) ≡ dispatched ws text c (record { word = w; method = marked k })
+    pub slot-kept : {o : Found} → o ≡ methodOf k → o ≡ Nothing
+        → built (record { word = w; method = methodOf k } ∷ []) ≡ dispatched ws text c (record { word = w; method = methodOf k })
     unfolding dispatched
-    slot-kept e = rw e
+    slot-kept h e = rw (← h, e)
 
-    module _ {r : Found} (some : k ≡ 0 → ⊥) (found : r ≡ implementation ws text c (k - 1)) where
-      pub slot-takes : (m t : ℕ) → r ≡ At m → t ≡ methodTarget ws m
-          → built (record { word = t; method = marked (m + 1) } ∷ []) ≡ dispatched ws text c (record { word = w; method = marked k })
+    module _ {o r : Found} (j : ℕ) (method : o ≡ methodOf k) (some : o ≡ At j) (found : r ≡ implementation ws text c j) where
+      pub slot-takes : (m t : ℕ) {q : ℕ} → r ≡ At m → t ≡ methodTarget ws m → q ≡ markOf (At m)
+          → built (record { word = t; method = methodOf q } ∷ []) ≡ dispatched ws text c (record { word = w; method = methodOf k })
       unfolding dispatched
-      slot-takes m t e f =
-          let g : m + 1 - 1 ≡ m = omega arith in
-          rw (ne-eqb k 0 some, ← found, e, f, ne-eqb (m + 1) 0 (λ (z : m + 1 ≡ 0). omega arith), g)
+      slot-takes m t e f g =
+          let l = implementation-room c j m (sym found ∙ e) in
+          rw (g, method-back m (omega arith), f) (rw (← method, some) (rw (← found, e)))
 
-      pub slot-missing : r ≡ Nothing → refused 16 ≡ dispatched ws text c (record { word = w; method = marked k })
+      pub slot-missing : r ≡ Nothing → refused 16 ≡ dispatched ws text c (record { word = w; method = methodOf k })
       unfolding dispatched
-      slot-missing e = rw (ne-eqb k 0 some, ← found, e)
+      slot-missing e = rw (← method, some) (rw (← found, e))
 
   -- ---- the loop over the slots
 
@@ -92,7 +92,7 @@ module _ (ws text : List ℕ) where
     dispatch-start us ns = rw (rest-start (entryAt ts ms) 0 n) (cons-none (dispatchEntries ws text c (listFrom (entryAt ts ms) 0 n)))
 
     module _ (i w k : ℕ) (s : Slot) {j : ℕ} (h : i < n) (at : j ≡ i) (word : w ≡ getD ts j 0) (mark : k ≡ getD ms j 0)
-        (slot : slotBuilt s ≡ dispatched ws text c (record { word = w; method = marked k })) where
+        (slot : slotBuilt s ≡ dispatched ws text c (record { word = w; method = methodOf k })) where
       here : dispatched ws text c (entryAt ts ms (0 + i)) ≡ slotBuilt s
       unfolding entryAt
       here = let z : 0 + i ≡ j = omega arith in rw (z, ← word, ← mark) (sym slot)
@@ -111,7 +111,7 @@ module _ (ws text : List ℕ) where
       dispatch-turn us ns us₂ ns₂ r q f o p =
           let t = turn us ns in
           rw (o, p, at, push-slot us ns i (s .word) (s .mark) r q)
-          (sym (t ∙ rw f (cons-two (entriesOf us ns i) (record { word = s .word; method = marked (s .mark) } ∷ []) (dispatchEntries ws text c (restFrom (entryAt ts ms) 0 n (i + 1))))))
+          (sym (t ∙ rw f (cons-two (entriesOf us ns i) (record { word = s .word; method = methodOf (s .mark) } ∷ []) (dispatchEntries ws text c (restFrom (entryAt ts ms) 0 n (i + 1))))))
 
     pub dispatch-end : (us ns : List ℕ) (i : ℕ) → i ≡ n → built (entriesOf us ns n) ≡ soFar us ns i
     unfolding soFar dispatchEntries

@@ -1,3 +1,3 @@
+pub mod Answers
 pub mod AskLaws
 pub mod DispatchLaws
-pub mod Examples

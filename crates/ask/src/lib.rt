@@ -7,14 +7,14 @@ ghost use mathlib.Core.Bool.{_&&_, false};
 ghost use mathlib.Core.List.{List};
 ghost use Prim.Native.Nat.{ℕ, _≤_};
 ghost use lib.ListN.{length};
-ghost use Rattle.class_sheet.specs.ClassSheet.{methodFlags, textLength, textOf};
-ghost use Rattle.abi_sheet.specs.AbiSheet.{abiTextLength, abiTextOf};
+ghost use Rattle.class_sheet.specs.ClassSheet.{methodFlags, textLength, textOf, textLimit};
+ghost use Rattle.abi_sheet.specs.AbiSheet.{abiTextLength, abiTextOf, abiTextLimit};
 ghost use Rattle.set_rules.specs.SetRules.{setRefusal};
 ghost use Rattle.linking.specs.Chain.{isVirtual, methodIs};
 ghost use Rattle.linking.specs.Vtable.{tableEntries};
 ghost use Rattle.linking.specs.Link.{badArea};
 ghost use Rattle.linking.specs.Ask.{headPlace, ownImplementation, implementation, dispatchEntries, buildNode, askDef};
-ghost use Rattle.vtable.specs.Arrays.{marked, entriesOf};
+ghost use Rattle.reading.specs.Arrays.{methodOf, entriesOf};
 ghost use Rattle.area.specs.Area.{outcome};
 ghost use Rattle.ask.specs.Dispatch.{slotBuilt, dispatched, tableBuilt, askRefusal, finishAsk};
 
@@ -66,24 +66,24 @@ struct Slot {
 
 // Class c's slot for an interface's, whose word is w and whose method's mark is k.
 fn dispatch_slot(ws: &[u32], text: &[u8], c: u32, w: u32, k: u32) -> Slot
-    ensures { λ r. ⌜ slotBuilt r ≡ dispatched (now (ws .entry)) (now (text .entry)) c (record { word = w; method = marked k }) ⌝ }
+    ensures { λ r. ⌜ slotBuilt r ≡ dispatched (now (ws .entry)) (now (text .entry)) c (record { word = w; method = methodOf k }) ⌝ }
 {
-    if k == 0 {
+    let Found::At(j) = reading::method_of(k) else {
         return Slot {
             word: w,
-            mark: 0,
+            mark: k,
             missing: false,
         };
-    }
-    match implementation(ws, text, c, k - 1) {
+    };
+    match implementation(ws, text, c, j) {
         Found::At(m) => Slot {
             word: class_sheet::method_target(ws, m),
-            mark: m + 1,
+            mark: reading::mark_of(Found::At(m)),
             missing: false,
         },
         Found::Nothing => Slot {
             word: 0,
-            mark: 0,
+            mark: k,
             missing: true,
         },
     }
@@ -133,18 +133,18 @@ fn dispatch_table(
     us: &mut [u32],
     ns: &mut [u32],
 ) -> Dispatch
-    requires { ⌜ (textLength (now ws) ≤ 8192) × (abiTextLength (now abi) ≤ 8192) × (1024 ≤ length (now us)) × (1024 ≤ length (now ns)) ⌝ }
+    requires { ⌜ (textLength (now ws) ≤ textLimit) × (abiTextLength (now abi) ≤ abiTextLimit) × (1024 ≤ length (now us)) × (1024 ≤ length (now ns)) ⌝ }
     ensures { λ r. ⌜ tableBuilt (now (us .exit)) (now (ns .exit)) (r .n) (r .row) ≡ dispatchEntries (now (ws .entry)) (textOf (now (ws .entry))) c (tableEntries (now (ws .entry)) (textOf (now (ws .entry))) (now (abi .entry)) (abiTextOf (now (abi .entry))) (now (area .entry)) i) ⌝ }
 {
-    let mut bytes = [0u8; 8192];
+    let mut bytes = [0u8; class_sheet::TEXT_LIMIT as usize];
     class_sheet::unpack_text(ws, &mut bytes);
-    let mut abi_bytes = [0u8; 8192];
+    let mut abi_bytes = [0u8; abi_sheet::TEXT_LIMIT as usize];
     abi_sheet::unpack_text(abi, &mut abi_bytes);
     let text = text::name_at(&bytes, 0, class_sheet::text_length(ws));
     let labels = text::name_at(&abi_bytes, 0, abi_sheet::text_length(abi));
     let mut ts = [0u32; 1024];
     let mut ms = [0u32; 1024];
-    let n = vtable::table_entries(ws, text, abi, labels, area, i, &mut ts, &mut ms);
+    let n = reading::table_entries(ws, text, abi, labels, area, i, &mut ts, &mut ms);
     let row = dispatch_slots(ws, text, c, &ts, &ms, n, us, ns);
     Dispatch { n, row }
 }
@@ -223,17 +223,17 @@ fn ask_refusal(ws: &[u32], abi: &[u32], c: u32, i: u32, area: &[u32]) -> u32
 // Asks for the class's table of the interface. The answer is the place after its node's link word, where interface number and slots
 // follow, and how many nodes were read on the way; or the row that refuses. Where the class's list has a node of the interface, nothing is
 // written. Else a new node goes in front of the list, from the area's next free word on, and word 0 of the area moves past it. A refused
-// ask writes nothing, and no ask changes the set. Nothing of this is left to the program; where document 01 is silent, docs/DECISIONS.md has
+// ask writes nothing. Nothing of this is left to the program; where the specification is silent, docs/DECISIONS.md has
 // the reading.
 pub fn interface_dispatch_table(
-    set: &mut [u32],
+    set: &[u32],
     abi: &[u32],
     class: u32,
     interface: u32,
     area: &mut [u32],
     stubs: &[u32],
 ) -> Answer
-    ensures { λ r. ⌜ outcome r (now (set .exit)) (now (area .exit)) ≡ askDef (now (set .entry)) (now (abi .entry)) class interface (now (area .entry)) (now (stubs .entry)) ⌝ }
+    ensures { λ r. ⌜ outcome r (now (set .entry)) (now (area .exit)) ≡ askDef (now (set .entry)) (now (abi .entry)) class interface (now (area .entry)) (now (stubs .entry)) ⌝ }
 {
     let row = ask_refusal(set, abi, class, interface, area);
     if row != 0 {

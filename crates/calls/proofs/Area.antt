@@ -1,35 +1,17 @@
 -- What an accepted link and an ask leave in the area. Assumes nothing.
-use mathlib.Core.Path.{_≡_, refl, sym, ap, _∙_}
+use mathlib.Core.Path.{_≡_, ap, _∙_}
 use mathlib.Core.Logic.{_≢_, inl}
 use mathlib.Core.List.{List, [], _∷_, _++_, append-assoc}
-use Prim.Native.Nat.{ℕ, suc, _+_, _≤_, _<_}
+use Prim.Native.Nat.{ℕ, _+_, _≤_, _<_}
 use native.Mathlib.Omega.{arith}
-use lib.ListN.{length, getD, set, take, drop, length-append, length-set, List·getD-append}
-use lib.Seq.{length-take-le, getD-take, getD-set-other, take-at, drop-append-add}
+use lib.ListN.{length, getD, set, take, drop, length-append, length-set}
+use lib.Seq.{getD-set-other, take-at}
 use Rattle.words.proofs.Lists.{part-set-other}
-use Rattle.growth.proofs.Writes.{length-write}
+use Rattle.linking.proofs.Writes.{length-write, write-before, write-drop}
 use Rattle.linking.specs.Vtable.{Entry, slotWords}
 use Rattle.linking.specs.Link.{nextFree, writeAt, linkedArea}
 use Rattle.linking.specs.Ask.{headPlace, askedArea}
-
-pub length-slots : (stubs : List ℕ) (i : ℕ) (T : List Entry) → length (slotWords stubs i T) ≡ length T
-unfolding slotWords
-length-slots stubs i [] = refl
-length-slots stubs i (e ∷ T) = ap suc (length-slots stubs (i + 1) T)
-
--- ---- words written from a place on
-
-module _ (l : List ℕ) (k : ℕ) (xs : List ℕ) (h : k ≤ length l) where
-  pub write-before : (i : ℕ) → i < k → getD (writeAt l k xs) i 0 ≡ getD l i 0
-  unfolding writeAt
-  write-before i b =
-      List·getD-append (take k l) (xs ++ drop (k + length xs) l) 0 i (omega (arith, length-take-le k l h)) ∙ getD-take k l i 0 b
-
-  write-drop : (n : ℕ) → drop (k + n) (writeAt l k xs) ≡ drop n (xs ++ drop (k + length xs) l)
-  unfolding writeAt
-  write-drop n =
-      ap (λ (j : ℕ). drop (j + n) (take k l ++ (xs ++ drop (k + length xs) l))) (sym (length-take-le k l h))
-      ∙ drop-append-add (take k l) (xs ++ drop (k + length xs) l) n
+use Rattle.slots.proofs.ReadFacts.{length-words}
 
 -- ---- an accepted link: "class number, slots, then a zero list head, into the part of the area from the next free word on"
 
@@ -38,7 +20,7 @@ module _ (area : List ℕ) (c : ℕ) (T : List Entry) (stubs : List ℕ) (some :
   table = c ∷ (slotWords stubs 0 T ++ (0 ∷ []))
 
   length-written : length table ≡ length T + 2
-  length-written = omega (arith, length-append (slotWords stubs 0 T) (0 ∷ []), length-slots stubs 0 T)
+  length-written = omega (arith, length-append (slotWords stubs 0 T) (0 ∷ []), length-words stubs 0 T)
 
   pub linked-length : length (linkedArea area c T stubs) ≡ length area
   unfolding linkedArea
@@ -61,7 +43,7 @@ module _ (area : List ℕ) (c : ℕ) (T : List Entry) (stubs : List ℕ) (some :
       part-set-other 0 (writeAt area (nextFree area) table) 0 (nextFree area + length T + 2) (nextFree area + 1) (length T) (inl (omega arith))
       ∙ ap (take (length T)) (write-drop area (nextFree area) table (omega arith) 1)
       ∙ ap (take (length T)) (append-assoc ws (0 ∷ []) rest)
-      ∙ take-at ws ((0 ∷ []) ++ rest) (length T) (length-slots stubs 0 T)
+      ∙ take-at ws ((0 ∷ []) ++ rest) (length T) (length-words stubs 0 T)
 
 -- ---- an ask that puts a node in front: "a node (old head, interface number, slots) goes in front"
 
@@ -70,7 +52,7 @@ module _ (ws area : List ℕ) (c i : ℕ) (T : List Entry) (stubs : List ℕ) (r
   node = getD area (headPlace ws c) 0 ∷ i ∷ slotWords stubs 0 T
 
   length-node : length node ≡ length T + 2
-  length-node = omega (arith, length-slots stubs 0 T)
+  length-node = omega (arith, length-words stubs 0 T)
 
   pub asked-length : length (askedArea ws area c i T stubs) ≡ length area
   unfolding askedArea

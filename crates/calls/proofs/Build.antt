@@ -16,14 +16,14 @@ use Rattle.words.proofs.ListLaws.{by-found}
 use Rattle.class_sheet.specs.ClassSheet.{classCount, methodCount, textOf, classKind, methodName, methodDescriptor}
 use Rattle.abi_sheet.specs.AbiSheet.{abiSlotName, abiSlotDescriptor}
 use Rattle.set_rules.specs.Valid.{Valid}
-use Rattle.chain.proofs.ChainLaws.{own-target-member, own-method-member}
+use Rattle.linking.proofs.ChainLaws.{own-target-member, own-method-member}
 use Rattle.linking.specs.Chain.{onFound, ownMethods, chain, eligible, ownTarget, findByTarget}
 use Rattle.linking.specs.Abi.{slotAt, classAbi, chainAbi, minimumSize}
 use Rattle.linking.specs.Vtable.{Entry, empty, Built, built, refused, onBuilt, ownFixed, findByIndex, readEntry, entryIs, slotOf, entryIsOther, methodEntry, fixedOf, putFixed, relay, relayStep, relayed, extended, putMethod, addMethod, addMethods}
 use Rattle.slots.specs.Slots.{In, here, there}
 use Rattle.slots.specs.Made.{readWords, startFrom, tableFrom}
 use Rattle.slots.proofs.ListFacts.{not-found, found-same, found-in, in-member}
-use Rattle.slots.proofs.AddFacts.{built-same, not-built}
+use Rattle.linking.proofs.Plans.{built-same, not-built}
 use Rattle.calls.proofs.Like.{Like}
 use Rattle.calls.proofs.View.{method-name, method-descriptor, method-target, method-is, eligible-same, chain-class, own-same, own-below, class-abi, chain-abi}
 

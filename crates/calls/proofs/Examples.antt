@@ -8,8 +8,8 @@ use Rattle.class_sheet.specs.ClassSheet.{methodCount, fieldCount, textLength, t
 use Rattle.abi_sheet.specs.AbiSheet.{abiTextOf}
 use Rattle.words.specs.declared.Found.the-variants.{At, Nothing}
 use Rattle.linking.specs.Vtable.{readEntry}
-use Rattle.linking.specs.Assemble as assemble
-use Rattle.linking.specs.Assemble.{method, built, interface, compiled, array, slot, fixed, abi, lent, spare, fresh}
+use Rattle.linking.proofs.Assemble as assemble
+use Rattle.linking.proofs.Assemble.{method, built, interface, compiled, array, slot, fixed, abi, lent, spare, fresh}
 use Rattle.linking.proofs.Opened.{opened}
 use Rattle.calls.specs.Calls.{Call, link, ask, run, LinkedIn, now, later, tableAt}
 use Rattle.calls.specs.Demand.{start, Claim}

@@ -1,9 +1,5 @@
 pub mod Area
-pub mod Bytes
-pub mod Stores
-pub mod Leaves
 pub mod Linked
-pub mod Plans
 pub mod Rows
 pub mod Like
 pub mod View

@@ -1,131 +1,104 @@
--- What an accepted link leaves of the class words, whichever of its lists grow. Assumes nothing.
-use mathlib.Core.Path.{_≡_, refl, _∙_}
+-- What an accepted link leaves of the class words, whichever of its lists grow: its sections are those that were there, but for the class's record and
+-- what is added (`linked-left`), and each named word is read off them. Assumes nothing.
+use mathlib.Core.Path.{_≡_, sym, ap, _∙_}
+use mathlib.Core.Logic.{_≢_}
 use mathlib.Core.Bool.{false}
-use mathlib.Core.List.{List}
-use Prim.Native.Nat.{ℕ, _+_, _*_, _≤_}
+use mathlib.Core.List.{List, _++_}
+use Prim.Native.Nat.{ℕ, _+_, _-_, _≤_, _<_}
 use native.Mathlib.Omega.{arith}
-use lib.ListN.{length, take, drop}
+use lib.ListN.{length, getD}
+use lib.Dec.{eqb}
+use borrow.Author.Tests.{eqb-true, eqb-false}
 use Rattle.words.proofs.Bools.{by}
-use Rattle.words.proofs.Lists.{length-part}
-use Rattle.class_sheet.specs.ClassSheet.{classCount, methodCount, fieldCount, methodsAt, fieldsAt, interfacesAt, contentEnd, classKind, classFirstMethod, classMethodCount, classFirstField, classFieldCount}
-use Rattle.class_sheet.proofs.Kept.{sections}
-use Rattle.growth.proofs.Indices.{length-indices}
-use Rattle.linking.specs.Compiler.{New}
-use Rattle.linking.specs.Set.{putIndices, grownMethods, grownFields}
-use Rattle.linking.specs.Link.{Plan, isNone, linkedRecord, linkedWords}
-use Rattle.calls.proofs.Stores.{record-length}
-use Rattle.calls.proofs.Leaves.{Leaves, Growing, leaves-numbered, grown-count, grown-section, leaves-grown, numbered-low}
+use Rattle.class_sheet.specs.ClassSheet.{classWidth, memberWidth, classCount, methodCount, fieldCount, contentEnd, classWord, classKind, classFirstMethod, classMethodCount, classFirstField, classFieldCount, classTablePlace, classSlotCount, methodWord}
+use Rattle.words.specs.Rows.{rowWord}
+use Rattle.class_sheet.specs.Sections.{Sections, laidOut, sectionsOf}
+use Rattle.class_sheet.proofs.Sections.{class-count, method-count, class-word, method-word, text-of, formed-of, class-of, method-of, text-of-words}
+use Rattle.linking.specs.Set.{newText}
+use Rattle.linking.specs.Link.{Plan, isNone, linkedWords}
+use Rattle.linking.specs.Grown.{linkedSections}
+use Rattle.linking.proofs.Names.{Bytes}
+use Rattle.linking.proofs.LinkedSections.{lies-of, linked-laid}
+use Rattle.linking.proofs.LinkedBack.{Left, linked-left, linked-still}
+use Rattle.calls.proofs.Like.{Like}
 
-module _ (ws : List ℕ) (c place slots words : ℕ) (some : 1 ≤ c) (among : c ≤ classCount ws) (fits : contentEnd ws ≤ length ws)
-    (methods : classFirstMethod ws c + classMethodCount ws c ≤ methodCount ws) (fields : classFirstField ws c + classFieldCount ws c ≤ fieldCount ws)
-    (is : List ℕ) (inside : classFirstField ws c + length is ≤ fieldCount ws) (new : List New) where
-  abbrev recorded : List ℕ
-  recorded = linkedRecord ws c place slots words
-
-  abbrev numbered : List ℕ
-  numbered = putIndices (fieldsAt ws) (classFirstField ws c) is recorded
-
-  -- methods are added, to a generated class
-  module _ (generated : classKind ws c ≡ 1) where
-    abbrev methodCopy : List ℕ
-    methodCopy = take (6 * classMethodCount ws c) (drop (methodsAt ws + 6 * classFirstMethod ws c) numbered)
-
-    numbered-length : length numbered ≡ length ws
-    numbered-length = length-indices (fieldsAt ws) (classFirstField ws c) is recorded ∙ record-length ws c place slots words
-
-    method-copied : length methodCopy ≡ 6 * classMethodCount ws c
-    method-copied =
-        let s = sections ws in
-        length-part numbered (methodsAt ws + 6 * classFirstMethod ws c) (6 * classMethodCount ws c) (omega (arith, numbered-length))
-
-    methods-growing : Growing ws c place slots words some among fits numbered methodCopy (fieldsAt ws) (classMethodCount ws c) 1 5
-    methods-growing =
-        let s = sections ws in
-        record {
-          same-length = numbered-length;
-          same-low = numbered-low ws c place slots words some among fits is inside;
-          copied = method-copied;
-          after = omega arith;
-          before = omega arith;
-          counts = (omega arith, omega arith);
-          words-of = (omega arith, omega arith);
-          generated = λ n. absurd (n generated);
-        }
-
-    leaves-methods : Leaves ws (grownMethods ws c new numbered) c place slots
-    unfolding grownMethods
-    leaves-methods =
-        let s = sections ws in
-        let t = sections (grownMethods ws c new numbered) in
-        let own : ℕ = classMethodCount ws c in
-        let total : ℕ = methodCount ws + (own + length new) in
-        let kept = grown-count ws c place slots words some among fits numbered methodCopy (fieldsAt ws) own new 1 total 5 (methodCount ws) (own + length new)
-        methods-growing in
-        let sum = grown-section ws c place slots words some among fits numbered methodCopy (fieldsAt ws) own new 1 total 5 (methodCount ws)
-        (own + length new) methods-growing in
-        let n₀ = kept 0 (omega arith) (omega arith) in
-        let n₂ = kept 2 (omega arith) (omega arith) in
-        let n₃ = kept 3 (omega arith) (omega arith) in
-        let n₄ = kept 4 (omega arith) (omega arith) in
-        leaves-grown ws c place slots words some among fits numbered methodCopy (fieldsAt ws) own new 1 total 5 (methodCount ws) (own + length new)
-        methods-growing (omega arith) (omega arith) n₀
-
-  -- fields are added
-  abbrev fieldCopy : List ℕ
-  fieldCopy = putIndices 0 0 is (take (6 * classFieldCount ws c) (drop (fieldsAt ws + 6 * classFirstField ws c) recorded))
-
-  field-copied : length fieldCopy ≡ 6 * classFieldCount ws c
-  field-copied =
-      let s = sections ws in
-      length-indices 0 0 is (take (6 * classFieldCount ws c) (drop (fieldsAt ws + 6 * classFirstField ws c) recorded))
-      ∙ length-part recorded (fieldsAt ws + 6 * classFirstField ws c) (6 * classFieldCount ws c)
-      (omega (arith, record-length ws c place slots words))
-
-  fields-growing : Growing ws c place slots words some among fits recorded fieldCopy (interfacesAt ws) (classFieldCount ws c) 2 7
-  fields-growing =
-      let s = sections ws in
-      record {
-        same-length = record-length ws c place slots words;
-        same-low = λ i h. refl;
-        copied = field-copied;
-        after = omega arith;
-        before = omega arith;
-        counts = (omega arith, omega arith);
-        words-of = (omega arith, omega arith);
-        generated = λ n. omega arith;
-      }
-
-  leaves-fields : Leaves ws (grownFields ws c is new recorded) c place slots
-  unfolding grownFields
-  leaves-fields =
-      let s = sections ws in
-      let t = sections (grownFields ws c is new recorded) in
-      let own : ℕ = classFieldCount ws c in
-      let total : ℕ = fieldCount ws + (own + length new) in
-      let kept = grown-count ws c place slots words some among fits recorded fieldCopy (interfacesAt ws) own new 2 total 7 (fieldCount ws) (own + length new)
-      fields-growing in
-      let sum = grown-section ws c place slots words some among fits recorded fieldCopy (interfacesAt ws) own new 2 total 7 (fieldCount ws)
-      (own + length new) fields-growing in
-      let n₀ = kept 0 (omega arith) (omega arith) in
-      let n₁ = kept 1 (omega arith) (omega arith) in
-      let n₃ = kept 3 (omega arith) (omega arith) in
-      let n₄ = kept 4 (omega arith) (omega arith) in
-      leaves-grown ws c place slots words some among fits recorded fieldCopy (interfacesAt ws) own new 2 total 7 (fieldCount ws) (own + length new)
-      fields-growing (omega arith) (omega arith) n₀
-
--- ---- the link
+-- all records but class c's are left, which has its place and its slots
+pub record Leaves (old new : List ℕ) (c p n : ℕ) : Type 0 where
+  pub like : Like old new
+  pub others : (d k : ℕ) → 1 ≤ d → d ≤ classCount old → k < classWidth → d ≢ c → classWord new d k ≡ classWord old d k
+  pub place : classTablePlace new c ≡ p
+  pub slots : classSlotCount new c ≡ n
 
 module _ (ws : List ℕ) (c place words : ℕ) (p : Plan) (some : 1 ≤ c) (among : c ≤ classCount ws) (fits : contentEnd ws ≤ length ws)
     (methods : classFirstMethod ws c + classMethodCount ws c ≤ methodCount ws) (fields : classFirstField ws c + classFieldCount ws c ≤ fieldCount ws)
-    (inside : classFirstField ws c + length (p .indices) ≤ fieldCount ws) (generated : isNone (p .newMethods) ≡ false → classKind ws c ≡ 1) where
-  pub link-leaves : Leaves ws (linkedWords ws c place words p) c place (length (p .table))
-  unfolding linkedWords
-  link-leaves =
-      by (isNone (p .newFields))
-      (λ t.
+    (inside : classFirstField ws c + length (p .indices) ≤ fieldCount ws) (generated : isNone (p .newMethods) ≡ false → classKind ws c ≡ 1)
+    (method-bytes : Bytes (newText (p .newMethods))) (field-bytes : Bytes (newText (p .newFields))) where
+  abbrev s : Sections
+  s = sectionsOf ws
+
+  abbrev g : Sections
+  g = linkedSections s c place words p
+
+  -- a word of class c's record
+  own : (k : ℕ) → k < classWidth → classWord ws c k ≡ rowWord (s .classes) (c - 1) k
+  own k h = class-of ws fits c k some among h
+
+  within : c ≤ length (s .classes)
+  within = omega (arith, lies-of ws fits .classes)
+
+  linked : (more : List ℕ) × Left s g c place (length (p .table)) more
+  linked =
+      linked-left s (formed-of ws fits) c place words p some within
+      (omega (arith, methods, own 5 (omega arith), own 6 (omega arith), lies-of ws fits .methods))
+      (omega (arith, fields, own 7 (omega arith), own 8 (omega arith), lies-of ws fits .fields)) method-bytes field-bytes
+
+  abbrev left : Left s g c place (length (p .table)) (linked .0)
+  left = linked .1
+
+  -- a class word of the new sections, and one that is left
+  at-class : (d k : ℕ) → 1 ≤ d → d ≤ classCount ws → k < classWidth → classWord (laidOut g) d k ≡ rowWord (g .classes) (d - 1) k
+  at-class d k l h b = class-word g (left .formed) d k l (omega (arith, left .classes, lies-of ws fits .classes)) b
+
+  kept : (d k : ℕ) → 1 ≤ d → d ≤ classCount ws → k < classWidth → rowWord (g .classes) (d - 1) k ≡ rowWord (s .classes) (d - 1) k
+      → classWord (laidOut g) d k ≡ classWord ws d k
+  kept d k l h b e = at-class d k l h b ∙ e ∙ sym (class-of ws fits d k l h b)
+
+  other : (d k : ℕ) → 1 ≤ d → d ≤ classCount ws → k < classWidth → d ≢ c → classWord (laidOut g) d k ≡ classWord ws d k
+  other d k l h b n = kept d k l h b (left .others (d - 1) k (λ e. n (omega arith)))
+
+  -- its method list grows only where it is generated
+  still : (k : ℕ) → k < 7 → classKind ws c ≢ 1 → classWord (laidOut g) c k ≡ classWord ws c k
+  still k h n =
       by (isNone (p .newMethods))
-      (λ u. rw (t, u) (leaves-numbered ws c place (length (p .table)) words some among fits (p .indices) inside))
-      (λ u.
-      rw (t, u)
-      (leaves-methods ws c place (length (p .table)) words some among fits methods fields (p .indices) inside (p .newMethods) (generated u))))
-      (λ f. rw f (leaves-fields ws c place (length (p .table)) words some among fits methods fields (p .indices) inside (p .newFields)))
+      (λ t. kept c k some among (omega arith) (linked-still s (formed-of ws fits) c place words p some within t k h))
+      (λ f. absurd (n (generated f)))
+
+  method : (m k : ℕ) → m < methodCount ws → k < memberWidth → methodWord (laidOut g) m k ≡ methodWord ws m k
+  method m k h b =
+      method-word g (left .formed) m k (omega (arith, left .more-methods, lies-of ws fits .methods)) b
+      ∙ ap (λ (r : List ℕ). getD r k 0) (left .methods m (omega (arith, lies-of ws fits .methods))) ∙ sym (method-of ws fits m k h b)
+
+  leaves : Leaves ws (laidOut g) c place (length (p .table))
+  leaves = record {
+    like = record {
+      classes = class-count g ∙ left .classes ∙ sym (lies-of ws fits .classes);
+      methods = omega (arith, method-count g, left .more-methods, lies-of ws fits .methods);
+      word = λ d k l h b.
+          by (eqb d c)
+          (λ t. let e : d ≡ c = eqb-true d c t in rw e (kept c k some among (omega arith) (left .early k b)))
+          (λ f. other d k l h (omega arith) (eqb-false d c f));
+      listed = λ d k l h n b.
+          by (eqb d c)
+          (λ t. let e : d ≡ c = eqb-true d c t in rw e (still k b (rw e at n)))
+          (λ f. other d k l h (omega arith) (eqb-false d c f));
+      method = method;
+      more = linked .0;
+      text = text-of g (left .formed) ∙ left .text ∙ ap (λ (t : List ℕ). t ++ linked .0) (sym (text-of-words ws fits));
+    };
+    others = other;
+    place = at-class c 15 some among (omega arith) ∙ left .place;
+    slots = at-class c 16 some among (omega arith) ∙ left .slots;
+  }
+
+  pub link-leaves : Leaves ws (linkedWords ws c place words p) c place (length (p .table))
+  link-leaves = rw (linked-laid ws fits c place words p some among inside methods fields) leaves

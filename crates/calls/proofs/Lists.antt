@@ -5,19 +5,19 @@ use mathlib.Core.Logic.{_⊎_, inl, inr, _≢_}
 use mathlib.Core.List.{List, [], _∷_}
 use Prim.Native.Nat.{ℕ, _+_, _≤_, _<_}
 use native.Mathlib.Omega.{arith}
-use lib.ListN.{length}
 use lib.Dec.{eqb}
 use borrow.Author.Tests.{eqb-true, eqb-false}
 use Rattle.words.proofs.Bools.{by}
 use Rattle.words.proofs.Lists.{part-ext}
 use Rattle.class_sheet.specs.ClassSheet.{classTablePlace, classSlotCount}
 use Rattle.set_rules.specs.Valid.{Valid}
-use Rattle.linking.specs.Link.{nextFree, Outcome, linkDef}
+use Rattle.linking.specs.Link.{Outcome, linkDef}
 use Rattle.linking.specs.Ask.{headPlace, askedArea, askDef}
+use Rattle.linking.proofs.Rows.{Linked}
 use Rattle.slots.specs.Slots.{In}
 use Rattle.calls.specs.Calls.{Call, link, ask, State, step, run, LinkedIn, now, later, Lent, lent-now, lent-later, stubsOf}
 use Rattle.calls.proofs.Area.{asked-length, asked-before}
-use Rattle.calls.proofs.Rows.{Linked, link-cases, Asked, ask-cases}
+use Rattle.calls.proofs.Rows.{link-cases, Asked, ask-cases}
 use Rattle.calls.proofs.Runs.{tableOf, Keeps, keeps-same, still, keeps-next, Inv, made-keeps, whole-keeps, link-keeps, link-inv, new-place, new-slots, new-linked, was}
 
 -- a state by its words
@@ -42,8 +42,7 @@ module _ (ws₀ abi : List ℕ) (valid₀ : Valid ws₀) (P : ℕ → Type 0) wh
     ask-table d l =
         let b = asked .lent .below d l in
         let n = l .has in
-        let r : nextFree (s .area) + length (asked .entries) + 2 ≤ length (s .area) =
-        omega (arith, asked .room .words-enough, asked .lent .within) in
+        let r = asked .room .free in
         subst (λ (x : List ℕ). tableOf (record { set = s .set; area = x }) d ≡ tableOf s d) (sym (asked .new-area))
         (part-ext 0 (askedArea (s .set) (s .area) c i (asked .entries) stubs) (s .area) (classTablePlace (s .set) d + 1) (classSlotCount (s .set) d)
         (asked-length (s .set) (s .area) c i (asked .entries) stubs r)

@@ -1,8 +1,8 @@
--- Each premise of demand 3 is needed: a list for each, in which the class is linked, all premises but that one hold, and the claim fails. Assumes
--- nothing.
+-- Each premise of demand 3 is needed: a list for each, in which the class is linked, all premises but that one hold, and the claim fails. Of orderly
+-- this is so of "each signature has one index"; "each index one signature" is not needed (`one-index-enough`, Theorem.antt). Assumes nothing.
 use mathlib.Core.Path.{_≡_, refl, sym, ap, _∙_}
-use mathlib.Core.Logic.{inl, inr, _≢_}
-use mathlib.Core.Bool.{Bool, true, false}
+use mathlib.Core.Logic.{inl, inr, _≢_, _⊎_}
+use mathlib.Core.Bool.{Bool, true, false, true≢false}
 use mathlib.Core.List.{List, [], _∷_}
 use Prim.Native.Nat.{ℕ, _<_}
 use native.Mathlib.Omega.{arith}
@@ -13,14 +13,14 @@ use Rattle.abi_sheet.specs.AbiSheet.{abiTextOf}
 use Rattle.linking.specs.Chain.{ownMethods, parentOf}
 use Rattle.linking.specs.Abi.{classAbi}
 use Rattle.linking.specs.Vtable.{readEntry}
-use Rattle.linking.specs.Assemble as assemble
-use Rattle.linking.specs.Assemble.{Class, AbiClass, method, flagged, built, compiled, having, linkedAt, slot, abi, sized, classSheet, abiSheet, fresh}
+use Rattle.linking.proofs.Assemble as assemble
+use Rattle.linking.proofs.Assemble.{Class, AbiClass, method, flagged, built, compiled, having, linkedAt, slot, abi, sized, classSheet, abiSheet, fresh}
 use Rattle.linking.proofs.Opened.{opened}
-use Rattle.slots.specs.Slots.{Known, Kept}
+use Rattle.slots.specs.Slots.{here, there, Known, Kept}
 use Rattle.slots.proofs.ListFacts.{not-found, in-none}
-use Rattle.calls.specs.Calls.{Call, link, run, LinkedIn, now, later, tableAt}
-use Rattle.calls.specs.Demand.{start, Claim}
-use Rattle.calls.proofs.Tests.{isUnlinked, unlinked-holds, verdicts, shown}
+use Rattle.calls.specs.Calls.{Call, link, run, Unlinked, LinkedIn, now, later, tableAt, lent-now}
+use Rattle.calls.specs.Demand.{start, Conditions, Claim}
+use Rattle.calls.proofs.Tests.{isUnlinked, verdicts, shown}
 
 pub record Case : Type 0 where
   pub set : List ℕ
@@ -82,12 +82,23 @@ module _ (x : Case) where
     broken : (KeptAt c (finalTable p n) (finalTable p′ n′) → ⊥) → Holds c p n → ⊥
     broken f claim = f (claim .keeps-parent has none .kept p′ n′ linked)
 
--- the class is linked in the list; of the premises, `unlinked` and the tests in the order of `Conditions` are as written; and the claim fails
+-- the class is linked in the list; of the premises, `unlinked` and the tests in the order of `Conditions` are as written, so that demand 3 does not
+-- speak to it; and the claim fails
 pub record Breaks (x : Case) (c p n : ℕ) (unlinked : Bool) (tests : List Bool) : Type 0 where
   pub start-is : isUnlinked (x .set) ≡ unlinked
   pub premises : verdicts (x .set) (x .sheet) (x .calls) c ≡ tests
+  pub outside : Unlinked (x .set) → Conditions (x .set) (x .sheet) (x .area) (x .calls) c → ⊥
   pub linked : LinkedAt x c p n
   pub fails : Holds x c p n → ⊥
+
+-- m is not k
+apart : {m k : ℕ} → m ≡ k → m ≢ k → ⊥
+apart e n = n e
+
+-- a is neither b nor c
+neither : {a b c : ℕ} → (a ≡ b) ⊎ (a ≡ c) → a ≢ b → a ≢ c → ⊥
+neither (inl e) m n = m e
+neither (inr e) m n = n e
 
 -- ---- "from an unlinked sheet": a table that lay in the area before holds one target twice
 
@@ -105,6 +116,7 @@ unfolding opened shown linkedBefore
 unlinked-needed = record {
   start-is = refl;
   premises = refl;
+  outside = λ u k. apart (u 1 (omega arith) (omega arith)) (omega arith);
   linked = now (901 ∷ 902 ∷ []) refl refl refl;
   fails = twice linkedBefore 2 5 2 (5 ∷ 5 ∷ []) refl 0 1 0 0 (omega arith) (omega arith) (omega arith) refl refl refl refl;
 }
@@ -120,6 +132,7 @@ unfolding opened shown generatedChild
 built-or-array-needed = record {
   start-is = refl;
   premises = refl;
+  outside = λ u k. neither (k .built-or-array 2 here) (omega arith) (omega arith);
   linked = later (now (902 ∷ 903 ∷ []) refl refl refl);
   fails =
       broken generatedChild 2 4 2 1 1 (omega arith) refl (now (901 ∷ []) refl refl refl)
@@ -136,13 +149,15 @@ unfolding opened shown interfaceChild
 no-interface-needed = record {
   start-is = refl;
   premises = refl;
+  outside = λ u k. true≢false (k .no-interface 2 here);
   linked = later (now [] refl refl refl);
   fails =
       broken interfaceChild 2 4 0 1 1 (omega arith) refl (now (901 ∷ []) refl refl refl)
       (not-known interfaceChild 2 (finalTable interfaceChild 4 0) (finalTable interfaceChild 1 1) [] (5 ∷ []) refl refl 0 0 (omega arith) refl refl);
 }
 
--- ---- "under an orderly ABI sheet": one signature is fixed at two indices, and Reading knows the empty one by its index
+-- ---- "under an orderly ABI sheet": "each signature (name and descriptor) has one index". Here one is fixed at two indices, and Reading knows the
+-- empty one by its index
 
 unfoldable pub twoIndices : Case
 twoIndices = from (built "C" 0 (method "a" 5 ∷ []) [] ∷ []) (abi "C" (slot "a" 0 ∷ slot "a" 1 ∷ []) [] ∷ []) (link 1 (901 ∷ 902 ∷ []) ∷ [])
@@ -152,6 +167,11 @@ unfolding opened shown twoIndices
 orderly-needed = record {
   start-is = refl;
   premises = refl;
+  outside = λ u k.
+      apart
+      (k .orderly .one-index 0 1 (record { class = 1; along = here; entry = 0; named = refl; own = here })
+      (record { class = 1; along = here; entry = 0; named = refl; own = there here }) refl refl)
+      (omega arith);
   linked = now (901 ∷ 902 ∷ []) refl refl refl;
   fails = twice twoIndices 1 1 2 (5 ∷ 902 ∷ []) refl 0 1 0 0 (omega arith) (omega arith) (omega arith) refl refl refl refl;
 }
@@ -167,6 +187,7 @@ unfolding opened shown zeroTarget
 targets-nonzero-needed = record {
   start-is = refl;
   premises = refl;
+  outside = λ u k. k .targets-nonzero 1 (record { owner = 2; along = here; own = here }) refl;
   linked = later (now (902 ∷ []) refl refl refl);
   fails =
       broken zeroTarget 2 4 1 1 1 (omega arith) refl (now (901 ∷ []) refl refl refl)
@@ -185,6 +206,7 @@ unfolding opened shown zeroStub
 stubs-nonzero-needed = record {
   start-is = refl;
   premises = refl;
+  outside = λ u k. k .stubs-nonzero 0 (lent-now here) refl;
   linked = later (now (902 ∷ []) refl refl refl);
   fails =
       broken zeroStub 2 4 1 1 1 (omega arith) refl (now (0 ∷ []) refl refl refl)
@@ -201,6 +223,10 @@ unfolding opened shown sameTargets
 targets-different-needed = record {
   start-is = refl;
   premises = refl;
+  outside = λ u k.
+      apart
+      (k .targets-different 0 1 (record { owner = 1; along = here; own = here }) (record { owner = 1; along = here; own = there here }) refl)
+      (omega arith);
   linked = now (901 ∷ 902 ∷ []) refl refl refl;
   fails = twice sameTargets 1 1 2 (5 ∷ 5 ∷ []) refl 0 1 0 0 (omega arith) (omega arith) (omega arith) refl refl refl refl;
 }
@@ -215,6 +241,7 @@ unfolding opened shown stubTarget
 no-stub-needed = record {
   start-is = refl;
   premises = refl;
+  outside = λ u k. k .no-stub 902 0 (lent-now (there here)) (record { owner = 1; along = here; own = here }) refl;
   linked = now (901 ∷ 902 ∷ 903 ∷ []) refl refl refl;
   fails = twice stubTarget 1 1 3 (901 ∷ 902 ∷ 902 ∷ []) refl 1 2 0 0 (omega arith) (omega arith) (omega arith) refl refl refl refl;
 }

@@ -1,25 +1,24 @@
 -- What the rows that an accepted call has passed say, in plain words; and that a refused call leaves everything. Assumes nothing.
 use mathlib.Core.Path.{_≡_, refl}
 use mathlib.Core.Logic.{_⊎_, inl, inr, _≢_}
-use mathlib.Core.Bool.{Bool, true, false, cond, not, _&&_, _||_}
+use mathlib.Core.Bool.{true, false, cond, not, _&&_, _||_}
 use mathlib.Core.List.{List}
-use Prim.Native.Nat.{ℕ, _+_, _-_, _≤_}
+use Prim.Native.Nat.{ℕ, _+_, _≤_}
 use native.Mathlib.Omega.{arith}
 use lib.ListN.{length, getD}
 use lib.Dec.{eqb, ltb}
-use borrow.Author.Tests.{eqb-true, eqb-false, eq-eqb, ne-eqb, leb-true, ltb-false, not-true, not-false}
-use Rattle.words.specs.Folds.{allOf}
+use borrow.Author.Tests.{eqb-true, eqb-false, eq-eqb, ne-eqb, ltb-false, not-true, not-false}
 use Rattle.words.proofs.Bools.{by, or-neither}
-use Rattle.words.proofs.FoldLaws.{all-each}
 use Rattle.text.specs.Text.{sameBytes}
-use Rattle.class_sheet.specs.ClassSheet.{classCount, textOf, classKind, className, classMethodCount, classFieldCount, classTablePlace, classSlotCount}
+use Rattle.class_sheet.specs.ClassSheet.{classCount, textOf, classKind, className, classMethodCount, classFieldCount, classTablePlace}
 use Rattle.abi_sheet.specs.AbiSheet.{abiTextOf}
 use Rattle.set_rules.specs.SetRules.{setRefusal}
 use Rattle.linking.specs.Chain.{parentOf}
 use Rattle.linking.specs.Vtable.{Entry, Built, built, refused, tableEntries}
-use Rattle.linking.specs.Link.{objectName, noClass, isLinked, badArray, badClass, nextFree, endsBelow, badArea, Plan, Planned, planned, unplanned, plan, newWords, listsFull, setShort, noRoom, linkedArea, linkedWords, Outcome, refusedCall, finishLink, onPlan, linkDef}
+use Rattle.linking.specs.Link.{objectName, noClass, isLinked, badArray, badClass, nextFree, badArea, Plan, Planned, planned, unplanned, plan, newWords, listsFull, setShort, noRoom, linkedArea, linkedWords, Outcome, refusedCall, finishLink, onPlan, linkDef}
 use Rattle.linking.specs.Ask.{Walk, hit, missed, broken, walk, headPlace, dispatchEntries, askedArea, onDispatch, buildNode, onWalk, badAsk, askDef}
-use Rattle.calls.proofs.Plans.{unplanned-number}
+use Rattle.linking.proofs.Plans.{unplanned-number}
+use Rattle.linking.proofs.Rows.{Fits, fits, Linked, Sound, sound}
 
 -- ---- row 6
 
@@ -29,12 +28,6 @@ no-class ws c e =
     let p = or-neither (eqb c 0) (ltb (classCount ws) c) e in
     let n : c ≢ 0 = eqb-false c 0 (p .0) in
     (omega arith, ltb-false (classCount ws) c (p .1))
-
--- class c is linked in the words
-pub record Linked (ws : List ℕ) (c : ℕ) : Type 0 where
-  pub some : 1 ≤ c
-  pub among : c ≤ classCount ws
-  pub has : classTablePlace ws c ≢ 0
 
 is-linked : (ws : List ℕ) (c : ℕ) → isLinked ws c ≡ true → classTablePlace ws c ≢ 0
 is-linked ws c e = eqb-false (classTablePlace ws c) 0 (not-true (eqb (classTablePlace ws c) 0) e)
@@ -74,48 +67,6 @@ class-ok ws text c e =
       bare = bare-array ws text c (p .1);
     }
 
--- ---- row 7
-
-pub record AreaOk (ws area : List ℕ) : Type 0 where
-  pub free : nextFree area ≢ 0
-  pub within : nextFree area ≤ length area
-  pub below : (c : ℕ) → Linked ws c → classTablePlace ws c + classSlotCount ws c + 2 ≤ nextFree area
-
-ends-below : (ws area : List ℕ) (c : ℕ) → endsBelow ws area c ≡ true → classTablePlace ws c ≢ 0
-    → classTablePlace ws c + classSlotCount ws c + 2 ≤ nextFree area
-unfolding endsBelow
-ends-below ws area c e h =
-    leb-true (classTablePlace ws c + classSlotCount ws c + 2) (nextFree area) (rw (ne-eqb (classTablePlace ws c) 0 h) at e)
-
-pub area-ok : (ws area : List ℕ) → badArea ws area ≡ false → AreaOk ws area
-unfolding badArea
-area-ok ws area e =
-    let all : Bool = allOf (classCount ws) (λ i. endsBelow ws area (i + 1)) in
-    let p = or-neither (eqb (length area) 0 || ltb 4294967295 (length area) || eqb (nextFree area) 0 || ltb (length area) (nextFree area))
-    (not (allOf (classCount ws) (λ i. endsBelow ws area (i + 1)))) e in
-    let q = or-neither (eqb (length area) 0 || ltb 4294967295 (length area) || eqb (nextFree area) 0) (ltb (length area) (nextFree area)) (p .0) in
-    let r = or-neither (eqb (length area) 0 || ltb 4294967295 (length area)) (eqb (nextFree area) 0) (q .0) in
-    record {
-      free = eqb-false (nextFree area) 0 (r .1);
-      within = ltb-false (length area) (nextFree area) (q .1);
-      below = λ c l.
-          let i : c - 1 + 1 ≡ c = omega (arith, l .some) in
-          let t = all-each (classCount ws) (λ i. endsBelow ws area (i + 1)) (not-false all (p .1)) (c - 1) (omega (arith, l .some, l .among)) in
-          ends-below ws area c (rw i at t) (l .has);
-    }
-
--- ---- row 15: of the area and the stub list
-
-pub record RoomOk (area stubs : List ℕ) (n : ℕ) : Type 0 where
-  pub stubs-enough : n ≤ length stubs
-  pub words-enough : n + 2 ≤ length area - nextFree area
-
-pub room-ok : (area stubs : List ℕ) (n : ℕ) → noRoom area stubs n ≡ false → RoomOk area stubs n
-unfolding noRoom
-room-ok area stubs n e =
-    let p = or-neither (ltb (length stubs) n) (ltb (length area - nextFree area) (n + 2)) e in
-    record { stubs-enough = ltb-false (length stubs) n (p .0); words-enough = ltb-false (length area - nextFree area) (n + 2) (p .1) }
-
 -- ---- a link
 
 -- it is refused, and leaves the set and the area
@@ -127,10 +78,10 @@ pub record Refused (o : Outcome) (ws area : List ℕ) : Type 0 where
 pub record Accepted (ws abi : List ℕ) (c : ℕ) (area stubs : List ℕ) (o : Outcome) : Type 0 where
   pub valid : setRefusal ws abi ≡ 0
   pub class : ClassOk ws c
-  pub lent : AreaOk ws area
+  pub lent : Sound ws area
   pub coming : Plan
   pub comes : plan ws (textOf ws) abi (abiTextOf abi) area c ≡ planned coming
-  pub room : RoomOk area stubs (length (coming .table))
+  pub room : Fits area stubs (length (coming .table))
   pub number : o .refusal ≡ 0
   pub answers-place : o .first ≡ nextFree area
   pub answers-slots : o .second ≡ length (coming .table)
@@ -144,7 +95,7 @@ module _ (ws abi : List ℕ) (c : ℕ) (area stubs : List ℕ) where
   abbrev Either : Outcome → Type 0
   Either o = Refused o ws area ⊎ Accepted ws abi c area stubs o
 
-  finish : setRefusal ws abi ≡ 0 → ClassOk ws c → AreaOk ws area → (p : Plan) → plan ws (textOf ws) abi (abiTextOf abi) area c ≡ planned p
+  finish : setRefusal ws abi ≡ 0 → ClassOk ws c → Sound ws area → (p : Plan) → plan ws (textOf ws) abi (abiTextOf abi) area c ≡ planned p
       → Either (finishLink ws abi c area stubs p)
   unfolding finishLink
   finish v k a p e =
@@ -161,7 +112,7 @@ module _ (ws abi : List ℕ) (c : ℕ) (area stubs : List ℕ) where
         lent = a;
         coming = p;
         comes = e;
-        room = room-ok area stubs (length (p .table)) (or-neither (noRoom area stubs (length (p .table))) (setShort ws c p) u .0);
+        room = fits area stubs (length (p .table)) (or-neither (noRoom area stubs (length (p .table))) (setShort ws c p) u .0);
         number = refl;
         answers-place = refl;
         answers-slots = refl;
@@ -169,7 +120,7 @@ module _ (ws abi : List ℕ) (c : ℕ) (area stubs : List ℕ) where
         new-area = refl;
       })))))
 
-  go-on : setRefusal ws abi ≡ 0 → ClassOk ws c → AreaOk ws area → (q : Planned) → plan ws (textOf ws) abi (abiTextOf abi) area c ≡ q
+  go-on : setRefusal ws abi ≡ 0 → ClassOk ws c → Sound ws area → (q : Planned) → plan ws (textOf ws) abi (abiTextOf abi) area c ≡ q
       → Either (onPlan q (finishLink ws abi c area stubs) (λ n. refusedCall n ws area))
   go-on v k a (planned p) e = finish v k a p e
   go-on v k a (unplanned n) e = inl (refused-call ws area n (unplanned-number ws (textOf ws) abi (abiTextOf abi) area c n e))
@@ -186,7 +137,7 @@ module _ (ws abi : List ℕ) (c : ℕ) (area stubs : List ℕ) where
       (by (badArea ws area) (λ u. rw u (inl (refused-call ws area 7 (omega arith))))
       (λ u.
       rw u
-      (go-on (eqb-true (setRefusal ws abi) 0 v) (class-ok ws (textOf ws) c t) (area-ok ws area u)
+      (go-on (eqb-true (setRefusal ws abi) 0 v) (class-ok ws (textOf ws) c t) (sound ws area u)
       (plan ws (textOf ws) abi (abiTextOf abi) area c) refl))))))
       (λ v. rw v (inl (refused-call ws area (setRefusal ws abi) (eqb-false (setRefusal ws abi) 0 v))))
 
@@ -200,9 +151,9 @@ pub record Untouched (o : Outcome) (ws area : List ℕ) : Type 0 where
 -- it puts a node in front
 pub record Asked (ws : List ℕ) (c i : ℕ) (area stubs : List ℕ) (o : Outcome) : Type 0 where
   pub class : Linked ws c
-  pub lent : AreaOk ws area
+  pub lent : Sound ws area
   pub entries : List Entry
-  pub room : RoomOk area stubs (length entries)
+  pub room : Fits area stubs (length entries)
   pub same-set : o .set ≡ ws
   pub new-area : o .area ≡ askedArea ws area c i entries stubs
 
@@ -222,7 +173,7 @@ module _ (ws abi : List ℕ) (c i : ℕ) (area stubs : List ℕ) where
   abbrev Any : Outcome → Type 0
   Any o = Untouched o ws area ⊎ Asked ws c i area stubs o
 
-  module _ (k : Linked ws c) (a : AreaOk ws area) where
+  module _ (k : Linked ws c) (a : Sound ws area) where
     put-node : (nodes : ℕ) (b : Built)
         → Any (onDispatch b
         (λ T. cond (noRoom area stubs (length T))
@@ -233,7 +184,7 @@ module _ (ws abi : List ℕ) (c i : ℕ) (area stubs : List ℕ) where
         by (noRoom area stubs (length T)) (λ t. rw t (inl (untouched ws area 15)))
         (λ t.
         rw t
-        (inr (record { class = k; lent = a; entries = T; room = room-ok area stubs (length T) t; same-set = refl; new-area = refl })))
+        (inr (record { class = k; lent = a; entries = T; room = fits area stubs (length T) t; same-set = refl; new-area = refl })))
     put-node nodes (refused n) = inl (untouched ws area n)
 
     walked : (w : Walk) → Any (onWalk w (λ n nodes. record { refusal = 0; first = n + 1; second = nodes; set = ws; area = area }) (buildNode ws abi c i area stubs) (refusedCall 7 ws area))
@@ -253,5 +204,5 @@ module _ (ws abi : List ℕ) (c i : ℕ) (area stubs : List ℕ) where
       (λ t.
       rw t
       (by (badArea ws area) (λ u. rw u (inl (untouched ws area 7)))
-      (λ u. rw u (walked (ask-class ws c i t) (area-ok ws area u) (walk area i 64 0 (getD area (headPlace ws c) 0))))))))
+      (λ u. rw u (walked (ask-class ws c i t) (sound ws area u) (walk area i 64 0 (getD area (headPlace ws c) 0))))))))
       (λ v. rw v (inl (untouched ws area (setRefusal ws abi))))

@@ -12,25 +12,27 @@ use borrow.Author.Tests.{eqb-true, eqb-false}
 use Rattle.words.specs.Lists.{listFrom}
 use Rattle.words.proofs.Bools.{by}
 use Rattle.words.proofs.Lists.{part-ext}
-use Rattle.class_sheet.specs.ClassSheet.{classCount, methodCount, textOf, classKind, classFlags, classFirstMethod, classMethodCount, classTablePlace, classSlotCount}
-use Rattle.abi_sheet.specs.AbiSheet.{abiTextOf}
+use Rattle.class_sheet.specs.ClassSheet.{classCount, methodCount, textLength, textWords, textOf, classKind, classFlags, classFirstMethod, classMethodCount, classTablePlace, classSlotCount, methodLimit}
+use Rattle.abi_sheet.specs.AbiSheet.{abiTextLength, abiTextWords, abiTextOf}
 use Rattle.set_rules.specs.Valid.{Valid}
 use Rattle.set_rules.proofs.Valid.{valid}
-use Rattle.chain.proofs.ChainLaws.{parent-within}
+use Rattle.linking.proofs.ChainLaws.{parent-within}
 use Rattle.linking.specs.Chain.{listCount, ownMethods, parentOf, chain, isInterface}
 use Rattle.linking.specs.Vtable.{Entry, built, parentEntries, slotWords}
 use Rattle.linking.specs.Link.{nextFree, newWords, linkedArea, Outcome}
+use Rattle.linking.proofs.Names.{text-bytes}
+use Rattle.linking.proofs.Plans.{Plans, plans}
+use Rattle.linking.proofs.Rows.{Linked}
 use Rattle.slots.specs.Slots.{In, here, there}
 use Rattle.slots.specs.Made.{tableFrom, inheritedFrom, Made}
 use Rattle.slots.proofs.ChainFacts.{chain-here, chain-up}
-use Rattle.slots.proofs.LinkFacts.{read-area}
+use Rattle.slots.proofs.LinkFacts.{read-area, plan-table}
+use Rattle.slots.proofs.ReadFacts.{length-words}
 use Rattle.calls.specs.Calls.{State, tableAt}
-use Rattle.calls.proofs.Area.{length-slots, linked-length, linked-before, linked-slots}
-use Rattle.calls.proofs.Leaves.{Leaves}
-use Rattle.calls.proofs.Linked.{link-leaves}
-use Rattle.calls.proofs.Plans.{Plans, plans, plan-table}
-use Rattle.calls.proofs.Rows.{Linked, Accepted}
-use Rattle.calls.proofs.Like.{Like, like-next, other-word, own-place, own-slots, like-linked}
+use Rattle.calls.proofs.Area.{linked-length, linked-before, linked-slots}
+use Rattle.calls.proofs.Linked.{Leaves, link-leaves}
+use Rattle.calls.proofs.Rows.{Accepted}
+use Rattle.calls.proofs.Like.{Like, like-next}
 use Rattle.calls.proofs.View.{parent-same, read-words-same}
 use Rattle.calls.proofs.Build.{AllOf, read-words-of, table-same}
 
@@ -70,22 +72,22 @@ in-at [] i h = absurd (omega arith)
 in-at (x ∷ xs) zero h = here
 in-at (x ∷ xs) (suc i) h = there (in-at xs i (omega arith))
 
+-- "whose parent chain, itself included, has only built and array classes, none of them an interface"
+pub record Plain (ws : List ℕ) (c : ℕ) : Type 0 where
+  pub kinds : (d : ℕ) → In d (chain ws c) → (classKind ws d ≡ 0) ⊎ (classKind ws d ≡ 2)
+  pub flags : (d : ℕ) → In d (chain ws c) → isInterface (classFlags ws d) ≡ false
+
+not-generated : (k : ℕ) → (k ≡ 0) ⊎ (k ≡ 2) → k ≢ 1
+not-generated k (inl e) f = omega arith
+not-generated k (inr e) f = omega arith
+
+plain-kinds : {ws : List ℕ} {c : ℕ} → Plain ws c → (d : ℕ) → In d (chain ws c) → classKind ws d ≢ 1
+plain-kinds {ws} p d i = not-generated (classKind ws d) (p .kinds d i)
+
+pub plain-up : {ws : List ℕ} {c : ℕ} → 1 ≤ c → Plain ws c → Plain ws (parentOf ws c)
+plain-up {ws} {c} h p = record { kinds = λ d i. p .kinds d (chain-up ws c h i); flags = λ d i. p .flags d (chain-up ws c h i) }
+
 module _ (ws₀ abi : List ℕ) (valid₀ : Valid ws₀) (P : ℕ → Type 0) where
-  -- "whose parent chain, itself included, has only built and array classes, none of them an interface"
-  pub record Plain (c : ℕ) : Type 0 where
-    pub kinds : (d : ℕ) → In d (chain ws₀ c) → (classKind ws₀ d ≡ 0) ⊎ (classKind ws₀ d ≡ 2)
-    pub flags : (d : ℕ) → In d (chain ws₀ c) → isInterface (classFlags ws₀ d) ≡ false
-
-  not-generated : (k : ℕ) → (k ≡ 0) ⊎ (k ≡ 2) → k ≢ 1
-  not-generated k (inl e) f = omega arith
-  not-generated k (inr e) f = omega arith
-
-  plain-kinds : {c : ℕ} → Plain c → (d : ℕ) → In d (chain ws₀ c) → classKind ws₀ d ≢ 1
-  plain-kinds p d i = not-generated (classKind ws₀ d) (p .kinds d i)
-
-  plain-up : {c : ℕ} → 1 ≤ c → Plain c → Plain (parentOf ws₀ c)
-  plain-up {c} h p = record { kinds = λ d i. p .kinds d (chain-up ws₀ c h i); flags = λ d i. p .flags d (chain-up ws₀ c h i) }
-
   abbrev pub MadeIn : State → ℕ → Type 0
   MadeIn s c = Made ws₀ (textOf ws₀) abi (abiTextOf abi) (tableOf s) P c
 
@@ -94,7 +96,7 @@ module _ (ws₀ abi : List ℕ) (valid₀ : Valid ws₀) (P : ℕ → Type 0) wh
   pub record Inv (s : State) : Type 0 where
     pub like : Like ws₀ (s .set)
     pub parent : (c : ℕ) → Linked (s .set) c → parentOf ws₀ c ≢ 0 → Linked (s .set) (parentOf ws₀ c)
-    pub made : (c : ℕ) → Linked (s .set) c → Plain c → MadeIn s c
+    pub made : (c : ℕ) → Linked (s .set) c → Plain ws₀ c → MadeIn s c
     pub whole : (c : ℕ) → Linked (s .set) c → length (tableOf s c) ≡ classSlotCount (s .set) c
     pub apart : (c d : ℕ) → Linked (s .set) c → Linked (s .set) d → c ≢ d
         → (endOf s c ≤ classTablePlace (s .set) d) ⊎ (endOf s d ≤ classTablePlace (s .set) c)
@@ -118,7 +120,7 @@ module _ (ws₀ abi : List ℕ) (valid₀ : Valid ws₀) (P : ℕ → Type 0) wh
     words = e ∙ m .words;
   }
 
-  pub made-keeps : {s s′ : State} → Inv s → Keeps s s′ → (c : ℕ) → Linked (s .set) c → Plain c → MadeIn s′ c
+  pub made-keeps : {s s′ : State} → Inv s → Keeps s s′ → (c : ℕ) → Linked (s .set) c → Plain ws₀ c → MadeIn s′ c
   made-keeps {s} {s′} inv k c l p = made-same s s′ c (k .table c l) (λ n. k .table (parentOf ws₀ c) (inv .parent c l n)) (inv .made c l p)
 
   pub whole-keeps : {s s′ : State} → Inv s → Keeps s s′ → (c : ℕ) → Linked (s .set) c → length (tableOf s′ c) ≡ classSlotCount (s′ .set) c
@@ -154,21 +156,23 @@ module _ (ws₀ abi : List ℕ) (valid₀ : Valid ws₀) (P : ℕ → Type 0) wh
         let v = valid-now .class c (some, among) in
         let i = planning .indices in
         let f = v .fields in
+        let t = text-bytes (textWords (s .set)) (textLength (s .set)) in
+        let l = text-bytes (abiTextWords abi) (abiTextLength abi) in
         subst (λ (x : List ℕ). Leaves (s .set) x c (nextFree (s .area)) (length T)) (sym (acc .new-set))
         (link-leaves (s .set) c (nextFree (s .area)) (newWords (s .set) (textOf (s .set)) abi (abiTextOf abi) (s .area) c) (acc .coming)
-        some among (valid-now .fits) (v .methods) (v .fields) (omega arith) (planning .generated))
+        some among (valid-now .fits) (v .methods) (v .fields) (omega arith) (planning .generated) (planning .method-bytes t l) (planning .field-bytes t l))
 
     room : nextFree (s .area) + length T + 2 ≤ length (s .area)
-    room = omega (arith, acc .room .words-enough, acc .lent .within)
+    room = acc .room .free
 
     other : (d : ℕ) → Linked (s .set) d → d ≢ c
     other d l e = l .has (rw e (acc .class .new))
 
     place-other : (d : ℕ) → 1 ≤ d → d ≤ classCount (s .set) → d ≢ c → classTablePlace (o .set) d ≡ classTablePlace (s .set) d
-    place-other d h a n = other-word some among leaves d 15 h a (omega arith) n
+    place-other d h a n = leaves .others d 15 h a (omega arith) n
 
     slots-other : (d : ℕ) → 1 ≤ d → d ≤ classCount (s .set) → d ≢ c → classSlotCount (o .set) d ≡ classSlotCount (s .set) d
-    slots-other d h a n = other-word some among leaves d 16 h a (omega arith) n
+    slots-other d h a n = leaves .others d 16 h a (omega arith) n
 
     table-other : (d : ℕ) → Linked (s .set) d → tableOf next d ≡ tableOf s d
     table-other d l =
@@ -176,36 +180,36 @@ module _ (ws₀ abi : List ℕ) (valid₀ : Valid ws₀) (P : ℕ → Type 0) wh
         let n = l .has in
         rw (place-other d (l .some) (l .among) (other d l), slots-other d (l .some) (l .among) (other d l), acc .new-area)
         (part-ext 0 (linkedArea (s .area) c T stubs) (s .area) (classTablePlace (s .set) d + 1) (classSlotCount (s .set) d)
-        (linked-length (s .area) c T stubs (acc .lent .free) room)
-        (λ i h k. linked-before (s .area) c T stubs (acc .lent .free) room i (omega arith) (omega arith)))
+        (linked-length (s .area) c T stubs (acc .lent .some) room)
+        (λ i h k. linked-before (s .area) c T stubs (acc .lent .some) room i (omega arith) (omega arith)))
 
     pub link-keeps : Keeps s next
     link-keeps = record {
-      classes = leaves .classes;
+      classes = leaves .like .classes;
       place = λ d l. place-other d (l .some) (l .among) (other d l);
       slots = λ d l. slots-other d (l .some) (l .among) (other d l);
       table = table-other;
     }
 
     pub new-place : classTablePlace (o .set) c ≡ nextFree (s .area)
-    new-place = own-place some among leaves
+    new-place = leaves .place
 
     pub new-slots : classSlotCount (o .set) c ≡ length T
-    new-slots = own-slots some among leaves
+    new-slots = leaves .slots
 
     pub new-linked : Linked (o .set) c
-    new-linked = record { some = some; among = rw (leaves .classes) among; has = rw new-place (acc .lent .free) }
+    new-linked = record { some = some; among = rw (leaves .like .classes) among; has = rw new-place (acc .lent .some) }
 
     new-table : tableOf next c ≡ slotWords stubs 0 T
     new-table =
         ap (λ (p : ℕ). tableAt (o .area) p (classSlotCount (o .set) c)) new-place
         ∙ ap (λ (n : ℕ). tableAt (o .area) (nextFree (s .area)) n) new-slots
         ∙ ap (λ (x : List ℕ). tableAt x (nextFree (s .area)) (length T)) (acc .new-area)
-        ∙ linked-slots (s .area) c T stubs (acc .lent .free) room
+        ∙ linked-slots (s .area) c T stubs (acc .lent .some) room
 
     pub was : (d : ℕ) → d ≢ c → Linked (o .set) d → Linked (s .set) d
     was d n l =
-        let a : d ≤ classCount (s .set) = rw (← leaves .classes) (l .among) in
+        let a : d ≤ classCount (s .set) = rw (← leaves .like .classes) (l .among) in
         record { some = l .some; among = a; has = rw (← place-other d (l .some) a n) (l .has) }
 
     -- its parent
@@ -218,7 +222,7 @@ module _ (ws₀ abi : List ℕ) (valid₀ : Valid ws₀) (P : ℕ → Type 0) wh
         record { some = omega arith; among = omega (arith, among); has = rw (← parent-is) (acc .class .parent (rw parent-is n)) }
 
     -- the parent's entries, read at the link, are those of its table, read by the sheet at the start
-    parent-entries : Plain c → parentEntries (s .set) (textOf (s .set)) abi (abiTextOf abi) (s .area) c
+    parent-entries : Plain ws₀ c → parentEntries (s .set) (textOf (s .set)) abi (abiTextOf abi) (s .area) c
         ≡ inheritedFrom ws₀ (textOf ws₀) abi (abiTextOf abi) (tableOf s) c
     unfolding parentEntries inheritedFrom
     parent-entries p =
@@ -235,7 +239,7 @@ module _ (ws₀ abi : List ℕ) (valid₀ : Valid ws₀) (P : ℕ → Type 0) wh
         ∙ read-words-same ws₀ (s .set) valid₀ (inv .like) abi (abiTextOf abi) (parentOf ws₀ c) (omega (arith, l .among, inv .like .classes))
         (plain-kinds (plain-up some p)) (tableOf s (parentOf ws₀ c)))))
 
-    inherited-of : Plain c → AllOf (methodCount ws₀) (inheritedFrom ws₀ (textOf ws₀) abi (abiTextOf abi) (tableOf s) c)
+    inherited-of : Plain ws₀ c → AllOf (methodCount ws₀) (inheritedFrom ws₀ (textOf ws₀) abi (abiTextOf abi) (tableOf s) c)
     unfolding inheritedFrom
     inherited-of p =
         let b = parent-within ws₀ c in
@@ -251,7 +255,7 @@ module _ (ws₀ abi : List ℕ) (valid₀ : Valid ws₀) (P : ℕ → Type 0) wh
     here-flags : classFlags (s .set) c ≡ classFlags ws₀ c
     here-flags = inv .like .word c 3 some among₀ (omega arith)
 
-    new-from : Plain c → tableFrom ws₀ (textOf ws₀) abi (abiTextOf abi) c (inheritedFrom ws₀ (textOf ws₀) abi (abiTextOf abi) (tableOf s) c) ≡ built T
+    new-from : Plain ws₀ c → tableFrom ws₀ (textOf ws₀) abi (abiTextOf abi) c (inheritedFrom ws₀ (textOf ws₀) abi (abiTextOf abi) (tableOf s) c) ≡ built T
     new-from p =
         let k = p .kinds c (chain-here ws₀ c some) in
         let f = p .flags c (chain-here ws₀ c some) in
@@ -262,17 +266,17 @@ module _ (ws₀ abi : List ℕ) (valid₀ : Valid ws₀) (P : ℕ → Type 0) wh
 
     no-methods : classMethodCount ws₀ c ≡ 0 → ownMethods ws₀ c ≡ []
     unfolding ownMethods listFrom
-    no-methods e = let n : listCount (classFirstMethod ws₀ c) (classMethodCount ws₀ c) 512 ≡ 0 = omega arith in rw n refl
+    no-methods e = let n : listCount (classFirstMethod ws₀ c) (classMethodCount ws₀ c) methodLimit ≡ 0 = omega arith in rw n refl
 
     new-bare : classKind ws₀ c ≡ 2 → ownMethods ws₀ c ≡ []
     new-bare e =
-        no-methods (sym (inv .like .method-count c some among₀ (λ f. omega arith)) ∙ acc .class .bare (here-kind ∙ e))
+        no-methods (sym (inv .like .listed c 6 some among₀ (λ f. omega arith) (omega arith)) ∙ acc .class .bare (here-kind ∙ e))
 
-    new-made : Plain c → MadeIn next c
+    new-made : Plain ws₀ c → MadeIn next c
     new-made p = record {
       entries = T;
       stubs = stubs;
-      enough = acc .room .stubs-enough;
+      enough = acc .room .stubbed;
       lent = λ i h. lent (getD stubs i 0) (in-at stubs i h);
       bare = new-bare;
       from = ap (tableFrom ws₀ (textOf ws₀) abi (abiTextOf abi) c)
@@ -286,7 +290,7 @@ module _ (ws₀ abi : List ℕ) (valid₀ : Valid ws₀) (P : ℕ → Type 0) wh
 
     pub link-inv : Inv next
     link-inv = record {
-      like = like-next ws₀ (s .set) (o .set) (inv .like) (like-linked some among leaves);
+      like = like-next ws₀ (s .set) (o .set) (inv .like) (leaves .like);
       parent = λ d l n.
           by (eqb d c)
           (λ t. let e : d ≡ c = eqb-true d c t in rw e (still link-keeps (parentOf ws₀ c) (parent-linked (rw e at n))))
@@ -297,7 +301,7 @@ module _ (ws₀ abi : List ℕ) (valid₀ : Valid ws₀) (P : ℕ → Type 0) wh
           (λ f. made-keeps inv link-keeps d (was d (eqb-false d c f) l) p);
       whole = λ d l.
           by (eqb d c)
-          (λ t. let e : d ≡ c = eqb-true d c t in rw e (ap length new-table ∙ length-slots stubs 0 T ∙ sym new-slots))
+          (λ t. let e : d ≡ c = eqb-true d c t in rw e (ap length new-table ∙ length-words stubs 0 T ∙ sym new-slots))
           (λ f. whole-keeps inv link-keeps d (was d (eqb-false d c f) l));
       apart = λ d e ld le n.
           by (eqb d c)

@@ -10,25 +10,26 @@ use lib.Dec.{eqb}
 use borrow.Author.Tests.{eqb-true, eqb-false}
 use Rattle.words.specs.declared.Found.the-variants.{Nothing}
 use Rattle.words.proofs.Bools.{by}
-use Rattle.class_sheet.specs.ClassSheet.{textOf, classSlotCount}
+use Rattle.class_sheet.specs.ClassSheet.{textOf, classSlotCount, classLimit}
 use Rattle.abi_sheet.specs.AbiSheet.{abiTextOf}
 use Rattle.set_rules.specs.SetRules.{setRefusal}
 use Rattle.set_rules.specs.Valid.{Valid}
 use Rattle.set_rules.proofs.Valid.{valid}
-use Rattle.chain.proofs.ChainLaws.{parent-below, chain-none}
+use Rattle.linking.proofs.ChainLaws.{parent-below, chain-none}
 use Rattle.linking.specs.Chain.{parentOf, chain}
 use Rattle.linking.specs.Abi.{classAbi}
+use Rattle.linking.proofs.Rows.{Linked}
 use Rattle.slots.specs.Made as tables
 use Rattle.slots.specs.Slots.{In, Unique, Kept}
 use Rattle.slots.specs.Made.{Made}
 use Rattle.slots.proofs.ListFacts.{in-none}
-use Rattle.slots.proofs.ChainFacts.{chain-cases, chain-up}
+use Rattle.slots.proofs.ChainFacts.{chain-cases}
 use Rattle.slots.proofs.Tables.{table-unique, table-kept}
 use Rattle.calls.specs.Calls.{Call, link, ask, State, step, run, Unlinked, LinkedIn, now, later, tableAt, Lent}
-use Rattle.calls.specs.Demand.{start, Conditions, KeepsParent, Claim, Demand3}
-use Rattle.calls.proofs.Rows.{Linked, link-cases, ask-cases}
+use Rattle.calls.specs.Demand.{start, KeepsParent, Claim, Demand3}
+use Rattle.calls.proofs.Rows.{link-cases, ask-cases}
 use Rattle.calls.proofs.Like.{like-same}
-use Rattle.calls.proofs.Runs.{tableOf, Plain, Inv}
+use Rattle.calls.proofs.Runs.{tableOf, Plain, plain-up, Inv}
 use Rattle.calls.proofs.Lists.{Goes, run-goes, Answered, answered, history}
 
 -- ---- a set that rows 3 to 5 refuse never links
@@ -77,38 +78,25 @@ module _ (ws abi area : List ℕ) (valid₀ : Valid ws) (unlinked : Unlinked ws)
   after i = answered ws abi valid₀ P i start-inv (λ x j. j)
 
   -- the chain of a linked class is linked
-  chain-linked : (bound c : ℕ) → c ≤ bound → Linked (final .set) c → Plain ws abi valid₀ P c → (d : ℕ) → In d (chain ws c)
-      → Linked (final .set) d × Plain ws abi valid₀ P d
+  chain-linked : (bound c : ℕ) → c ≤ bound → Linked (final .set) c → Plain ws c → (d : ℕ) → In d (chain ws c)
+      → Linked (final .set) d × Plain ws d
   chain-linked zero c b l p d i = absurd (omega (arith, l .some))
   chain-linked (suc bound) c b l p d i =
       let f = parent-below ws c (l .some) in
-      let up : Plain ws abi valid₀ P (parentOf ws c) =
-      record { kinds = λ e j. p .kinds e (chain-up ws c (l .some) j); flags = λ e j. p .flags e (chain-up ws c (l .some) j) } in
       elim (chain-cases ws c (l .some) i) [
         | inl e ↦ rw e (l, p)
         | inr j ↦
             by (eqb (parentOf ws c) 0)
             (λ t. in-none (chain-none ws (parentOf ws c) (eqb-true (parentOf ws c) 0 t)) j)
-            (λ n. chain-linked bound (parentOf ws c) (omega arith) (goes .inv .parent c l (eqb-false (parentOf ws c) 0 n)) up d j)
+            (λ n. chain-linked bound (parentOf ws c) (omega arith) (goes .inv .parent c l (eqb-false (parentOf ws c) 0 n)) (plain-up (l .some) p) d j)
       ]
 
-  module _ (c place slots : ℕ) (linked : LinkedIn abi c place slots (start ws abi area calls) calls) (k : Conditions ws abi area calls c) where
-    plain : Plain ws abi valid₀ P c
-    plain = record { kinds = k .built-or-array; flags = k .no-interface }
-
-    conditions : tables.Conditions ws (textOf ws) abi (abiTextOf abi) P c
-    conditions = record {
-      orderly = k .orderly;
-      targets-nonzero = k .targets-nonzero;
-      targets-different = k .targets-different;
-      stubs-nonzero = k .stubs-nonzero;
-      no-stub = k .no-stub;
-    }
-
+  module _ (c place slots : ℕ) (linked : LinkedIn abi c place slots (start ws abi area calls) calls) (plain : Plain ws c)
+      (conditions : tables.Conditions ws (textOf ws) abi (abiTextOf abi) P c) where
     made : (d : ℕ) → In d (chain ws c) → Made ws (textOf ws) abi (abiTextOf abi) (tableOf final) P d
     made d i = let r = chain-linked c c (omega arith) (after linked .linked) plain d i in goes .inv .made d (r .0) (r .1)
 
-    within : c ≤ 64
+    within : c ≤ classLimit
     within = omega (arith, after linked .linked .among, goes .inv .like .classes, valid₀ .class-count)
 
     -- the table that a link answered
@@ -145,22 +133,25 @@ module _ (ws abi area : List ℕ) (valid₀ : Valid ws) (unlinked : Unlinked ws)
       one-table = λ p n i. let a = after i in let b = after linked in (sym (a .place) ∙ b .place, sym (a .slots) ∙ b .slots);
     }
 
--- no second link of a class is accepted, whatever its chain
-pub one-link : (ws abi area : List ℕ) → Unlinked ws → (calls : List Call) {c p n q m : ℕ} → LinkedIn abi c p n (start ws abi area calls) calls
-    → LinkedIn abi c q m (start ws abi area calls) calls → (p ≡ q) × (n ≡ m)
-one-link ws abi area unlinked calls i j =
-    by (eqb (setRefusal ws abi) 0)
-    (λ t.
-    let v = valid ws abi (eqb-true (setRefusal ws abi) 0 t) .0 in
-    let a = after ws abi area v unlinked calls i in
-    let b = after ws abi area v unlinked calls j in
-    (sym (a .place) ∙ b .place, sym (a .slots) ∙ b .slots))
-    (λ f. absurd (never ws abi (eqb-false (setRefusal ws abi) 0 f) refl i))
-
 -- ---- THE THEOREM
+
+-- for every class whose chain is plain and meets the conditions of Made.antt: of orderly, "each signature (name and descriptor) has one index" is
+-- enough, whatever signatures share an index
+pub one-index-enough : (ws abi area : List ℕ) → Unlinked ws → (calls : List Call) (c place slots : ℕ)
+    → LinkedIn abi c place slots (start ws abi area calls) calls → Plain ws c
+    → tables.Conditions ws (textOf ws) abi (abiTextOf abi) (λ x. Lent x calls) c → Claim ws abi area calls c place slots
+one-index-enough ws abi area unlinked calls c place slots linked plain k =
+    by (eqb (setRefusal ws abi) 0)
+    (λ t. claim ws abi area (valid ws abi (eqb-true (setRefusal ws abi) 0 t) .0) unlinked calls c place slots linked plain k)
+    (λ f. absurd (never ws abi (eqb-false (setRefusal ws abi) 0 f) refl linked))
 
 pub demand-3 : Demand3
 demand-3 ws abi area unlinked calls c place slots linked k =
-    by (eqb (setRefusal ws abi) 0)
-    (λ t. claim ws abi area (valid ws abi (eqb-true (setRefusal ws abi) 0 t) .0) unlinked calls c place slots linked k)
-    (λ f. absurd (never ws abi (eqb-false (setRefusal ws abi) 0 f) refl linked))
+    one-index-enough ws abi area unlinked calls c place slots linked (record { kinds = k .built-or-array; flags = k .no-interface })
+    (record {
+      one-index = k .orderly .one-index;
+      targets-nonzero = k .targets-nonzero;
+      targets-different = k .targets-different;
+      stubs-nonzero = k .stubs-nonzero;
+      no-stub = k .no-stub;
+    })

@@ -1,81 +1,50 @@
 -- Chains, methods and Reading go by the sheet at the list's start: along a chain without generated classes they are the same in the words that
 -- calls left. Assumes nothing.
-use mathlib.Core.Path.{_≡_, refl, sym, ap, _∙_}
+use mathlib.Core.Path.{_≡_, refl, ap}
 use mathlib.Core.Logic.{_≢_}
-use mathlib.Core.Bool.{Bool}
-use mathlib.Core.List.{List, [], _∷_}
+use mathlib.Core.List.{List, _∷_}
 use Prim.Native.Nat.{ℕ, zero, suc, _+_, _≤_, _<_}
 use native.Mathlib.Omega.{arith}
-use lib.ListN.{length, getD, take, drop}
-use lib.Seq.{ext-getD}
+use lib.ListN.{length, getD, take}
 use lib.Dec.{eqb}
-use Rattle.words.specs.Lists.{andThen, find, firstFound, allFound}
-use Rattle.words.specs.declared.Found.{Found}
+use Rattle.words.specs.Lists.{andThen}
 use Rattle.words.proofs.ListLaws.{by-found, numbers-within}
-use Rattle.words.proofs.Lists.{part-at, length-part}
 use Rattle.text.specs.Text.{nameAt}
-use Rattle.class_sheet.specs.ClassSheet.{classCount, methodCount, textLength, textOf, classKind, classFirstMethod, classMethodCount, className, methodName, methodDescriptor, methodFlags, methodTarget}
+use Rattle.class_sheet.specs.ClassSheet.{classCount, methodCount, textOf, classKind, classFirstMethod, classMethodCount, className, methodName, methodDescriptor, methodFlags, methodTarget, methodLimit, classLimit}
 use Rattle.abi_sheet.specs.AbiSheet.{abiSlotName, abiSlotDescriptor}
 use Rattle.set_rules.specs.Valid.{Valid}
-use Rattle.growth.proofs.GrowthLaws.{length-text}
-use Rattle.growth.proofs.Lists.{list-ext}
-use Rattle.chain.proofs.ChainLaws.{parent-within, chain-within}
+use Rattle.words.proofs.Ext.{list-ext, find-ext, first-ext, founds-ext}
+use Rattle.linking.proofs.ChainLaws.{parent-within, chain-within}
+use Rattle.linking.proofs.Appended.{name-front}
 use Rattle.linking.specs.Chain.{listCount, ownMethods, parentOf, chainOf, chain, eligible, methodIs, ownTarget, findByTarget, ownMethod}
 use Rattle.linking.specs.Abi.{slotAt, classAbi, chainAbi}
 use Rattle.linking.specs.Vtable.{ownFixed, findByIndex, readEntry}
-use Rattle.slots.specs.Slots.{In, here, there}
+use Rattle.slots.specs.Slots.{In}
 use Rattle.slots.specs.Made.{readWords}
-use Rattle.slots.proofs.ListFacts.{member-in}
+use Rattle.slots.proofs.ListFacts.{in-member, member-in}
 use Rattle.calls.proofs.Like.{Like}
-
--- ---- searches that test the same
-
-pub find-same : (p q : ℕ → Bool) (xs : List ℕ) → ((x : ℕ) → In x xs → p x ≡ q x) → find p xs ≡ find q xs
-unfolding find
-find-same p q [] h = refl
-find-same p q (x ∷ xs) h = rw (h x here, find-same p q xs (λ y i. h y (there i)))
-
-pub first-same : (f g : ℕ → Found) (xs : List ℕ) → ((x : ℕ) → In x xs → f x ≡ g x) → firstFound f xs ≡ firstFound g xs
-unfolding firstFound
-first-same f g [] h = refl
-first-same f g (x ∷ xs) h = rw (h x here, first-same f g xs (λ y i. h y (there i)))
-
-pub all-same : (f g : ℕ → Found) (xs : List ℕ) → ((x : ℕ) → In x xs → f x ≡ g x) → allFound f xs ≡ allFound g xs
-unfolding allFound
-all-same f g [] h = refl
-all-same f g (x ∷ xs) h = rw (h x here, all-same f g xs (λ y i. h y (there i)))
 
 module _ (old new : List ℕ) (valid : Valid old) (like : Like old new) where
   -- ---- names
 
-  pub name-same : (start len : ℕ) → start + len ≤ textLength old → nameAt (textOf new) start len ≡ nameAt (textOf old) start len
-  unfolding nameAt
-  name-same start len h =
-      let a = length-text old in
-      let b = length-text new in
-      let m = like .bytes in
-      let n₁ : length (take len (drop start (textOf new))) ≡ len = length-part (textOf new) start len (omega arith) in
-      let n₀ : length (take len (drop start (textOf old))) ≡ len = length-part (textOf old) start len (omega arith) in
-      ext-getD 0 (take len (drop start (textOf new))) (take len (drop start (textOf old))) (n₁ ∙ sym n₀)
-      (λ i l.
-      part-at (textOf new) start len i 0 (omega arith) ∙ like .text (start + i) (omega arith)
-      ∙ sym (part-at (textOf old) start len i 0 (omega arith)))
+  pub name-same : (start len : ℕ) → start + len ≤ length (textOf old) → nameAt (textOf new) start len ≡ nameAt (textOf old) start len
+  name-same start len h = rw (like .text) (name-front (textOf old) (like .more) start len h)
 
   pub class-name : (c : ℕ) → 1 ≤ c → c ≤ classCount old → className new (textOf new) c ≡ className old (textOf old) c
   class-name c s a =
       let p = valid .class c (s, a) .name .inside in
-      rw (like .word c 0 s a (omega arith), like .word c 1 s a (omega arith)) (name-same _ _ (omega (arith, length-text old)))
+      rw (like .word c 0 s a (omega arith), like .word c 1 s a (omega arith)) (name-same _ _ p)
 
   module _ (m : ℕ) (h : m < methodCount old) where
     pub method-name : methodName new (textOf new) m ≡ methodName old (textOf old) m
     method-name =
         let p = valid .method m h .name .inside in
-        rw (like .method m 0 h (omega arith), like .method m 1 h (omega arith)) (name-same _ _ (omega (arith, length-text old)))
+        rw (like .method m 0 h (omega arith), like .method m 1 h (omega arith)) (name-same _ _ p)
 
     pub method-descriptor : methodDescriptor new (textOf new) m ≡ methodDescriptor old (textOf old) m
     method-descriptor =
         let p = valid .method m h .descriptor .inside in
-        rw (like .method m 2 h (omega arith), like .method m 3 h (omega arith)) (name-same _ _ (omega (arith, length-text old)))
+        rw (like .method m 2 h (omega arith), like .method m 3 h (omega arith)) (name-same _ _ p)
 
     pub method-flags : methodFlags new m ≡ methodFlags old m
     method-flags = like .method m 4 h (omega arith)
@@ -117,27 +86,27 @@ module _ (old new : List ℕ) (valid : Valid old) (like : Like old new) where
   module _ (d : ℕ) (s : 1 ≤ d) (a : d ≤ classCount old) (n : classKind old d ≢ 1) where
     pub own-same : ownMethods new d ≡ ownMethods old d
     unfolding ownMethods
-    own-same = rw (like .first-method d s a n, like .method-count d s a n)
+    own-same = rw (like .listed d 5 s a n (omega arith), like .listed d 6 s a n (omega arith))
 
     pub own-below : (m : ℕ) → In m (ownMethods old d) → m < methodCount old
     unfolding ownMethods
     own-below m i =
         let v = valid .class d (s, a) .methods in
-        omega (arith, numbers-within (classFirstMethod old d) (listCount (classFirstMethod old d) (classMethodCount old d) 512) m (member-in i))
+        omega (arith, numbers-within (classFirstMethod old d) (listCount (classFirstMethod old d) (classMethodCount old d) methodLimit) m (member-in i))
 
     own-target : (t : ℕ) → ownTarget new t d ≡ ownTarget old t d
     unfolding ownTarget
     own-target t =
         rw own-same
-        (find-same (λ m. eqb (methodTarget new m) t) (λ m. eqb (methodTarget old m) t) (ownMethods old d)
-        (λ m i. rw (method-target m (own-below m i))))
+        (find-ext (λ m. eqb (methodTarget new m) t) (λ m. eqb (methodTarget old m) t) (ownMethods old d)
+        (λ m i. rw (method-target m (own-below m (in-member (ownMethods old d) i)))))
 
     own-method : (name descriptor : List ℕ) → ownMethod new (textOf new) name descriptor d ≡ ownMethod old (textOf old) name descriptor d
     unfolding ownMethod
     own-method name descriptor =
         rw own-same
-        (find-same (λ m. methodIs new (textOf new) m name descriptor) (λ m. methodIs old (textOf old) m name descriptor) (ownMethods old d)
-        (λ m i. method-is m (own-below m i) name descriptor))
+        (find-ext (λ m. methodIs new (textOf new) m name descriptor) (λ m. methodIs old (textOf old) m name descriptor) (ownMethods old d)
+        (λ m i. method-is m (own-below m (in-member (ownMethods old d) i)) name descriptor))
 
   -- ---- its ABI entry, and its chain's
 
@@ -150,9 +119,9 @@ module _ (old new : List ℕ) (valid : Valid old) (like : Like old new) where
     unfolding chainAbi
     chain-abi c a =
         rw (chain-same c a)
-        (ap (take 64)
-        (all-same (classAbi new (textOf new) abi labels) (classAbi old (textOf old) abi labels) (chain old c)
-        (λ d i. let k = chain-class c d a i in class-abi d (k .0) (k .1))))
+        (ap (take classLimit)
+        (founds-ext (classAbi new (textOf new) abi labels) (classAbi old (textOf old) abi labels) (chain old c)
+        (λ d i. let k = chain-class c d a (in-member (chain old c) i) in class-abi d (k .0) (k .1))))
 
     own-fixed : (i d : ℕ) → 1 ≤ d → d ≤ classCount old → classKind old d ≢ 1
         → ownFixed new (textOf new) abi labels i d ≡ ownFixed old (textOf old) abi labels i d
@@ -170,15 +139,15 @@ module _ (old new : List ℕ) (valid : Valid old) (like : Like old new) where
       unfolding findByTarget
       by-target t =
           rw (chain-same c a)
-          (first-same (ownTarget new t) (ownTarget old t) (chain old c)
-          (λ d i. let k = chain-class c d a i in own-target d (k .0) (k .1) (plain d i) t))
+          (first-ext (ownTarget new t) (ownTarget old t) (chain old c)
+          (λ d i. let j = in-member (chain old c) i in let k = chain-class c d a j in own-target d (k .0) (k .1) (plain d j) t))
 
       by-index : (i : ℕ) → findByIndex new (textOf new) abi labels c i ≡ findByIndex old (textOf old) abi labels c i
       unfolding findByIndex
       by-index i =
           rw (chain-same c a)
-          (first-same (ownFixed new (textOf new) abi labels i) (ownFixed old (textOf old) abi labels i) (chain old c)
-          (λ d j. let k = chain-class c d a j in own-fixed i d (k .0) (k .1) (plain d j)))
+          (first-ext (ownFixed new (textOf new) abi labels i) (ownFixed old (textOf old) abi labels i) (chain old c)
+          (λ d m. let j = in-member (chain old c) m in let k = chain-class c d a j in own-fixed i d (k .0) (k .1) (plain d j)))
 
       read-same : (i w : ℕ) → readEntry new (textOf new) abi labels c i w ≡ readEntry old (textOf old) abi labels c i w
       unfolding readEntry

@@ -1,3 +1,2 @@
-pub mod ChainLaws
 pub mod Examples
 pub mod RecordLaws

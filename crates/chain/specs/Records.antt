@@ -6,8 +6,8 @@ use lib.ListN.{getD, drop}
 use lib.Dec.{eqb}
 use Rattle.words.specs.Lists.{numbers, find}
 use Rattle.words.specs.declared.Found.{Found}
-use Rattle.text.specs.Text.{nameAt, sameBytes}
-use Rattle.class_sheet.specs.ClassSheet.{methodsAt, memberWidth}
+use Rattle.text.specs.Text.{nameStartWord, nameLengthWord, descriptorStartWord, descriptorLengthWord, nameAt, sameBytes}
+use Rattle.class_sheet.specs.ClassSheet.{memberWidth, methodLimit, targetWord, methodsAt}
 use Rattle.linking.specs.Chain.{listCount}
 
 -- the words from the first method record on
@@ -21,9 +21,9 @@ recordWord records width m k = getD records (width * m + k) 0
 -- record m, which begins with its name's start and length and its descriptor's, has this name and descriptor
 unfoldable pub recordIs : List ℕ → ℕ → List ℕ → ℕ → List ℕ → List ℕ → Bool
 recordIs records width text m name descriptor =
-    sameBytes (nameAt text (recordWord records width m 0) (recordWord records width m 1)) name
-    && sameBytes (nameAt text (recordWord records width m 2) (recordWord records width m 3)) descriptor
+    sameBytes (nameAt text (recordWord records width m nameStartWord) (recordWord records width m nameLengthWord)) name
+    && sameBytes (nameAt text (recordWord records width m descriptorStartWord) (recordWord records width m descriptorLengthWord)) descriptor
 
 -- the first with this target of the method records that a list asks for
 unfoldable pub firstTarget : List ℕ → ℕ → ℕ → ℕ → Found
-firstTarget records first count t = find (λ m. eqb (recordWord records memberWidth m 5) t) (numbers first (listCount first count 512))
+firstTarget records first count t = find (λ m. eqb (recordWord records memberWidth m targetWord) t) (numbers first (listCount first count methodLimit))

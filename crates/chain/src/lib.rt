@@ -2,12 +2,12 @@
 // cut there, and a parent that is not below its child counts as none.
 use words::Found;
 ghost use mathlib.Core.Path.{_≡_};
-ghost use Rattle.class_sheet.specs.ClassSheet.{classFirstMethod, classMethodCount, classFirstField, classFieldCount, classFirstInterface, classInterfaceCount};
+ghost use Rattle.class_sheet.specs.ClassSheet.{memberWidth, methodLimit, fieldLimit, interfaceLimit, targetWord, classFirstMethod, classMethodCount, classFirstField, classFieldCount, classFirstInterface, classInterfaceCount};
 ghost use Rattle.linking.specs.Chain.{listCount, parentOf, isVirtual, isEligible, eligible, methodIs, ownMethod};
 ghost use Rattle.chain.specs.Records.{methodRecords, recordWord, recordIs};
 
 // How many words a method record has.
-const MEMBER_WIDTH: u32 = 6;
+const MEMBER_WIDTH: u32 = class_sheet::MEMBER_WIDTH as u32;
 
 // How many of `count` elements from `first` on lie below the limit.
 pub fn list_count(first: u32, count: u32, limit: u32) -> u32
@@ -24,34 +24,34 @@ pub fn list_count(first: u32, count: u32, limit: u32) -> u32
 
 // How many methods class c has.
 pub fn method_count(ws: &[u32], c: u32) -> u32
-    ensures { λ r. ⌜ r ≡ listCount (classFirstMethod (now (ws .entry)) c) (classMethodCount (now (ws .entry)) c) 512 ⌝ }
+    ensures { λ r. ⌜ r ≡ listCount (classFirstMethod (now (ws .entry)) c) (classMethodCount (now (ws .entry)) c) methodLimit ⌝ }
 {
     list_count(
         class_sheet::class_first_method(ws, c),
         class_sheet::class_method_count(ws, c),
-        512,
+        class_sheet::METHOD_LIMIT,
     )
 }
 
 // How many fields class c has.
 pub fn field_count(ws: &[u32], c: u32) -> u32
-    ensures { λ r. ⌜ r ≡ listCount (classFirstField (now (ws .entry)) c) (classFieldCount (now (ws .entry)) c) 512 ⌝ }
+    ensures { λ r. ⌜ r ≡ listCount (classFirstField (now (ws .entry)) c) (classFieldCount (now (ws .entry)) c) fieldLimit ⌝ }
 {
     list_count(
         class_sheet::class_first_field(ws, c),
         class_sheet::class_field_count(ws, c),
-        512,
+        class_sheet::FIELD_LIMIT,
     )
 }
 
 // How many interface words class c has.
 pub fn interface_count(ws: &[u32], c: u32) -> u32
-    ensures { λ r. ⌜ r ≡ listCount (classFirstInterface (now (ws .entry)) c) (classInterfaceCount (now (ws .entry)) c) 256 ⌝ }
+    ensures { λ r. ⌜ r ≡ listCount (classFirstInterface (now (ws .entry)) c) (classInterfaceCount (now (ws .entry)) c) interfaceLimit ⌝ }
 {
     list_count(
         class_sheet::class_first_interface(ws, c),
         class_sheet::class_interface_count(ws, c),
-        256,
+        class_sheet::INTERFACE_LIMIT,
     )
 }
 
@@ -110,12 +110,12 @@ pub fn record_is(
 {
     let at = words::wide(width) * words::wide(m);
     let start = words::word_at(records, at);
-    let len = words::word_at(records, at + 1);
+    let len = words::word_at(records, at + text::NAME_LENGTH);
     if !text::same(text::name_at(text, start, len), name) {
         return false;
     }
-    let start = words::word_at(records, at + 2);
-    let len = words::word_at(records, at + 3);
+    let start = words::word_at(records, at + text::DESCRIPTOR_START);
+    let len = words::word_at(records, at + text::DESCRIPTOR_LENGTH);
     text::same(text::name_at(text, start, len), descriptor)
 }
 
@@ -128,9 +128,12 @@ pub fn method_is(ws: &[u32], text: &[u8], m: u32, name: &[u8], descriptor: &[u8]
 
 // The target of method record m.
 pub fn record_target(records: &[u32], m: u32) -> u32
-    ensures { λ r. ⌜ r ≡ recordWord (now (records .entry)) 6 m 5 ⌝ }
+    ensures { λ r. ⌜ r ≡ recordWord (now (records .entry)) memberWidth m targetWord ⌝ }
 {
-    words::word_at(records, 6 * words::wide(m) + 5)
+    words::word_at(
+        records,
+        class_sheet::MEMBER_WIDTH * words::wide(m) + class_sheet::TARGET,
+    )
 }
 
 // Class c's first method of this signature, of any flags.

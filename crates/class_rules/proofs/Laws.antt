@@ -11,9 +11,10 @@ use Rattle.words.proofs.Laws.{part-rest}
 use Rattle.words.specs.Folds.{allOf}
 use Rattle.words.proofs.FoldLaws.{all-ext}
 use Rattle.block.specs.Block.{leastFit}
-use Rattle.text.specs.Text.{zeroRest, printable, signatureClean, memberClean}
+use Rattle.text.specs.Text.{numberWord, zeroRest, printable, signatureClean, memberClean}
 use Rattle.text.proofs.Laws.{signature-is, member-is}
-use Rattle.class_sheet.specs.ClassSheet.{classCount, methodCount, fieldCount, interfaceCount, compilerCount, textLength, methodsAt, fieldsAt, textAt, contentEnd, methodWord, fieldWord}
+use Rattle.class_sheet.specs.ClassSheet.{memberWidth, classLimit, methodLimit, fieldLimit, interfaceLimit, compilerLimit, textLimit, classCount, methodCount, fieldCount, interfaceCount, compilerCount, textLength, methodsAt, fieldsAt, textAt, contentEnd, methodWord, fieldWord}
+use Rattle.class_sheet.proofs.Laws.{Within}
 use Rattle.class_rules.specs.ClassRules.{classLimits, classFits, unlinked, classForm, methodFlagsOk, methodRecord, fieldRecord}
 
 module _ (ws : List ℕ) {l : Bool} (limits : l ≡ classLimits ws) where
@@ -33,19 +34,11 @@ module _ (ws : List ℕ) {l : Bool} (limits : l ≡ classLimits ws) where
 
 -- ---- what the tests say
 
-pub record Limits (ws : List ℕ) : Type 0 where
-  pub classes : classCount ws ≤ 64
-  pub methods : methodCount ws ≤ 512
-  pub fields : fieldCount ws ≤ 512
-  pub interfaces : interfaceCount ws ≤ 256
-  pub compilers : compilerCount ws ≤ 2048
-  pub text : textLength ws ≤ 8192
-
-pub limits : (ws : List ℕ) → classLimits ws ≡ true → Limits ws
+pub limits : (ws : List ℕ) → classLimits ws ≡ true → Within ws
 unfolding classLimits
 limits ws h =
-    let p = and-6 (leb (classCount ws) 64) (leb (methodCount ws) 512) (leb (fieldCount ws) 512) (leb (interfaceCount ws) 256)
-    (leb (compilerCount ws) 2048) (leb (textLength ws) 8192) h in
+    let p = and-6 (leb (classCount ws) classLimit) (leb (methodCount ws) methodLimit) (leb (fieldCount ws) fieldLimit)
+    (leb (interfaceCount ws) interfaceLimit) (leb (compilerCount ws) compilerLimit) (leb (textLength ws) textLimit) h in
     record {
       classes = leb-true _ _ (p .0);
       methods = leb-true _ _ (p .1);
@@ -55,11 +48,11 @@ limits ws h =
       text = leb-true _ _ (p .5);
     }
 
-pub fits : (ws : List ℕ) → classFits ws ≡ true → Limits ws × (contentEnd ws ≤ length ws)
+pub fits : (ws : List ℕ) → classFits ws ≡ true → Within ws × (contentEnd ws ≤ length ws)
 unfolding classFits
 fits ws h = let p = and-both (classLimits ws) (leb (contentEnd ws) (length ws)) h in (limits ws (p .0), leb-true _ _ (p .1))
 
-pub formed : (ws : List ℕ) → classForm ws ≡ true → Limits ws
+pub formed : (ws : List ℕ) → classForm ws ≡ true → Within ws
 unfolding classForm
 formed ws h =
     limits ws
@@ -69,20 +62,20 @@ formed ws h =
 -- ---- row 4's records, as the code reads them: from their section's beginning on, told whether the text is printable
 
 module _ (ws text : List ℕ) {clean : Bool} (told : clean ≡ printable text) where
-  module _ (m : ℕ) {at w : ℕ} {s : Bool} (section : at ≡ methodsAt ws) (number : w ≡ m) (both : s ≡ signatureClean ws (at + 6 * w) text clean) where
+  module _ (m : ℕ) {at w : ℕ} {s : Bool} (section : at ≡ methodsAt ws) (number : w ≡ m) (both : s ≡ signatureClean ws (at + memberWidth * w) text clean) where
     pub method-stop : not s ≡ true → false ≡ methodRecord ws text m
     unfolding methodRecord methodWord
-    method-stop h = let q = rw (section, number) at both in rw (← (signature-is ws text told (methodsAt ws + 6 * m)), ← q, not-true s h)
+    method-stop h = let q = rw (section, number) at both in rw (← (signature-is ws text told (methodsAt ws + memberWidth * m)), ← q, not-true s h)
 
-    pub method-on : not s ≡ false → {f : ℕ} {g : Bool} → f ≡ getD ws (at + 6 * w + 4) 0 → g ≡ methodFlagsOk f → g ≡ methodRecord ws text m
+    pub method-on : not s ≡ false → {f : ℕ} {g : Bool} → f ≡ getD ws (at + memberWidth * w + numberWord) 0 → g ≡ methodFlagsOk f → g ≡ methodRecord ws text m
     unfolding methodRecord methodWord
     method-on h e k =
         let q = rw (section, number) at both in
-        rw (← (signature-is ws text told (methodsAt ws + 6 * m)), ← q, not-false s h) (k ∙ rw (e, section, number))
+        rw (← (signature-is ws text told (methodsAt ws + memberWidth * m)), ← q, not-false s h) (k ∙ rw (e, section, number))
 
   pub fields-are : {at n : ℕ} {p : List ℕ} {r : Bool} → at ≡ fieldsAt ws → p ≡ take (length ws) (drop at ws) → n ≡ fieldCount ws
-      → r ≡ allOf n (memberClean p 6 65535 text clean) → r ≡ allOf (fieldCount ws) (fieldRecord ws text)
+      → r ≡ allOf n (memberClean p memberWidth 65535 text clean) → r ≡ allOf (fieldCount ws) (fieldRecord ws text)
   unfolding fieldRecord fieldWord
   fields-are {p = p} e q f g =
       let rest : p ≡ drop (fieldsAt ws) ws = q ∙ rw e (part-rest ws (fieldsAt ws)) in
-      g ∙ rw f (all-ext (fieldCount ws) _ _ (λ i l. member-is ws text told (fieldsAt ws) 6 65535 i rest))
+      g ∙ rw f (all-ext (fieldCount ws) _ _ (λ i l. member-is ws text told (fieldsAt ws) memberWidth 65535 i rest))

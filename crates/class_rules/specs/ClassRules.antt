@@ -1,26 +1,27 @@
 -- Rows 3 and 4 of the table of refusals, for the words of a class sheet. Sums are of naturals: they do not wrap. Assumes nothing.
 use Prim.Native.Nat.{ℕ, _+_, _*_, _-_, _/_, _%_}
-use mathlib.Core.Bool.{Bool, true, false, cond, _&&_, _||_, not}
+use mathlib.Core.Bool.{Bool, cond, _&&_, _||_}
 use mathlib.Core.List.{List}
 use lib.ListN.{length}
 use lib.Dec.{eqb, leb, ltb}
 use Rattle.words.specs.Folds.{allOf}
 use Rattle.words.specs.Words.{inside}
 use Rattle.block.specs.Block.{leastFit}
-use Rattle.text.specs.Text.{zeroRest, sameBytes, partOk}
-use Rattle.class_sheet.specs.ClassSheet.{classCount, methodCount, fieldCount, interfaceCount, compilerCount, textLength, textAt, contentEnd, interfaceWord, classNameStart, classNameLength, classParent, classFlags, classKind, classFirstMethod, classMethodCount, classFirstField, classFieldCount, classFirstInterface, classInterfaceCount, classLinkState, classInstanceWords, classCompilerTable, classCompilerSlots, classTablePlace, classSlotCount, className, methodNameStart, methodNameLength, methodDescriptorStart, methodDescriptorLength, methodFlags, fieldNameStart, fieldNameLength, fieldDescriptorStart, fieldDescriptorLength, fieldFlags}
+use Rattle.text.specs.Text.{zeroRest, partOk}
+use Rattle.class_sheet.specs.ClassSheet.{classLimit, methodLimit, fieldLimit, interfaceLimit, compilerLimit, textLimit, classCount, methodCount, fieldCount, interfaceCount, compilerCount, textLength, textAt, contentEnd, interfaceWord, classNameStart, classNameLength, classParent, classFlags, classKind, classFirstMethod, classMethodCount, classFirstField, classFieldCount, classFirstInterface, classInterfaceCount, classLinkState, classInstanceWords, classCompilerTable, classCompilerSlots, classTablePlace, classSlotCount, methodNameStart, methodNameLength, methodDescriptorStart, methodDescriptorLength, methodFlags, fieldNameStart, fieldNameLength, fieldDescriptorStart, fieldDescriptorLength, fieldFlags}
+use Rattle.apart.specs.Apart.{apartBefore}
 
 -- ---- row 3
 
 -- "six counts (classes ≤ 64, methods ≤ 512, fields ≤ 512, interface words ≤ 256, compiler words ≤ 2,048, text bytes ≤ 8,192)"
 unfoldable pub classLimits : List ℕ → Bool
 classLimits ws =
-    leb (classCount ws) 64
-    && leb (methodCount ws) 512
-    && leb (fieldCount ws) 512
-    && leb (interfaceCount ws) 256
-    && leb (compilerCount ws) 2048
-    && leb (textLength ws) 8192
+    leb (classCount ws) classLimit
+    && leb (methodCount ws) methodLimit
+    && leb (fieldCount ws) fieldLimit
+    && leb (interfaceCount ws) interfaceLimit
+    && leb (compilerCount ws) compilerLimit
+    && leb (textLength ws) textLimit
 
 -- at a link or an ask: "of rows 1 to 3 only the count limits and the content's fit in the lent slice apply, as 3"
 unfoldable pub classFits : List ℕ → Bool
@@ -88,26 +89,6 @@ fieldRecord ws text f =
 -- "each interface word names a class"
 unfoldable pub interfaceNames : List ℕ → ℕ → Bool
 interfaceNames ws i = leb 1 (interfaceWord ws i) && leb (interfaceWord ws i) (classCount ws)
-
--- two lists have no element in common
-unfoldable pub apart : ℕ → ℕ → ℕ → ℕ → Bool
-apart f n g m = eqb n 0 || eqb m 0 || leb (f + n) g || leb (g + m) f
-
--- "neither method nor field lists overlap"
-unfoldable pub methodsApart : List ℕ → ℕ → ℕ → Bool
-methodsApart ws c d = apart (classFirstMethod ws c) (classMethodCount ws c) (classFirstMethod ws d) (classMethodCount ws d)
-
-unfoldable pub fieldsApart : List ℕ → ℕ → ℕ → Bool
-fieldsApart ws c d = apart (classFirstField ws c) (classFieldCount ws c) (classFirstField ws d) (classFieldCount ws d)
-
--- classes c and d have different names, and neither a method nor a field in common
-unfoldable pub classesApart : List ℕ → List ℕ → ℕ → ℕ → Bool
-classesApart ws text c d =
-    not (sameBytes (className ws text c) (className ws text d)) && methodsApart ws c d && fieldsApart ws c d
-
--- class d is apart from each class before it: "no two class-sheet classes share a name"
-unfoldable pub apartBefore : List ℕ → List ℕ → ℕ → Bool
-apartBefore ws text d = allOf (d - 1) (λ i. classesApart ws text (i + 1) d)
 
 -- row 4 does not refuse
 unfoldable pub classRecords : List ℕ → List ℕ → Bool

@@ -1,93 +1,87 @@
--- Where the sections lie, and that what follows the content does not matter: every named word and the text read the same in a longer
--- list of words. Assumes nothing.
+-- Where the sections lie, and that what follows the content does not matter: words and longer words are laid out from sections that differ in
+-- their rest alone, and no named word is in the rest. Assumes nothing.
 use mathlib.Core.Path.{_≡_, refl, sym, ap, _∙_}
 use mathlib.Core.List.{List, _++_}
-use Prim.Native.Nat.{ℕ, zero, suc, _+_, _*_, _-_, _/_, _%_, _≤_, _<_}
+use Prim.Native.Nat.{ℕ, _+_, _*_, _≤_, _<_}
 use native.Mathlib.Omega.{arith}
-use native.Mathlib.Numerals.{add-one}
-use lib.ListN.{length, getD, drop, length-drop, List·getD-append}
-use lib.Seq.{drop-append-le, getD-drop}
-use Rattle.words.specs.Folds.{table}
-use Rattle.words.specs.Words.{byteOf}
-use Rattle.words.proofs.FoldLaws.{table-ext}
-use Rattle.text.specs.Text.{textByte, textOfWords}
-use Rattle.class_sheet.specs.ClassSheet.{countAt, classCount, methodCount, fieldCount, interfaceCount, compilerCount, textLength, methodsAt, fieldsAt, interfacesAt, compilersAt, textAt, contentEnd, classWord, methodWord, fieldWord, interfaceWord, compilerWord, textOf}
+use lib.ListN.{length, List·getD-append}
+use Rattle.words.specs.Words.{wordsFor}
+use Rattle.class_sheet.specs.ClassSheet.{countsWidth, classWidth, memberWidth, countAt, classCount, methodCount, fieldCount, interfaceCount, compilerCount, textLength, methodsAt, fieldsAt, interfacesAt, compilersAt, textAt, contentEnd, classWord, methodWord, fieldWord, interfaceWord, compilerWord, textOf}
+use Rattle.class_sheet.specs.Sections.{Sections, Formed, laidOut, sectionsOf, withRest}
+use Rattle.class_sheet.proofs.Sections.{countsOf, fromClasses, at-classes, end-at, class-count, method-count, field-count, interface-count, compiler-count, class-word, method-word, field-word, interface-word, compiler-word, text-of, laid-more, formed-of, laid-of}
 
 -- ---- the sections follow one another
 
-pub record Sections (ws : List ℕ) : Type 0 where
-  pub methods : methodsAt ws ≡ 6 + 17 * classCount ws
-  pub fields : fieldsAt ws ≡ methodsAt ws + 6 * methodCount ws
-  pub interfaces : interfacesAt ws ≡ fieldsAt ws + 6 * fieldCount ws
+pub record Starts (ws : List ℕ) : Type 0 where
+  pub methods : methodsAt ws ≡ countsWidth + classWidth * classCount ws
+  pub fields : fieldsAt ws ≡ methodsAt ws + memberWidth * methodCount ws
+  pub interfaces : interfacesAt ws ≡ fieldsAt ws + memberWidth * fieldCount ws
   pub compilers : compilersAt ws ≡ interfacesAt ws + interfaceCount ws
   pub text : textAt ws ≡ compilersAt ws + compilerCount ws
-  pub end : contentEnd ws ≡ textAt ws + (textLength ws + 3) / 4
+  pub end : contentEnd ws ≡ textAt ws + wordsFor (textLength ws)
 
-pub sections : (ws : List ℕ) → Sections ws
+pub sections : (ws : List ℕ) → Starts ws
 unfolding methodsAt fieldsAt interfacesAt compilersAt textAt contentEnd
 sections ws = record { methods = refl; fields = refl; interfaces = refl; compilers = refl; text = refl; end = refl }
 
 -- ---- what follows the content
 
 module _ (ws rest : List ℕ) (fits : contentEnd ws ≤ length ws) where
-  word-kept : (i : ℕ) → i < contentEnd ws → getD (ws ++ rest) i 0 ≡ getD ws i 0
-  word-kept i h = List·getD-append ws rest 0 i (omega arith)
+  abbrev s : Sections
+  s = sectionsOf ws
 
-  pub count-kept : (k : ℕ) → k < 6 → countAt (ws ++ rest) k ≡ countAt ws k
+  abbrev t : Sections
+  t = withRest s (s .rest ++ rest)
+
+  f : Formed classWidth s
+  f = formed-of ws fits
+
+  g : Formed classWidth t
+  g = record { classes = f .classes; methods = f .methods; fields = f .fields; text = f .text }
+
+  -- what is read alike from both is read alike from words and longer words
+  kept {ℓ} : {A : Type ℓ} (read : List ℕ → A) → read (laidOut t) ≡ read (laidOut s) → read (ws ++ rest) ≡ read ws
+  kept read e =
+      ap (λ (x : List ℕ). read (x ++ rest)) (sym (laid-of ws fits)) ∙ ap read (laid-more s rest) ∙ e ∙ ap read (laid-of ws fits)
+
+  -- as many as the words say
+  many : (read : List ℕ → ℕ) {n i : ℕ} → read (laidOut s) ≡ n → i ≤ read ws → i ≤ n
+  many read e h = omega (arith, ap read (laid-of ws fits))
+
+  pub count-kept : (k : ℕ) → k < countsWidth → countAt (ws ++ rest) k ≡ countAt ws k
   unfolding countAt
-  count-kept k h = let s = sections ws in word-kept k (omega arith)
-
-  pub methods-at-kept : methodsAt (ws ++ rest) ≡ methodsAt ws
-  unfolding methodsAt
-  methods-at-kept = rw (count-kept 0 (omega arith))
-
-  pub fields-at-kept : fieldsAt (ws ++ rest) ≡ fieldsAt ws
-  unfolding fieldsAt
-  fields-at-kept = rw (methods-at-kept, count-kept 1 (omega arith))
-
-  pub interfaces-at-kept : interfacesAt (ws ++ rest) ≡ interfacesAt ws
-  unfolding interfacesAt
-  interfaces-at-kept = rw (fields-at-kept, count-kept 2 (omega arith))
-
-  pub compilers-at-kept : compilersAt (ws ++ rest) ≡ compilersAt ws
-  unfolding compilersAt
-  compilers-at-kept = rw (interfaces-at-kept, count-kept 3 (omega arith))
-
-  pub text-at-kept : textAt (ws ++ rest) ≡ textAt ws
-  unfolding textAt
-  text-at-kept = rw (compilers-at-kept, count-kept 4 (omega arith))
+  count-kept k h =
+      kept (λ (x : List ℕ). countAt x k)
+      (rw (at-classes t, at-classes s)
+      (List·getD-append (countsOf s) (fromClasses t) 0 k h ∙ sym (List·getD-append (countsOf s) (fromClasses s) 0 k h)))
 
   pub end-kept : contentEnd (ws ++ rest) ≡ contentEnd ws
-  unfolding contentEnd
-  end-kept = rw (text-at-kept, count-kept 5 (omega arith))
+  end-kept = kept contentEnd (end-at t ∙ sym (end-at s))
 
-  pub class-kept : (c k : ℕ) → 1 ≤ c → c ≤ classCount ws → k < 17 → classWord (ws ++ rest) c k ≡ classWord ws c k
-  unfolding classWord
-  class-kept c k l h g = let s = sections ws in word-kept (6 + 17 * (c - 1) + k) (omega arith)
+  pub class-kept : (c k : ℕ) → 1 ≤ c → c ≤ classCount ws → k < classWidth → classWord (ws ++ rest) c k ≡ classWord ws c k
+  class-kept c k l h i =
+      let n = many classCount (class-count s) h in
+      kept (λ (x : List ℕ). classWord x c k) (class-word t g c k l n i ∙ sym (class-word s f c k l n i))
 
-  pub method-kept : (m k : ℕ) → m < methodCount ws → k < 6 → methodWord (ws ++ rest) m k ≡ methodWord ws m k
-  unfolding methodWord
-  method-kept m k h g = let s = sections ws in rw methods-at-kept (word-kept (methodsAt ws + 6 * m + k) (omega arith))
+  pub method-kept : (m k : ℕ) → m < methodCount ws → k < memberWidth → methodWord (ws ++ rest) m k ≡ methodWord ws m k
+  method-kept m k h i =
+      let n = many methodCount (method-count s) h in
+      kept (λ (x : List ℕ). methodWord x m k) (method-word t g m k n i ∙ sym (method-word s f m k n i))
 
-  pub field-kept : (f k : ℕ) → f < fieldCount ws → k < 6 → fieldWord (ws ++ rest) f k ≡ fieldWord ws f k
-  unfolding fieldWord
-  field-kept f k h g = let s = sections ws in rw fields-at-kept (word-kept (fieldsAt ws + 6 * f + k) (omega arith))
+  pub field-kept : (m k : ℕ) → m < fieldCount ws → k < memberWidth → fieldWord (ws ++ rest) m k ≡ fieldWord ws m k
+  field-kept m k h i =
+      let n = many fieldCount (field-count s) h in
+      kept (λ (x : List ℕ). fieldWord x m k) (field-word t g m k n i ∙ sym (field-word s f m k n i))
 
   pub interface-kept : (i : ℕ) → i < interfaceCount ws → interfaceWord (ws ++ rest) i ≡ interfaceWord ws i
-  unfolding interfaceWord
-  interface-kept i h = let s = sections ws in rw interfaces-at-kept (word-kept (interfacesAt ws + i) (omega arith))
+  interface-kept i h =
+      let n = many interfaceCount (interface-count s) h in
+      kept (λ (x : List ℕ). interfaceWord x i) (interface-word t g i n ∙ sym (interface-word s f i n))
 
   pub compiler-kept : (i : ℕ) → i < compilerCount ws → compilerWord (ws ++ rest) i ≡ compilerWord ws i
-  unfolding compilerWord
-  compiler-kept i h = let s = sections ws in rw compilers-at-kept (word-kept (compilersAt ws + i) (omega arith))
-
-  byte-kept : (k : ℕ) → k < textLength ws → textByte (drop (textAt ws) (ws ++ rest)) k ≡ textByte (drop (textAt ws) ws) k
-  unfolding textByte
-  byte-kept k h =
-      let s = sections ws in
-      ap (λ (w : ℕ). byteOf w (k % 4))
-      (getD-drop (textAt ws) (ws ++ rest) (k / 4) 0 ∙ word-kept (textAt ws + k / 4) (omega arith) ∙ sym (getD-drop (textAt ws) ws (k / 4) 0))
+  compiler-kept i h =
+      let n = many compilerCount (compiler-count s) h in
+      kept (λ (x : List ℕ). compilerWord x i) (compiler-word t g i n ∙ sym (compiler-word s f i n))
 
   pub text-kept : textOf (ws ++ rest) ≡ textOf ws
-  unfolding textOfWords
-  text-kept = rw (text-at-kept, count-kept 5 (omega arith)) (table-ext (textLength ws) _ _ byte-kept)
+  text-kept = kept textOf (text-of t g ∙ sym (text-of s f))

@@ -2,8 +2,9 @@
 -- "Class sheet: six counts (classes ≤ 64, methods ≤ 512, fields ≤ 512, interface words ≤ 256, compiler words ≤ 2,048, text bytes
 -- ≤ 8,192), then those sections; text is four bytes a word, lowest byte first."
 use Prim.Native.Nat.{ℕ, _+_, _*_, _-_, _/_}
-use mathlib.Core.List.{List}
-use lib.ListN.{getD, drop}
+use mathlib.Core.List.{List, [], _∷_}
+use lib.ListN.{getD, set, drop}
+use Rattle.words.specs.Words.{wordsFor}
 use Rattle.text.specs.Text.{textOfWords, nameAt}
 
 -- ---- widths, in words
@@ -18,6 +19,83 @@ classWidth = 17
 abbrev pub memberWidth : ℕ
 memberWidth = 6
 
+-- ---- what each count may be at most; the most words that the content has, the blocks of 127 words that hold them, and their words
+
+abbrev pub classLimit : ℕ
+classLimit = 64
+
+-- of methods, and of fields
+abbrev pub memberLimit : ℕ
+memberLimit = 512
+
+abbrev pub methodLimit : ℕ
+methodLimit = memberLimit
+
+abbrev pub fieldLimit : ℕ
+fieldLimit = memberLimit
+
+abbrev pub interfaceLimit : ℕ
+interfaceLimit = 256
+
+abbrev pub compilerLimit : ℕ
+compilerLimit = 2048
+
+abbrev pub textLimit : ℕ
+textLimit = 8192
+
+abbrev pub contentLimit : ℕ
+contentLimit =
+    countsWidth + classWidth * classLimit + memberWidth * methodLimit + memberWidth * fieldLimit
+    + interfaceLimit + compilerLimit + wordsFor textLimit
+
+abbrev pub blockLimit : ℕ
+blockLimit = (contentLimit + 126) / 127
+
+abbrev pub sheetWords : ℕ
+sheetWords = 127 * blockLimit
+
+-- ---- words that are stored to, by their numbers: counts, words of a class record, and the word index of a field record
+
+abbrev pub methodCountNumber : ℕ
+methodCountNumber = 1
+
+abbrev pub fieldCountNumber : ℕ
+fieldCountNumber = 2
+
+abbrev pub textLengthNumber : ℕ
+textLengthNumber = 5
+
+abbrev pub kindWord : ℕ
+kindWord = 4
+
+abbrev pub firstMethodWord : ℕ
+firstMethodWord = 5
+
+abbrev pub methodCountWord : ℕ
+methodCountWord = 6
+
+abbrev pub firstFieldWord : ℕ
+firstFieldWord = 7
+
+abbrev pub fieldCountWord : ℕ
+fieldCountWord = 8
+
+abbrev pub instanceWordsWord : ℕ
+instanceWordsWord = 12
+
+abbrev pub tablePlaceWord : ℕ
+tablePlaceWord = 15
+
+abbrev pub slotCountWord : ℕ
+slotCountWord = 16
+
+abbrev pub indexWord : ℕ
+indexWord = 5
+
+-- the word of a method record that holds its target
+abbrev pub targetWord : ℕ
+targetWord = 5
+
 -- ---- counts
 
 unfoldable pub countAt : List ℕ → ℕ → ℕ
@@ -27,10 +105,10 @@ abbrev pub classCount : List ℕ → ℕ
 classCount ws = countAt ws 0
 
 abbrev pub methodCount : List ℕ → ℕ
-methodCount ws = countAt ws 1
+methodCount ws = countAt ws methodCountNumber
 
 abbrev pub fieldCount : List ℕ → ℕ
-fieldCount ws = countAt ws 2
+fieldCount ws = countAt ws fieldCountNumber
 
 abbrev pub interfaceCount : List ℕ → ℕ
 interfaceCount ws = countAt ws 3
@@ -39,7 +117,7 @@ abbrev pub compilerCount : List ℕ → ℕ
 compilerCount ws = countAt ws 4
 
 abbrev pub textLength : List ℕ → ℕ
-textLength ws = countAt ws 5
+textLength ws = countAt ws textLengthNumber
 
 -- ---- where each section begins, and where the content ends
 
@@ -59,10 +137,10 @@ unfoldable pub textAt : List ℕ → ℕ
 textAt ws = compilersAt ws + compilerCount ws
 
 unfoldable pub contentEnd : List ℕ → ℕ
-contentEnd ws = textAt ws + (textLength ws + 3) / 4
+contentEnd ws = textAt ws + wordsFor (textLength ws)
 
--- ---- words of records; classes are numbered from 1, all else from 0. (0 is no class; its words here are those of class 1, and no
--- definition asks for them.)
+-- ---- words of records; classes are numbered from 1, all else from 0. (0 is no class; its words here are those of class 1. Only row 6
+-- names them, of an array class without a parent, which it refuses whatever they are.)
 
 unfoldable pub classWord : List ℕ → ℕ → ℕ → ℕ
 classWord ws c k = getD ws (countsWidth + classWidth * (c - 1) + k) 0
@@ -103,19 +181,19 @@ abbrev pub classFlags : List ℕ → ℕ → ℕ
 classFlags ws c = classWord ws c 3
 
 abbrev pub classKind : List ℕ → ℕ → ℕ
-classKind ws c = classWord ws c 4
+classKind ws c = classWord ws c kindWord
 
 abbrev pub classFirstMethod : List ℕ → ℕ → ℕ
-classFirstMethod ws c = classWord ws c 5
+classFirstMethod ws c = classWord ws c firstMethodWord
 
 abbrev pub classMethodCount : List ℕ → ℕ → ℕ
-classMethodCount ws c = classWord ws c 6
+classMethodCount ws c = classWord ws c methodCountWord
 
 abbrev pub classFirstField : List ℕ → ℕ → ℕ
-classFirstField ws c = classWord ws c 7
+classFirstField ws c = classWord ws c firstFieldWord
 
 abbrev pub classFieldCount : List ℕ → ℕ → ℕ
-classFieldCount ws c = classWord ws c 8
+classFieldCount ws c = classWord ws c fieldCountWord
 
 abbrev pub classFirstInterface : List ℕ → ℕ → ℕ
 classFirstInterface ws c = classWord ws c 9
@@ -127,7 +205,7 @@ abbrev pub classLinkState : List ℕ → ℕ → ℕ
 classLinkState ws c = classWord ws c 11
 
 abbrev pub classInstanceWords : List ℕ → ℕ → ℕ
-classInstanceWords ws c = classWord ws c 12
+classInstanceWords ws c = classWord ws c instanceWordsWord
 
 abbrev pub classCompilerTable : List ℕ → ℕ → ℕ
 classCompilerTable ws c = classWord ws c 13
@@ -136,10 +214,10 @@ abbrev pub classCompilerSlots : List ℕ → ℕ → ℕ
 classCompilerSlots ws c = classWord ws c 14
 
 abbrev pub classTablePlace : List ℕ → ℕ → ℕ
-classTablePlace ws c = classWord ws c 15
+classTablePlace ws c = classWord ws c tablePlaceWord
 
 abbrev pub classSlotCount : List ℕ → ℕ → ℕ
-classSlotCount ws c = classWord ws c 16
+classSlotCount ws c = classWord ws c slotCountWord
 
 -- ---- "Method and field records, 6 words: name start and length, descriptor start and length, flags, then target or word index."
 
@@ -159,7 +237,7 @@ abbrev pub methodFlags : List ℕ → ℕ → ℕ
 methodFlags ws m = methodWord ws m 4
 
 abbrev pub methodTarget : List ℕ → ℕ → ℕ
-methodTarget ws m = methodWord ws m 5
+methodTarget ws m = methodWord ws m targetWord
 
 abbrev pub fieldNameStart : List ℕ → ℕ → ℕ
 fieldNameStart ws f = fieldWord ws f 0
@@ -177,7 +255,7 @@ abbrev pub fieldFlags : List ℕ → ℕ → ℕ
 fieldFlags ws f = fieldWord ws f 4
 
 abbrev pub fieldIndex : List ℕ → ℕ → ℕ
-fieldIndex ws f = fieldWord ws f 5
+fieldIndex ws f = fieldWord ws f indexWord
 
 -- ---- parts of the text
 
@@ -195,3 +273,55 @@ fieldName ws text f = nameAt text (fieldNameStart ws f) (fieldNameLength ws f)
 
 abbrev pub fieldDescriptor : List ℕ → List ℕ → ℕ → List ℕ
 fieldDescriptor ws text f = nameAt text (fieldDescriptorStart ws f) (fieldDescriptorLength ws f)
+
+-- ---- stores, by the word's name
+
+abbrev pub putCount : List ℕ → ℕ → ℕ → List ℕ
+putCount ws k v = set ws k v
+
+abbrev pub putMethodCount : List ℕ → ℕ → List ℕ
+putMethodCount ws v = putCount ws methodCountNumber v
+
+abbrev pub putFieldCount : List ℕ → ℕ → List ℕ
+putFieldCount ws v = putCount ws fieldCountNumber v
+
+abbrev pub putTextLength : List ℕ → ℕ → List ℕ
+putTextLength ws v = putCount ws textLengthNumber v
+
+abbrev pub putClassWord : List ℕ → ℕ → ℕ → ℕ → List ℕ
+putClassWord ws c k v = set ws (countsWidth + classWidth * (c - 1) + k) v
+
+abbrev pub putClassFirstMethod : List ℕ → ℕ → ℕ → List ℕ
+putClassFirstMethod ws c v = putClassWord ws c firstMethodWord v
+
+abbrev pub putClassMethodCount : List ℕ → ℕ → ℕ → List ℕ
+putClassMethodCount ws c v = putClassWord ws c methodCountWord v
+
+abbrev pub putClassFirstField : List ℕ → ℕ → ℕ → List ℕ
+putClassFirstField ws c v = putClassWord ws c firstFieldWord v
+
+abbrev pub putClassFieldCount : List ℕ → ℕ → ℕ → List ℕ
+putClassFieldCount ws c v = putClassWord ws c fieldCountWord v
+
+abbrev pub putClassInstanceWords : List ℕ → ℕ → ℕ → List ℕ
+putClassInstanceWords ws c v = putClassWord ws c instanceWordsWord v
+
+abbrev pub putClassTablePlace : List ℕ → ℕ → ℕ → List ℕ
+putClassTablePlace ws c v = putClassWord ws c tablePlaceWord v
+
+abbrev pub putClassSlotCount : List ℕ → ℕ → ℕ → List ℕ
+putClassSlotCount ws c v = putClassWord ws c slotCountWord v
+
+-- to the word index of field record f, in words whose field section begins at `at`
+abbrev pub putIndexAt : ℕ → ℕ → ℕ → List ℕ → List ℕ
+putIndexAt at f v ws = set ws (at + memberWidth * f + indexWord) v
+
+-- a method or field record's words, in their order
+abbrev pub memberWords : ℕ → ℕ → ℕ → ℕ → ℕ → ℕ → List ℕ
+memberWords nameStart nameLength descriptorStart descriptorLength flags last =
+    nameStart ∷ nameLength ∷ descriptorStart ∷ descriptorLength ∷ flags ∷ last ∷ []
+
+-- stored into the first words of a part, as many of them as it has
+abbrev pub putMember : List ℕ → ℕ → ℕ → ℕ → ℕ → ℕ → ℕ → List ℕ
+putMember ws nameStart nameLength descriptorStart descriptorLength flags last =
+    set (set (set (set (set (set ws 0 nameStart) 1 nameLength) 2 descriptorStart) 3 descriptorLength) 4 flags) 5 last

@@ -5,23 +5,22 @@ use mathlib.Core.List.{List, [], _∷_, _++_}
 use Prim.Native.Nat.{ℕ, zero, suc, _+_, _-_, _≤_, _<_}
 use native.Mathlib.Omega.{arith}
 use lib.ListN.{length, getD, set}
-use lib.Dec.{eqb}
-use borrow.Author.Tests.{eq-eqb, ne-eqb, lt-ltb, le-ltb}
+use borrow.Author.Tests.{lt-ltb, le-ltb}
 use Rattle.words.specs.Lists.{listFrom, numbers, consFound, allFound, fold, some}
 use Rattle.words.specs.declared.Found.{Found}
 use Rattle.words.specs.declared.Found.the-variants.{At, Nothing}
 use Rattle.words.proofs.Bools.{by}
-use Rattle.words.proofs.ListLaws.{restFrom, rest-start, rest-turn, rest-end, foldFrom, fold-start, fold-turn}
-use Rattle.class_sheet.specs.ClassSheet.{classFirstMethod, classMethodCount}
+use Rattle.words.proofs.ListLaws.{restFrom, rest-start, rest-turn, rest-end, foldFrom, fold-start, fold-turn, by-found}
+use Rattle.class_sheet.specs.ClassSheet.{classFirstMethod, classMethodCount, methodLimit}
 use Rattle.linking.specs.Chain.{onFound, listCount, ownMethods, isEligible}
 use Rattle.linking.specs.Vtable.{Entry}
 use Rattle.linking.specs.Compiler.{New, nameOf, flagsOf, sameSignature, hasSlot, appendMethod}
 use Rattle.growth.specs.News.{firstNews}
-use Rattle.vtable.specs.Arrays.{marked, entryAt, entriesOf}
-use Rattle.vtable.proofs.ArrayLaws.{push-slot}
+use Rattle.reading.specs.Arrays.{markOf, methodOf, entryAt, entriesOf}
+use Rattle.reading.proofs.ArrayLaws.{method-back, push-slot}
 use Rattle.compiler.specs.Methods.{nameIn, descriptorIn, markSame, someSame, flagsIn, targetIn, methodNumber}
 use Rattle.native_view.specs.Native.{markMethods}
-use Rattle.growth.proofs.Lists.{list-ext}
+use Rattle.words.proofs.Ext.{list-ext}
 use Rattle.compiler.proofs.MethodLaws.{name-is, descriptor-is, flags-is, target-is}
 
 -- ---- folds and tests, in general
@@ -74,19 +73,20 @@ module _ (ws text abi labels refs flags lasts : List ℕ) (n : ℕ) where
   -- ---- one method
 
   module _ (m : ℕ) (ts ms : List ℕ) (size : ℕ) where
-    same-is : (k : ℕ) → onFound (marked k) (sameSignature ws text abi labels new m) false
+    same-is : (k : ℕ) → onFound (methodOf k) (sameSignature ws text abi labels new m) false
         ≡ markSame ws text abi labels refs n (nameIn ws text abi labels refs n m) (descriptorIn ws text abi labels refs n m) k
     unfolding sameSignature markSame
     same-is k =
-        by (eqb k 0) (λ q. rw q)
-        (λ q.
+        by-found (methodOf k)
+        (λ j q.
         rw (
           q,
           name-is ws text abi labels refs flags lasts n m,
-          name-is ws text abi labels refs flags lasts n (k - 1),
+          name-is ws text abi labels refs flags lasts n j,
           descriptor-is ws text abi labels refs flags lasts n m,
-          descriptor-is ws text abi labels refs flags lasts n (k - 1),
+          descriptor-is ws text abi labels refs flags lasts n j,
         ))
+        (λ q. rw q)
 
     has-is : hasSlot ws text abi labels new m (entriesOf ts ms size)
         ≡ someSame ws text abi labels refs n (nameIn ws text abi labels refs n m) (descriptorIn ws text abi labels refs n m) ms size
@@ -113,32 +113,30 @@ module _ (ws text abi labels refs flags lasts : List ℕ) (n : ℕ) where
         unfolding appendMethod
         append-held q = rw (held-is, q, and-false)
 
-        pub append-new : (us ns : List ℕ) {w a a′ : ℕ} → b ≡ true → h ≡ false → size < length ts → size < length ms → w ≡ targetIn ws lasts n m
-            → a ≡ size → us ≡ set ts a w → a′ ≡ size → ns ≡ set ms a′ (m + 1)
+        pub append-new : (us ns : List ℕ) {w k : ℕ} → m < 4294967295 → b ≡ true → h ≡ false → size < length ts → size < length ms
+            → k ≡ markOf (At m) → w ≡ targetIn ws lasts n m → us ≡ set ts size w → ns ≡ set ms size k
             → entriesOf us ns (size + 1) ≡ appendMethod ws text abi labels new (entriesOf ts ms size) m
         unfolding appendMethod
-        append-new us ns {w = w} q r l l′ ew ea eu ea′ en′ =
-            let e : m + 1 - 1 ≡ m = omega arith in
-            let k : marked (m + 1) ≡ At m = simp (ne-eqb (m + 1) 0 (λ (z : m + 1 ≡ 0). omega arith), e) in
-            rw (eu, ea, en′, ea′, push-slot ts ms size w (m + 1) l l′, k, eligible-is, held-is, q, r, target-is ws text abi labels refs flags lasts n m, ← ew)
+        append-new us ns {w = w} {k = k} small q r l l′ ek ew eu en′ =
+            rw (eu, en′, push-slot ts ms size w k l l′, ek, method-back m small, eligible-is, held-is, q, r, target-is ws text abi labels refs flags lasts n m, ← ew)
 
   -- ---- by mark
 
   module _ (k : ℕ) (E : List Entry) where
-    pub append-none : k ≡ 0 → E ≡ fold (appendMethod ws text abi labels new) E (consFound (marked k) [])
+    pub append-none : {o : Found} → o ≡ methodOf k → o ≡ Nothing → E ≡ fold (appendMethod ws text abi labels new) E (consFound (methodOf k) [])
     unfolding fold
-    append-none e = simp (eq-eqb k 0 e)
+    append-none h e = rw (← h, e)
 
-    pub append-known : {F : List Entry} {j : ℕ} → (k ≡ 0 → ⊥) → j ≡ k - 1 → F ≡ appendMethod ws text abi labels new E j
-        → F ≡ fold (appendMethod ws text abi labels new) E (consFound (marked k) [])
+    pub append-known : {F : List Entry} {o : Found} {j : ℕ} → o ≡ methodOf k → o ≡ At j → F ≡ appendMethod ws text abi labels new E j
+        → F ≡ fold (appendMethod ws text abi labels new) E (consFound (methodOf k) [])
     unfolding fold
-    append-known z e f = simp (ne-eqb k 0 z) (f ∙ rw e)
+    append-known h e f = f ∙ rw (← h, e)
 
   -- ---- the loop along marks
 
   module _ (known : List ℕ) (count : ℕ) where
     unfoldable pub knownRest : List Entry → ℕ → List Entry
-    knownRest E i = fold (appendMethod ws text abi labels new) E (allFound (λ j. marked (getD known j 0)) (restFrom (λ j. j) 0 count i))
+    knownRest E i = fold (appendMethod ws text abi labels new) E (allFound (λ j. methodOf (getD known j 0)) (restFrom (λ j. j) 0 count i))
 
     pub known-all : (E : List Entry) → knownRest E 0 ≡ fold (appendMethod ws text abi labels new) E (markMethods known count)
     unfolding knownRest markMethods
@@ -151,15 +149,15 @@ module _ (ws text abi labels refs flags lasts : List ℕ) (n : ℕ) where
     fold-cons E Nothing xs = refl
 
     pub known-turn : (E F A : List Entry) (i : ℕ) {a k : ℕ} → i < count → a ≡ i → k ≡ getD known a 0
-        → F ≡ fold (appendMethod ws text abi labels new) E (consFound (marked k) []) → knownRest E i ≡ A → knownRest F (i + 1) ≡ A
+        → F ≡ fold (appendMethod ws text abi labels new) E (consFound (methodOf k) []) → knownRest E i ≡ A → knownRest F (i + 1) ≡ A
     unfolding knownRest allFound
     known-turn E F A i {k = k} h e f g r =
         let z : 0 + i ≡ i = omega arith in
         let w : getD known i 0 ≡ k = sym (f ∙ ap (λ (x : ℕ). getD known x 0) e) in
-        let q : fold (appendMethod ws text abi labels new) E (allFound (λ j. marked (getD known j 0)) (restFrom (λ j. j) 0 count i))
-        ≡ fold (appendMethod ws text abi labels new) E (consFound (marked k) (allFound (λ j. marked (getD known j 0)) (restFrom (λ j. j) 0 count (i + 1)))) =
+        let q : fold (appendMethod ws text abi labels new) E (allFound (λ j. methodOf (getD known j 0)) (restFrom (λ j. j) 0 count i))
+        ≡ fold (appendMethod ws text abi labels new) E (consFound (methodOf k) (allFound (λ j. methodOf (getD known j 0)) (restFrom (λ j. j) 0 count (i + 1)))) =
         rw (rest-turn (λ (j : ℕ). j) 0 count i h, z, w) in
-        rw g (sym (fold-cons E (marked k) (allFound (λ j. marked (getD known j 0)) (restFrom (λ j. j) 0 count (i + 1))))) ∙ sym q ∙ r
+        rw g (sym (fold-cons E (methodOf k) (allFound (λ j. methodOf (getD known j 0)) (restFrom (λ j. j) 0 count (i + 1))))) ∙ sym q ∙ r
 
     pub known-end : (E A : List Entry) (i : ℕ) → count ≤ i → knownRest E i ≡ A → E ≡ A
     unfolding knownRest allFound fold
@@ -190,27 +188,27 @@ pub number-own : (first own j : ℕ) → j < own → first + j ≡ methodNumber 
 unfolding methodNumber
 number-own first own j h = simp (lt-ltb j own h)
 
-pub number-added : (first own j : ℕ) → own ≤ j → 512 + (j - own) ≡ methodNumber first own j
+pub number-added : (first own j : ℕ) → own ≤ j → methodLimit + (j - own) ≡ methodNumber first own j
 unfolding methodNumber
 number-added first own j h = simp (le-ltb j own h)
 
-numbers-are : (first own n : ℕ) → listFrom (methodNumber first own) 0 (own + n) ≡ numbers first own ++ numbers 512 n
+numbers-are : (first own n : ℕ) → listFrom (methodNumber first own) 0 (own + n) ≡ numbers first own ++ numbers methodLimit n
 numbers-are first own n =
     let z : first + 0 ≡ first = omega arith in
     let o : numbers first own ≡ listFrom (methodNumber first own) 0 own =
     (rw z at (list-shift (λ k. k) first 0 own)) ∙ list-ext (λ j. first + j) (methodNumber first own) 0 own (λ j l. number-own first own j (omega arith)) in
-    let a : numbers 512 n ≡ listFrom (methodNumber first own) (0 + own) n =
-    list-shift (λ k. k) 512 0 n ∙ list-same own n ∙ sym (list-shift (methodNumber first own) own 0 n) ∙ ap (λ (k : ℕ). listFrom (methodNumber first own) k n) (omega arith) in
+    let a : numbers methodLimit n ≡ listFrom (methodNumber first own) (0 + own) n =
+    list-shift (λ k. k) methodLimit 0 n ∙ list-same own n ∙ sym (list-shift (methodNumber first own) own 0 n) ∙ ap (λ (k : ℕ). listFrom (methodNumber first own) k n) (omega arith) in
     rw (o, a) (list-split (methodNumber first own) 0 own n)
   where
-    list-same : (own n : ℕ) → listFrom (λ j. 512 + j) 0 n ≡ listFrom (λ j. methodNumber first own (own + j)) 0 n
+    list-same : (own n : ℕ) → listFrom (λ j. methodLimit + j) 0 n ≡ listFrom (λ j. methodNumber first own (own + j)) 0 n
     list-same own n =
-        list-ext (λ j. 512 + j) (λ j. methodNumber first own (own + j)) 0 n
+        list-ext (λ j. methodLimit + j) (λ j. methodNumber first own (own + j)) 0 n
         (λ j l. let e : own + j - own ≡ j = omega arith in rw e at (number-added first own (own + j) (omega arith)))
 
 pub methods-in : (ws : List ℕ) (c n : ℕ) {first own total : ℕ} → first ≡ classFirstMethod ws c
-    → own ≡ listCount (classFirstMethod ws c) (classMethodCount ws c) 512 → total ≡ own + n
-    → listFrom (methodNumber first own) 0 total ≡ ownMethods ws c ++ numbers 512 n
+    → own ≡ listCount (classFirstMethod ws c) (classMethodCount ws c) methodLimit → total ≡ own + n
+    → listFrom (methodNumber first own) 0 total ≡ ownMethods ws c ++ numbers methodLimit n
 unfolding ownMethods
 methods-in ws c n {first = first} {own = own} e f g = rw g (numbers-are first own n ∙ rw (f, e))
 

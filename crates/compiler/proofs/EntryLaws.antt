@@ -6,24 +6,24 @@ use Prim.Native.Nat.{ℕ, zero, suc, _+_, _-_, _≤_, _<_, min}
 use native.Mathlib.Omega.{arith}
 use lib.ListN.{length, getD, set}
 use lib.Dec.{eqb}
-use borrow.Author.Tests.{eq-eqb, ne-eqb, eqb-true}
+use borrow.Author.Tests.{eq-eqb, ne-eqb}
 use Rattle.words.specs.Lists.{listFrom, numbers, orElse, find, firstFound, fold}
 use Rattle.words.specs.declared.Found.{Found}
 use Rattle.words.specs.declared.Found.the-variants.{At, Nothing}
 use Rattle.words.proofs.Bools.{by}
-use Rattle.words.proofs.ListLaws.{restFrom, rest-start, rest-turn, rest-end, find-within}
-use Rattle.growth.proofs.Lists.{list-more, list-ext}
+use Rattle.words.proofs.ListLaws.{restFrom, rest-start, rest-turn, rest-end, find-within, by-found}
+use Rattle.words.proofs.Ext.{list-more, list-ext}
 use Rattle.growth.proofs.NewsLaws.{length-first}
-use Rattle.class_sheet.specs.ClassSheet.{classFirstMethod, classMethodCount, classCompilerTable, classCompilerSlots, compilerWord}
+use Rattle.class_sheet.specs.ClassSheet.{classFirstMethod, classMethodCount, classCompilerTable, classCompilerSlots, compilerWord, methodLimit}
 use Rattle.linking.specs.Chain.{listCount, ownMethods}
 use Rattle.linking.specs.Vtable.{Entry, parentEntries}
-use Rattle.linking.specs.Compiler.{New, targetOf, classMethods, entryTarget, matchTarget, compilerEntry, compilerEntries, compilerTargets, appendMethod, entryMethods, nativeView, addedMethods, compilerTable}
+use Rattle.linking.specs.Compiler.{New, targetOf, classMethods, entryTarget, matchTarget, compilerEntry, compilerEntries, compilerTargets, appendMethod, nativeView, addedMethods, compilerTable}
 use Rattle.growth.specs.News.{firstNews}
-use Rattle.vtable.specs.Arrays.{marked, entryAt, entriesOf}
-use Rattle.vtable.proofs.ArrayLaws.{push-slot}
-use Rattle.native_view.specs.Native.{below, markMethods}
-use Rattle.native_view.proofs.ViewLaws.{slot-below}
-use Rattle.compiler.specs.Methods.{targetIn, markTarget, viewTarget, matchIn, methodAt, tableSlot, slotsIn}
+use Rattle.reading.specs.Arrays.{markOf, methodOf, entryAt, entriesOf}
+use Rattle.reading.proofs.ArrayLaws.{method-back, none-back, push-slot}
+use Rattle.native_view.specs.Native.{below, marksIn, methodsIn, markMethods}
+use Rattle.native_view.proofs.ViewLaws.{slot-below, methods-are}
+use Rattle.compiler.specs.Methods.{targetIn, markHas, markTarget, viewTarget, matchIn, methodAt, tableSlot, slotsIn}
 use Rattle.compiler.proofs.MethodLaws.{target-is}
 
 -- ---- searches, in general
@@ -48,31 +48,31 @@ or-assoc : (a b c : Found) → orElse (orElse a b) c ≡ orElse a (orElse b c)
 or-assoc (At k) b c = refl
 or-assoc Nothing b c = refl
 
-marked-suc : (m : ℕ) → marked (m + 1) ≡ At m
-marked-suc m = let e : m + 1 - 1 ≡ m = omega arith in simp (ne-eqb (m + 1) 0 (λ (z : m + 1 ≡ 0). omega arith), e)
-
 -- ---- by target
 
 module _ (ws lasts : List ℕ) (n : ℕ) where
   module _ (t k : ℕ) where
-    pub has-none : k ≡ 0 → markTarget ws lasts n t k ≡ Nothing
-    unfolding markTarget
-    has-none e = simp (eq-eqb k 0 e)
+    pub has-none : {o : Found} → o ≡ methodOf k → o ≡ Nothing → false ≡ markHas ws lasts n t k
+    unfolding markHas
+    has-none h e = rw (← h, e)
 
-    pub has-known : {j : ℕ} {b : Bool} → (k ≡ 0 → ⊥) → j ≡ k - 1 → b ≡ eqb (targetIn ws lasts n j) t
-        → markTarget ws lasts n t k ≡ cond b (At (k - 1)) Nothing
-    unfolding markTarget
-    has-known z e f = simp (ne-eqb k 0 z) (rw (f, e))
+    pub has-known : {o : Found} {j : ℕ} {b : Bool} → o ≡ methodOf k → o ≡ At j → b ≡ eqb (targetIn ws lasts n j) t → b ≡ markHas ws lasts n t k
+    unfolding markHas
+    has-known h e f = f ∙ rw (← h, e)
 
-    -- a mark that has a target is not 0
-    has-marked : markTarget ws lasts n t k ≡ At (k - 1) → marked k ≡ At (k - 1)
-    has-marked h =
-        by (eqb k 0)
-        (λ q. let b : _≡_ {A = Found} Nothing (At (k - 1)) = sym (has-none (eqb-is k q)) ∙ h in absurd (let z : _≡_ {A = ℕ} 0 1 = cc in omega arith))
+    has-yes : (X : Found) → markHas ws lasts n t k ≡ true → orElse (markTarget ws lasts n t k) X ≡ methodOf k
+    unfolding markHas markTarget
+    has-yes X h =
+        by-found (methodOf k)
+        (λ m q. let e : eqb (targetIn ws lasts n m) t ≡ true = rw q at h in rw (q, e))
+        (λ q. let e : false ≡ true = rw q at h in absurd (let z : _≡_ {A = ℕ} 0 1 = cc in omega arith))
+
+    has-no : markHas ws lasts n t k ≡ false → markTarget ws lasts n t k ≡ Nothing
+    unfolding markHas markTarget
+    has-no h =
+        by-found (methodOf k)
+        (λ m q. let e : eqb (targetIn ws lasts n m) t ≡ false = rw q at h in rw (q, e))
         (λ q. rw q)
-      where
-        eqb-is : (k : ℕ) → eqb k 0 ≡ true → k ≡ 0
-        eqb-is k q = eqb-true k 0 q
 
   module _ (vm : List ℕ) (size t : ℕ) where
     -- the search at slot i
@@ -88,58 +88,56 @@ module _ (ws lasts : List ℕ) (n : ℕ) where
     view-more i h = let z : 0 + i ≡ i = omega arith in rw (rest-turn (λ (j : ℕ). j) 0 size i h, z)
 
     module _ (i : ℕ) {a k : ℕ} {b : Bool} (h : i < size) (e : a ≡ i) (f : k ≡ getD vm a 0)
-        (g : markTarget ws lasts n t k ≡ cond b (At (k - 1)) Nothing) where
-      pub view-hit : (W : Found) → b ≡ true → viewRest i ≡ W → marked k ≡ W
+        (g : b ≡ markHas ws lasts n t k) where
+      pub view-hit : (W : Found) → b ≡ true → viewRest i ≡ W → methodOf k ≡ W
       view-hit W q r =
-          let m : markTarget ws lasts n t k ≡ At (k - 1) = rw q at g in
           let w : getD vm i 0 ≡ k = sym (f ∙ ap (λ (x : ℕ). getD vm x 0) e) in
-          has-marked t k m ∙ sym (sym r ∙ view-more i h ∙ rw (w, m))
+          sym (sym r ∙ view-more i h ∙ rw w (has-yes t k (viewRest (i + 1)) (sym g ∙ q)))
 
       pub view-miss : (W : Found) → b ≡ false → viewRest i ≡ W → viewRest (i + 1) ≡ W
       view-miss W q r =
-          let m : markTarget ws lasts n t k ≡ Nothing = rw q at g in
+          let m : markTarget ws lasts n t k ≡ Nothing = has-no t k (sym g ∙ q) in
           let w : getD vm i 0 ≡ k = sym (f ∙ ap (λ (x : ℕ). getD vm x 0) e) in
           sym (sym r ∙ view-more i h ∙ rw (w, m))
 
-    pub view-none : (W : Found) (i : ℕ) → size ≤ i → viewRest i ≡ W → marked 0 ≡ W
+    pub view-none : (W : Found) (i : ℕ) {k : ℕ} → size ≤ i → k ≡ markOf Nothing → viewRest i ≡ W → methodOf k ≡ W
     unfolding viewRest firstFound
-    view-none W i h r = rw (rest-end (λ (j : ℕ). j) 0 size i h) at r
+    view-none W i h e r = rw (e, none-back) (rw (rest-end (λ (j : ℕ). j) 0 size i h) at r)
 
     -- declared, added, native
     module _ (c : ℕ) {first count : ℕ} (ef : first ≡ classFirstMethod ws c)
-        (ec : count ≡ listCount (classFirstMethod ws c) (classMethodCount ws c) 512) {r : Found}
+        (ec : count ≡ listCount (classFirstMethod ws c) (classMethodCount ws c) methodLimit) {r : Found}
         (er : r ≡ find (λ m. eqb (targetIn ws lasts n m) t) (numbers first count)) where
       own-is : r ≡ find (λ m. eqb (targetIn ws lasts n m) t) (ownMethods ws c)
       unfolding ownMethods
       own-is = er ∙ rw (ef, ec)
 
-      pub own-room : (m : ℕ) → r ≡ At m → m < 512
+      own-room : (m : ℕ) → r ≡ At m → m < methodLimit
       own-room m q = omega (arith, find-within (λ m. eqb (targetIn ws lasts n m) t) first count m (sym er ∙ q))
 
-      pub match-own : (m : ℕ) → r ≡ At m → marked (m + 1) ≡ matchIn ws lasts n c vm size t
+      pub match-own : (m : ℕ) {k : ℕ} → r ≡ At m → k ≡ markOf (At m) → methodOf k ≡ matchIn ws lasts n c vm size t
       unfolding matchIn
-      match-own m q = marked-suc m ∙ rw (← own-is, q)
+      match-own m q e = let l = own-room m q in rw (e, method-back m (omega arith)) (rw (← own-is, q))
 
-      module _ (z : r ≡ Nothing) {s : Found} (es : s ≡ find (λ m. eqb (targetIn ws lasts n m) t) (numbers 512 n)) where
-        pub match-added : (m : ℕ) → s ≡ At m → marked (m + 1) ≡ matchIn ws lasts n c vm size t
+      module _ (z : r ≡ Nothing) {s : Found} (es : s ≡ find (λ m. eqb (targetIn ws lasts n m) t) (numbers methodLimit n)) where
+        pub match-added : (m : ℕ) {k : ℕ} → n ≤ 1024 → s ≡ At m → k ≡ markOf (At m) → methodOf k ≡ matchIn ws lasts n c vm size t
         unfolding matchIn
-        match-added m q = marked-suc m ∙ rw (← own-is, z) (rw (← es, q))
+        match-added m h q e =
+            let l = find-within (λ m. eqb (targetIn ws lasts n m) t) methodLimit n m (sym es ∙ q) in
+            rw (e, method-back m (omega arith)) (rw (← own-is, z) (rw (← es, q)))
 
-        pub match-view : (k : ℕ) → s ≡ Nothing → marked k ≡ viewTarget ws lasts n vm size t → marked k ≡ matchIn ws lasts n c vm size t
+        pub match-view : (k : ℕ) → s ≡ Nothing → methodOf k ≡ viewTarget ws lasts n vm size t → methodOf k ≡ matchIn ws lasts n c vm size t
         unfolding matchIn
         match-view k q v = v ∙ rw (← own-is, z) (rw (← es, q))
-
-    pub added-room : (m : ℕ) {s : Found} → n ≤ 1024 → s ≡ find (λ m. eqb (targetIn ws lasts n m) t) (numbers 512 n) → s ≡ At m → m < 1536
-    added-room m h e q = omega (arith, find-within (λ m. eqb (targetIn ws lasts n m) t) 512 n m (sym e ∙ q))
 
   -- ---- the slots
 
   module _ (c : ℕ) (vm : List ℕ) (size i t k : ℕ) where
-    pub method-zero : t ≡ 0 → k ≡ below vm size i → marked k ≡ methodAt ws lasts n c vm size i t
+    pub method-zero : t ≡ 0 → k ≡ below vm size i → methodOf k ≡ methodAt ws lasts n c vm size i t
     unfolding methodAt
-    method-zero z e = simp (eq-eqb t 0 z) (ap marked e)
+    method-zero z e = simp (eq-eqb t 0 z) (ap methodOf e)
 
-    pub method-match : (t ≡ 0 → ⊥) → marked k ≡ matchIn ws lasts n c vm size t → marked k ≡ methodAt ws lasts n c vm size i t
+    pub method-match : (t ≡ 0 → ⊥) → methodOf k ≡ matchIn ws lasts n c vm size t → methodOf k ≡ methodAt ws lasts n c vm size i t
     unfolding methodAt
     method-match z e = simp (ne-eqb t 0 z) e
 
@@ -148,14 +146,14 @@ module _ (ws lasts : List ℕ) (n : ℕ) where
     unfolding entriesOf slotsIn listFrom
     slots-start ts ms = refl
 
-    pub slots-turn : (i k : ℕ) (ts ms us ns : List ℕ) {t w a b : ℕ} → i < length ts → i < length ms
+    pub slots-turn : (i k : ℕ) (ts ms us ns : List ℕ) {t w : ℕ} → i < length ts → i < length ms
         → entriesOf ts ms i ≡ slotsIn ws lasts n c vs vm size i → t ≡ compilerWord ws (classCompilerTable ws c - 1 + i)
-        → w ≡ cond (eqb t 0) (below vs size i) t → marked k ≡ methodAt ws lasts n c vm size i t → a ≡ i → us ≡ set ts a w → b ≡ i → ns ≡ set ms b k
+        → w ≡ cond (eqb t 0) (below vs size i) t → methodOf k ≡ methodAt ws lasts n c vm size i t → us ≡ set ts i w → ns ≡ set ms i k
         → entriesOf us ns (i + 1) ≡ slotsIn ws lasts n c vs vm size (i + 1)
     unfolding slotsIn tableSlot
-    slots-turn i k ts ms us ns {t = t} {w = w} h l e et ew ek ea eu eb en =
-        let x : _≡_ {A = Entry} (record { word = w; method = marked k }) (tableSlot ws lasts n c vs vm size i) = rw (ew, ek, et) in
-        rw (eu, ea, en, eb, push-slot ts ms i w k h l, e, x) (sym (list-more (tableSlot ws lasts n c vs vm size) i))
+    slots-turn i k ts ms us ns {t = t} {w = w} h l e et ew ek eu en =
+        let x : _≡_ {A = Entry} (record { word = w; method = methodOf k }) (tableSlot ws lasts n c vs vm size i) = rw (ew, ek, et) in
+        rw (eu, en, push-slot ts ms i w k h l, e, x) (sym (list-more (tableSlot ws lasts n c vs vm size) i))
 
 -- ---- they are those of the definitions
 
@@ -163,26 +161,26 @@ module _ (ws text abi labels refs flags lasts : List ℕ) (n c : ℕ) (vs vm : L
   abbrev new : List New
   new = firstNews ws text abi labels refs flags lasts n
 
-  entry-target : (t k w : ℕ) → entryTarget ws text abi labels new t (record { word = w; method = marked k }) ≡ markTarget ws lasts n t k
+  entry-target : (t k w : ℕ) → entryTarget ws text abi labels new t (record { word = w; method = methodOf k }) ≡ markTarget ws lasts n t k
   unfolding entryTarget markTarget
-  entry-target t k w = by (eqb k 0) (λ q. rw q) (λ q. rw (q, target-is ws text abi labels refs flags lasts n (k - 1)))
+  entry-target t k w = by-found (methodOf k) (λ m q. rw (q, target-is ws text abi labels refs flags lasts n m)) (λ q. rw q)
 
   match-is : (t : ℕ) → matchTarget ws text abi labels new c (entriesOf vs vm size) t ≡ matchIn ws lasts n c vm size t
   unfolding matchTarget classMethods matchIn viewTarget entriesOf entryAt
   match-is t =
       let p : ℕ → Bool = λ m. eqb (targetIn ws lasts n m) t in
-      let e : find (λ m. eqb (targetOf ws text abi labels new m) t) (ownMethods ws c ++ numbers 512 (length new))
-      ≡ orElse (find p (ownMethods ws c)) (find p (numbers 512 n)) =
+      let e : find (λ m. eqb (targetOf ws text abi labels new m) t) (ownMethods ws c ++ numbers methodLimit (length new))
+      ≡ orElse (find p (ownMethods ws c)) (find p (numbers methodLimit n)) =
       rw (length-first ws text abi labels refs flags lasts n)
-      (find-ext (λ m. eqb (targetOf ws text abi labels new m) t) p (ownMethods ws c ++ numbers 512 n)
+      (find-ext (λ m. eqb (targetOf ws text abi labels new m) t) p (ownMethods ws c ++ numbers methodLimit n)
       (λ m. rw (target-is ws text abi labels refs flags lasts n m))
-      ∙ find-append p (ownMethods ws c) (numbers 512 n)) in
+      ∙ find-append p (ownMethods ws c) (numbers methodLimit n)) in
       rw (
         e,
         found-list (entryTarget ws text abi labels new t) (λ i. markTarget ws lasts n t (getD vm i 0)) (entryAt vs vm) 0 size
             (λ i. entry-target t (getD vm i 0) (getD vs i 0)),
       )
-      (or-assoc (find p (ownMethods ws c)) (find p (numbers 512 n)) (firstFound (λ i. markTarget ws lasts n t (getD vm i 0)) (numbers 0 size)))
+      (or-assoc (find p (ownMethods ws c)) (find p (numbers methodLimit n)) (firstFound (λ i. markTarget ws lasts n t (getD vm i 0)) (numbers 0 size)))
 
   entry-is : (i : ℕ) → compilerEntry ws text abi labels new c (entriesOf vs vm size) i (compilerWord ws (classCompilerTable ws c - 1 + i))
       ≡ tableSlot ws lasts n c vs vm size i
@@ -210,7 +208,7 @@ module _ (ws text abi labels refs flags lasts : List ℕ) (n c : ℕ) (vs vm : L
 
   pub table-is : (xs : List ℕ) {count : ℕ} {E T : List Entry} → count ≡ min (classCompilerSlots ws c) 1024
       → E ≡ slotsIn ws lasts n c vs vm size count
-      → T ≡ fold (appendMethod ws text abi labels new) E ((ownMethods ws c ++ numbers 512 n) ++ xs)
+      → T ≡ fold (appendMethod ws text abi labels new) E ((ownMethods ws c ++ numbers methodLimit n) ++ xs)
       → T ≡ fold (appendMethod ws text abi labels new)
       (compilerEntries ws text abi labels new c (entriesOf vs vm size) 0 (compilerTargets ws text abi labels c))
       (classMethods ws text abi labels new c ++ xs)
@@ -219,10 +217,11 @@ module _ (ws text abi labels refs flags lasts : List ℕ) (n c : ℕ) (vs vm : L
 
   pub prepared-is : (area known : List ℕ) {T : List Entry} → entriesOf vs vm size ≡ nativeView ws text abi labels area c
       → new ≡ addedMethods ws text abi labels area c
-      → ((more : List New) → markMethods known size ≡ entryMethods ws text abi labels more (parentEntries ws text abi labels area c))
+      → marksIn known size ≡ methodsIn (parentEntries ws text abi labels area c)
       → T ≡ fold (appendMethod ws text abi labels new)
       (compilerEntries ws text abi labels new c (entriesOf vs vm size) 0 (compilerTargets ws text abi labels c))
       (classMethods ws text abi labels new c ++ markMethods known size)
       → T ≡ compilerTable ws text abi labels area c
   unfolding compilerTable
-  prepared-is area known view added parent e = rw (← added, ← view, ← (parent new)) e
+  prepared-is area known view added parent e =
+      rw (← added, ← view, ← (methods-are ws text abi labels known size (parentEntries ws text abi labels area c) new parent)) e

@@ -1,4 +1,3 @@
 pub mod AppendLaws
 pub mod EntryLaws
-pub mod Examples
 pub mod MethodLaws

@@ -9,43 +9,46 @@ use Rattle.words.specs.Lists.{listFrom, numbers, orElse, find, firstFound, some
 use Rattle.words.specs.declared.Found.{Found}
 use Rattle.words.specs.declared.Found.the-variants.{At, Nothing}
 use Rattle.text.specs.Text.{sameBytes}
-use Rattle.class_sheet.specs.ClassSheet.{classCompilerTable, compilerWord, methodName, methodDescriptor, methodFlags, methodTarget}
+use Rattle.class_sheet.specs.ClassSheet.{classCompilerTable, compilerWord, methodName, methodDescriptor, methodFlags, methodTarget, methodLimit}
 use Rattle.linking.specs.Chain.{onFound, ownMethods}
 use Rattle.linking.specs.Vtable.{Entry}
 use Rattle.growth.specs.News.{refName, refDescriptor}
-use Rattle.vtable.specs.Arrays.{marked}
+use Rattle.reading.specs.Arrays.{methodOf}
 use Rattle.native_view.specs.Native.{below}
 
 -- ---- method m: below 512 one of the sheet, from 512 on an added one
 
 module _ (ws text abi labels refs : List ℕ) (n : ℕ) where
   unfoldable pub nameIn : ℕ → List ℕ
-  nameIn m = cond (ltb m 512) (methodName ws text m) (cond (ltb (m - 512) n) (refName ws text abi labels (getD refs (m - 512) 0)) [])
+  nameIn m = cond (ltb m methodLimit) (methodName ws text m) (cond (ltb (m - methodLimit) n) (refName ws text abi labels (getD refs (m - methodLimit) 0)) [])
 
   unfoldable pub descriptorIn : ℕ → List ℕ
   descriptorIn m =
-      cond (ltb m 512) (methodDescriptor ws text m) (cond (ltb (m - 512) n) (refDescriptor ws text abi labels (getD refs (m - 512) 0)) [])
+      cond (ltb m methodLimit) (methodDescriptor ws text m) (cond (ltb (m - methodLimit) n) (refDescriptor ws text abi labels (getD refs (m - methodLimit) 0)) [])
 
-  -- the method with mark k has this name and descriptor; no for mark 0
+  -- the method with mark k has this name and descriptor; no for no method's mark
   unfoldable pub markSame : List ℕ → List ℕ → ℕ → Bool
-  markSame name descriptor k = onFound (marked k) (λ m. sameBytes name (nameIn m) && sameBytes descriptor (descriptorIn m)) false
+  markSame name descriptor k = onFound (methodOf k) (λ m. sameBytes name (nameIn m) && sameBytes descriptor (descriptorIn m)) false
 
   -- one of the first `size` marks is of this signature
   unfoldable pub someSame : List ℕ → List ℕ → List ℕ → ℕ → Bool
   someSame name descriptor ms size = some (λ i. markSame name descriptor (getD ms i 0)) (numbers 0 size)
 
 unfoldable pub flagsIn : List ℕ → List ℕ → ℕ → ℕ → ℕ
-flagsIn ws flags n m = cond (ltb m 512) (methodFlags ws m) (below flags n (m - 512))
+flagsIn ws flags n m = cond (ltb m methodLimit) (methodFlags ws m) (below flags n (m - methodLimit))
 
 module _ (ws lasts : List ℕ) (n : ℕ) where
   unfoldable pub targetIn : ℕ → ℕ
-  targetIn m = cond (ltb m 512) (methodTarget ws m) (below lasts n (m - 512))
+  targetIn m = cond (ltb m methodLimit) (methodTarget ws m) (below lasts n (m - methodLimit))
 
   -- ---- "matched by target in declared and added, then native methods"
 
-  -- the method with mark k, where it has target t
+  -- the method with mark k has target t; and that method, where it has
+  unfoldable pub markHas : ℕ → ℕ → Bool
+  markHas t k = onFound (methodOf k) (λ m. eqb (targetIn m) t) false
+
   unfoldable pub markTarget : ℕ → ℕ → Found
-  markTarget t k = onFound (marked k) (λ m. cond (eqb (targetIn m) t) (At m) Nothing) Nothing
+  markTarget t k = onFound (methodOf k) (λ m. cond (eqb (targetIn m) t) (At m) Nothing) Nothing
 
   -- the first with target t among the first `size` marks of the native view
   unfoldable pub viewTarget : List ℕ → ℕ → ℕ → Found
@@ -54,12 +57,12 @@ module _ (ws lasts : List ℕ) (n : ℕ) where
   unfoldable pub matchIn : ℕ → List ℕ → ℕ → ℕ → Found
   matchIn c vm size t =
       orElse (find (λ m. eqb (targetIn m) t) (ownMethods ws c))
-      (orElse (find (λ m. eqb (targetIn m) t) (numbers 512 n)) (viewTarget vm size t))
+      (orElse (find (λ m. eqb (targetIn m) t) (numbers methodLimit n)) (viewTarget vm size t))
 
   -- ---- slot i of the compiler table: its method where its target is t, and the slot; and the first `count` of them
 
   unfoldable pub methodAt : ℕ → List ℕ → ℕ → ℕ → ℕ → Found
-  methodAt c vm size i t = cond (eqb t 0) (marked (below vm size i)) (matchIn c vm size t)
+  methodAt c vm size i t = cond (eqb t 0) (methodOf (below vm size i)) (matchIn c vm size t)
 
   unfoldable pub tableSlot : ℕ → List ℕ → List ℕ → ℕ → ℕ → Entry
   tableSlot c vs vm size i =
@@ -73,4 +76,4 @@ module _ (ws lasts : List ℕ) (n : ℕ) where
 
 -- the j-th of `own` methods from `first` on, or the (j - own)-th added one
 unfoldable pub methodNumber : ℕ → ℕ → ℕ → ℕ
-methodNumber first own j = cond (ltb j own) (first + j) (512 + (j - own))
+methodNumber first own j = cond (ltb j own) (first + j) (methodLimit + (j - own))

@@ -1,21 +1,21 @@
 // A generated class with a compiler table: its virtual table (`build_from_compiler_vtable`) and the methods that are added to it.
-// Methods are numbered on: below 512 those of the sheet, 512 + j the j-th that is added. A slot's mark is its method's number plus 1.
+// Methods are numbered on: below 512 those of the sheet, 512 + j the j-th that is added.
 use words::Found;
 ghost use mathlib.Core.Path.{_≡_};
 ghost use mathlib.Core.Bool.{cond};
 ghost use mathlib.Core.List.{[], _++_};
-ghost use Prim.Native.Nat.{_+_, _-_, _≤_, _<_, min};
+ghost use Prim.Native.Nat.{_+_, _≤_, _<_, min};
 ghost use lib.ListN.{length};
 ghost use lib.Dec.{eqb};
 ghost use Rattle.words.specs.Lists.{numbers, find, fold, consFound};
-ghost use Rattle.class_sheet.specs.ClassSheet.{classCompilerSlots};
-ghost use Rattle.words.specs.declared.Found.the-variants.{At, Nothing};
+ghost use Rattle.class_sheet.specs.ClassSheet.{classCompilerSlots, methodLimit};
+ghost use Rattle.words.specs.declared.Found.the-variants.{Nothing};
 ghost use Rattle.linking.specs.Chain.{ownMethods};
 ghost use Rattle.linking.specs.Compiler.{compilerTable, compilerEntries, compilerTargets, classMethods, addedMethods, appendMethod};
-ghost use Rattle.vtable.specs.Arrays.{marked, entriesOf};
+ghost use Rattle.reading.specs.Arrays.{methodOf, entriesOf};
 ghost use Rattle.growth.specs.News.{firstNews};
 ghost use Rattle.native_view.specs.Native.{below, markMethods};
-ghost use Rattle.compiler.specs.Methods.{nameIn, descriptorIn, markSame, someSame, flagsIn, targetIn, markTarget, viewTarget, matchIn, methodAt, slotsIn, methodNumber};
+ghost use Rattle.compiler.specs.Methods.{nameIn, descriptorIn, markSame, someSame, flagsIn, targetIn, markHas, viewTarget, matchIn, methodAt, slotsIn, methodNumber};
 
 // How many slots the table has, and how many methods are added to the class.
 pub struct Prepared {
@@ -35,11 +35,11 @@ fn name_of<'a>(
 ) -> &'a [u8]
     ensures { λ r. ⌜ now r ≡ nameIn (now (ws .entry)) (now (text .entry)) (now (abi .entry)) (now (labels .entry)) (now (refs .entry)) n m ⌝ }
 {
-    if m < 512 {
+    if m < class_sheet::METHOD_LIMIT {
         return class_sheet::method_name(ws, text, m);
     }
-    if m - 512 < n {
-        let r = words::word_at(refs, words::wide(m - 512));
+    if m - class_sheet::METHOD_LIMIT < n {
+        let r = words::word_at(refs, words::wide(m - class_sheet::METHOD_LIMIT));
         return growth::ref_name(ws, text, abi, labels, r);
     }
     words::part(text, 0, 0)
@@ -57,11 +57,11 @@ fn descriptor_of<'a>(
 ) -> &'a [u8]
     ensures { λ r. ⌜ now r ≡ descriptorIn (now (ws .entry)) (now (text .entry)) (now (abi .entry)) (now (labels .entry)) (now (refs .entry)) n m ⌝ }
 {
-    if m < 512 {
+    if m < class_sheet::METHOD_LIMIT {
         return class_sheet::method_descriptor(ws, text, m);
     }
-    if m - 512 < n {
-        let r = words::word_at(refs, words::wide(m - 512));
+    if m - class_sheet::METHOD_LIMIT < n {
+        let r = words::word_at(refs, words::wide(m - class_sheet::METHOD_LIMIT));
         return growth::ref_descriptor(ws, text, abi, labels, r);
     }
     words::part(text, 0, 0)
@@ -71,20 +71,20 @@ fn descriptor_of<'a>(
 fn flags_of(ws: &[u32], flags: &[u32], n: u32, m: u32) -> u32
     ensures { λ r. ⌜ r ≡ flagsIn (now (ws .entry)) (now (flags .entry)) n m ⌝ }
 {
-    if m < 512 {
+    if m < class_sheet::METHOD_LIMIT {
         return class_sheet::method_flags(ws, m);
     }
-    native_view::word_below(flags, n, m - 512)
+    native_view::word_below(flags, n, m - class_sheet::METHOD_LIMIT)
 }
 
 // The target of method m.
 fn target_of(ws: &[u32], lasts: &[u32], n: u32, m: u32) -> u32
     ensures { λ r. ⌜ r ≡ targetIn (now (ws .entry)) (now (lasts .entry)) n m ⌝ }
 {
-    if m < 512 {
+    if m < class_sheet::METHOD_LIMIT {
         return class_sheet::method_target(ws, m);
     }
-    native_view::word_below(lasts, n, m - 512)
+    native_view::word_below(lasts, n, m - class_sheet::METHOD_LIMIT)
 }
 
 // Whether method m has target t.
@@ -111,17 +111,17 @@ fn target_in(ws: &[u32], lasts: &[u32], n: u32, first: u32, count: u32, t: u32) 
 
 // Whether the method with mark k has target t.
 fn mark_has(ws: &[u32], lasts: &[u32], n: u32, k: u32, t: u32) -> bool
-    ensures { λ r. ⌜ markTarget (now (ws .entry)) (now (lasts .entry)) n t k ≡ cond r (At (k - 1)) Nothing ⌝ }
+    ensures { λ r. ⌜ r ≡ markHas (now (ws .entry)) (now (lasts .entry)) n t k ⌝ }
 {
-    if k == 0 {
-        return false;
+    match reading::method_of(k) {
+        Found::At(m) => target_is(ws, lasts, n, m, t),
+        Found::Nothing => false,
     }
-    target_is(ws, lasts, n, k - 1, t)
 }
 
 // The mark of the first of `size` slots whose method has target t.
 fn view_target(ws: &[u32], lasts: &[u32], n: u32, vm: &[u32], size: u32, t: u32) -> u32
-    ensures { λ r. ⌜ marked r ≡ viewTarget (now (ws .entry)) (now (lasts .entry)) n (now (vm .entry)) size t ⌝ }
+    ensures { λ r. ⌜ methodOf r ≡ viewTarget (now (ws .entry)) (now (lasts .entry)) n (now (vm .entry)) size t ⌝ }
 {
     let mut i: u32 = 0;
     while i < size {
@@ -131,20 +131,20 @@ fn view_target(ws: &[u32], lasts: &[u32], n: u32, vm: &[u32], size: u32, t: u32)
         }
         i += 1;
     }
-    0
+    reading::mark_of(Found::Nothing)
 }
 
 // The mark of the first method with target t: declared, added, or of the native view's slots.
 fn match_target(ws: &[u32], lasts: &[u32], n: u32, c: u32, vm: &[u32], size: u32, t: u32) -> u32
     requires { ⌜ n ≤ 1024 ⌝ }
-    ensures { λ r. ⌜ marked r ≡ matchIn (now (ws .entry)) (now (lasts .entry)) n c (now (vm .entry)) size t ⌝ }
+    ensures { λ r. ⌜ methodOf r ≡ matchIn (now (ws .entry)) (now (lasts .entry)) n c (now (vm .entry)) size t ⌝ }
 {
     let first = class_sheet::class_first_method(ws, c);
     let count = chain::method_count(ws, c);
     match target_in(ws, lasts, n, first, count, t) {
-        Found::At(m) => m + 1,
-        Found::Nothing => match target_in(ws, lasts, n, 512, n, t) {
-            Found::At(m) => m + 1,
+        Found::At(m) => reading::mark_of(Found::At(m)),
+        Found::Nothing => match target_in(ws, lasts, n, class_sheet::METHOD_LIMIT, n, t) {
+            Found::At(m) => reading::mark_of(Found::At(m)),
             Found::Nothing => view_target(ws, lasts, n, vm, size, t),
         },
     }
@@ -172,7 +172,7 @@ fn entry_mark(
     t: u32,
 ) -> u32
     requires { ⌜ n ≤ 1024 ⌝ }
-    ensures { λ r. ⌜ marked r ≡ methodAt (now (ws .entry)) (now (lasts .entry)) n c (now (vm .entry)) size i t ⌝ }
+    ensures { λ r. ⌜ methodOf r ≡ methodAt (now (ws .entry)) (now (lasts .entry)) n c (now (vm .entry)) size i t ⌝ }
 {
     if t == 0 {
         return native_view::word_below(vm, size, i);
@@ -201,8 +201,7 @@ fn compiler_entries(
     while i < count {
         let t = native_view::compiler_target(ws, c, i);
         let k = entry_mark(ws, lasts, n, c, vm, size, i, t);
-        words::put_word(ts, words::wide(i), entry_word(vs, size, i, t));
-        words::put_word(ms, words::wide(i), k);
+        reading::put_slot(ts, ms, i, entry_word(vs, size, i, t), k);
         i += 1;
     }
     count
@@ -222,14 +221,13 @@ fn mark_same<'a>(
 ) -> bool
     ensures { λ r. ⌜ r ≡ markSame (now (ws .entry)) (now (text .entry)) (now (abi .entry)) (now (labels .entry)) (now (refs .entry)) n (now (name .entry)) (now (descriptor .entry)) k ⌝ }
 {
-    if k == 0 {
-        return false;
+    match reading::method_of(k) {
+        Found::At(m) => {
+            text::same(name, name_of(ws, text, abi, labels, refs, n, m))
+                & text::same(descriptor, descriptor_of(ws, text, abi, labels, refs, n, m))
+        }
+        Found::Nothing => false,
     }
-    text::same(name, name_of(ws, text, abi, labels, refs, n, k - 1))
-        & text::same(
-            descriptor,
-            descriptor_of(ws, text, abi, labels, refs, n, k - 1),
-        )
 }
 
 // Whether one of the first `size` slots has this name and descriptor.
@@ -285,8 +283,8 @@ fn append_method<'a>(
     if has_slot(ws, text, abi, labels, refs, n, name, descriptor, ms, end) {
         return end;
     }
-    words::put_word(ts, words::wide(end), target_of(ws, lasts, n, m));
-    words::put_word(ms, words::wide(end), m + 1);
+    let k = reading::mark_of(Found::At(m));
+    reading::put_slot(ts, ms, end, target_of(ws, lasts, n, m), k);
     end + 1
 }
 
@@ -299,7 +297,7 @@ fn method_number(first: u32, own: u32, j: u32) -> u32
     if j < own {
         return first + j;
     }
-    512 + (j - own)
+    class_sheet::METHOD_LIMIT + (j - own)
 }
 
 // Appends class c's declared methods and the added ones.
@@ -318,7 +316,7 @@ fn append_methods<'a>(
     end: u32,
 ) -> u32
     requires { ⌜ (n ≤ 1024) × (end ≤ 1024) × (3584 ≤ length (now ts)) × (3584 ≤ length (now ms)) ⌝ }
-    ensures is { λ r. ⌜ entriesOf (now (ts .exit)) (now (ms .exit)) r ≡ fold (appendMethod (now (ws .entry)) (now (text .entry)) (now (abi .entry)) (now (labels .entry)) (firstNews (now (ws .entry)) (now (text .entry)) (now (abi .entry)) (now (labels .entry)) (now (refs .entry)) (now (flags .entry)) (now (lasts .entry)) n)) (entriesOf (now (ts .entry)) (now (ms .entry)) end) (ownMethods (now (ws .entry)) c ++ numbers 512 n) ⌝ }
+    ensures is { λ r. ⌜ entriesOf (now (ts .exit)) (now (ms .exit)) r ≡ fold (appendMethod (now (ws .entry)) (now (text .entry)) (now (abi .entry)) (now (labels .entry)) (firstNews (now (ws .entry)) (now (text .entry)) (now (abi .entry)) (now (labels .entry)) (now (refs .entry)) (now (flags .entry)) (now (lasts .entry)) n)) (entriesOf (now (ts .entry)) (now (ms .entry)) end) (ownMethods (now (ws .entry)) c ++ numbers methodLimit n) ⌝ }
     ensures count { λ r. ⌜ r ≤ 2560 ⌝ }
 {
     let first = class_sheet::class_first_method(ws, c);
@@ -334,7 +332,7 @@ fn append_methods<'a>(
     r
 }
 
-// Appends the method with mark k; none for mark 0.
+// Appends the method with mark k, if it has one.
 fn append_mark<'a>(
     ws: &[u32],
     text: &'a [u8],
@@ -350,26 +348,13 @@ fn append_mark<'a>(
     end: u32,
 ) -> u32
     requires { ⌜ (end < 4294967295) × (end < length (now ts)) × (end < length (now ms)) ⌝ }
-    ensures is { λ r. ⌜ entriesOf (now (ts .exit)) (now (ms .exit)) r ≡ fold (appendMethod (now (ws .entry)) (now (text .entry)) (now (abi .entry)) (now (labels .entry)) (firstNews (now (ws .entry)) (now (text .entry)) (now (abi .entry)) (now (labels .entry)) (now (refs .entry)) (now (flags .entry)) (now (lasts .entry)) n)) (entriesOf (now (ts .entry)) (now (ms .entry)) end) (consFound (marked k) []) ⌝ }
+    ensures is { λ r. ⌜ entriesOf (now (ts .exit)) (now (ms .exit)) r ≡ fold (appendMethod (now (ws .entry)) (now (text .entry)) (now (abi .entry)) (now (labels .entry)) (firstNews (now (ws .entry)) (now (text .entry)) (now (abi .entry)) (now (labels .entry)) (now (refs .entry)) (now (flags .entry)) (now (lasts .entry)) n)) (entriesOf (now (ts .entry)) (now (ms .entry)) end) (consFound (methodOf k) []) ⌝ }
     ensures count { λ r. ⌜ r ≤ end + 1 ⌝ }
 {
-    if k == 0 {
-        return end;
+    match reading::method_of(k) {
+        Found::At(m) => append_method(ws, text, abi, labels, refs, flags, lasts, n, m, ts, ms, end),
+        Found::Nothing => end,
     }
-    append_method(
-        ws,
-        text,
-        abi,
-        labels,
-        refs,
-        flags,
-        lasts,
-        n,
-        k - 1,
-        ts,
-        ms,
-        end,
-    )
 }
 
 // Appends the methods of the first `count` marks.
@@ -420,7 +405,7 @@ fn append_all<'a>(
     end: u32,
 ) -> u32
     requires { ⌜ (n ≤ 1024) × (count ≤ 1024) × (end ≤ 1024) × (3584 ≤ length (now ts)) × (3584 ≤ length (now ms)) ⌝ }
-    ensures is { λ r. ⌜ entriesOf (now (ts .exit)) (now (ms .exit)) r ≡ fold (appendMethod (now (ws .entry)) (now (text .entry)) (now (abi .entry)) (now (labels .entry)) (firstNews (now (ws .entry)) (now (text .entry)) (now (abi .entry)) (now (labels .entry)) (now (refs .entry)) (now (flags .entry)) (now (lasts .entry)) n)) (entriesOf (now (ts .entry)) (now (ms .entry)) end) ((ownMethods (now (ws .entry)) c ++ numbers 512 n) ++ markMethods (now (known .entry)) count) ⌝ }
+    ensures is { λ r. ⌜ entriesOf (now (ts .exit)) (now (ms .exit)) r ≡ fold (appendMethod (now (ws .entry)) (now (text .entry)) (now (abi .entry)) (now (labels .entry)) (firstNews (now (ws .entry)) (now (text .entry)) (now (abi .entry)) (now (labels .entry)) (now (refs .entry)) (now (flags .entry)) (now (lasts .entry)) n)) (entriesOf (now (ts .entry)) (now (ms .entry)) end) ((ownMethods (now (ws .entry)) c ++ numbers methodLimit n) ++ markMethods (now (known .entry)) count) ⌝ }
     ensures count { λ r. ⌜ r ≤ 3584 ⌝ }
 {
     let r = append_methods(ws, text, abi, labels, refs, flags, lasts, n, c, ts, ms, end);
@@ -483,7 +468,8 @@ fn compiler_table<'a>(
     )
 }
 
-// Fills the arrays with the virtual table of class c, which has a compiler table, and with the methods that are added to it.
+// Fills the arrays with the virtual table of class c, which has a compiler table, and with the methods that are added to it. What they hold past
+// the counts that are answered is the program's choice and means nothing; their lengths stay.
 pub fn prepare_generated<'a>(
     ws: &[u32],
     text: &'a [u8],

@@ -206,11 +206,10 @@ fn difference(same: bool, set: &[u32], area: &[u32], rust_set: &[u32], rust_area
     0
 }
 
-// Makes the n calls at a place in turn, beside the memory as the Rust left it.
+// Makes the calls at a place in turn, beside the memory as the Rust left it.
 fn make_calls(
     f: &[u32],
     at: u32,
-    n: u32,
     lists: u32,
     set: &mut [u32],
     abi: &[u32],
@@ -218,7 +217,8 @@ fn make_calls(
     rust_set: &mut [u32],
     rust_area: &mut [u32],
 ) -> Seen {
-    let mut place: u32 = at;
+    let n = word(f, at);
+    let mut place: u32 = on(at, 1);
     let mut call: u32 = 0;
     let mut what: u32 = 0;
     let mut i: u32 = 0;
@@ -240,72 +240,33 @@ fn make_calls(
     }
 }
 
-// The same, on the first words of the area, as many as the case lends.
-fn lend_area(
-    f: &[u32],
-    at: u32,
-    n: u32,
-    lists: u32,
-    set: &mut [u32],
-    abi: &[u32],
-    area: &mut [u32],
-    lent: usize,
-    rust_set: &mut [u32],
-    rust_area: &mut [u32],
-) -> Seen {
-    if lent < area.len() {
-        return make_calls(
-            f,
-            at,
-            n,
-            lists,
-            set,
-            abi,
-            &mut area[..lent],
-            rust_set,
-            rust_area,
-        );
-    }
-    make_calls(f, at, n, lists, set, abi, area, rust_set, rust_area)
+// How many words of a list at a place there is room for.
+fn room(f: &[u32], at: u32, most: usize) -> usize
+    ensures { λ r. ⌜ r ≤ most ⌝ }
+{
+    let n = wide(word(f, at));
+    if most < n { most } else { n }
 }
 
-// The same, on the first words of the set and of the area.
-fn lend_set(
-    f: &[u32],
-    at: u32,
-    n: u32,
-    lists: u32,
-    set: &mut [u32],
-    set_lent: usize,
-    abi: &[u32],
-    area: &mut [u32],
-    lent: usize,
-    rust_set: &mut [u32],
-    rust_area: &mut [u32],
-) -> Seen {
-    if set_lent < set.len() {
-        return lend_area(
-            f,
-            at,
-            n,
-            lists,
-            &mut set[..set_lent],
-            abi,
-            area,
-            lent,
-            rust_set,
-            rust_area,
-        );
-    }
-    lend_area(f, at, n, lists, set, abi, area, lent, rust_set, rust_area)
+// Room for class words, and for an area.
+fn set_words() -> [u32; 20480]
+    ensures { λ r. ⌜ 20480 ≡ length r ⌝ }
+{
+    [0; 20480]
 }
 
-// Replays the case at a place.
+fn area_words() -> [u32; 8192]
+    ensures { λ r. ⌜ 8192 ≡ length r ⌝ }
+{
+    [0; 8192]
+}
+
+// Replays the case at a place, on as many class words and words of the area as it lends.
 fn replay_case(f: &[u32], at: u32) -> Seen {
-    let mut set = [0u32; 20480];
+    let mut set = set_words();
     let mut rust_set = [0u32; 20480];
     let mut abi = [0u32; 20480];
-    let mut area = [0u32; 8192];
+    let mut area = area_words();
     let mut rust_area = [0u32; 8192];
     let mut stubs = [0u32; 4096];
     let abi_at = read_list(f, at, &mut set);
@@ -315,16 +276,15 @@ fn replay_case(f: &[u32], at: u32) -> Seen {
     read_list(f, area_at, &mut rust_area);
     let lists = on(count_at, 1);
     let calls_at = list_place(f, lists, word(f, count_at), &mut stubs);
-    lend_set(
+    let set_room = room(f, at, 20480);
+    let area_room = room(f, area_at, 8192);
+    make_calls(
         f,
-        on(calls_at, 1),
-        word(f, calls_at),
+        calls_at,
         lists,
-        &mut set,
-        wide(word(f, at)),
+        &mut set[..set_room],
         word_part(&abi, 0, wide(word(f, abi_at))),
-        &mut area,
-        wide(word(f, area_at)),
+        &mut area[..area_room],
         &mut rust_set,
         &mut rust_area,
     )

@@ -5,24 +5,15 @@ use Prim.Native.Nat.{ℕ, _%_, _^_, _<_}
 use native.Mathlib.Omega.{arith}
 use lib.ListN.{length}
 use Rattle.words.proofs.Bools.{by}
-use Rattle.descriptor.specs.Grammar.{FieldDescriptor, fieldSpelling, FieldDerivation, MethodDescriptor, methodSpelling}
-use Rattle.descriptor.specs.Grammar.{MethodDerivation}
-use Rattle.descriptor.specs.Machine.{isFieldDescriptor, isMethodDescriptor}
+use Rattle.descriptor.specs.Grammar.{MethodDescriptor, methodSpelling, MethodDerivation}
+use Rattle.descriptor.specs.Machine.{isMethodDescriptor}
 use Rattle.descriptor.specs.Meaning.{Meaning}
-use Rattle.descriptor.specs.Words.{fieldWords, argumentWords, counted, answer, fieldAnswer, argumentAnswer, Answer}
+use Rattle.descriptor.specs.Words.{argumentWords, counted, answer, argumentAnswer, Answer}
 use Rattle.descriptor.specs.declared.DescriptorWords.{DescriptorWords}
 use Rattle.descriptor.specs.declared.DescriptorWords.the-variants.{Count, Refused}
 use Rattle.descriptor.proofs.Counts.{width-is, method-begins, method-small}
 use Rattle.descriptor.proofs.Machines.{field-sound, field-complete, method-sound, method-complete}
 use Rattle.descriptor.proofs.Unique.{field-unique, method-unique}
-
-field-counts : (t : FieldDescriptor) → fieldAnswer (fieldSpelling t) ≡ counted (fieldWords t)
-unfolding fieldAnswer
-field-counts t = rw (field-complete t) (ap counted (width-is t))
-
-no-field : (s : List ℕ) → (FieldDerivation s → ⊥) → (fieldAnswer s) .refusal ≡ 5
-unfolding fieldAnswer
-no-field s n = by (isFieldDescriptor s) (λ y. absurd (n (field-sound s y))) (λ y. rw y)
 
 method-counts : (t : MethodDescriptor) (flags : ℕ) → argumentAnswer (methodSpelling t) flags ≡ counted (argumentWords t flags % 2 ^ 64)
 unfolding argumentAnswer argumentWords
@@ -57,9 +48,6 @@ meaning =
       field-unique = field-unique;
       method-unique = method-unique;
       width-is = width-is;
-      field-words-exact = field-counts;
-      field-words-refused =
-          λ s. (λ h d. not-refused (fieldAnswer s) (fieldWords (d .0)) (rw (← (d .1)) (field-counts (d .0))) h, no-field s);
       argument-words-modulo = method-counts;
       argument-words-exact = λ t flags l. method-counts t flags ∙ ap counted (method-exact t flags l);
       argument-words-refused =

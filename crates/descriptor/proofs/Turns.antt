@@ -10,8 +10,8 @@ use lib.Seq.{drop-cons}
 use Rattle.descriptor.specs.declared.FieldState.{FieldState}
 use Rattle.descriptor.specs.declared.MethodState.{MethodState}
 use Rattle.descriptor.specs.declared.MethodState.the-variants.{Begin, Returned}
-use Rattle.descriptor.specs.Machine.{fieldNext, isFieldDescriptor, methodNext, isMethodDescriptor}
-use Rattle.descriptor.specs.Words.{receiverWords, width, begunWords, begunFrom, counted, refused, fieldAnswer, argumentAnswer}
+use Rattle.descriptor.specs.Machine.{fieldNext, methodNext, isMethodDescriptor}
+use Rattle.descriptor.specs.Words.{receiverWords, begunWords, begunFrom, counted, refused, argumentAnswer}
 
 -- ---- a step of the method machine in the return type
 
@@ -45,14 +45,6 @@ module _ (q : MethodState) (s : List ℕ) (i : ℕ) where
 -- ---- the answers
 
 module _ (s : List ℕ) {b : Bool} where
-  pub field-counted : {n : ℕ} → b ≡ isFieldDescriptor s → b ≡ true → n ≡ width s → counted n ≡ fieldAnswer s
-  unfolding fieldAnswer
-  field-counted e t f = rw (sym e ∙ t) (ap counted f)
-
-  pub field-refused : b ≡ isFieldDescriptor s → b ≡ false → refused ≡ fieldAnswer s
-  unfolding fieldAnswer
-  field-refused e t = rw (sym e ∙ t)
-
   pub argument-counted : (flags : ℕ) {r p n : ℕ} → b ≡ isMethodDescriptor s → b ≡ true → r ≡ receiverWords flags
       → p ≡ begunFrom Begin s % 2 ^ 64 → n ≡ (r + p) % 2 ^ 64 → counted n ≡ argumentAnswer s flags
   unfolding argumentAnswer

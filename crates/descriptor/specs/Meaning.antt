@@ -9,7 +9,7 @@ use lib.ListN.{length}
 use Rattle.descriptor.specs.Grammar.{FieldDescriptor, fieldSpelling, FieldDerivation, MethodDescriptor, methodSpelling}
 use Rattle.descriptor.specs.Grammar.{MethodDerivation}
 use Rattle.descriptor.specs.Machine.{isFieldDescriptor, isMethodDescriptor}
-use Rattle.descriptor.specs.Words.{fieldWords, argumentWords, width, counted, answer, fieldAnswer, argumentAnswer}
+use Rattle.descriptor.specs.Words.{fieldWords, argumentWords, width, counted, answer, argumentAnswer}
 use Rattle.descriptor.specs.declared.DescriptorWords.{DescriptorWords}
 
 pub record Meaning : Type 0 where
@@ -21,10 +21,8 @@ pub record Meaning : Type 0 where
   -- only one derivation spells them
   pub field-unique : (t u : FieldDescriptor) → fieldSpelling t ≡ fieldSpelling u → t ≡ u
   pub method-unique : (t u : MethodDescriptor) → methodSpelling t ≡ methodSpelling u → t ≡ u
-  -- a field's words are its derivation's, and it is refused, by 5, just where it has none
+  -- a field's words are its derivation's
   pub width-is : (t : FieldDescriptor) → width (fieldSpelling t) ≡ fieldWords t
-  pub field-words-exact : (t : FieldDescriptor) → fieldAnswer (fieldSpelling t) ≡ counted (fieldWords t)
-  pub field-words-refused : (s : List ℕ) → ((fieldAnswer s) .refusal ≡ 5) ↔ (FieldDerivation s → ⊥)
   -- a method's argument words are the sum over its derivation's parameters and the receiver, modulo 2^64, so exactly where the
   -- descriptor has fewer than 2^63 bytes; and it is refused, by 5, just where it has none
   pub argument-words-modulo : (t : MethodDescriptor) (flags : ℕ) → argumentAnswer (methodSpelling t) flags ≡ counted (argumentWords t flags % 2 ^ 64)

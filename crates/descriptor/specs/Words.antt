@@ -8,7 +8,7 @@ use lib.ListN.{getD}
 use Rattle.descriptor.specs.Bytes.{byte}
 use Rattle.descriptor.specs.Grammar.{BaseType, B, C, D, F, I, J, S, Z, FieldType, base, object, array, FieldDescriptor, field}
 use Rattle.descriptor.specs.Grammar.{ParameterDescriptor, parameter, MethodDescriptor}
-use Rattle.descriptor.specs.Machine.{fieldDone, isFieldDescriptor, methodNext, isMethodDescriptor}
+use Rattle.descriptor.specs.Machine.{fieldDone, methodNext, isMethodDescriptor}
 use Rattle.descriptor.specs.declared.MethodState.{MethodState}
 use Rattle.descriptor.specs.declared.MethodState.the-variants.{Begin, Parameters, Return, Returned}
 use Rattle.descriptor.specs.declared.DescriptorWords.{DescriptorWords}
@@ -90,9 +90,6 @@ refused = record { refusal = 5; words = 0 }
 abbrev pub answer : DescriptorWords → Answer
 answer (Count n) = counted n
 answer Refused = refused
-
-unfoldable pub fieldAnswer : List ℕ → Answer
-fieldAnswer s = cond (isFieldDescriptor s) (counted (width s)) refused
 
 unfoldable pub argumentAnswer : List ℕ → ℕ → Answer
 argumentAnswer s flags = cond (isMethodDescriptor s) (counted ((receiverWords flags + begunFrom Begin s) % 2 ^ 64)) refused

@@ -22,7 +22,6 @@ ghost use Rattle.descriptor.specs.Words.{
   begunWords,
   begunFrom,
   answer,
-  fieldAnswer,
   argumentAnswer,
 };
 
@@ -302,17 +301,6 @@ pub fn width(s: &[u8]) -> u32
     ensures { λ r. ⌜ r ≡ width (now (s .entry)) ⌝ }
 {
     byte_width(words::byte_at(s, 0))
-}
-
-// The words of a field, or refusal 5 where the bytes are no field descriptor. Where the papers are silent: any bytes are taken, also
-// those that no sheet may hold. A count is 1 or 2, so that nothing is lost modulo 2^64.
-pub fn field_words(s: &[u8]) -> DescriptorWords
-    ensures { λ r. ⌜ answer r ≡ fieldAnswer (now (s .entry)) ⌝ }
-{
-    if is_field_descriptor(s) {
-        return DescriptorWords::Count(width(s) as u64);
-    }
-    DescriptorWords::Refused
 }
 
 // Whether a parameter or the closing parenthesis is next.

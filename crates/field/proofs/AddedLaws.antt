@@ -2,10 +2,10 @@
 use mathlib.Core.Path.{_≡_, refl, sym, _∙_}
 use mathlib.Core.Bool.{Bool, true, false, cond, not}
 use mathlib.Core.List.{List, [], _∷_, _++_, append-assoc, append-nil}
-use Prim.Native.Nat.{ℕ, zero, suc, _+_, _-_, _≤_, _<_}
+use Prim.Native.Nat.{ℕ, zero, suc, _+_, _-_, _^_, _≤_, _<_}
 use native.Mathlib.Omega.{arith}
 use lib.ListN.{length, getD, take, drop, set, List·getD-append}
-use lib.Seq.{take-suc-set, length-take-le}
+use lib.Seq.{take-suc-set}
 use native.Mathlib.Numerals.{add-one}
 use borrow.Author.Tests.{eq-eqb, ne-eqb, le-ltb}
 use Rattle.words.specs.Lists.{listFrom, numbers, keep}
@@ -14,17 +14,18 @@ use Rattle.words.specs.declared.Found.{Found}
 use Rattle.words.specs.declared.Found.the-variants.{At, Nothing}
 use Rattle.words.proofs.Bools.{by}
 use Rattle.words.proofs.FoldLaws.{length-table, getD-table, stores-is}
-use Rattle.words.proofs.ListLaws.{restFrom, rest-start, rest-turn, rest-end, someFrom, some-start, some-turn, some-found, some-end}
-use Rattle.class_sheet.specs.ClassSheet.{classFirstField, classFieldCount}
-use Rattle.abi_sheet.specs.AbiSheet.{abiClassFirstField, abiClassFieldCount, abiFieldName, abiFieldDescriptor}
-use Rattle.chain.proofs.ChainLaws.{own-fields-length, own-field-at}
+use Rattle.words.proofs.ListLaws.{restFrom, rest-start, rest-turn, rest-end, someFrom, some-start, some-turn, some-found, some-end, length-list-from}
+use Rattle.class_sheet.specs.ClassSheet.{classFirstField, classFieldCount, fieldLimit}
+use Rattle.abi_sheet.specs.AbiSheet.{abiClassFirstField, abiClassFieldCount, abiFieldName, abiFieldDescriptor, abiFieldLimit}
+use Rattle.linking.proofs.ChainLaws.{own-fields-length, own-field-at}
 use Rattle.linking.specs.Chain.{onFound, listCount, ownFields}
 use Rattle.linking.specs.Abi.{abiFields, fixedFieldIndex, givenWords, classAbi}
 use Rattle.linking.specs.Fields.{declaresField, addedFields, raised}
 use Rattle.linking.specs.Compiler.{New}
 use Rattle.linking.specs.Link.{newFieldsOf}
 use Rattle.growth.specs.News.{refName, refDescriptor, newAt, firstNews}
-use Rattle.field.specs.Numbers.{declaredBy, Small, wordsFrom}
+use Rattle.field.specs.Numbers.{declaredBy, Small, namesOver, flagsOver, indicesOver, wordsFrom, addedTo, numberedOf, fieldsBy, builtFields}
+use Rattle.field.specs.declared.Numbered.{Numbered}
 
 -- ---- whether a class declares an ABI field
 
@@ -37,7 +38,7 @@ module _ (ws text abi labels : List ℕ) (g c : ℕ) where
   unfolding declaresAt declaresField declaredBy
   declares-start = sym (some-start (declaredBy ws text abi labels g) (ownFields ws c))
 
-  module _ (i : ℕ) {m n : ℕ} (first : m ≡ classFirstField ws c) (count : n ≡ listCount (classFirstField ws c) (classFieldCount ws c) 512) where
+  module _ (i : ℕ) {m n : ℕ} (first : m ≡ classFirstField ws c) (count : n ≡ listCount (classFirstField ws c) (classFieldCount ws c) fieldLimit) where
     room : i < n → i < length (ownFields ws c)
     room h = omega (arith, own-fields-length ws c)
 
@@ -73,7 +74,7 @@ module _ (ws text abi labels : List ℕ) (c : ℕ) where
   keptAt m n l k i = take k l ++ keep (λ g. not (declaresField ws text abi labels Nothing c g)) (restFrom (λ j. j) m n i)
 
   pub kept-start : (a : ℕ) (l : List ℕ) {m n : ℕ} → m ≡ abiClassFirstField abi a
-      → n ≡ listCount (abiClassFirstField abi a) (abiClassFieldCount abi a) 256 → keptAt m n l 0 0 ≡ addedFields ws text abi labels (At a) c
+      → n ≡ listCount (abiClassFirstField abi a) (abiClassFieldCount abi a) abiFieldLimit → keptAt m n l 0 0 ≡ addedFields ws text abi labels (At a) c
   unfolding keptAt addedFields abiFields declaresField
   kept-start a l {m = m} {n = n} e f = rw (rest-start (λ (j : ℕ). j) m n, f, e)
 
@@ -95,7 +96,7 @@ module _ (ws text abi labels : List ℕ) (c : ℕ) where
   added-none l = refl
 
   -- they are numbers of ABI fields
-  kept-small : (p : ℕ → Bool) (m n i : ℕ) → n ≤ 256 - m → getD (keep p (numbers m n)) i 0 < 256
+  kept-small : (p : ℕ → Bool) (m n i : ℕ) → n ≤ abiFieldLimit - m → getD (keep p (numbers m n)) i 0 < abiFieldLimit
   unfolding keep listFrom
   kept-small p m zero i h = omega arith
   kept-small p m (suc n) zero h =
@@ -103,11 +104,11 @@ module _ (ws text abi labels : List ℕ) (c : ℕ) where
   kept-small p m (suc n) (suc i) h =
       by (p m) (λ t. rw t (kept-small p (m + 1) n i (omega arith))) (λ t. rw t (kept-small p (m + 1) n (suc i) (omega arith)))
 
-  added-small : (own : Found) (i : ℕ) → getD (addedFields ws text abi labels own c) i 0 < 256
+  added-small : (own : Found) (i : ℕ) → getD (addedFields ws text abi labels own c) i 0 < abiFieldLimit
   unfolding addedFields abiFields
   added-small (At a) i =
       kept-small (λ g. not (declaresField ws text abi labels (At a) c g)) (abiClassFirstField abi a)
-      (listCount (abiClassFirstField abi a) (abiClassFieldCount abi a) 256) i (omega arith)
+      (listCount (abiClassFirstField abi a) (abiClassFieldCount abi a) abiFieldLimit) i (omega arith)
   added-small Nothing i = omega arith
 
   pub added-part : (own : Found) (l s : List ℕ) {n m : ℕ} → take n l ≡ addedFields ws text abi labels own c → m ≡ n → s ≡ take m (drop 0 l)
@@ -117,21 +118,53 @@ module _ (ws text abi labels : List ℕ) (c : ℕ) where
   pub part-small : (own : Found) (s : List ℕ) → s ≡ addedFields ws text abi labels own c → Small s
   part-small own s e i = rw e (added-small own i)
 
-  -- ---- the instance words
+  -- and a sheet has no more than 256
+  length-keep : (p : ℕ → Bool) (xs : List ℕ) → length (keep p xs) ≤ length xs
+  unfolding keep
+  length-keep p [] = omega arith
+  length-keep p (x ∷ xs) =
+      let h = length-keep p xs in by (p x) (λ t. rw t (omega arith)) (λ t. rw t (omega arith))
 
-  module _ (own : Found) (running : ℕ) {g : ℕ} (given : g ≡ onFound own (givenWords abi) 0) where
-    pub words-given : (g ≡ 0 → ⊥) → g - 1 ≡ wordsFrom ws text abi labels own c running
-    unfolding wordsFrom
-    words-given n = rw (← given, ne-eqb g 0 n)
+  pub added-few : (own : Found) → length (addedFields ws text abi labels own c) ≤ abiFieldLimit
+  unfolding addedFields abiFields
+  added-few (At a) =
+      let m = abiClassFirstField abi a in
+      let n = listCount (abiClassFirstField abi a) (abiClassFieldCount abi a) abiFieldLimit in
+      omega (arith, length-keep (λ g. not (declaresField ws text abi labels (At a) c g)) (numbers m n), length-list-from (λ (j : ℕ). j) m n)
+  added-few Nothing = omega arith
 
-    pub words-raised : (s : List ℕ) {r : ℕ} → g ≡ 0 → r ≡ raised [] [] abi labels Nothing running s → s ≡ addedFields ws text abi labels own c
-        → r ≡ wordsFrom ws text abi labels own c running
-    unfolding wordsFrom raised
-    words-raised s z f e = rw (← given, eq-eqb g 0 z, ← e) f
+  -- what was made of the entry and the part, said of the class
+  pub built-by : {own : Found} {r : Numbered} → own ≡ classAbi ws text abi labels c → r ≡ numberedOf (fieldsBy ws text abi labels own c)
+      → r ≡ numberedOf (builtFields ws text abi labels c)
+  built-by e f = rw (← e) f
+
+  module _ {own : Found} {gs r : List ℕ} (entry : own ≡ classAbi ws text abi labels c) (part : gs ≡ addedFields ws text abi labels own c) where
+    pub names-by : (d : List ℕ) → r ≡ namesOver gs d → r ≡ namesOver (addedTo ws text abi labels c) d
+    names-by d e = rw (← entry, ← part) e
+
+    pub flags-by : (d : List ℕ) → r ≡ flagsOver gs d → r ≡ flagsOver (addedTo ws text abi labels c) d
+    flags-by d e = rw (← entry, ← part) e
+
+    pub indices-by : (d : List ℕ) → r ≡ indicesOver abi gs d → r ≡ indicesOver abi (addedTo ws text abi labels c) d
+    indices-by d e = rw (← entry, ← part) e
+
+  pub few-fit : (own : Found) (gs : List ℕ) → gs ≡ addedFields ws text abi labels own c → length gs < 2 ^ 32
+  few-fit own gs e = rw e (omega (arith, added-few own))
+
+-- ---- the instance words
+
+module _ (abi labels : List ℕ) (own : Found) (running : ℕ) {g : ℕ} (given : g ≡ onFound own (givenWords abi) 0) where
+  pub words-given : (gs : List ℕ) → (g ≡ 0 → ⊥) → g - 1 ≡ wordsFrom abi labels own running gs
+  unfolding wordsFrom
+  words-given gs n = rw (← given, ne-eqb g 0 n)
+
+  pub words-raised : (gs : List ℕ) {r : ℕ} → g ≡ 0 → r ≡ raised [] [] abi labels Nothing running gs → r ≡ wordsFrom abi labels own running gs
+  unfolding wordsFrom raised
+  words-raised gs z f = rw (← given, eq-eqb g 0 z) f
 
 -- ---- their records
 
-pub getD-stores : (n : ℕ) (f : ℕ → ℕ) (d : List ℕ) (i : ℕ) → i < n → n ≤ length d → getD (stores n f d) i 0 ≡ f i
+getD-stores : (n : ℕ) (f : ℕ → ℕ) (d : List ℕ) (i : ℕ) → i < n → n ≤ length d → getD (stores n f d) i 0 ≡ f i
 getD-stores n f d i h k =
     rw (stores-is n f d k)
     (List·getD-append (table n f) (drop n d) 0 i (omega (arith, length-table n f)) ∙ getD-table n f i h)
@@ -162,24 +195,18 @@ module _ (ws text abi labels : List ℕ) where
   unfolding newAt refName refDescriptor
   new-at refs flags lasts i g e f h =
       let z : 1024 + g - 1024 ≡ g = omega arith in
-      rw (e, f, h) (simp (le-ltb (1024 + g) 512 (omega arith), le-ltb (1024 + g) 1024 (omega arith), z))
+      rw (e, f, h) (simp (le-ltb (1024 + g) fieldLimit (omega arith), le-ltb (1024 + g) 1024 (omega arith), z))
 
-  -- what the arrays hold, if s is the part of l with the numbers of the fields
-  pub members-are : (own : Found) (c : ℕ) (l s refs flags lasts a d b : List ℕ) {n m : ℕ} → own ≡ classAbi ws text abi labels c
-      → take n l ≡ addedFields ws text abi labels own c → n ≤ 256 → length l ≡ 256 → m ≡ n → s ≡ take m (drop 0 l)
-      → refs ≡ stores (length s) (λ i. 1024 + getD s i 0) a → flags ≡ stores (length s) (λ _. 2) d
-      → lasts ≡ stores (length s) (λ i. fixedFieldIndex abi (getD s i 0)) b → length a ≡ 1024 → length d ≡ 1024 → length b ≡ 1024
-      → firstNews ws text abi labels refs flags lasts n
-      ≡ newFieldsOf ws text abi labels [] (addedFields ws text abi labels (classAbi ws text abi labels c) c)
+  -- what the arrays hold after ABI fields gs were put in front
+  pub members-are : (gs : List ℕ) (a d b : List ℕ) {refs flags lasts : List ℕ} → refs ≡ namesOver gs a → flags ≡ flagsOver gs d
+      → lasts ≡ indicesOver abi gs b → length gs ≤ length a → length gs ≤ length d → length gs ≤ length b
+      → firstNews ws text abi labels refs flags lasts (length gs) ≡ newFieldsOf ws text abi labels [] gs
   unfolding firstNews
-  members-are own c l s refs flags lasts a d b {n = n} entry e k o f g p v q t w u =
-      let x : s ≡ addedFields ws text abi labels own c = added-part ws text abi labels c own l s e f g in
-      let y : length s ≡ n = rw (g, f) (length-take-le n l (omega arith)) in
-      rw (← entry, ← x, ← y)
-      (news-from (newAt ws text abi labels refs flags lasts) 0 s
-      (λ i h.
+  members-are gs a d b {refs = refs} {flags = flags} {lasts = lasts} e f g h k l =
+      news-from (newAt ws text abi labels refs flags lasts) 0 gs
+      (λ i m.
       let z : 0 + i ≡ i = omega arith in
       rw z
-      (new-at refs flags lasts i (getD s i 0) (rw p (getD-stores (length s) (λ i. 1024 + getD s i 0) a i h (omega arith)))
-      (rw v (getD-stores (length s) (λ _. 2) d i h (omega arith)))
-      (rw q (getD-stores (length s) (λ i. fixedFieldIndex abi (getD s i 0)) b i h (omega arith))))))
+      (new-at refs flags lasts i (getD gs i 0) (rw e (getD-stores (length gs) (λ j. 1024 + getD gs j 0) a i m h))
+      (rw f (getD-stores (length gs) (λ _. 2) d i m k))
+      (rw g (getD-stores (length gs) (λ j. fixedFieldIndex abi (getD gs j 0)) b i m l))))

@@ -1,5 +1,5 @@
 pub mod AddedLaws
-pub mod Examples
+pub mod FrontLaws
 pub mod MovedLaws
 pub mod NumberLaws
 pub mod OutcomeLaws

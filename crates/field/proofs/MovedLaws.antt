@@ -6,17 +6,19 @@ use mathlib.Core.List.{List, [], _∷_, _++_, append-assoc, append-nil}
 use Prim.Native.Nat.{ℕ, zero, suc, _+_, _*_, _-_, _^_, _≤_, _<_}
 use native.Mathlib.Omega.{arith}
 use native.Mathlib.Numerals.{add-one}
-use lib.ListN.{length, take, set}
+use lib.ListN.{length, take, drop, set, replicate}
 use lib.Seq.{take-suc-set}
 use lib.Dec.{eqb}
 use borrow.Author.Tests.{lt-ltb, le-ltb, eqb-true}
 use Rattle.words.specs.Lists.{listFrom, numbers}
 use Rattle.words.proofs.Bools.{by, and-both}
 use Rattle.words.proofs.ListLaws.{restFrom, rest-start, rest-turn, rest-end}
-use Rattle.class_sheet.specs.ClassSheet.{classFirstField, classFieldCount, fieldDescriptor, fieldFlags, fieldIndex}
+use Rattle.class_sheet.specs.ClassSheet.{classFirstField, classFieldCount, fieldDescriptor, fieldFlags, fieldIndex, fieldLimit}
 use Rattle.linking.specs.Chain.{listCount, ownFields, isStatic}
 use Rattle.linking.specs.Fields.{fieldWidth, instanceWords, addWidth, declaredWords, standFrom, generatedRefusal, movedIndex, indicesPlus, generatedIndices}
-use Rattle.field.specs.Numbers.{Fits, Movable, numbered, refused, generatedFields}
+use Rattle.field.specs.Numbers.{Fits, Movable, numbered, refused, numberedOf, generatedFields}
+use Rattle.field.specs.declared.Numbered.{Numbered}
+use Rattle.field.proofs.FrontLaws.{front-over, answer-is}
 use Rattle.field.proofs.RuntimeLaws.{width-room}
 
 -- ---- one field
@@ -55,7 +57,7 @@ module _ (ws text : List ℕ) where
   unfoldable pub standAt : ℕ → ℕ → ℕ → ℕ → Bool
   standAt m n at i = standFrom ws text at (restFrom (λ k. k) m n i)
 
-  pub stand-start : (c at : ℕ) {m n : ℕ} → m ≡ classFirstField ws c → n ≡ listCount (classFirstField ws c) (classFieldCount ws c) 512
+  pub stand-start : (c at : ℕ) {m n : ℕ} → m ≡ classFirstField ws c → n ≡ listCount (classFirstField ws c) (classFieldCount ws c) fieldLimit
       → standAt m n at 0 ≡ standFrom ws text at (ownFields ws c)
   unfolding standAt ownFields
   stand-start c at {m = m} {n = n} e f = rw (rest-start (λ (k : ℕ). k) m n, f, e)
@@ -92,7 +94,7 @@ module _ (ws text : List ℕ) where
   pub stand-movable : (c at base : ℕ) {b : Bool} → b ≡ standFrom ws text at (ownFields ws c) → b ≡ true → at ≤ 65535 → base ≤ 65535 → Movable ws c base
   unfolding ownFields
   stand-movable c at base e t h k i l s =
-      let r = stand-index (classFirstField ws c) (listCount (classFirstField ws c) (classFieldCount ws c) 512) at i (sym e ∙ t) l s in
+      let r = stand-index (classFirstField ws c) (listCount (classFirstField ws c) (classFieldCount ws c) fieldLimit) at i (sym e ∙ t) l s in
       omega arith
 
 -- ---- indices with the base added
@@ -102,7 +104,7 @@ module _ (ws : List ℕ) (base : ℕ) where
   unfoldable pub movedAt : ℕ → ℕ → List ℕ → ℕ → List ℕ
   movedAt m n l i = take i l ++ indicesPlus ws [] base (restFrom (λ k. k) m n i)
 
-  pub moved-start : (c : ℕ) (l : List ℕ) {m n : ℕ} → m ≡ classFirstField ws c → n ≡ listCount (classFirstField ws c) (classFieldCount ws c) 512
+  pub moved-start : (c : ℕ) (l : List ℕ) {m n : ℕ} → m ≡ classFirstField ws c → n ≡ listCount (classFirstField ws c) (classFieldCount ws c) fieldLimit
       → movedAt m n l 0 ≡ indicesPlus ws [] base (ownFields ws c)
   unfolding movedAt ownFields
   moved-start c l {m = m} {n = n} e f = rw (rest-start (λ (k : ℕ). k) m n, f, e)
@@ -114,9 +116,15 @@ module _ (ws : List ℕ) (base : ℕ) where
       rw (f, g, add-one, take-suc-set l i v k, ← add-one, rest-turn (λ (k : ℕ). k) m n i h, e)
       (append-assoc (take i l) (movedIndex ws [] base (m + i) ∷ []) (indicesPlus ws [] base (restFrom (λ k. k) m n (i + 1))))
 
-  pub moved-end : (m n i : ℕ) (l : List ℕ) → i ≡ n → take n l ≡ movedAt m n l i
+  moved-end : (m n i : ℕ) (l : List ℕ) → i ≡ n → take n l ≡ movedAt m n l i
   unfolding movedAt indicesPlus
   moved-end m n i l e = rw (e, rest-end (λ (k : ℕ). k) m n n (omega arith)) (sym (append-nil (take n l)))
+
+  pub moved-done : (m n i : ℕ) (l xs : List ℕ) → i ≡ n → n ≤ length l → movedAt m n l i ≡ xs → drop i l ≡ drop i (replicate fieldLimit 0)
+      → _≡_ {A = Numbered} (record { indices = l; n = n; words = 0; added = 0; row = 0 }) (numberedOf (numbered xs 0 0))
+  moved-done m n i l xs e h f g =
+      let y = front-over n l (replicate fieldLimit 0) h (moved-end m n i l e ∙ f) (rw e at g) in
+      answer-is xs (y .0) (y .1)
 
   any-text : (text fs : List ℕ) → indicesPlus ws [] base fs ≡ indicesPlus ws text base fs
   unfolding indicesPlus movedIndex
@@ -131,12 +139,12 @@ module _ (ws text : List ℕ) (c : ℕ) {t o : ℕ} (total : t ≡ instanceWords
   row-8 h = rw (← total, ← own, lt-ltb t o h)
 
   module _ (h : o ≤ t) {a : Bool} (absolute : a ≡ standFrom ws text (t - o) (ownFields ws c)) where
-    pub all-absolute : a ≡ true → numbered (indicesPlus ws [] 0 (ownFields ws c)) 0 ≡ generatedFields ws text c
+    pub all-absolute : a ≡ true → numbered (indicesPlus ws [] 0 (ownFields ws c)) 0 0 ≡ generatedFields ws text c
     unfolding generatedFields generatedRefusal generatedIndices
     all-absolute e = rw (any-text ws 0 text (ownFields ws c), ← total, ← own, le-ltb t o h, ← absolute, e)
 
     module _ {r : Bool} (relative : r ≡ standFrom ws text 0 (ownFields ws c)) (n : a ≡ false) where
-      pub all-relative : r ≡ true → numbered (indicesPlus ws [] (t - o) (ownFields ws c)) 0 ≡ generatedFields ws text c
+      pub all-relative : r ≡ true → numbered (indicesPlus ws [] (t - o) (ownFields ws c)) 0 0 ≡ generatedFields ws text c
       unfolding generatedFields generatedRefusal generatedIndices
       all-relative e = rw (any-text ws (t - o) text (ownFields ws c), ← total, ← own, le-ltb t o h, ← absolute, n, ← relative, e)
 

@@ -1,11 +1,11 @@
 -- Laws of a built class's fields: what a field's index is, the indices of all, and what the fields come to. Assumes nothing.
-use mathlib.Core.Path.{_≡_, ap, _∙_}
+use mathlib.Core.Path.{_≡_, sym, ap, _∙_}
 use mathlib.Core.Bool.{Bool, true, false, _||_}
 use mathlib.Core.List.{List, [], _∷_, _++_}
 use Prim.Native.Nat.{ℕ, _+_, _-_, _≤_, _<_, max}
 use native.Mathlib.Omega.{arith}
 use native.Mathlib.Numerals.{add-one}
-use lib.ListN.{length, take, set}
+use lib.ListN.{length, take, drop, set, replicate}
 use lib.Seq.{take-suc-set}
 use lib.Dec.{eqb, ltb}
 use borrow.Author.Tests.{eq-eqb, ne-eqb}
@@ -14,12 +14,14 @@ use Rattle.words.specs.declared.Found.{Found}
 use Rattle.words.specs.declared.Found.the-variants.{At, Nothing}
 use Rattle.words.proofs.Bools.{by}
 use Rattle.words.proofs.ListLaws.{by-found, foldFrom, fold-start, fold-turn, fold-end}
-use Rattle.class_sheet.specs.ClassSheet.{classFirstField, classFieldCount, fieldName, fieldDescriptor, fieldFlags}
+use Rattle.class_sheet.specs.ClassSheet.{classFirstField, classFieldCount, fieldName, fieldDescriptor, fieldFlags, fieldLimit}
 use Rattle.linking.specs.Chain.{onFound, listCount, ownFields, parentOf, chain, isStatic}
-use Rattle.linking.specs.Abi.{fixedFieldIndex, fixedField, givenWords, classAbi}
-use Rattle.linking.specs.Fields.{belowZero, fieldWidth, instanceWords, ownRuntime, runtimeWords, Numbering, numberInstance, numberField, numberFields, builtWords, tooManyWords}
-use Rattle.field.specs.Numbers.{counting, firstNumbering, numbered, refused, builtFields, wordsFrom}
+use Rattle.linking.specs.Abi.{fixedFieldIndex, fixedField, givenWords}
+use Rattle.linking.specs.Fields.{belowZero, fieldWidth, instanceWords, ownRuntime, runtimeWords, Numbering, numberInstance, numberField, numberFields, addedFields, raised, builtWords, tooManyWords}
+use Rattle.field.specs.Numbers.{counting, firstNumbering, Holds, wordsFrom, refused, numberedOf, fieldsBy}
 use Rattle.field.specs.declared.Counters.{Counters}
+use Rattle.field.specs.declared.Numbered.{Numbered}
+use Rattle.field.proofs.FrontLaws.{front-over, answer-is}
 use Rattle.field.proofs.RuntimeLaws.{runtime-room}
 
 -- ---- one instance field
@@ -73,7 +75,7 @@ module _ (ws text abi labels : List ℕ) (own : Found) where
   numberAt m n l k i = foldFrom (λ j. j) (numberField ws text abi labels own) (counting (take i l) k) m n i
 
   pub number-start : (c : ℕ) (l : List ℕ) (k : Counters) {m n : ℕ} → m ≡ classFirstField ws c
-      → n ≡ listCount (classFirstField ws c) (classFieldCount ws c) 512 → counting [] k ≡ firstNumbering ws text c
+      → n ≡ listCount (classFirstField ws c) (classFieldCount ws c) fieldLimit → counting [] k ≡ firstNumbering ws text c
       → numberAt m n l k 0 ≡ numberFields ws text abi labels own c
   unfolding numberAt numberFields firstNumbering ownFields
   number-start c l k {m = m} {n = n} e f h =
@@ -87,10 +89,19 @@ module _ (ws text abi labels : List ℕ) (own : Found) where
       fold-turn (λ j. j) (numberField ws text abi labels own) m n i h
       (rw (f, q, add-one, take-suc-set l i (r .index) g) (ap (after (take i l)) e ∙ number-after (take i l) k (m + i)))
 
-  pub number-end : (m n i : ℕ) (l : List ℕ) (k : Counters) → i ≡ n → counting (take n l) k ≡ numberAt m n l k i
+  number-end : (m n i : ℕ) (l : List ℕ) (k : Counters) → i ≡ n → counting (take n l) k ≡ numberAt m n l k i
   unfolding numberAt
   number-end m n i l k e =
       rw e (fold-end (λ j. j) (numberField ws text abi labels own) m n n (counting (take n l) k) (omega arith))
+
+  -- at the end the array has the indices in front, and what it had after them
+  pub number-done : (m n i : ℕ) (l d : List ℕ) (k : Counters) {N : Numbering} {o : ℕ} → i ≡ n → n ≤ length l → numberAt m n l k i ≡ N
+      → drop i l ≡ drop i d → n ≡ o → Holds N o k l d
+  number-done m n i l d k {N = N} e h f g q =
+      let w : counting (take n l) k ≡ N = number-end m n i l k e ∙ f in
+      let x : take n l ≡ N .indices = ap (λ (s : Numbering). s .indices) w in
+      let y = front-over n l d h x (rw e at g) in
+      (ap (λ (s : List ℕ). counting s k) (sym x) ∙ w, sym q ∙ y .0, y .1)
 
 -- ---- what they count from
 
@@ -113,21 +124,27 @@ module _ (ws text : List ℕ) (c : ℕ) {p r : ℕ} (parent : p ≡ parentOf ws 
 
 -- ---- what the fields come to
 
-module _ (ws text abi labels : List ℕ) (c : ℕ) {own : Found} (entry : own ≡ classAbi ws text abi labels c) (l : List ℕ) (k : Counters)
-    (fields : counting l k ≡ numberFields ws text abi labels own c) {w : ℕ} (words : w ≡ wordsFrom ws text abi labels own c (k .running)) where
+module _ (ws text abi labels : List ℕ) (own : Found) (c : ℕ) {n : ℕ} (k : Counters) (l : List ℕ)
+    (holds : Holds (numberFields ws text abi labels own c) n k l (replicate fieldLimit 0)) {gs : List ℕ} (added : gs ≡ addedFields ws text abi labels own c)
+    {w : ℕ} (words : w ≡ wordsFrom abi labels own (k .running) gs) where
   words-are : w ≡ builtWords ws text abi labels own c
-  unfolding builtWords wordsFrom
-  words-are = let e : k .running ≡ (numberFields ws text abi labels own c) .running = ap (λ (n : Numbering). n .running) fields in rw (← e) words
+  unfolding builtWords wordsFrom raised
+  words-are =
+      let e : k .running ≡ (numberFields ws text abi labels own c) .running = ap (λ (n : Numbering). n .running) (holds .0) in
+      rw (← e, ← added) words
 
-  pub row-10 : (ltb 65535 w || ltb 65535 (k .runtime)) ≡ true → refused 10 ≡ builtFields ws text abi labels c
-  unfolding builtFields tooManyWords
-  row-10 t =
-      let e : k .runtime ≡ (numberFields ws text abi labels own c) .runtime = ap (λ (n : Numbering). n .runtime) fields in
-      rw (← entry, ← words-are, ← e, t)
+  many-are : tooManyWords ws text abi labels own c ≡ (ltb 65535 w || ltb 65535 (k .runtime))
+  unfolding tooManyWords
+  many-are =
+      let e : k .runtime ≡ (numberFields ws text abi labels own c) .runtime = ap (λ (n : Numbering). n .runtime) (holds .0) in
+      rw (← words-are, ← e)
 
-  pub built-is : (ltb 65535 w || ltb 65535 (k .runtime)) ≡ false → numbered l w ≡ builtFields ws text abi labels c
-  unfolding builtFields tooManyWords
-  built-is t =
-      let e : k .runtime ≡ (numberFields ws text abi labels own c) .runtime = ap (λ (n : Numbering). n .runtime) fields in
-      let f : l ≡ (numberFields ws text abi labels own c) .indices = ap (λ (n : Numbering). n .indices) fields in
-      rw (← entry, ← words-are, ← e, t, f)
+  pub row-10 : {r : Numbered} → r ≡ numberedOf (refused 10) → (ltb 65535 w || ltb 65535 (k .runtime)) ≡ true
+      → r ≡ numberedOf (fieldsBy ws text abi labels own c)
+  unfolding fieldsBy
+  row-10 e t = rw (many-are, t) e
+
+  pub built-is : {m : ℕ} → (ltb 65535 w || ltb 65535 (k .runtime)) ≡ false → m ≡ n
+      → _≡_ {A = Numbered} (record { indices = l; n = m; words = w; added = length gs; row = 0 }) (numberedOf (fieldsBy ws text abi labels own c))
+  unfolding fieldsBy
+  built-is t e = rw (many-are, t, ← added, ← words-are) (answer-is (numberFields ws text abi labels own c .indices) (e ∙ holds .1) (holds .2))

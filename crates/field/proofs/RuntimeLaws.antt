@@ -13,9 +13,9 @@ use Rattle.words.proofs.ListLaws.{largest-room}
 use Rattle.descriptor.specs.Bytes.{byte}
 use Rattle.descriptor.specs.Words.{byteWidth, width}
 use Rattle.class_sheet.specs.ClassSheet.{fieldDescriptor, fieldFlags, fieldIndex}
-use Rattle.chain.proofs.ChainLaws.{chain-none, chain-more}
+use Rattle.linking.proofs.ChainLaws.{chain-none, chain-more}
 use Rattle.linking.specs.Chain.{ownFields, parentOf, chain, isStatic}
-use Rattle.linking.specs.Fields.{isNegative, magnitude, belowZero, fieldWidth, runtimeEnd, ownRuntime, runtimeWords}
+use Rattle.linking.specs.Fields.{isNegative, magnitude, fieldWidth, runtimeEnd, ownRuntime, runtimeWords}
 use Rattle.field.specs.Numbers.{signedOf}
 use Rattle.field.specs.declared.Signed.{Signed}
 use Rattle.field.specs.declared.Signed.the-variants.{Nonnegative, Negative}
@@ -43,9 +43,6 @@ pub nonnegative-is : (i m : ℕ) → signedOf i ≡ Nonnegative m → isNegative
 nonnegative-is i m e =
     by (isNegative i)
     (λ t. let q : Negative (magnitude i) ≡ Nonnegative m = rw t at e in let o : _≡_ {A = ℕ} 0 1 = cc in absurd (omega arith)) (λ f. f)
-
-pub below-is : (runtime r s : ℕ) → runtime + 1 < 2 ^ 32 → r < 2 ^ 32 → s ≡ runtime + 1 → (r + s) % 2 ^ 32 ≡ 0 → r ≡ belowZero runtime
-below-is runtime r s h k q e = omega arith
 
 -- ---- where a field's runtime words end
 

@@ -4,18 +4,19 @@ use words::Found;
 ghost use mathlib.Core.Path.{_≡_};
 ghost use mathlib.Core.List.{[], _∷_, _++_};
 ghost use Prim.Native.Nat.{_+_, _-_, _≤_, _<_, _^_, max};
-ghost use mathlib.Core.Bool.{cond, _||_};
-ghost use lib.ListN.{length, getD, take};
+ghost use mathlib.Core.Bool.{_||_};
+ghost use lib.ListN.{length, take};
 ghost use lib.Dec.{eqb};
-ghost use Rattle.words.specs.Lists.{fold, andThen};
-ghost use Rattle.words.specs.Folds.{stores};
-ghost use Rattle.class_sheet.specs.ClassSheet.{classFirstField, classFieldCount, fieldName, fieldDescriptor, fieldFlags, fieldIndex};
-ghost use Rattle.linking.specs.Chain.{onFound, listCount, ownFields, chain, isStatic};
-ghost use Rattle.linking.specs.Abi.{fixedFieldIndex, fixedField, givenWords, classAbi};
-ghost use Rattle.linking.specs.Fields.{belowZero, fieldWidth, instanceWords, runtimeEnd, ownRuntime, numberInstance, numberField, numberFields, declaresField, addedFields, raised, addWidth, declaredWords, standFrom, movedIndex, indicesPlus};
-ghost use Rattle.linking.specs.Link.{newFieldsOf};
-ghost use Rattle.growth.specs.News.{firstNews};
-ghost use Rattle.field.specs.Numbers.{signedOf, counting, firstNumbering, declaredBy, Fits, Movable, Small, numbered, refused, outcomeOf, builtFields, generatedFields, wordsFrom};
+ghost use Rattle.abi_sheet.specs.AbiSheet.{abiFieldLimit};
+ghost use Rattle.words.specs.Lists.{fold};
+ghost use Rattle.class_sheet.specs.ClassSheet.{fieldFlags, fieldIndex, fieldLimit};
+ghost use Rattle.linking.specs.Chain.{onFound, ownFields, chain, isStatic};
+ghost use Rattle.linking.specs.Abi.{givenWords};
+ghost use Rattle.linking.specs.Fields.{belowZero, fieldWidth, instanceWords, runtimeEnd, ownRuntime, numberInstance, numberField, numberFields};
+ghost use Rattle.linking.specs.Fields.{declaresField, addedFields, raised, addWidth, declaredWords, standFrom, movedIndex, indicesPlus};
+ghost use Rattle.field.specs.Numbers.{signedOf, counting, firstNumbering, declaredBy, ownCount, fixedBy, Holds, Fits, Movable, undeclared};
+ghost use Rattle.field.specs.Numbers.{Small, namesOver, flagsOver, indicesOver, wordsFrom, addedTo};
+ghost use Rattle.field.specs.Numbers.{numbered, refused, numberedOf, fieldsBy, builtFields, generatedFields};
 
 // A u32 read as signed: a number from zero on, or the magnitude of one below zero.
 enum Signed {
@@ -31,11 +32,13 @@ struct Counters {
     running: u32,
 }
 
-// What a class's fields come to: the indices of its own fields, the first n, and its instance words; or the row that refuses them.
+// What a class's fields come to: the indices of its own fields, the first n, its instance words, and how many ABI fields are added to it; or
+// the row that refuses them. What is not answered is 0.
 pub struct Numbered {
-    pub indices: [u32; 512],
+    pub indices: [u32; class_sheet::FIELD_LIMIT as usize],
     pub n: u32,
     pub words: u32,
+    pub added: u32,
     pub row: u32,
 }
 
@@ -135,7 +138,7 @@ fn own_given(abi: &[u32], own: Found) -> u32
 
 // The ABI field of field f's name and descriptor.
 fn fixed_of(ws: &[u32], text: &[u8], abi: &[u32], labels: &[u8], own: Found, f: u32) -> Found
-    ensures { λ r. ⌜ r ≡ andThen own (fixedField (now (abi .entry)) (now (labels .entry)) (fieldName (now (ws .entry)) (now (text .entry)) f) (fieldDescriptor (now (ws .entry)) (now (text .entry)) f)) ⌝ }
+    ensures { λ r. ⌜ r ≡ fixedBy (now (ws .entry)) (now (text .entry)) (now (abi .entry)) (now (labels .entry)) own f ⌝ }
 {
     match own {
         Found::At(a) => abi::fixed_field(
@@ -243,8 +246,9 @@ fn number_fields(
     c: u32,
     indices: &mut [u32],
 ) -> Counters
-    requires { ⌜ 512 ≤ length (now indices) ⌝ }
-    ensures { λ r. ⌜ counting (take (listCount (classFirstField (now (ws .entry)) c) (classFieldCount (now (ws .entry)) c) 512) (now (indices .exit))) r ≡ numberFields (now (ws .entry)) (now (text .entry)) (now (abi .entry)) (now (labels .entry)) own c ⌝ }
+    requires { ⌜ fieldLimit ≤ length (now indices) ⌝ }
+    ensures { λ r. ⌜ Holds (numberFields (now (ws .entry)) (now (text .entry)) (now (abi .entry)) (now (labels .entry)) own c)
+        (ownCount (now (ws .entry)) c) r (now (indices .exit)) (now (indices .entry)) ⌝ }
 {
     let first = class_sheet::class_first_field(ws, c);
     let n = chain::field_count(ws, c);
@@ -299,8 +303,8 @@ fn keep_field(
     gs: &mut [u32],
     k: u32,
 ) -> u32
-    requires { ⌜ (k < 256) × (256 ≤ length (now gs)) ⌝ }
-    ensures is { λ r. ⌜ take r (now (gs .exit)) ≡ take k (now (gs .entry)) ++ cond (declaresField (now (ws .entry)) (now (text .entry)) (now (abi .entry)) (now (labels .entry)) Found.Nothing c g) [] (g ∷ []) ⌝ }
+    requires { ⌜ (k < abiFieldLimit) × (abiFieldLimit ≤ length (now gs)) ⌝ }
+    ensures is { λ r. ⌜ take r (now (gs .exit)) ≡ take k (now (gs .entry)) ++ undeclared (now (ws .entry)) (now (text .entry)) (now (abi .entry)) (now (labels .entry)) c g ⌝ }
     ensures count { λ r. ⌜ r ≤ k + 1 ⌝ }
 {
     if declares_field(ws, text, abi, labels, c, g) {
@@ -320,9 +324,9 @@ fn keep_fields(
     c: u32,
     gs: &mut [u32],
 ) -> u32
-    requires { ⌜ 256 ≤ length (now gs) ⌝ }
+    requires { ⌜ abiFieldLimit ≤ length (now gs) ⌝ }
     ensures is { λ r. ⌜ take r (now (gs .exit)) ≡ addedFields (now (ws .entry)) (now (text .entry)) (now (abi .entry)) (now (labels .entry)) (Found.At a) c ⌝ }
-    ensures count { λ r. ⌜ r ≤ 256 ⌝ }
+    ensures count { λ r. ⌜ r ≤ abiFieldLimit ⌝ }
 {
     let first = abi_sheet::class_first_field(abi, a);
     let n = abi::field_count(abi, a);
@@ -345,9 +349,9 @@ fn added(
     c: u32,
     gs: &mut [u32],
 ) -> u32
-    requires { ⌜ 256 ≤ length (now gs) ⌝ }
+    requires { ⌜ abiFieldLimit ≤ length (now gs) ⌝ }
     ensures is { λ r. ⌜ take r (now (gs .exit)) ≡ addedFields (now (ws .entry)) (now (text .entry)) (now (abi .entry)) (now (labels .entry)) own c ⌝ }
-    ensures count { λ r. ⌜ r ≤ 256 ⌝ }
+    ensures count { λ r. ⌜ r ≤ abiFieldLimit ⌝ }
 {
     match own {
         Found::At(a) => keep_fields(ws, text, abi, labels, a, c, gs),
@@ -370,55 +374,55 @@ fn raised(abi: &[u32], labels: &[u8], running: u32, gs: &[u32]) -> u32
     word
 }
 
-// The instance words of class c, whose declared fields leave this running word: the ABI's if given.
-fn built_words(
+// The instance words of a class whose declared fields leave this running word, and to which ABI fields gs are added: the ABI's if given.
+fn built_words(abi: &[u32], labels: &[u8], own: Found, running: u32, gs: &[u32]) -> u32
+    ensures { λ r. ⌜ r ≡ wordsFrom (now (abi .entry)) (now (labels .entry)) own running (now (gs .entry)) ⌝ }
+{
+    let given = own_given(abi, own);
+    if given != 0 {
+        return given - 1;
+    }
+    raised(abi, labels, running, gs)
+}
+
+// No indices, and the row that refuses them.
+fn refusal(row: u32) -> Numbered
+    ensures { λ r. ⌜ r ≡ numberedOf (refused row) ⌝ }
+{
+    Numbered {
+        indices: [0; class_sheet::FIELD_LIMIT as usize],
+        n: 0,
+        words: 0,
+        added: 0,
+        row,
+    }
+}
+
+// The fields of built class c, whose ABI entry is `own` and to which ABI fields gs are added, or row 10.
+fn number_built(
     ws: &[u32],
     text: &[u8],
     abi: &[u32],
     labels: &[u8],
     own: Found,
     c: u32,
-    running: u32,
-) -> u32
-    ensures { λ r. ⌜ r ≡ wordsFrom (now (ws .entry)) (now (text .entry)) (now (abi .entry)) (now (labels .entry)) own c running ⌝ }
+    gs: &[u32],
+) -> Numbered
+    requires { ⌜ now gs ≡ addedFields (now ws) (now text) (now abi) (now labels) own c ⌝ }
+    ensures { λ r. ⌜ r ≡ numberedOf (fieldsBy (now (ws .entry)) (now (text .entry)) (now (abi .entry)) (now (labels .entry)) own c) ⌝ }
 {
-    let given = own_given(abi, own);
-    if given != 0 {
-        return given - 1;
-    }
-    let mut gs = [0u32; 256];
-    let n = words::wide(added(ws, text, abi, labels, own, c, &mut gs));
-    raised(abi, labels, running, words::word_part(&gs, 0, n))
-}
-
-// No indices, and the row that refuses them.
-fn refusal(row: u32) -> Numbered
-    requires { ⌜ 0 < row ⌝ }
-    ensures { λ r. ⌜ outcomeOf r ≡ refused row ⌝ }
-{
-    Numbered {
-        indices: [0; 512],
-        n: 0,
-        words: 0,
-        row,
-    }
-}
-
-// The fields of built class c, or row 10.
-pub fn built_fields(ws: &[u32], text: &[u8], abi: &[u32], labels: &[u8], c: u32) -> Numbered
-    ensures { λ r. ⌜ outcomeOf r ≡ builtFields (now (ws .entry)) (now (text .entry)) (now (abi .entry)) (now (labels .entry)) c ⌝ }
-{
-    let own = abi::class_abi(ws, text, abi, labels, c);
-    let mut indices = [0u32; 512];
+    let mut indices = [0u32; class_sheet::FIELD_LIMIT as usize];
     let k = number_fields(ws, text, abi, labels, own, c, &mut indices);
-    let words = built_words(ws, text, abi, labels, own, c, k.running);
+    let words = built_words(abi, labels, own, k.running, gs);
     if (65535 < words) | (65535 < k.runtime) {
         return refusal(10);
     }
+    let added = gs.len() as u32;
     Numbered {
         indices,
         n: chain::field_count(ws, c),
         words,
+        added,
         row: 0,
     }
 }
@@ -426,9 +430,9 @@ pub fn built_fields(ws: &[u32], text: &[u8], abi: &[u32], labels: &[u8], c: u32)
 // Stores what names each ABI field, from 1,024 on, its flags, 2, and its fixed index.
 fn put_fields(abi: &[u32], gs: &[u32], refs: &mut [u32], flags: &mut [u32], lasts: &mut [u32])
     requires { ⌜ Small (now gs) ⌝ }
-    ensures refs { λ _. ⌜ now (refs .exit) ≡ stores (length (now (gs .entry))) (λ i. 1024 + getD (now (gs .entry)) i 0) (now (refs .entry)) ⌝ }
-    ensures flags { λ _. ⌜ now (flags .exit) ≡ stores (length (now (gs .entry))) (λ _. 2) (now (flags .entry)) ⌝ }
-    ensures lasts { λ _. ⌜ now (lasts .exit) ≡ stores (length (now (gs .entry))) (λ i. fixedFieldIndex (now (abi .entry)) (getD (now (gs .entry)) i 0)) (now (lasts .entry)) ⌝ }
+    ensures refs { λ _. ⌜ now (refs .exit) ≡ namesOver (now (gs .entry)) (now (refs .entry)) ⌝ }
+    ensures flags { λ _. ⌜ now (flags .exit) ≡ flagsOver (now (gs .entry)) (now (flags .entry)) ⌝ }
+    ensures lasts { λ _. ⌜ now (lasts .exit) ≡ indicesOver (now (abi .entry)) (now (gs .entry)) (now (lasts .entry)) ⌝ }
 {
     let mut i: usize = 0;
     while i < gs.len() {
@@ -440,8 +444,9 @@ fn put_fields(abi: &[u32], gs: &[u32], refs: &mut [u32], flags: &mut [u32], last
     }
 }
 
-// Fills the arrays with the ABI fields that no instance field of class c matches, as new members, and answers how many there are.
-pub fn added_fields(
+// The fields of built class c, or row 10. Fills the front of the arrays with the ABI fields that no instance field of the class matches, as
+// new members, also where the row refuses; what lies after them stays.
+pub fn built_fields(
     ws: &[u32],
     text: &[u8],
     abi: &[u32],
@@ -450,17 +455,20 @@ pub fn added_fields(
     refs: &mut [u32; 1024],
     flags: &mut [u32; 1024],
     lasts: &mut [u32; 1024],
-) -> u32
-    ensures is { λ r. ⌜ firstNews (now (ws .entry)) (now (text .entry)) (now (abi .entry)) (now (labels .entry)) (now (refs .exit)) (now (flags .exit)) (now (lasts .exit)) r ≡ newFieldsOf (now (ws .entry)) (now (text .entry)) (now (abi .entry)) (now (labels .entry)) [] (addedFields (now (ws .entry)) (now (text .entry)) (now (abi .entry)) (now (labels .entry)) (classAbi (now (ws .entry)) (now (text .entry)) (now (abi .entry)) (now (labels .entry)) c) c) ⌝ }
-    ensures count { λ r. ⌜ r ≤ 256 ⌝ }
-    ensures arrays { λ r. ⌜ (length (now (refs .exit)) ≡ 1024) × (length (now (flags .exit)) ≡ 1024) × (length (now (lasts .exit)) ≡ 1024) ⌝ }
+) -> Numbered
+    ensures is { λ r. ⌜ r ≡ numberedOf (builtFields (now (ws .entry)) (now (text .entry)) (now (abi .entry)) (now (labels .entry)) c) ⌝ }
+    ensures refs { λ _. ⌜ now (refs .exit) ≡ namesOver (addedTo (now (ws .entry)) (now (text .entry)) (now (abi .entry)) (now (labels .entry)) c) (now (refs .entry)) ⌝ }
+    ensures flags { λ _. ⌜ now (flags .exit) ≡ flagsOver (addedTo (now (ws .entry)) (now (text .entry)) (now (abi .entry)) (now (labels .entry)) c) (now (flags .entry)) ⌝ }
+    ensures lasts { λ _. ⌜ now (lasts .exit)
+        ≡ indicesOver (now (abi .entry)) (addedTo (now (ws .entry)) (now (text .entry)) (now (abi .entry)) (now (labels .entry)) c) (now (lasts .entry)) ⌝ }
+    ensures arrays { λ _. ⌜ (length (now (refs .exit)) ≡ 1024) × (length (now (flags .exit)) ≡ 1024) × (length (now (lasts .exit)) ≡ 1024) ⌝ }
 {
     let own = abi::class_abi(ws, text, abi, labels, c);
-    let mut gs = [0u32; 256];
+    let mut gs = [0u32; abi_sheet::FIELD_LIMIT as usize];
     let n = added(ws, text, abi, labels, own, c, &mut gs);
     let fields = words::word_part(&gs, 0, words::wide(n));
     put_fields(abi, fields, refs, flags, lasts);
-    n
+    number_built(ws, text, abi, labels, own, c, fields)
 }
 
 // The words with those of field f, if it is an instance field.
@@ -531,11 +539,11 @@ fn moved_index(ws: &[u32], base: u32, f: u32) -> u32
 // The indices of class c's own fields, with the base added to those of its instance fields.
 fn moved(ws: &[u32], c: u32, base: u32) -> Numbered
     requires { ⌜ Movable (now ws) c base ⌝ }
-    ensures { λ r. ⌜ outcomeOf r ≡ numbered (indicesPlus (now (ws .entry)) [] base (ownFields (now (ws .entry)) c)) 0 ⌝ }
+    ensures { λ r. ⌜ r ≡ numberedOf (numbered (indicesPlus (now (ws .entry)) [] base (ownFields (now (ws .entry)) c)) 0 0) ⌝ }
 {
     let first = class_sheet::class_first_field(ws, c);
     let n = chain::field_count(ws, c);
-    let mut indices = [0u32; 512];
+    let mut indices = [0u32; class_sheet::FIELD_LIMIT as usize];
     let mut i: u32 = 0;
     while i < n {
         let index = moved_index(ws, base, first + i);
@@ -546,13 +554,14 @@ fn moved(ws: &[u32], c: u32, base: u32) -> Numbered
         indices,
         n,
         words: 0,
+        added: 0,
         row: 0,
     }
 }
 
 // The fields of generated class c: where all are absolute, nothing is written; where all are relative, the base is added; else rows 8 and 9.
 pub fn generated_fields(ws: &[u32], text: &[u8], c: u32) -> Numbered
-    ensures { λ r. ⌜ outcomeOf r ≡ generatedFields (now (ws .entry)) (now (text .entry)) c ⌝ }
+    ensures { λ r. ⌜ r ≡ numberedOf (generatedFields (now (ws .entry)) (now (text .entry)) c) ⌝ }
 {
     let total = instance_words(ws, c);
     let own = declared_words(ws, text, c);

@@ -1,22 +1,21 @@
 -- Laws of new members: what names them, and lists of them a member at a time. Assumes nothing.
 use mathlib.Core.Path.{_≡_, refl, sym, ap, _∙_}
 use mathlib.Core.List.{List, [], _∷_, _++_, append-assoc, append-nil}
-use Prim.Native.Nat.{ℕ, zero, suc, _+_, _*_, _-_, _^_, _≤_, _<_, min}
+use Prim.Native.Nat.{ℕ, zero, suc, _+_, _*_, _-_, _^_, _≤_, _<_}
 use native.Mathlib.Omega.{arith}
-use lib.ListN.{length, getD, drop, length-append, length-take, List·getD-append}
-use lib.Seq.{getD-at}
+use lib.ListN.{length, getD, drop, length-append, length-take}
 use borrow.Author.Tests.{lt-ltb, le-ltb}
 use Rattle.text.specs.Text.{nameAt}
-use Rattle.class_sheet.specs.ClassSheet.{methodWord, methodName, methodDescriptor}
+use Rattle.class_sheet.specs.ClassSheet.{methodWord, methodName, methodDescriptor, memberWidth, memberWords}
 use Rattle.abi_sheet.specs.AbiSheet.{abiSlotWord, abiFieldWord, abiSlotName, abiSlotDescriptor, abiFieldName, abiFieldDescriptor}
 use Rattle.words.specs.Lists.{listFrom}
 use Rattle.linking.specs.Compiler.{New}
 use Rattle.linking.specs.Set.{newText, newRecords}
 use Rattle.linking.specs.Link.{writeAt}
-use Rattle.growth.specs.News.{newCount, refName, refDescriptor, newAt, firstNews, news, named}
-use Rattle.growth.specs.Growth.{recordWords}
-use Rattle.growth.proofs.Lists.{length-list, list-more, list-ext}
-use Rattle.growth.proofs.Writes.{write-none, write-more}
+use Rattle.growth.specs.News.{slotRefs, fieldRefs, newCount, refName, refDescriptor, newAt, firstNews, news, named}
+use Rattle.words.proofs.ListLaws.{length-list-from}
+use Rattle.words.proofs.Ext.{list-more}
+use Rattle.linking.proofs.Writes.{write-none, write-more}
 
 -- ---- what names a member: a part no longer than a word can say
 
@@ -25,33 +24,33 @@ unfolding nameAt
 name-small text s n h = omega (arith, length-take n (drop s text))
 
 module _ (ws text abi labels : List ℕ) (r : ℕ) {p : List ℕ} where
-  module _ (small : (i : ℕ) → getD ws i 0 < 2 ^ 32) (h : r < 512) where
+  module _ (small : (i : ℕ) → getD ws i 0 < 2 ^ 32) (h : r < slotRefs) where
     pub name-method : p ≡ methodName ws text r → (p ≡ refName ws text abi labels r) × (length p < 2 ^ 32)
     unfolding refName methodWord
-    name-method e = (e ∙ simp (lt-ltb r 512 h), rw e (name-small _ _ _ (small _)))
+    name-method e = (e ∙ simp (lt-ltb r slotRefs h), rw e (name-small _ _ _ (small _)))
 
     pub descriptor-method : p ≡ methodDescriptor ws text r → (p ≡ refDescriptor ws text abi labels r) × (length p < 2 ^ 32)
     unfolding refDescriptor methodWord
-    descriptor-method e = (e ∙ simp (lt-ltb r 512 h), rw e (name-small _ _ _ (small _)))
+    descriptor-method e = (e ∙ simp (lt-ltb r slotRefs h), rw e (name-small _ _ _ (small _)))
 
-  module _ (small : (i : ℕ) → getD abi i 0 < 2 ^ 32) (h : 512 ≤ r) where
-    pub name-slot : r < 1024 → p ≡ abiSlotName abi labels (r - 512) → (p ≡ refName ws text abi labels r) × (length p < 2 ^ 32)
+  module _ (small : (i : ℕ) → getD abi i 0 < 2 ^ 32) (h : slotRefs ≤ r) where
+    pub name-slot : r < fieldRefs → p ≡ abiSlotName abi labels (r - slotRefs) → (p ≡ refName ws text abi labels r) × (length p < 2 ^ 32)
     unfolding refName abiSlotWord
-    name-slot k e = (e ∙ simp (le-ltb r 512 h, lt-ltb r 1024 k), rw e (name-small _ _ _ (small _)))
+    name-slot k e = (e ∙ simp (le-ltb r slotRefs h, lt-ltb r fieldRefs k), rw e (name-small _ _ _ (small _)))
 
-    pub descriptor-slot : r < 1024 → p ≡ abiSlotDescriptor abi labels (r - 512)
+    pub descriptor-slot : r < fieldRefs → p ≡ abiSlotDescriptor abi labels (r - slotRefs)
         → (p ≡ refDescriptor ws text abi labels r) × (length p < 2 ^ 32)
     unfolding refDescriptor abiSlotWord
-    descriptor-slot k e = (e ∙ simp (le-ltb r 512 h, lt-ltb r 1024 k), rw e (name-small _ _ _ (small _)))
+    descriptor-slot k e = (e ∙ simp (le-ltb r slotRefs h, lt-ltb r fieldRefs k), rw e (name-small _ _ _ (small _)))
 
-    pub name-field : 1024 ≤ r → p ≡ abiFieldName abi labels (r - 1024) → (p ≡ refName ws text abi labels r) × (length p < 2 ^ 32)
+    pub name-field : fieldRefs ≤ r → p ≡ abiFieldName abi labels (r - fieldRefs) → (p ≡ refName ws text abi labels r) × (length p < 2 ^ 32)
     unfolding refName abiFieldWord
-    name-field k e = (e ∙ simp (le-ltb r 512 h, le-ltb r 1024 k), rw e (name-small _ _ _ (small _)))
+    name-field k e = (e ∙ simp (le-ltb r slotRefs h, le-ltb r fieldRefs k), rw e (name-small _ _ _ (small _)))
 
-    pub descriptor-field : 1024 ≤ r → p ≡ abiFieldDescriptor abi labels (r - 1024)
+    pub descriptor-field : fieldRefs ≤ r → p ≡ abiFieldDescriptor abi labels (r - fieldRefs)
         → (p ≡ refDescriptor ws text abi labels r) × (length p < 2 ^ 32)
     unfolding refDescriptor abiFieldWord
-    descriptor-field k e = (e ∙ simp (le-ltb r 512 h, le-ltb r 1024 k), rw e (name-small _ _ _ (small _)))
+    descriptor-field k e = (e ∙ simp (le-ltb r slotRefs h, le-ltb r fieldRefs k), rw e (name-small _ _ _ (small _)))
 
 -- ---- how many
 
@@ -82,7 +81,7 @@ records-append at (x ∷ xs) ys =
     let i = records-append (at + length (x .name) + length (x .descriptor)) xs ys in
     rw (← e, i)
 
-pub length-records : (at : ℕ) (xs : List New) → length (newRecords at xs) ≡ 6 * length xs
+pub length-records : (at : ℕ) (xs : List New) → length (newRecords at xs) ≡ memberWidth * length xs
 unfolding newRecords
 length-records at [] = refl
 length-records at (x ∷ xs) =
@@ -116,7 +115,7 @@ module _ (ws text abi labels refs : List ℕ) where
 
     pub length-first : (n : ℕ) → length (firstNews ws text abi labels refs flags lasts n) ≡ n
     unfolding firstNews
-    length-first n = length-list (newAt ws text abi labels refs flags lasts) 0 n
+    length-first n = length-list-from (newAt ws text abi labels refs flags lasts) 0 n
 
     pub length-news : length (news ws text abi labels refs flags lasts) ≡ newCount refs
     unfolding news
@@ -154,15 +153,15 @@ module _ (ws text abi labels refs : List ℕ) where
             (refName ws text abi labels (getD refs (i + k) 0) ++ refDescriptor ws text abi labels (getD refs (i + k) 0)),
       ))
 
-  pub text-most : (i : ℕ) → i ≤ newCount refs → length (textTo ws text abi labels refs i) ≤ length (newText (named ws text abi labels refs))
+  text-most : (i : ℕ) → i ≤ newCount refs → length (textTo ws text abi labels refs i) ≤ length (newText (named ws text abi labels refs))
   text-most i h =
       let e : i + (newCount refs - i) ≡ newCount refs = omega arith in
       rw (← text-all) (rw e at (text-within i (newCount refs - i)))
 
-  length-to : (flags lasts : List ℕ) (start n : ℕ) → length (recordsTo start ws text abi labels refs flags lasts n) ≡ 6 * n
+  length-to : (flags lasts : List ℕ) (start n : ℕ) → length (recordsTo start ws text abi labels refs flags lasts n) ≡ memberWidth * n
   unfolding recordsTo
   length-to flags lasts start n =
-      length-records start (firstNews ws text abi labels refs flags lasts n) ∙ ap (λ (k : ℕ). 6 * k) (length-first flags lasts n)
+      length-records start (firstNews ws text abi labels refs flags lasts n) ∙ ap (λ (k : ℕ). memberWidth * k) (length-first flags lasts n)
 
   pub records-none : (flags lasts : List ℕ) (start : ℕ) (l : List ℕ) (k : ℕ) → l ≡ writeAt l k (recordsTo start ws text abi labels refs flags lasts 0)
   unfolding recordsTo firstNews listFrom newRecords
@@ -190,87 +189,73 @@ module _ (ws text abi labels refs : List ℕ) where
   pub length-none : 0 ≡ length (textTo ws text abi labels refs 0)
   length-none = rw text-zero
 
+  pub next-none : (k : ℕ) → k ≡ k + length (textTo ws text abi labels refs 0)
+  next-none k = omega (arith, length-none)
+
   module _ (i : ℕ) {w : ℕ} (read : w ≡ getD refs i 0) where
     pub both-more : textTo ws text abi labels refs (i + 1)
         ≡ textTo ws text abi labels refs i ++ (refName ws text abi labels w ++ refDescriptor ws text abi labels w)
     both-more = rw read (text-more i)
 
-    pub length-turn : {p q : List ℕ} → p ≡ refName ws text abi labels w → q ≡ refDescriptor ws text abi labels w
-        → length (textTo ws text abi labels refs (i + 1)) ≡ length (textTo ws text abi labels refs i) + (length p + length q)
-    length-turn {p = p} {q = q} e f =
+    pub length-turn : {p q : List ℕ} {s : ℕ} → p ≡ refName ws text abi labels w → q ≡ refDescriptor ws text abi labels w
+        → s ≡ length (textTo ws text abi labels refs i) → s + (length p + length q) ≡ length (textTo ws text abi labels refs (i + 1))
+    length-turn {p = p} {q = q} e f h =
         rw (both-more, ← e, ← f) (omega (arith, length-append (textTo ws text abi labels refs i) (p ++ q), length-append p q))
 
-    pub next-turn : length (textTo ws text abi labels refs (i + 1))
+    length-both : length (textTo ws text abi labels refs (i + 1))
         ≡ length (textTo ws text abi labels refs i) + length (refName ws text abi labels w ++ refDescriptor ws text abi labels w)
-    next-turn =
+    length-both =
         rw both-more
         (length-append (textTo ws text abi labels refs i) (refName ws text abi labels w ++ refDescriptor ws text abi labels w))
 
-    pub names-turn : (l : List ℕ) (k : ℕ) {d e : List ℕ} {m : ℕ} → k ≤ length l → d ≡ writeAt l k (textTo ws text abi labels refs i)
+    -- the place m where member i's text begins, in a text that begins at k and ends by b: where the next one's begins, which is no further
+    pub next-turn : (k : ℕ) {m e : ℕ} → m ≡ k + length (textTo ws text abi labels refs i)
+        → e ≡ m + length (refName ws text abi labels w ++ refDescriptor ws text abi labels w)
+        → e ≡ k + length (textTo ws text abi labels refs (i + 1))
+    next-turn k p q = omega (arith, length-both)
+
+    pub next-within : (k : ℕ) {m b : ℕ} → i < newCount refs → m ≡ k + length (textTo ws text abi labels refs i)
+        → k + length (newText (named ws text abi labels refs)) ≤ b
+        → m + length (refName ws text abi labels w ++ refDescriptor ws text abi labels w) ≤ b
+    next-within k h p q = omega (arith, length-both, text-most (i + 1) (omega arith))
+
+    -- the same by the lengths of the name and of the descriptor
+    module _ {p q : List ℕ} (name : p ≡ refName ws text abi labels w) (descriptor : q ≡ refDescriptor ws text abi labels w) (k : ℕ)
+        {m : ℕ} (begins : m ≡ k + length (textTo ws text abi labels refs i)) where
+      pub parts-turn : m + (length p + length q) ≡ k + length (textTo ws text abi labels refs (i + 1))
+      parts-turn = omega (arith, length-turn name descriptor refl)
+
+      pub parts-within : {b : ℕ} → i < newCount refs → k + length (newText (named ws text abi labels refs)) ≤ b → m + (length p + length q) ≤ b
+      parts-within h e = omega (arith, parts-turn, text-most (i + 1) (omega arith))
+
+    pub names-turn : (l : List ℕ) (k x : ℕ) {d e : List ℕ} {m : ℕ} → k + x ≤ length l → d ≡ writeAt l k (textTo ws text abi labels refs i)
         → m ≡ k + length (textTo ws text abi labels refs i)
         → e ≡ writeAt d m (refName ws text abi labels w ++ refDescriptor ws text abi labels w)
         → e ≡ writeAt l k (textTo ws text abi labels refs (i + 1))
-    names-turn l k {m = m} h p q r =
+    names-turn l k x {m = m} h p q r =
         r
         ∙ rw (p, both-more)
-        (write-more l k (textTo ws text abi labels refs i) (refName ws text abi labels w ++ refDescriptor ws text abi labels w) m h q)
+        (write-more l k (textTo ws text abi labels refs i) (refName ws text abi labels w ++ refDescriptor ws text abi labels w) m
+        (omega arith) q)
 
     module _ (flags lasts : List ℕ) (start : ℕ) where
       records-more : {p q : List ℕ} {f g m : ℕ} → p ≡ refName ws text abi labels w → q ≡ refDescriptor ws text abi labels w
           → f ≡ getD flags i 0 → g ≡ getD lasts i 0 → m ≡ start + length (textTo ws text abi labels refs i)
           → recordsTo start ws text abi labels refs flags lasts (i + 1)
-          ≡ recordsTo start ws text abi labels refs flags lasts i ++ recordWords m (length p) (length q) f g
+          ≡ recordsTo start ws text abi labels refs flags lasts i ++ memberWords m (length p) (m + length p) (length q) f g
       unfolding recordsTo newRecords newAt
       records-more e f g h n =
           rw (first-more flags lasts i, records-append, text-first flags lasts i, e, f, g, h, n, read)
 
-      pub records-turn : (l : List ℕ) (k : ℕ) {p q d o : List ℕ} {f g m : ℕ} → k ≤ length l
+      pub records-turn : (l : List ℕ) (k x : ℕ) {p q d o : List ℕ} {f g m : ℕ} → k + x ≤ length l
           → p ≡ refName ws text abi labels w → q ≡ refDescriptor ws text abi labels w
           → f ≡ getD flags i 0 → g ≡ getD lasts i 0 → m ≡ start + length (textTo ws text abi labels refs i)
           → d ≡ writeAt l k (recordsTo start ws text abi labels refs flags lasts i)
-          → o ≡ writeAt d (k + 6 * i) (recordWords m (length p) (length q) f g)
+          → o ≡ writeAt d (k + memberWidth * i) (memberWords m (length p) (m + length p) (length q) f g)
           → o ≡ writeAt l k (recordsTo start ws text abi labels refs flags lasts (i + 1))
-      records-turn l k {p = p} {q = q} {f = f} {g = g} {m = m} h e₁ e₂ e₃ e₄ e₅ a b =
-          let n : length (recordsTo start ws text abi labels refs flags lasts i) ≡ 6 * i = length-to flags lasts start i in
+      records-turn l k x {p = p} {q = q} {f = f} {g = g} {m = m} h e₁ e₂ e₃ e₄ e₅ a b =
+          let n : length (recordsTo start ws text abi labels refs flags lasts i) ≡ memberWidth * i = length-to flags lasts start i in
           b
           ∙ rw (a, records-more e₁ e₂ e₃ e₄ e₅)
-          (write-more l k (recordsTo start ws text abi labels refs flags lasts i) (recordWords m (length p) (length q) f g) (k + 6 * i) h (omega arith))
-
--- ---- a member more, as a link finds them one by one
-
-module _ (ws text abi labels refs flags lasts : List ℕ) (r f l : ℕ) (few : length refs < 1024) (as₁ : length flags ≡ length refs)
-    (as₂ : length lasts ≡ length refs) where
-  first-kept : (i : ℕ) → i < 0 + length refs → newAt ws text abi labels (refs ++ (r ∷ [])) (flags ++ (f ∷ [])) (lasts ++ (l ∷ [])) i
-      ≡ newAt ws text abi labels refs flags lasts i
-  unfolding newAt
-  first-kept i h =
-      rw (
-        List·getD-append refs (r ∷ []) 0 i (omega arith),
-        List·getD-append flags (f ∷ []) 0 i (omega arith),
-        List·getD-append lasts (l ∷ []) 0 i (omega arith),
-      )
-
-  last-is : newAt ws text abi labels (refs ++ (r ∷ [])) (flags ++ (f ∷ [])) (lasts ++ (l ∷ [])) (length refs)
-      ≡ record { name = refName ws text abi labels r; descriptor = refDescriptor ws text abi labels r; flags = f; last = l }
-  unfolding newAt
-  last-is =
-      rw (getD-at refs r [] 0 (length refs) refl, getD-at flags f [] 0 (length refs) as₁, getD-at lasts l [] 0 (length refs) as₂)
-
-  pub news-more : news ws text abi labels (refs ++ (r ∷ [])) (flags ++ (f ∷ [])) (lasts ++ (l ∷ []))
-      ≡ news ws text abi labels refs flags lasts
-      ++ (record { name = refName ws text abi labels r; descriptor = refDescriptor ws text abi labels r; flags = f; last = l } ∷ [])
-  unfolding news newCount firstNews
-  news-more =
-      let n : min (length (refs ++ (r ∷ []))) 1024 ≡ length refs + 1 = omega (arith, length-append refs (r ∷ [])) in
-      let m : min (length refs) 1024 ≡ length refs = omega arith in
-      rw (n, m)
-      (list-more (newAt ws text abi labels (refs ++ (r ∷ [])) (flags ++ (f ∷ [])) (lasts ++ (l ∷ []))) (length refs)
-      ∙ rw (
-        last-is,
-        list-ext (newAt ws text abi labels (refs ++ (r ∷ [])) (flags ++ (f ∷ [])) (lasts ++ (l ∷ [])))
-            (newAt ws text abi labels refs flags lasts) 0 (length refs) first-kept,
-      ))
-
-pub news-none : (ws text abi labels : List ℕ) → news ws text abi labels [] [] [] ≡ []
-unfolding news newCount firstNews listFrom
-news-none ws text abi labels = refl
+          (write-more l k (recordsTo start ws text abi labels refs flags lasts i) (memberWords m (length p) (m + length p) (length q) f g)
+          (k + memberWidth * i) (omega arith) (omega arith))

@@ -1,13 +1,13 @@
 -- What the growth of a list leaves in the class words, where there is room for it, and else nothing. Assumes nothing.
 use Prim.Native.Nat.{ℕ, _+_, _*_, _-_, _≤_}
 use mathlib.Core.Bool.{Bool, cond, not, _&&_}
-use mathlib.Core.List.{List, _∷_, [], _++_}
-use lib.ListN.{length, take, drop, set}
+use mathlib.Core.List.{List, _++_}
+use lib.ListN.{length, take, drop}
 use lib.Dec.{leb}
 use Rattle.words.specs.Words.{inside}
-use Rattle.class_sheet.specs.ClassSheet.{memberWidth, textLength, textAt, textOf, methodCount, fieldCount, classFirstMethod, classMethodCount, classFirstField, classFieldCount}
+use Rattle.class_sheet.specs.ClassSheet.{memberWidth, textLimit, sheetWords, textLength, textAt, textOf, methodCount, fieldCount, classFirstMethod, classMethodCount, classFirstField, classFieldCount, putMethodCount, putFieldCount, putTextLength, putClassFirstMethod, putClassMethodCount, putClassFirstField, putClassFieldCount}
 use Rattle.linking.specs.Compiler.{New}
-use Rattle.linking.specs.Set.{putClass, newRecords, newText, packed, grownMethods, grownFields, sectionFull, grownEnd}
+use Rattle.linking.specs.Set.{newRecords, newText, packed, grownMethods, grownFields, sectionFull, grownEnd}
 
 -- the list of `own` from `first` on lies in its section of `count`; neither row 14 nor row 15 refuses; and the grown content has at most
 -- as many words as a class sheet can have
@@ -15,7 +15,7 @@ unfoldable pub canGrow : List ℕ → ℕ → ℕ → ℕ → List New → Bool
 canGrow ws count first own new =
     inside first own count
     && not (sectionFull ws count own new)
-    && leb (grownEnd ws own new) 11684
+    && leb (grownEnd ws own new) sheetWords
     && leb (grownEnd ws own new) (length ws)
 
 unfoldable pub methodsGrown : List ℕ → ℕ → List New → List ℕ
@@ -28,10 +28,6 @@ fieldsGrown ws c indices new =
 
 -- ---- what is written at the end of a section
 
--- the six words of a new member's record
-abbrev pub recordWords : ℕ → ℕ → ℕ → ℕ → ℕ → List ℕ
-recordWords start name descriptor flags last = start ∷ name ∷ (start + name) ∷ descriptor ∷ flags ∷ last ∷ []
-
 -- the words from the section's end on: the list's records, which begin at `from`, the new ones, the sections after, and the text
 unfoldable pub tailOf : List ℕ → ℕ → ℕ → ℕ → List New → List ℕ
 tailOf ws end from own new =
@@ -39,14 +35,18 @@ tailOf ws end from own new =
     ++ (newRecords (textLength ws) new ++ (take (textAt ws - end) (drop end ws) ++ packed (textOf ws ++ newText new)))
 
 -- the counts of the section and of the text, and the class's first and count
-unfoldable pub counted : List ℕ → ℕ → ℕ → ℕ → ℕ → ℕ → ℕ → List ℕ
-counted ws c section k count members bytes =
-    putClass (putClass (set (set ws section (count + members)) 5 bytes) c k count) c (k + 1) members
+unfoldable pub methodsCounted : List ℕ → ℕ → ℕ → ℕ → ℕ → List ℕ
+methodsCounted ws c count members bytes =
+    putClassMethodCount (putClassFirstMethod (putTextLength (putMethodCount ws (count + members)) bytes) c count) c members
+
+unfoldable pub fieldsCounted : List ℕ → ℕ → ℕ → ℕ → ℕ → List ℕ
+fieldsCounted ws c count members bytes =
+    putClassFieldCount (putClassFirstField (putTextLength (putFieldCount ws (count + members)) bytes) c count) c members
 
 -- there is room for them: what `canGrow` shows
 pub record Room (ws : List ℕ) (end from own : ℕ) (new : List New) : Type 0 where
   pub before : from + memberWidth * own ≤ end
   pub sections : end ≤ textAt ws
-  pub bytes : textLength ws + length (newText new) ≤ 8192
-  pub most : grownEnd ws own new ≤ 11684
+  pub bytes : textLength ws + length (newText new) ≤ textLimit
+  pub most : grownEnd ws own new ≤ sheetWords
   pub fits : grownEnd ws own new ≤ length ws

@@ -1,36 +1,34 @@
 // Growth of a class sheet's lists: new members, what the sheet then needs (rows 14 and 15), and the words with the list copied to its
 // section's end and the new names in the text.
 ghost use mathlib.Core.Path.{_≡_};
-ghost use Prim.Native.Nat.{_+_, _*_, _/_, _<_, _≤_, _^_};
+ghost use Prim.Native.Nat.{_+_, _*_, _<_, _≤_, _^_};
 ghost use mathlib.Core.List.{_++_};
 ghost use lib.ListN.{length};
-ghost use Rattle.class_sheet.specs.ClassSheet.{textLength, textOf};
-ghost use Rattle.linking.specs.Set.{putClass, putIndices, newRecords, newText, packed, sectionFull, grownEnd};
+ghost use Rattle.words.specs.Words.{wordsFor};
+ghost use Rattle.class_sheet.specs.ClassSheet.{memberWidth, textLimit, sheetWords, textLength, textOf, memberWords};
+ghost use Rattle.linking.specs.Set.{putIndices, newRecords, newText, packed, sectionFull, grownEnd};
 ghost use Rattle.linking.specs.Link.{writeAt};
 ghost use Rattle.growth.specs.News.{newCount, refName, refDescriptor, news, named};
-ghost use Rattle.growth.specs.Growth.{canGrow, methodsGrown, fieldsGrown, recordWords, tailOf, counted, Room};
+ghost use Rattle.growth.specs.Growth.{canGrow, methodsGrown, fieldsGrown, tailOf, methodsCounted, fieldsCounted, Room};
+use class_sheet::MEMBER_WIDTH;
 
-const COUNTS_WIDTH: usize = 6;
+// Where, among what names a new member, the ABI slots begin, after the methods of the class sheet, and the ABI fields after them.
+const SLOTS: u32 = class_sheet::METHOD_LIMIT;
 
-const CLASS_WIDTH: usize = 17;
-
-const MEMBER_WIDTH: usize = 6;
-
-// The most words that a class sheet's blocks hold.
-const MOST: usize = 11684;
+const FIELDS: u32 = SLOTS + abi_sheet::SLOT_LIMIT;
 
 // The name of what r names: a part of the class text, or of the ABI text.
 pub fn ref_name<'a>(ws: &[u32], text: &'a [u8], abi: &[u32], labels: &'a [u8], r: u32) -> &'a [u8]
     ensures is { λ p. ⌜ now p ≡ refName (now (ws .entry)) (now (text .entry)) (now (abi .entry)) (now (labels .entry)) r ⌝ }
     ensures small { λ p. ⌜ length (now p) < 2 ^ 32 ⌝ }
 {
-    if r < 512 {
+    if r < SLOTS {
         return class_sheet::method_name(ws, text, r);
     }
-    if r < 1024 {
-        return abi_sheet::slot_name(abi, labels, r - 512);
+    if r < FIELDS {
+        return abi_sheet::slot_name(abi, labels, r - SLOTS);
     }
-    abi_sheet::field_name(abi, labels, r - 1024)
+    abi_sheet::field_name(abi, labels, r - FIELDS)
 }
 
 // The descriptor of what r names, likewise.
@@ -44,13 +42,13 @@ pub fn ref_descriptor<'a>(
     ensures is { λ p. ⌜ now p ≡ refDescriptor (now (ws .entry)) (now (text .entry)) (now (abi .entry)) (now (labels .entry)) r ⌝ }
     ensures small { λ p. ⌜ length (now p) < 2 ^ 32 ⌝ }
 {
-    if r < 512 {
+    if r < SLOTS {
         return class_sheet::method_descriptor(ws, text, r);
     }
-    if r < 1024 {
-        return abi_sheet::slot_descriptor(abi, labels, r - 512);
+    if r < FIELDS {
+        return abi_sheet::slot_descriptor(abi, labels, r - SLOTS);
     }
-    abi_sheet::field_descriptor(abi, labels, r - 1024)
+    abi_sheet::field_descriptor(abi, labels, r - FIELDS)
 }
 
 // How many new members there are, at most 1,024.
@@ -104,7 +102,7 @@ pub fn section_full<'a>(
     let members = words::wide(count) + (words::wide(own) + words::wide(new_count(refs)));
     let bytes = words::wide(class_sheet::text_length(ws))
         + new_text_length(ws, text, abi, labels, refs);
-    (512 < members) | (8192 < bytes)
+    ((class_sheet::MEMBER_LIMIT as usize) < members) | ((class_sheet::TEXT_LIMIT as usize) < bytes)
 }
 
 // How many words the content has once a list of `own` has grown.
@@ -140,19 +138,8 @@ fn can_grow<'a>(
     let end = grown_end(ws, own, text, abi, labels, refs);
     words::is_inside(first, own, count)
         & !section_full(ws, count, own, text, abi, labels, refs)
-        & (end <= MOST)
+        & (end <= class_sheet::SHEET_WORDS)
         & (end <= ws.len())
-}
-
-// Stores v as word k of class c's record.
-pub fn put_class(set: &mut [u32], c: u32, k: u32, v: u32)
-    ensures { λ _. ⌜ now (set .exit) ≡ putClass (now (set .entry)) c k v ⌝ }
-{
-    words::put_word(
-        set,
-        COUNTS_WIDTH + CLASS_WIDTH * words::wide(words::before(c)) + words::wide(k),
-        v,
-    );
 }
 
 // Stores the indices of the field records from `first` on, in words whose field section begins at `at`.
@@ -164,7 +151,7 @@ pub fn put_indices(set: &mut [u32], at: usize, first: u32, indices: &[u32])
         return;
     }
     let room = n - at;
-    let mut p: usize = MEMBER_WIDTH * words::wide(first) + 5;
+    let mut p: usize = MEMBER_WIDTH * words::wide(first) + class_sheet::FIELD_INDEX;
     let mut j: usize = 0;
     while j < indices.len() {
         if room <= p {
@@ -242,15 +229,19 @@ fn put_record(
     flags: u32,
     last: u32,
 )
-    requires { ⌜ (at + 6 ≤ length (now out)) × (start + (name + descriptor) < 2 ^ 32) ⌝ }
-    ensures { λ _. ⌜ now (out .exit) ≡ writeAt (now (out .entry)) at (recordWords start name descriptor flags last) ⌝ }
+    requires { ⌜ (at + memberWidth ≤ length (now out)) × (start + (name + descriptor) < 2 ^ 32) ⌝ }
+    ensures { λ _. ⌜ now (out .exit) ≡ writeAt (now (out .entry)) at (memberWords start name (start + name) descriptor flags last) ⌝ }
 {
-    words::put_word(out, at, start);
-    words::put_word(out, at + 1, name);
-    words::put_word(out, at + 2, start + name);
-    words::put_word(out, at + 3, descriptor);
-    words::put_word(out, at + 4, flags);
-    words::put_word(out, at + 5, last);
+    let end = at + MEMBER_WIDTH;
+    class_sheet::put_member(
+        &mut out[at..end],
+        start,
+        name,
+        start + name,
+        descriptor,
+        flags,
+        last,
+    );
 }
 
 // The records of the new members, whose names begin at byte `start` of the text.
@@ -266,7 +257,7 @@ fn put_records<'a>(
     flags: &[u32],
     lasts: &[u32],
 )
-    requires { ⌜ (at + 6 * newCount (now refs) ≤ length (now out)) × (start + length (newText (named (now ws) (now text) (now abi) (now labels) (now refs))) ≤ 8192) ⌝ }
+    requires { ⌜ (at + memberWidth * newCount (now refs) ≤ length (now out)) × (start + length (newText (named (now ws) (now text) (now abi) (now labels) (now refs))) ≤ textLimit) ⌝ }
     ensures { λ _. ⌜ now (out .exit) ≡ writeAt (now (out .entry)) at (newRecords start (news (now (ws .entry)) (now (text .entry)) (now (abi .entry)) (now (labels .entry)) (now (refs .entry)) (now (flags .entry)) (now (lasts .entry)))) ⌝ }
 {
     let n = words::wide(new_count(refs));
@@ -294,7 +285,7 @@ fn put_records<'a>(
 
 // Bytes as words, four a word, lowest first.
 fn put_packed(out: &mut [u32], at: usize, bytes: &[u8])
-    requires { ⌜ (at + (length (now bytes) + 3) / 4 ≤ length (now out)) × (length (now bytes) ≤ 8192) ⌝ }
+    requires { ⌜ (at + wordsFor (length (now bytes)) ≤ length (now out)) × (length (now bytes) ≤ textLimit) ⌝ }
     ensures { λ _. ⌜ now (out .exit) ≡ writeAt (now (out .entry)) at (packed (now (bytes .entry))) ⌝ }
 {
     let n = (bytes.len() + 3) / 4;
@@ -343,7 +334,7 @@ fn put_tail<'a>(
     flags: &[u32],
     lasts: &[u32],
 )
-    requires { ⌜ (Room (now ws) end from own (named (now ws) (now text) (now abi) (now labels) (now refs))) × (11684 ≤ length (now out)) ⌝ }
+    requires { ⌜ (Room (now ws) end from own (named (now ws) (now text) (now abi) (now labels) (now refs))) × (sheetWords ≤ length (now out)) ⌝ }
     ensures { λ _. ⌜ now (out .exit) ≡ writeAt (now (out .entry)) 0 (tailOf (now (ws .entry)) end from own (news (now (ws .entry)) (now (text .entry)) (now (abi .entry)) (now (labels .entry)) (now (refs .entry)) (now (flags .entry)) (now (lasts .entry)))) ⌝ }
 {
     let kept = MEMBER_WIDTH * words::wide(own);
@@ -363,7 +354,7 @@ fn put_tail<'a>(
         lasts,
     );
     words::copy_words(ws, end, rest, out, grown);
-    let mut bytes = [0u8; 8192];
+    let mut bytes = [0u8; class_sheet::TEXT_LIMIT as usize];
     put_text(&mut bytes, ws, text, abi, labels, refs);
     let n = words::wide(class_sheet::text_length(ws))
         + new_text_length(ws, text, abi, labels, refs);
@@ -386,7 +377,7 @@ fn insert<'a>(
     requires { ⌜ Room (now set) end from own (named (now set) (now text) (now abi) (now labels) (now refs)) ⌝ }
     ensures { λ _. ⌜ now (set .exit) ≡ writeAt (now (set .entry)) end (tailOf (now (set .entry)) end from own (news (now (set .entry)) (now (text .entry)) (now (abi .entry)) (now (labels .entry)) (now (refs .entry)) (now (flags .entry)) (now (lasts .entry)))) ⌝ }
 {
-    let mut tail = [0u32; MOST];
+    let mut tail = [0u32; class_sheet::SHEET_WORDS];
     put_tail(
         &mut tail,
         end,
@@ -404,15 +395,26 @@ fn insert<'a>(
     words::copy_words(&tail, 0, n, set, end);
 }
 
-// The counts of a grown section and of the text, and the class's list: word `section` of the sheet, and words k and k + 1 of class c.
-fn put_counts(set: &mut [u32], c: u32, section: usize, k: u32, count: u32, members: u32, bytes: u32)
-    requires { ⌜ (count + members < 2 ^ 32) × (k < 16) ⌝ }
-    ensures { λ _. ⌜ now (set .exit) ≡ counted (now (set .entry)) c section k count members bytes ⌝ }
+// The counts of a grown method section and of the text, and class c's list: `members` from `count` on.
+fn put_method_counts(set: &mut [u32], c: u32, count: u32, members: u32, bytes: u32)
+    requires { ⌜ count + members < 2 ^ 32 ⌝ }
+    ensures { λ _. ⌜ now (set .exit) ≡ methodsCounted (now (set .entry)) c count members bytes ⌝ }
 {
-    words::put_word(set, section, count + members);
-    words::put_word(set, 5, bytes);
-    put_class(set, c, k, count);
-    put_class(set, c, k + 1, members);
+    class_sheet::put_method_count(set, count + members);
+    class_sheet::put_text_length(set, bytes);
+    class_sheet::put_class_first_method(set, c, count);
+    class_sheet::put_class_method_count(set, c, members);
+}
+
+// The counts of a grown field section and of the text, and class c's list: `members` from `count` on.
+fn put_field_counts(set: &mut [u32], c: u32, count: u32, members: u32, bytes: u32)
+    requires { ⌜ count + members < 2 ^ 32 ⌝ }
+    ensures { λ _. ⌜ now (set .exit) ≡ fieldsCounted (now (set .entry)) c count members bytes ⌝ }
+{
+    class_sheet::put_field_count(set, count + members);
+    class_sheet::put_text_length(set, bytes);
+    class_sheet::put_class_first_field(set, c, count);
+    class_sheet::put_class_field_count(set, c, members);
 }
 
 // Copies class c's methods to the end of their section, with the new ones after them, where there is room, and else nothing.
@@ -440,7 +442,7 @@ pub fn grow_methods<'a>(
     let end = class_sheet::fields_at(set);
     let from = class_sheet::methods_at(set) + MEMBER_WIDTH * words::wide(first);
     insert(set, end, from, own, text, abi, labels, refs, flags, lasts);
-    put_counts(set, c, 1, 5, count, members, bytes as u32);
+    put_method_counts(set, c, count, members, bytes as u32);
 }
 
 // Copies class c's fields to the end of their section, with the new indices and the new fields, where there is room, and else nothing.
@@ -471,5 +473,5 @@ pub fn grow_fields<'a>(
     insert(set, end, from, own, text, abi, labels, refs, flags, lasts);
     let copied = end + MEMBER_WIDTH * words::wide(own);
     put_indices(&mut set[end..copied], 0, 0, indices);
-    put_counts(set, c, 2, 7, count, members, bytes as u32);
+    put_field_counts(set, c, count, members, bytes as u32);
 }

@@ -19,12 +19,12 @@ use words::word_at;
 use words::word_part;
 
 // Lent where the name says nothing: the words of the largest sheet.
-const CLASS_WORDS: u32 = 11684;
+const CLASS_WORDS: u32 = class_sheet::SHEET_WORDS as u32;
 
-const ABI_WORDS: u32 = 6477;
+const ABI_WORDS: u32 = abi_sheet::SHEET_WORDS as u32;
 
-// The most that a name can have lent: 94 blocks of 127 words.
-const MOST_WORDS: u32 = 11938;
+// The most that a name can have lent: two blocks of 127 words more than the largest sheet has.
+const MOST_WORDS: u32 = 127 * (class_sheet::BLOCK_LIMIT + 2);
 
 // The place after a path's last slash, or 0 where it has none.
 fn name_place(path: &[u8]) -> usize {

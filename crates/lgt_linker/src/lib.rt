@@ -82,10 +82,10 @@ pub extern "C" fn lgt_link(
     give_call(link::link(set, abi, class, area, stubs), answer)
 }
 
-// `ask::interface_dispatch_table`: the answer words are the interface table's place and the nodes read.
+// `ask::interface_dispatch_table`: the answer words are the interface table's place and the nodes read; the set is only read.
 #[no_mangle]
 pub extern "C" fn lgt_interface_dispatch_table(
-    set: &mut [u32],
+    set: &[u32],
     abi: &[u32],
     class: u32,
     interface: u32,
@@ -93,7 +93,7 @@ pub extern "C" fn lgt_interface_dispatch_table(
     stubs: &[u32],
     answer: &mut [u32; 2],
 ) -> u32
-    ensures { λ r. ⌜ called r (now (answer .exit)) (now (set .exit)) (now (area .exit)) ≡ askDef (now (set .entry)) (now (abi .entry)) class interface (now (area .entry)) (now (stubs .entry)) ⌝ }
+    ensures { λ r. ⌜ called r (now (answer .exit)) (now (set .entry)) (now (area .exit)) ≡ askDef (now (set .entry)) (now (abi .entry)) class interface (now (area .entry)) (now (stubs .entry)) ⌝ }
 {
     give_call(
         ask::interface_dispatch_table(set, abi, class, interface, area, stubs),

@@ -1,8 +1,7 @@
 -- Laws of a slot's name and descriptor, as the code looks them up. Assumes nothing.
 use mathlib.Core.Path.{_≡_, refl, sym, _∙_}
 use mathlib.Core.List.{List, []}
-use Prim.Native.Nat.{ℕ, _-_, _<_}
-use borrow.Author.Tests.{eq-eqb, ne-eqb}
+use Prim.Native.Nat.{ℕ, _<_}
 use Rattle.words.specs.Lists.{andThen, firstFound}
 use Rattle.words.specs.declared.Found.{Found}
 use Rattle.words.specs.declared.Found.the-variants.{At, Nothing}
@@ -10,8 +9,8 @@ use Rattle.class_sheet.specs.ClassSheet.{methodName, methodDescriptor}
 use Rattle.abi_sheet.specs.AbiSheet.{abiSlotName, abiSlotDescriptor}
 use Rattle.linking.specs.Chain.{parentOf, chain}
 use Rattle.linking.specs.Abi.{classAbi, slotAt}
-use Rattle.chain.proofs.ChainLaws.{along-none, along-hit, along-up}
-use Rattle.vtable.specs.Arrays.{marked}
+use Rattle.linking.proofs.ChainLaws.{along-none, along-hit, along-up}
+use Rattle.reading.specs.Arrays.{methodOf}
 use Rattle.lines.specs.Lines.{ownSlot, fixedSlot, slotName, slotDescriptor}
 
 module _ (ws text abi labels : List ℕ) where
@@ -44,29 +43,29 @@ module _ (ws text abi labels : List ℕ) where
 
   -- ---- names, of a slot whose method has mark k
 
-  module _ (c i k : ℕ) where
-    module _ (known : k ≡ 0 → ⊥) {n : List ℕ} where
-      pub name-known : n ≡ methodName ws text (k - 1) → n ≡ slotName ws text abi labels c i (marked k)
+  module _ (c i k : ℕ) {o : Found} (method : o ≡ methodOf k) where
+    module _ (m : ℕ) (known : o ≡ At m) {n : List ℕ} where
+      pub name-known : n ≡ methodName ws text m → n ≡ slotName ws text abi labels c i (methodOf k)
       unfolding slotName
-      name-known e = e ∙ rw (ne-eqb k 0 known)
+      name-known e = e ∙ rw (← method, known)
 
-      pub descriptor-known : n ≡ methodDescriptor ws text (k - 1) → n ≡ slotDescriptor ws text abi labels c i (marked k)
+      pub descriptor-known : n ≡ methodDescriptor ws text m → n ≡ slotDescriptor ws text abi labels c i (methodOf k)
       unfolding slotDescriptor
-      descriptor-known e = e ∙ rw (ne-eqb k 0 known)
+      descriptor-known e = e ∙ rw (← method, known)
 
-    module _ (unknown : k ≡ 0) {r : Found} (fixed : r ≡ fixedSlot ws text abi labels c i) {n : List ℕ} where
-      pub name-fixed : (s : ℕ) → r ≡ At s → n ≡ abiSlotName abi labels s → n ≡ slotName ws text abi labels c i (marked k)
+    module _ (unknown : o ≡ Nothing) {r : Found} (fixed : r ≡ fixedSlot ws text abi labels c i) {n : List ℕ} where
+      pub name-fixed : (s : ℕ) → r ≡ At s → n ≡ abiSlotName abi labels s → n ≡ slotName ws text abi labels c i (methodOf k)
       unfolding slotName
-      name-fixed s e g = g ∙ rw (eq-eqb k 0 unknown, ← fixed, e)
+      name-fixed s e g = g ∙ rw (← method, unknown, ← fixed, e)
 
-      pub descriptor-fixed : (s : ℕ) → r ≡ At s → n ≡ abiSlotDescriptor abi labels s → n ≡ slotDescriptor ws text abi labels c i (marked k)
+      pub descriptor-fixed : (s : ℕ) → r ≡ At s → n ≡ abiSlotDescriptor abi labels s → n ≡ slotDescriptor ws text abi labels c i (methodOf k)
       unfolding slotDescriptor
-      descriptor-fixed s e g = g ∙ rw (eq-eqb k 0 unknown, ← fixed, e)
+      descriptor-fixed s e g = g ∙ rw (← method, unknown, ← fixed, e)
 
-      pub name-none : r ≡ Nothing → n ≡ [] → n ≡ slotName ws text abi labels c i (marked k)
+      pub name-none : r ≡ Nothing → n ≡ [] → n ≡ slotName ws text abi labels c i (methodOf k)
       unfolding slotName
-      name-none e g = g ∙ rw (eq-eqb k 0 unknown, ← fixed, e)
+      name-none e g = g ∙ rw (← method, unknown, ← fixed, e)
 
-      pub descriptor-none : r ≡ Nothing → n ≡ [] → n ≡ slotDescriptor ws text abi labels c i (marked k)
+      pub descriptor-none : r ≡ Nothing → n ≡ [] → n ≡ slotDescriptor ws text abi labels c i (methodOf k)
       unfolding slotDescriptor
-      descriptor-none e g = g ∙ rw (eq-eqb k 0 unknown, ← fixed, e)
+      descriptor-none e g = g ∙ rw (← method, unknown, ← fixed, e)

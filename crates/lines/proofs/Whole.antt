@@ -1,27 +1,18 @@
--- What stands in the lent bytes once a text was put: all of it, unless they are full. Assumes nothing.
+-- What stands in the lent bytes once a text was put: all of it, unless they are full; and all of a text that is shorter. Assumes nothing.
 use mathlib.Core.Path.{_≡_, refl, sym, ap, _∙_}
-use mathlib.Core.List.{List, [], _∷_, _++_, append-nil}
+use mathlib.Core.List.{List, [], _∷_, _++_, append-nil, append-assoc}
 use Prim.Native.Nat.{ℕ, zero, suc, _+_, _≤_, _<_}
 use native.Mathlib.Omega.{arith}
 use native.Mathlib.Numerals.{add-one}
 use native.Mathlib.Nat.{add-zero}
 use lib.ListN.{length, set, take, length-set}
+use lib.Seq.{take-suc-set}
 use lib.Dec.{ltb}
 use borrow.Author.Tests.{ltb-true, ltb-false}
 use Rattle.words.proofs.Bools.{by}
 use Rattle.words.specs.Lists.{fold}
 use Rattle.lines.specs.Bytes.{put}
 use Rattle.lines.proofs.ByteLaws.{byte-put, byte-full}
-
--- the first bytes, once the next one is put
-take-set : (o : List ℕ) (k b : ℕ) → k < length o → take (suc k) (set o k b) ≡ take k o ++ (b ∷ [])
-take-set [] k b h = absurd (omega arith)
-take-set (x ∷ o) zero b h = refl
-take-set (x ∷ o) (suc k) b h = ap (λ (l : List ℕ). x ∷ l) (take-set o k b (omega arith))
-
-append-one : (l : List ℕ) (b : ℕ) (m : List ℕ) → (l ++ (b ∷ [])) ++ m ≡ l ++ (b ∷ m)
-append-one [] b m = refl
-append-one (x ∷ l) b m = ap (λ (t : List ℕ). x ∷ t) (append-one l b m)
 
 -- a place at the end stays there
 full : (o : List ℕ) (k : ℕ) (bs : List ℕ) → length o ≤ k → put (o, k) bs ≡ (o, k)
@@ -43,5 +34,19 @@ whole (b ∷ bs) o k {q} e h =
     whole bs (set o k b) (k + 1) (e ∙ ap (λ (p : List ℕ × ℕ). put p bs) (sym (byte-put o k b l refl)))
     (rw (length-set o k b) h)
     in
-    (w .0 ∙ omega arith, w .1 ∙ (ap (λ (s : List ℕ). s ++ bs) (ap (λ (i : ℕ). take i (set o k b)) (add-one k) ∙ take-set o k b l) ∙ append-one (take k o) b bs)))
+    (w .0 ∙ omega arith, w .1 ∙ (ap (λ (s : List ℕ). s ++ bs) (ap (λ (i : ℕ). take i (set o k b)) (add-one k) ∙ take-suc-set o k b l) ∙ append-assoc (take k o) (b ∷ []) bs)))
     (λ f. let g = ltb-false k (length o) f in let s = ap (λ (p : List ℕ × ℕ). p .1) (e ∙ full o k (b ∷ bs) g) in absurd (omega arith))
+
+-- the place after a text for which there is room
+after : (bs o : List ℕ) (k : ℕ) → k + length bs ≤ length o → put (o, k) bs .1 ≡ k + length bs
+unfolding put fold
+after [] o k h = sym (add-zero k)
+after (b ∷ bs) o k h =
+    ap (λ (p : List ℕ × ℕ). put p bs .1) (sym (byte-put o k b (omega arith) refl))
+    ∙ (after bs (set o k b) (k + 1) (rw (length-set o k b) (omega arith)) ∙ omega arith)
+
+-- a text that is shorter than the lent bytes, put from their start on, is there whole
+pub shorter : (bs o : List ℕ) {q : List ℕ × ℕ} → q ≡ put (o, 0) bs → length bs < length o → take (q .1) (q .0) ≡ bs
+shorter bs o {q} e h =
+    let n : q .1 ≡ 0 + length bs = ap (λ (p : List ℕ × ℕ). p .1) e ∙ after bs o 0 (omega arith) in
+    whole bs o 0 e (omega arith) .1

@@ -2,17 +2,18 @@
 use Prim.Native.Nat.{ℕ, _+_}
 use Prim.Native.String.{String}
 use mathlib.Core.List.{List, [], _∷_, _++_}
-use mathlib.Core.Bool.{cond}
+use mathlib.Core.Bool.{Bool, cond, _||_}
 use lib.Dec.{ltb}
 use Rattle.words.specs.Lists.{andThen, firstFound}
 use Rattle.words.specs.declared.Found.{Found}
 use Rattle.words.specs.declared.Found.the-variants.{At, Nothing}
 use Rattle.descriptor.specs.Bytes.{text}
-use Rattle.class_sheet.specs.ClassSheet.{textOf, textLength, className, classInstanceWords, classSlotCount, methodName, methodDescriptor}
-use Rattle.abi_sheet.specs.AbiSheet.{abiTextOf, abiTextLength, abiSlotName, abiSlotDescriptor}
+use Rattle.class_sheet.specs.ClassSheet.{classCount, textOf, textLength, className, classInstanceWords, classSlotCount, methodName, methodDescriptor, classLimit, textLimit}
+use Rattle.abi_sheet.specs.AbiSheet.{abiTextOf, abiTextLength, abiSlotName, abiSlotDescriptor, abiTextLimit}
 use Rattle.linking.specs.Chain.{chain}
 use Rattle.linking.specs.Abi.{classAbi, slotAt}
 use Rattle.linking.specs.Vtable.{Entry, tableEntries}
+use Rattle.linking.specs.Link.{noClass}
 use Rattle.lines.specs.Bytes.{decimal}
 
 -- ---- lines, each ended by a newline
@@ -90,7 +91,10 @@ module _ (ws text abi labels : List ℕ) where
       classLine c (className ws text c) (classInstanceWords ws c) (classSlotCount ws c)
       ++ slotTexts c 0 (tableEntries ws text abi labels area c)
 
--- a linked class's lines (row 3 refuses a text of more than 8,192 bytes)
+-- a class has no lines where there is none of this number, or row 3 refuses the words: more than 64 classes, or 8,192 bytes of text
+unfoldable pub isUnlisted : List ℕ → List ℕ → ℕ → Bool
+isUnlisted ws abi c = noClass ws c || ltb classLimit (classCount ws) || ltb textLimit (textLength ws) || ltb abiTextLimit (abiTextLength abi)
+
+-- a linked class's lines
 unfoldable pub classLines : List ℕ → List ℕ → List ℕ → ℕ → List ℕ
-classLines ws abi area c =
-    cond (ltb 8192 (textLength ws)) [] (cond (ltb 8192 (abiTextLength abi)) [] (linesOf ws (textOf ws) abi (abiTextOf abi) area c))
+classLines ws abi area c = cond (isUnlisted ws abi c) [] (linesOf ws (textOf ws) abi (abiTextOf abi) area c)

@@ -4,11 +4,11 @@ use words::Found;
 ghost use mathlib.Core.Path.{_≡_};
 ghost use Prim.Native.Nat.{_+_, _<_, _≤_};
 ghost use mathlib.Core.List.{_++_};
-ghost use Rattle.class_sheet.specs.ClassSheet.{textOf, textLength};
-ghost use Rattle.abi_sheet.specs.AbiSheet.{abiTextOf, abiTextLength};
-ghost use Rattle.vtable.specs.Arrays.{marked, entriesOf};
+ghost use Rattle.class_sheet.specs.ClassSheet.{textOf, textLength, textLimit};
+ghost use Rattle.abi_sheet.specs.AbiSheet.{abiTextOf, abiTextLength, abiTextLimit};
+ghost use Rattle.reading.specs.Arrays.{methodOf, entriesOf};
 ghost use Rattle.lines.specs.Bytes.{putByte, put, decimal};
-ghost use Rattle.lines.specs.Lines.{shown, classLine, slotLine, classRefused, sheetRefused, ownSlot, fixedSlot, slotName, slotDescriptor, slotTexts, linesOf, classLines};
+ghost use Rattle.lines.specs.Lines.{shown, classLine, slotLine, classRefused, sheetRefused, ownSlot, fixedSlot, slotName, slotDescriptor, slotTexts, linesOf, isUnlisted, classLines};
 
 // Puts a byte, and answers the next place, or the same one where there is no room.
 fn put_byte(out: &mut [u8], at: usize, b: u8) -> usize
@@ -43,7 +43,7 @@ fn digit(d: u32) -> u8
 }
 
 // Puts a number in decimal.
-pub fn put_decimal(out: &mut [u8], at: usize, n: u32) -> usize
+fn put_decimal(out: &mut [u8], at: usize, n: u32) -> usize
     ensures { λ r. ⌜ (now (out .exit), r) ≡ put (now (out .entry), at) (decimal n) ⌝ }
 {
     if n < 10 {
@@ -54,7 +54,7 @@ pub fn put_decimal(out: &mut [u8], at: usize, n: u32) -> usize
 }
 
 // Puts a part of a text, or a dash where it is empty.
-pub fn put_shown(out: &mut [u8], at: usize, part: &[u8]) -> usize
+fn put_shown(out: &mut [u8], at: usize, part: &[u8]) -> usize
     ensures { λ r. ⌜ (now (out .exit), r) ≡ put (now (out .entry), at) (shown (now (part .entry))) ⌝ }
 {
     if part.len() == 0 {
@@ -72,7 +72,7 @@ fn put_numbered(out: &mut [u8], at: usize, label: &[u8], n: u32) -> usize
 }
 
 // Puts `class N NAME words W slots S`.
-pub fn class_line(out: &mut [u8], at: usize, c: u32, name: &[u8], words: u32, slots: u32) -> usize
+fn class_line(out: &mut [u8], at: usize, c: u32, name: &[u8], words: u32, slots: u32) -> usize
     ensures { λ r. ⌜ (now (out .exit), r) ≡ put (now (out .entry), at) (classLine c (now (name .entry)) words slots) ⌝ }
 {
     let at1 = put_numbered(out, at, b"class ", c);
@@ -84,7 +84,7 @@ pub fn class_line(out: &mut [u8], at: usize, c: u32, name: &[u8], words: u32, sl
 }
 
 // Puts `I NAME DESCRIPTOR TARGET`, a dash for each empty part.
-pub fn slot_line(
+fn slot_line(
     out: &mut [u8],
     at: usize,
     i: u32,
@@ -155,14 +155,14 @@ pub fn slot_name<'a>(
     i: u32,
     k: u32,
 ) -> &'a [u8]
-    ensures { λ r. ⌜ now r ≡ slotName (now (ws .entry)) (now (text .entry)) (now (abi .entry)) (now (labels .entry)) c i (marked k) ⌝ }
+    ensures { λ r. ⌜ now r ≡ slotName (now (ws .entry)) (now (text .entry)) (now (abi .entry)) (now (labels .entry)) c i (methodOf k) ⌝ }
 {
-    if k != 0 {
-        return class_sheet::method_name(ws, text, k - 1);
-    }
-    match fixed_slot(ws, text, abi, labels, c, i) {
-        Found::At(s) => abi_sheet::slot_name(abi, labels, s),
-        Found::Nothing => words::part(text, 0, 0),
+    match reading::method_of(k) {
+        Found::At(m) => class_sheet::method_name(ws, text, m),
+        Found::Nothing => match fixed_slot(ws, text, abi, labels, c, i) {
+            Found::At(s) => abi_sheet::slot_name(abi, labels, s),
+            Found::Nothing => words::part(text, 0, 0),
+        },
     }
 }
 
@@ -176,14 +176,14 @@ pub fn slot_descriptor<'a>(
     i: u32,
     k: u32,
 ) -> &'a [u8]
-    ensures { λ r. ⌜ now r ≡ slotDescriptor (now (ws .entry)) (now (text .entry)) (now (abi .entry)) (now (labels .entry)) c i (marked k) ⌝ }
+    ensures { λ r. ⌜ now r ≡ slotDescriptor (now (ws .entry)) (now (text .entry)) (now (abi .entry)) (now (labels .entry)) c i (methodOf k) ⌝ }
 {
-    if k != 0 {
-        return class_sheet::method_descriptor(ws, text, k - 1);
-    }
-    match fixed_slot(ws, text, abi, labels, c, i) {
-        Found::At(s) => abi_sheet::slot_descriptor(abi, labels, s),
-        Found::Nothing => words::part(text, 0, 0),
+    match reading::method_of(k) {
+        Found::At(m) => class_sheet::method_descriptor(ws, text, m),
+        Found::Nothing => match fixed_slot(ws, text, abi, labels, c, i) {
+            Found::At(s) => abi_sheet::slot_descriptor(abi, labels, s),
+            Found::Nothing => words::part(text, 0, 0),
+        },
     }
 }
 
@@ -200,7 +200,7 @@ fn list_slot<'a>(
     out: &mut [u8],
     at: usize,
 ) -> usize
-    ensures { λ r. ⌜ (now (out .exit), r) ≡ put (now (out .entry), at) (slotLine i (slotName (now (ws .entry)) (now (text .entry)) (now (abi .entry)) (now (labels .entry)) c i (marked k)) (slotDescriptor (now (ws .entry)) (now (text .entry)) (now (abi .entry)) (now (labels .entry)) c i (marked k)) w) ⌝ }
+    ensures { λ r. ⌜ (now (out .exit), r) ≡ put (now (out .entry), at) (slotLine i (slotName (now (ws .entry)) (now (text .entry)) (now (abi .entry)) (now (labels .entry)) c i (methodOf k)) (slotDescriptor (now (ws .entry)) (now (text .entry)) (now (abi .entry)) (now (labels .entry)) c i (methodOf k)) w) ⌝ }
 {
     let name = slot_name(ws, text, abi, labels, c, i, k);
     let descriptor = slot_descriptor(ws, text, abi, labels, c, i, k);
@@ -252,32 +252,43 @@ fn list_with<'a>(
     let place = class_line(out, at, c, name, words, slots);
     let mut ts = [0u32; 1024];
     let mut ms = [0u32; 1024];
-    let n = vtable::table_entries(ws, text, abi, labels, area, c, &mut ts, &mut ms);
+    let n = reading::table_entries(ws, text, abi, labels, area, c, &mut ts, &mut ms);
     list_slots(ws, text, abi, labels, c, &ts, &ms, n, out, place)
 }
 
 // Unpacks the texts, and puts class c's lines.
 fn list_unpacked(ws: &[u32], abi: &[u32], area: &[u32], c: u32, out: &mut [u8], at: usize) -> usize
-    requires { ⌜ (textLength (now ws) ≤ 8192) × (abiTextLength (now abi) ≤ 8192) ⌝ }
+    requires { ⌜ (textLength (now ws) ≤ textLimit) × (abiTextLength (now abi) ≤ abiTextLimit) ⌝ }
     ensures { λ r. ⌜ (now (out .exit), r) ≡ put (now (out .entry), at) (linesOf (now (ws .entry)) (textOf (now (ws .entry))) (now (abi .entry)) (abiTextOf (now (abi .entry))) (now (area .entry)) c) ⌝ }
 {
-    let mut bytes = [0u8; 8192];
+    let mut bytes = [0u8; class_sheet::TEXT_LIMIT as usize];
     class_sheet::unpack_text(ws, &mut bytes);
-    let mut abi_bytes = [0u8; 8192];
+    let mut abi_bytes = [0u8; abi_sheet::TEXT_LIMIT as usize];
     abi_sheet::unpack_text(abi, &mut abi_bytes);
     let text = text::name_at(&bytes, 0, class_sheet::text_length(ws));
     let labels = text::name_at(&abi_bytes, 0, abi_sheet::text_length(abi));
     list_with(ws, text, abi, labels, area, c, out, at)
 }
 
-// Puts the lines of the linked class c, none where a text is above its limit.
+// Whether class c has no lines: there is no such class, or row 3 refuses the number of classes or a text.
+fn is_unlisted(ws: &[u32], abi: &[u32], c: u32) -> bool
+    ensures { λ r. ⌜ r ≡ isUnlisted (now (ws .entry)) (now (abi .entry)) c ⌝ }
+{
+    let classes = class_sheet::class_count(ws);
+    let text = class_sheet::text_length(ws);
+    let labels = abi_sheet::text_length(abi);
+    (c == 0)
+        | (classes < c)
+        | (class_sheet::CLASS_LIMIT < classes)
+        | (class_sheet::TEXT_LIMIT < text)
+        | (abi_sheet::TEXT_LIMIT < labels)
+}
+
+// Puts the lines of the linked class c, none where it is unlisted. So a chain that is gone through has at most 64 classes.
 pub fn list_class(ws: &[u32], abi: &[u32], area: &[u32], c: u32, out: &mut [u8], at: usize) -> usize
     ensures { λ r. ⌜ (now (out .exit), r) ≡ put (now (out .entry), at) (classLines (now (ws .entry)) (now (abi .entry)) (now (area .entry)) c) ⌝ }
 {
-    if class_sheet::text_length(ws) > 8192 {
-        return at;
-    }
-    if abi_sheet::text_length(abi) > 8192 {
+    if is_unlisted(ws, abi, c) {
         return at;
     }
     list_unpacked(ws, abi, area, c, out, at)

@@ -1,5 +1,4 @@
 pub mod FinishLaws
-pub mod IndexLaws
 pub mod PlanLaws
 pub mod PlannedLaws
 pub mod StoreLaws

@@ -5,19 +5,17 @@ use mathlib.Core.List.{List, [], _∷_}
 use Prim.Native.Nat.{ℕ, _+_, _≤_, _<_}
 use native.Mathlib.Omega.{arith}
 use lib.ListN.{length}
-use lib.Dec.{eqb, ltb}
 use Rattle.words.proofs.Bools.{by, or-neither}
 use Rattle.class_sheet.specs.ClassSheet.{classCount, classKind, methodCount, fieldCount, textOf, classMethodCount, classFirstMethod, classFirstField, classFieldCount}
 use Rattle.abi_sheet.specs.AbiSheet.{abiTextOf}
 use Rattle.set_rules.specs.Valid.{Valid}
 use Rattle.linking.specs.Compiler.{New}
 use Rattle.linking.specs.Vtable.{Entry, slotWords}
-use Rattle.linking.specs.Set.{sectionFull, grownEnd}
 use Rattle.linking.specs.Link.{Plan, isNone, nextFree, listsFull, setShort, noRoom, linkedArea, linkedWords, newWords, finishLink, Outcome, refusedCall}
 use Rattle.growth.specs.Growth.{canGrow, methodsGrown, fieldsGrown}
 use Rattle.growth.proofs.Linked.{linked-methods, linked-fields, can-grow, methods-end, fields-end}
-use Rattle.vtable.specs.Arrays.{entriesOf}
-use Rattle.vtable.proofs.ArrayLaws.{length-entries}
+use Rattle.reading.specs.Arrays.{entriesOf}
+use Rattle.reading.proofs.ArrayLaws.{length-entries}
 use Rattle.area.specs.Area.{tableWritten}
 use Rattle.area.proofs.AreaLaws.{table-linked}
 use Rattle.plan.specs.Plans.{methodsOf, fieldsOf}
@@ -28,6 +26,10 @@ linked-same : (area : List ℕ) (c : ℕ) (T U : List Entry) (stubs : List ℕ) 
     → linkedArea area c U stubs ≡ linkedArea area c T stubs
 unfolding linkedArea
 linked-same area c T U stubs e f = rw (e, f)
+
+-- a row that refuses neither of two lists refuses no list that grows
+neither : (m n a b : Bool) → ((not m && a) || (not n && b)) ≡ false → (m ≡ false → a ≡ false) × (n ≡ false → b ≡ false)
+neither m n a b h = let o = or-neither (not m && a) (not n && b) h in (λ e. rw e at (o .0), λ e. rw e at (o .1))
 
 module _ (ws : List ℕ) (c : ℕ) (p : Plan) (new : List New) (methods : p .newMethods ≡ methodsOf ws c new) (fields : p .newFields ≡ fieldsOf ws c new) where
   -- ---- rows 14 and 15
@@ -46,29 +48,19 @@ module _ (ws : List ℕ) (c : ℕ) (p : Plan) (new : List New) (methods : p .new
     room-fields : isNone (p .newFields) ≡ false → canGrow ws (fieldCount ws) (classFirstField ws c) (classFieldCount ws c) (p .newFields) ≡ true
     unfolding listsFull setShort
     room-fields n =
-        let f = or-neither (not (isNone (p .newMethods)) && sectionFull ws (methodCount ws) (classMethodCount ws c) (p .newMethods))
-        (not (isNone (p .newFields)) && sectionFull ws (fieldCount ws) (classFieldCount ws c) (p .newFields)) full in
-        let s = or-neither (not (isNone (p .newMethods)) && ltb (length ws) (grownEnd ws (classMethodCount ws c) (p .newMethods)))
-        (not (isNone (p .newFields)) && ltb (length ws) (grownEnd ws (classFieldCount ws c) (p .newFields))) short in
-        let a : sectionFull ws (fieldCount ws) (classFieldCount ws c) (p .newFields) ≡ false = rw n at (f .1) in
-        let b : ltb (length ws) (grownEnd ws (classFieldCount ws c) (p .newFields)) ≡ false = rw n at (s .1) in
+        let a = neither (isNone (p .newMethods)) (isNone (p .newFields)) _ _ full .1 n in
         can-grow ws (p .newFields) (fieldCount ws) (classFirstField ws c) (classFieldCount ws c) (valid .class c (some, among) .fields) a
         (fields-end ws (p .newFields) (valid .class-count) (valid .interface-count) (valid .compiler-count) (classFieldCount ws c) (valid .method-count) a)
-        b
+        (neither (isNone (p .newMethods)) (isNone (p .newFields)) _ _ short .1 n)
 
     room-methods : isNone (p .newMethods) ≡ false
         → canGrow ws (methodCount ws) (classFirstMethod ws c) (classMethodCount ws c) (p .newMethods) ≡ true
     unfolding listsFull setShort
     room-methods n =
-        let f = or-neither (not (isNone (p .newMethods)) && sectionFull ws (methodCount ws) (classMethodCount ws c) (p .newMethods))
-        (not (isNone (p .newFields)) && sectionFull ws (fieldCount ws) (classFieldCount ws c) (p .newFields)) full in
-        let s = or-neither (not (isNone (p .newMethods)) && ltb (length ws) (grownEnd ws (classMethodCount ws c) (p .newMethods)))
-        (not (isNone (p .newFields)) && ltb (length ws) (grownEnd ws (classFieldCount ws c) (p .newFields))) short in
-        let a : sectionFull ws (methodCount ws) (classMethodCount ws c) (p .newMethods) ≡ false = rw n at (f .0) in
-        let b : ltb (length ws) (grownEnd ws (classMethodCount ws c) (p .newMethods)) ≡ false = rw n at (s .0) in
+        let a = neither (isNone (p .newMethods)) (isNone (p .newFields)) _ _ full .0 n in
         can-grow ws (p .newMethods) (methodCount ws) (classFirstMethod ws c) (classMethodCount ws c) (valid .class c (some, among) .methods) a
         (methods-end ws (p .newMethods) (valid .class-count) (valid .interface-count) (valid .compiler-count) (classMethodCount ws c) (valid .field-count) a)
-        b
+        (neither (isNone (p .newMethods)) (isNone (p .newFields)) _ _ short .0 n)
 
     -- ---- the class words
 

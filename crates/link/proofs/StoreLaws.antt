@@ -9,9 +9,9 @@ use lib.ListN.{length}
 use lib.Dec.{eqb, ltb}
 use borrow.Author.Tests.{eq-eqb, ne-eqb, eqb-true, not-false}
 use Rattle.words.proofs.Bools.{by}
-use Rattle.class_sheet.specs.ClassSheet.{methodCount, fieldCount, classKind, classMethodCount, classFirstField, classFieldCount, fieldsAt}
+use Rattle.class_sheet.specs.ClassSheet.{methodCount, fieldCount, classKind, classMethodCount, classFirstField, classFieldCount, fieldsAt, putClassInstanceWords, putClassTablePlace, putClassSlotCount}
 use Rattle.linking.specs.Compiler.{New}
-use Rattle.linking.specs.Set.{putClass, putIndices, sectionFull, grownEnd}
+use Rattle.linking.specs.Set.{putIndices, sectionFull, grownEnd}
 use Rattle.linking.specs.Link.{isNone, linkedRecord, listsFull, setShort}
 use Rattle.growth.specs.News.{newCount, news}
 use Rattle.growth.specs.Growth.{methodsGrown, fieldsGrown}
@@ -20,9 +20,9 @@ use Rattle.link.specs.Stored.{membersPlan, numbered, withMethods, stored
 
 -- ---- the record
 
-module _ (ws : List ℕ) (c place slots words : ℕ) {k : ℕ} (kind : k ≡ classKind ws c) {s t : List ℕ} (placed : s ≡ putClass ws c 15 place)
-    (counted : t ≡ putClass s c 16 slots) where
-  pub record-worded : {u : List ℕ} → k ≢ 1 → u ≡ putClass t c 12 words → u ≡ linkedRecord ws c place slots words
+module _ (ws : List ℕ) (c place slots words : ℕ) {k : ℕ} (kind : k ≡ classKind ws c) {s t : List ℕ} (placed : s ≡ putClassTablePlace ws c place)
+    (counted : t ≡ putClassSlotCount s c slots) where
+  pub record-worded : {u : List ℕ} → k ≢ 1 → u ≡ putClassInstanceWords t c words → u ≡ linkedRecord ws c place slots words
   unfolding linkedRecord
   record-worded n e = rw (← kind) (simp (ne-eqb k 1 n) (e ∙ rw (counted, placed)))
 

@@ -11,10 +11,10 @@ fn record_link(set: &mut [u32], c: u32, place: u32, slots: u32, words: u32)
     ensures { λ _. ⌜ now (set .exit) ≡ linkedRecord (now (set .entry)) c place slots words ⌝ }
 {
     let kind = class_sheet::class_kind(set, c);
-    growth::put_class(set, c, 15, place);
-    growth::put_class(set, c, 16, slots);
+    class_sheet::put_class_table_place(set, c, place);
+    class_sheet::put_class_slot_count(set, c, slots);
     if kind != 1 {
-        growth::put_class(set, c, 12, words);
+        class_sheet::put_class_instance_words(set, c, words);
     }
 }
 
@@ -178,8 +178,6 @@ fn link_planned<'a>(
     ensures { λ r. ⌜ outcome r (now (set .exit)) (now (area .exit)) ≡ linkDef (now (set .entry)) (now (abi .entry)) c (now (area .entry)) (now (stubs .entry)) ⌝ }
 {
     let mut slots = [0u32; 3584];
-    let mut marks = [0u32; 3584];
-    let mut own = [0u32; 512];
     let mut refs = [0u32; 1024];
     let mut flags = [0u32; 1024];
     let mut lasts = [0u32; 1024];
@@ -191,8 +189,6 @@ fn link_planned<'a>(
         area,
         c,
         &mut slots,
-        &mut marks,
-        &mut own,
         &mut refs,
         &mut flags,
         &mut lasts,
@@ -200,6 +196,7 @@ fn link_planned<'a>(
     if p.row != 0 {
         return Answer::Refused(p.row);
     }
+    let own = p.indices;
     let indices = words::word_part(&own, 0, words::wide(p.own));
     let n = words::wide(p.added);
     let names = words::word_part(&refs, 0, n);
@@ -268,7 +265,7 @@ fn link_fitting<'a>(
 // Links the class. The answer is the place of its table in the area, where the class number and the slots follow, and the number of its
 // slots; or the row that refuses. The table goes to the area's next free word, and word 0 of the area moves past it. The class's record
 // gets place, slot count and, unless it is generated, instance words; its fields get their indices; ABI fields and compiler methods that
-// it lacks are added. Rows 3 to 5 are judged anew, and a refused link writes nothing. Nothing of this is left to the program; where document 01
+// it lacks are added. Rows 3 to 5 are judged anew, and a refused link writes nothing. Nothing of this is left to the program; where the specification
 // is silent, docs/DECISIONS.md has the reading.
 pub fn link(set: &mut [u32], abi: &[u32], class: u32, area: &mut [u32], stubs: &[u32]) -> Answer
     ensures { λ r. ⌜ outcome r (now (set .exit)) (now (area .exit)) ≡ linkDef (now (set .entry)) (now (abi .entry)) class (now (area .entry)) (now (stubs .entry)) ⌝ }
@@ -276,9 +273,9 @@ pub fn link(set: &mut [u32], abi: &[u32], class: u32, area: &mut [u32], stubs: &
     if !set_rules::set_fits(set, abi) {
         return Answer::Refused(3);
     }
-    let mut bytes = [0u8; 8192];
+    let mut bytes = [0u8; class_sheet::TEXT_LIMIT as usize];
     class_sheet::unpack_text(set, &mut bytes);
-    let mut abi_bytes = [0u8; 8192];
+    let mut abi_bytes = [0u8; abi_sheet::TEXT_LIMIT as usize];
     abi_sheet::unpack_text(abi, &mut abi_bytes);
     let text = text::name_at(&bytes, 0, class_sheet::text_length(set));
     let labels = text::name_at(&abi_bytes, 0, abi_sheet::text_length(abi));

@@ -1,4 +1,4 @@
--- The examples marked M of document 01, "The lent's examples", computed on the definitions: whole links and asks on assembled sets, rows of
+-- The examples that the user marked M, "The desk's examples", computed on the definitions: whole links and asks on assembled sets, rows of
 -- one theorem. Assumes nothing.
 use mathlib.Core.Path.{_≡_, refl}
 use mathlib.Core.List.{List, [], _∷_, _++_}
@@ -6,7 +6,8 @@ use Prim.Native.Nat.{ℕ}
 use lib.ListN.{replicate}
 use Rattle.descriptor.specs.Bytes.{text}
 use Rattle.descriptor.specs.Words.{argumentAnswer, counted, refused}
-use Rattle.linking.specs.Assemble.{Class, Lent, Call, Member, method, field, built, interface, generated, compiled, implementing, slot, abi, worded, lent, link, ask, answers, after, indicesOf, wordsOf, tableOf}
+use Rattle.linking.proofs.Assemble.{Class, Lent, Call, Member, method, field, built, interface, generated, compiled, implementing}
+use Rattle.linking.proofs.Assemble.{slot, abi, worded, lent, link, ask, answers, after, indicesOf, wordsOf, tableOf}
 use Rattle.linking.proofs.Opened.{opened}
 
 -- ---- fields

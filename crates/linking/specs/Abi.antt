@@ -8,8 +8,8 @@ use lib.Dec.{eqb}
 use Rattle.words.specs.Lists.{numbers, find, firstFound, allFound, mapFound, fold}
 use Rattle.words.specs.declared.Found.{Found}
 use Rattle.text.specs.Text.{sameBytes}
-use Rattle.class_sheet.specs.ClassSheet.{className}
-use Rattle.abi_sheet.specs.AbiSheet.{abiClassCount, abiClassName, abiClassTableSizePlusOne, abiClassInstanceWordsPlusOne, abiClassFirstSlot, abiClassSlotCount, abiClassFirstField, abiClassFieldCount, abiSlotName, abiSlotDescriptor, abiSlotIndex, abiFieldName, abiFieldDescriptor, abiFieldIndex}
+use Rattle.class_sheet.specs.ClassSheet.{className, classLimit}
+use Rattle.abi_sheet.specs.AbiSheet.{abiClassCount, abiClassName, abiClassTableSizePlusOne, abiClassInstanceWordsPlusOne, abiClassFirstSlot, abiClassSlotCount, abiClassFirstField, abiClassFieldCount, abiSlotName, abiSlotDescriptor, abiSlotIndex, abiFieldName, abiFieldDescriptor, abiFieldIndex, abiFieldLimit, abiSlotLimit}
 use Rattle.linking.specs.Chain.{listCount, chain}
 
 -- the first ABI class of the name
@@ -18,10 +18,10 @@ abiNamed abi labels name = find (λ a. sameBytes (abiClassName abi labels a) nam
 
 -- the numbers of an ABI class's slot records and field records, in order
 unfoldable pub abiSlots : List ℕ → ℕ → List ℕ
-abiSlots abi a = numbers (abiClassFirstSlot abi a) (listCount (abiClassFirstSlot abi a) (abiClassSlotCount abi a) 512)
+abiSlots abi a = numbers (abiClassFirstSlot abi a) (listCount (abiClassFirstSlot abi a) (abiClassSlotCount abi a) abiSlotLimit)
 
 unfoldable pub abiFields : List ℕ → ℕ → List ℕ
-abiFields abi a = numbers (abiClassFirstField abi a) (listCount (abiClassFirstField abi a) (abiClassFieldCount abi a) 256)
+abiFields abi a = numbers (abiClassFirstField abi a) (listCount (abiClassFirstField abi a) (abiClassFieldCount abi a) abiFieldLimit)
 
 unfoldable pub slotIndex : List ℕ → ℕ → ℕ
 slotIndex abi s = min (abiSlotIndex abi s) 1023
@@ -63,9 +63,9 @@ givenWords abi a = min (abiClassInstanceWordsPlusOne abi a) 4097
 unfoldable pub classAbi : List ℕ → List ℕ → List ℕ → List ℕ → ℕ → Found
 classAbi ws text abi labels c = abiNamed abi labels (className ws text c)
 
--- (a set has at most 64 classes, so nothing is cut where row 3 does not refuse)
+-- (a set has at most `classLimit` classes, so nothing is cut where row 3 does not refuse)
 unfoldable pub chainAbi : List ℕ → List ℕ → List ℕ → List ℕ → ℕ → List ℕ
-chainAbi ws text abi labels c = take 64 (allFound (classAbi ws text abi labels) (chain ws c))
+chainAbi ws text abi labels c = take classLimit (allFound (classAbi ws text abi labels) (chain ws c))
 
 -- a signature's fixed index: the first match
 unfoldable pub fixedIndex : List ℕ → List ℕ → List ℕ → List ℕ → List ℕ → Found

@@ -9,7 +9,7 @@ use Rattle.words.specs.Lists.{numbers, find, firstFound}
 use Rattle.words.specs.declared.Found.{Found}
 use Rattle.words.specs.declared.Found.the-variants.{At, Nothing}
 use Rattle.text.specs.Text.{sameBytes}
-use Rattle.class_sheet.specs.ClassSheet.{classParent, classFirstMethod, classMethodCount, classFirstField, classFieldCount, classFirstInterface, classInterfaceCount, methodName, methodDescriptor, methodFlags, methodTarget}
+use Rattle.class_sheet.specs.ClassSheet.{classParent, classFirstMethod, classMethodCount, classFirstField, classFieldCount, classFirstInterface, classInterfaceCount, methodName, methodDescriptor, methodFlags, methodTarget, methodLimit, fieldLimit, interfaceLimit}
 
 -- what is made of a number that was found, or what stands for nothing
 abbrev pub onFound {ℓ} : {A : Type ℓ} → Found → (ℕ → A) → A → A
@@ -22,13 +22,13 @@ listCount first count limit = min count (limit - first)
 
 -- the numbers of a class's own methods, fields and interface words, in order
 unfoldable pub ownMethods : List ℕ → ℕ → List ℕ
-ownMethods ws c = numbers (classFirstMethod ws c) (listCount (classFirstMethod ws c) (classMethodCount ws c) 512)
+ownMethods ws c = numbers (classFirstMethod ws c) (listCount (classFirstMethod ws c) (classMethodCount ws c) methodLimit)
 
 unfoldable pub ownFields : List ℕ → ℕ → List ℕ
-ownFields ws c = numbers (classFirstField ws c) (listCount (classFirstField ws c) (classFieldCount ws c) 512)
+ownFields ws c = numbers (classFirstField ws c) (listCount (classFirstField ws c) (classFieldCount ws c) fieldLimit)
 
 unfoldable pub ownInterfaces : List ℕ → ℕ → List ℕ
-ownInterfaces ws c = numbers (classFirstInterface ws c) (listCount (classFirstInterface ws c) (classInterfaceCount ws c) 256)
+ownInterfaces ws c = numbers (classFirstInterface ws c) (listCount (classFirstInterface ws c) (classInterfaceCount ws c) interfaceLimit)
 
 -- the parent's number, 0 without one
 unfoldable pub parentOf : List ℕ → ℕ → ℕ

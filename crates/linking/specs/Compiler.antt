@@ -9,7 +9,7 @@ use Rattle.words.specs.Lists.{listFrom, numbers, orElse, find, firstFound, cons
 use Rattle.words.specs.declared.Found.{Found}
 use Rattle.words.specs.declared.Found.the-variants.{At, Nothing}
 use Rattle.text.specs.Text.{sameBytes}
-use Rattle.class_sheet.specs.ClassSheet.{classCount, classFirstMethod, classMethodCount, classLinkState, classCompilerTable, classCompilerSlots, compilerWord, interfaceWord, methodName, methodDescriptor, methodFlags, methodTarget}
+use Rattle.class_sheet.specs.ClassSheet.{classCount, classFirstMethod, classMethodCount, classLinkState, classCompilerTable, classCompilerSlots, compilerWord, interfaceWord, methodName, methodDescriptor, methodFlags, methodTarget, methodLimit}
 use Rattle.abi_sheet.specs.AbiSheet.{abiSlotName, abiSlotDescriptor}
 use Rattle.linking.specs.Chain.{onFound, ownMethods, ownInterfaces, parentOf, isAbstract, isEligible, methodIs}
 use Rattle.linking.specs.Abi.{slotAt, classAbi, chainAbi}
@@ -98,23 +98,23 @@ module _ (ws text abi labels : List ℕ) where
 
   module _ (new : List New) where
     abbrev pub newAt : ℕ → New
-    newAt m = getD new (m - 512) noNew
+    newAt m = getD new (m - methodLimit) noNew
 
     unfoldable pub nameOf : ℕ → List ℕ
-    nameOf m = cond (ltb m 512) (methodName ws text m) (newAt m .name)
+    nameOf m = cond (ltb m methodLimit) (methodName ws text m) (newAt m .name)
 
     unfoldable pub descriptorOf : ℕ → List ℕ
-    descriptorOf m = cond (ltb m 512) (methodDescriptor ws text m) (newAt m .descriptor)
+    descriptorOf m = cond (ltb m methodLimit) (methodDescriptor ws text m) (newAt m .descriptor)
 
     unfoldable pub flagsOf : ℕ → ℕ
-    flagsOf m = cond (ltb m 512) (methodFlags ws m) (newAt m .flags)
+    flagsOf m = cond (ltb m methodLimit) (methodFlags ws m) (newAt m .flags)
 
     unfoldable pub targetOf : ℕ → ℕ
-    targetOf m = cond (ltb m 512) (methodTarget ws m) (newAt m .last)
+    targetOf m = cond (ltb m methodLimit) (methodTarget ws m) (newAt m .last)
 
     -- declared and added, in order
     unfoldable pub classMethods : ℕ → List ℕ
-    classMethods c = ownMethods ws c ++ numbers 512 (length new)
+    classMethods c = ownMethods ws c ++ numbers methodLimit (length new)
 
     -- ---- (c) "A zero slot is the native view's; another is matched by target in declared and added, then native methods."
 

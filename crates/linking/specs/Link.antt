@@ -7,7 +7,7 @@ use lib.Dec.{eqb, leb, ltb}
 use Rattle.words.specs.Folds.{allOf}
 use Rattle.words.specs.declared.Found.{Found}
 use Rattle.text.specs.Text.{sameBytes}
-use Rattle.class_sheet.specs.ClassSheet.{classCount, methodCount, fieldCount, textOf, classParent, classFlags, classKind, classFirstField, classMethodCount, classFieldCount, classCompilerTable, classTablePlace, classSlotCount, className, fieldsAt}
+use Rattle.class_sheet.specs.ClassSheet.{classCount, methodCount, fieldCount, textOf, classParent, classFlags, classKind, classFirstField, classMethodCount, classFieldCount, classCompilerTable, classTablePlace, classSlotCount, className, fieldsAt, putClassInstanceWords, putClassTablePlace, putClassSlotCount}
 use Rattle.abi_sheet.specs.AbiSheet.{abiTextOf, abiFieldName, abiFieldDescriptor}
 use Rattle.set_rules.specs.SetRules.{setRefusal}
 use Rattle.linking.specs.Chain.{parentOf, isInterface}
@@ -15,7 +15,7 @@ use Rattle.linking.specs.Abi.{classAbi, fixedFieldIndex}
 use Rattle.linking.specs.Vtable.{Entry, Built, built, refused, parentEntries, buildMethods, buildInterfaceMethods, slotWords}
 use Rattle.linking.specs.Fields.{numberFields, addedFields, builtWords, tooManyWords, generatedRefusal, generatedIndices}
 use Rattle.linking.specs.Compiler.{New, addedMethods, compilerTable}
-use Rattle.linking.specs.Set.{putClass, putIndices, newText, grownMethods, grownFields, sectionFull, grownEnd}
+use Rattle.linking.specs.Set.{putIndices, newText, grownMethods, grownFields, sectionFull, grownEnd}
 
 -- ---- row 6
 
@@ -65,7 +65,7 @@ badArea ws area =
 
 -- ---- rows 8 to 13: what a link comes to before anything is written
 
--- the table, the class's new indices and instance words, and the members to add; of methods and fields at most one kind grows
+-- the table, the class's new indices, and the members to add; of methods and fields at most one kind grows. (Its instance words: `newWords`.)
 pub record Plan : Type 0 where
   pub table : List Entry
   pub indices : List ℕ
@@ -176,7 +176,8 @@ linkedArea area c T stubs =
 -- "Linking sets table place and slot count, its answer, and, unless generated, instance words; never link state."
 unfoldable pub linkedRecord : List ℕ → ℕ → ℕ → ℕ → ℕ → List ℕ
 linkedRecord ws c place slots words =
-    let placed : List ℕ = putClass (putClass ws c 15 place) c 16 slots in cond (eqb (classKind ws c) 1) placed (putClass placed c 12 words)
+    let placed : List ℕ = putClassSlotCount (putClassTablePlace ws c place) c slots in
+    cond (eqb (classKind ws c) 1) placed (putClassInstanceWords placed c words)
 
 unfoldable pub linkedWords : List ℕ → ℕ → ℕ → ℕ → Plan → List ℕ
 linkedWords ws c place words p =

@@ -1,8 +1,9 @@
-// The listing program of document 01: reads `abi.bin`, then `classes.bin`, in its working folder, and writes their listing. Each argument
+// The listing program of the specification: reads `abi.bin`, then `classes.bin`, in its working folder, and writes their listing. Each argument
 // names a folder to list instead, one after the other, ended by a slash: it is put before the two names. A file that is missing or cannot
 // be read is named on standard error, and nothing is written for its folder.
 ghost use mathlib.Core.Path.{_≡_};
-ghost use lib.ListN.{length};
+ghost use lib.ListN.{length, take};
+ghost use Rattle.listing.specs.Listing.{listing};
 use libc::STDOUT_FILENO;
 
 // Room for the bytes of a sheet and one block more, so that a longer file is refused and not cut.
@@ -12,7 +13,7 @@ fn sheet_bytes() -> [u8; 47616]
     [0; 47616]
 }
 
-// Room for the longest listing: the area holds 4,093 slots at most, whose lines have 528 bytes at most, and 64 lines of classes have 293.
+// Room for the longest listing, which has fewer bytes (crates/listing/proofs/Longest.antt).
 fn listing_bytes() -> [u8; 2228224]
     ensures { λ r. ⌜ 2228224 ≡ length r ⌝ }
 {
@@ -60,30 +61,28 @@ fn read_in(folder: &[u8], name: &[u8], bytes: &mut [u8]) -> usize {
     read_file(words::part(&path, 0, end), bytes)
 }
 
-// Writes the first n bytes, the whole listing if they are not all that were lent (crates/lines/proofs/Whole.antt); else says so.
-fn write_listing(out: &[u8], n: usize) {
-    if n < out.len() {
-        io::write_all(STDOUT_FILENO, words::part(out, 0, n));
-    } else {
-        io::write_all(libc::STDERR_FILENO, b"list: the listing is too long\n");
-    }
+// Puts the listing into the bytes lent for it, and answers how many it has: it is there whole.
+fn put_listing(abi: &[u8], classes: &[u8], out: &mut [u8; 2228224]) -> usize
+    ensures { λ r. ⌜ take r (now (out .exit)) ≡ listing (now (abi .entry)) (now (classes .entry)) ⌝ }
+{
+    listing::list(abi, classes, out)
 }
 
 // Lists the folder whose ABI sheet is read, and good.
-fn list_classes(folder: &[u8], abi: &[u8], out: &mut [u8]) {
+fn list_classes(folder: &[u8], abi: &[u8], out: &mut [u8; 2228224]) {
     let mut classes = sheet_bytes();
     let n = read_in(folder, b"classes.bin", &mut classes);
     if n != 47617 {
-        let end = listing::list(abi, words::part(&classes, 0, n), out);
-        write_listing(out, end);
+        let end = put_listing(abi, words::part(&classes, 0, n), out);
+        io::write_all(STDOUT_FILENO, words::part(out, 0, end));
     }
 }
 
 // Lists the folder whose ABI sheet is read.
-fn list_read(folder: &[u8], abi: &[u8], out: &mut [u8]) {
+fn list_read(folder: &[u8], abi: &[u8], out: &mut [u8; 2228224]) {
     let end = listing::abi_line(abi, out);
     if end > 0 {
-        write_listing(out, end);
+        io::write_all(STDOUT_FILENO, words::part(out, 0, end));
     } else {
         list_classes(folder, abi, out);
     }

@@ -1,15 +1,18 @@
 -- Laws of the listing, as the code makes it. Assumes nothing.
 use mathlib.Core.Path.{_≡_, refl, sym, ap, _∙_}
-use mathlib.Core.List.{List, [], _∷_, _++_, append-nil}
-use Prim.Native.Nat.{ℕ, zero, suc, _+_, _-_, _≤_, _<_}
+use mathlib.Core.List.{List, [], _∷_, _++_, append-assoc, append-nil}
+use Prim.Native.Nat.{ℕ, zero, suc, _+_, _*_, _-_, _≤_, _<_}
 use native.Mathlib.Omega.{arith}
-use lib.ListN.{length, drop, set, replicate, drop-of-length-le}
+use native.Mathlib.Numerals.{add-one}
+use lib.ListN.{length, getD, take, drop, set, replicate, length-take, drop-of-length-le}
+use lib.Seq.{take-suc-set, drop-cons, getD-take, length-take-le}
 use borrow.Author.Tests.{eq-eqb, ne-eqb}
+use Rattle.abi_sheet.specs.AbiSheet.{abiSheetWords}
 use Rattle.words.specs.Folds.{table, stores}
 use Rattle.words.proofs.FoldLaws.{stores-is, stores-turn, length-stores}
 use Rattle.words.proofs.ListLaws.{rest-suc}
 use Rattle.descriptor.specs.Bytes.{text}
-use Rattle.class_sheet.specs.ClassSheet.{classCount}
+use Rattle.class_sheet.specs.ClassSheet.{classCount, sheetWords}
 use Rattle.sheet.specs.Sheet.{readClassSheet, readAbiSheet}
 use Rattle.sheet.specs.Sheet as sheet
 use Rattle.sheet.specs.declared.Read.{Read}
@@ -21,21 +24,15 @@ use Rattle.linking.specs.Link.{Outcome, linkDef}
 use Rattle.lines.specs.Bytes.{put}
 use Rattle.lines.specs.Lines.{classLines, classRefused, sheetRefused}
 use Rattle.lines.proofs.ByteLaws.{put-none, then}
-use Rattle.listing.specs.Listing.{readRow, linkRow, freshArea, stubWords, linkText, linkTexts, setText, abiLine, classesText, listing}
+use Rattle.listing.specs.Listing.{readRow, linkRow, freshArea, stubWords, linked, linkOne, Links, links, linkAll, classText, classTexts, setText, abiLine, classesText, listing}
 
 -- ---- what an answer stands for
 
-pub linked-row : (a : Answer) (s t : List ℕ) {o : Outcome} {r : ℕ} → outcome a s t ≡ o → r ≡ linkRow a → r ≡ o .refusal
-linked-row (Done place slots) s t e f = f ∙ ap (λ (o : Outcome). o .refusal) e
-linked-row (Refused row) s t e f = f ∙ ap (λ (o : Outcome). o .refusal) e
-
-pub linked-set : (a : Answer) (s t : List ℕ) {o : Outcome} → outcome a s t ≡ o → s ≡ o .set
-linked-set (Done place slots) s t e = ap (λ (o : Outcome). o .set) e
-linked-set (Refused row) s t e = ap (λ (o : Outcome). o .set) e
-
-pub linked-area : (a : Answer) (s t : List ℕ) {o : Outcome} → outcome a s t ≡ o → t ≡ o .area
-linked-area (Done place slots) s t e = ap (λ (o : Outcome). o .area) e
-linked-area (Refused row) s t e = ap (λ (o : Outcome). o .area) e
+pub link-listed : (a : Answer) (s t ws abi area stubs : List ℕ) (c : ℕ) {r : ℕ} → outcome a s t ≡ linkDef ws abi c area stubs → r ≡ linkRow a
+    → linked r s t ≡ linkOne abi stubs c ws area
+unfolding linkOne
+link-listed (Done place slots) s t ws abi area stubs c e f = rw (f, ← e)
+link-listed (Refused row) s t ws abi area stubs c e f = rw (f, ← e)
 
 pub read-row : (a : Read) (m : List ℕ) {o : sheet.Outcome} {r : ℕ} → sheet.outcome a m ≡ o → r ≡ readRow a → r ≡ o .refusal
 read-row (Words n) m e f = f ∙ ap (λ (o : sheet.Outcome). o .refusal) e
@@ -61,54 +58,83 @@ stubs-turn i e f g =
     let h = stores-turn i (λ k. 4026531840 + k) (replicate 1024 0) (g ∙ rw f) e refl in
     (ap (λ (l : List ℕ). length l) h ∙ length-stores (i + 1) (λ k. 4026531840 + k) (replicate 1024 0), h)
 
--- ---- a class
+-- ---- the links, class by class
 
-module _ (set abi area : List ℕ) (c row : ℕ) (p : List ℕ × ℕ) {q : List ℕ × ℕ} where
-  pub link-listed : row ≡ 0 → q ≡ put p (classLines set abi area c)
-      → q ≡ put p (linkText abi c (record { refusal = row; first = 0; second = 0; set = set; area = area }))
-  unfolding linkText
-  link-listed h e = rw (eq-eqb row 0 h) e
+take-next : (rows : List ℕ) (i row : ℕ) → i < length rows → take (i + 1) (set rows i row) ≡ take i rows ++ (row ∷ [])
+take-next rows i row h = rw (add-one i) (take-suc-set rows i row h)
 
-  pub link-refused : (row ≡ 0 → ⊥) → q ≡ put p (classRefused c row)
-      → q ≡ put p (linkText abi c (record { refusal = row; first = 0; second = 0; set = set; area = area }))
-  unfolding linkText
-  link-refused h e = rw (ne-eqb row 0 h) e
-
-pub link-put : (a : Answer) (s t abi : List ℕ) (c : ℕ) (p : List ℕ × ℕ) {o : Outcome} {r : ℕ} {q : List ℕ × ℕ} → outcome a s t ≡ o → r ≡ linkRow a
-    → q ≡ put p (linkText abi c (record { refusal = r; first = 0; second = 0; set = s; area = t })) → q ≡ put p (linkText abi c o)
-unfolding linkText
-link-put a s t abi c p e f g = g ∙ rw (linked-row a s t e f, linked-set a s t e, linked-area a s t e)
-
--- ---- class by class
+append-one : (l : List ℕ) (b : ℕ) (m : List ℕ) → (l ++ (b ∷ [])) ++ m ≡ l ++ (b ∷ m)
+append-one l b m = append-assoc l (b ∷ []) m
 
 module _ (abi stubs : List ℕ) (n : ℕ) where
-  -- what is left at turn i of the n classes
-  unfoldable pub linksFrom : ℕ → List ℕ → List ℕ → List ℕ
-  linksFrom i ws area = linkTexts abi stubs (n - i) (i + 1) ws area
+  -- what is left to link at turn i of the n classes, with the rows of those before
+  unfoldable pub linksFrom : ℕ → List ℕ → List ℕ → List ℕ → Links
+  linksFrom i rows ws area =
+      let rest : Links = linkAll abi stubs (n - i) (i + 1) ws area in links (take i rows ++ rest .rows) (rest .set) (rest .area)
 
-  pub links-start : (ws area : List ℕ) → linkTexts abi stubs n 1 ws area ≡ linksFrom 0 ws area
+  pub links-start : (rows ws area : List ℕ) → linksFrom 0 rows ws area ≡ linkAll abi stubs n 1 ws area
   unfolding linksFrom
-  links-start ws area = let g : n - 0 ≡ n = omega arith in rw g
+  links-start rows ws area = let g : n - 0 ≡ n = omega arith in rw g
 
-  pub links-turn : (i : ℕ) (ws area : List ℕ) (p : List ℕ × ℕ) {q : List ℕ × ℕ} {s t : List ℕ} → i < n
-      → s ≡ linkDef ws abi (i + 1) area stubs .set → t ≡ linkDef ws abi (i + 1) area stubs .area
-      → q ≡ put p (linkText abi (i + 1) (linkDef ws abi (i + 1) area stubs)) → put p (linksFrom i ws area) ≡ put q (linksFrom (i + 1) s t)
-  unfolding linksFrom linkTexts
-  links-turn i ws area p h e f g =
-      sym (then p (linkText abi (i + 1) (linkDef ws abi (i + 1) area stubs)) _ g refl ∙ rw (rest-suc n i h, e, f))
+  pub links-turn : (i : ℕ) (rows ws area : List ℕ) {all : Links} {j row : ℕ} {s t next : List ℕ} → i < n → n ≤ length rows
+      → linked row s t ≡ linkOne abi stubs (i + 1) ws area → j ≡ i → next ≡ set rows j row
+      → linksFrom i rows ws area ≡ all → linksFrom (i + 1) next s t ≡ all
+  unfolding linksFrom linkAll
+  links-turn i rows ws area {row = row} h l e f g k = rw (g, f, take-next rows i row (omega arith), append-one (take i rows) row) (rw (rest-suc n i h, ← e) at k)
 
-  pub links-end : (i : ℕ) (ws area : List ℕ) (p : List ℕ × ℕ) → n ≤ i → p ≡ put p (linksFrom i ws area)
-  unfolding linksFrom linkTexts
-  links-end i ws area p h = let g : n - i ≡ 0 = omega arith in rw g (put-none p)
+  pub links-end : (i : ℕ) (rows ws area : List ℕ) {all : Links} → n ≤ i → i ≤ n → linksFrom i rows ws area ≡ all → links (take n rows) ws area ≡ all
+  unfolding linksFrom linkAll
+  links-end i rows ws area h l k =
+      let g : n - i ≡ 0 = omega arith in
+      let e : n ≡ i = omega arith in
+      rw e (rw append-nil at (rw g at k))
 
-pub set-put : (ws abi : List ℕ) (p : List ℕ × ℕ) {q : List ℕ × ℕ} {area stubs : List ℕ} {n : ℕ} → area ≡ freshArea → stubs ≡ stubWords
-    → n ≡ classCount ws → q ≡ put p (linkTexts abi stubs n 1 ws area) → q ≡ put p (setText ws abi)
+-- ---- the texts, class by class
+
+module _ (ws abi area : List ℕ) where
+  module _ (c row : ℕ) (p : List ℕ × ℕ) {q : List ℕ × ℕ} where
+    pub class-listed : row ≡ 0 → q ≡ put p (classLines ws abi area c) → q ≡ put p (classText ws abi area c row)
+    unfolding classText
+    class-listed h e = rw (eq-eqb row 0 h) e
+
+    pub class-refused : (row ≡ 0 → ⊥) → q ≡ put p (classRefused c row) → q ≡ put p (classText ws abi area c row)
+    unfolding classText
+    class-refused h e = rw (ne-eqb row 0 h) e
+
+  module _ (rows : List ℕ) (n : ℕ) where
+    -- what is left to put at turn i of the n classes
+    unfoldable pub textsFrom : ℕ → List ℕ
+    textsFrom i = classTexts ws abi area (i + 1) (drop i (take n rows))
+
+    pub texts-start : textsFrom 0 ≡ classTexts ws abi area 1 (take n rows)
+    unfolding textsFrom
+    texts-start = refl
+
+    next-row : (i : ℕ) {row : ℕ} → i < n → n ≤ length rows → row ≡ getD rows i 0 → drop i (take n rows) ≡ row ∷ drop (i + 1) (take n rows)
+    next-row i h l e = drop-cons (take n rows) i 0 (omega (arith, length-take-le n rows l)) ∙ rw (getD-take n rows i 0 h, ← e, ← add-one i)
+
+    pub texts-turn : (p : List ℕ × ℕ) (i : ℕ) {all q : List ℕ × ℕ} {j row : ℕ} → i < n → n ≤ length rows → j ≡ i → row ≡ getD rows j 0
+        → q ≡ put p (classText ws abi area (i + 1) row) → all ≡ put p (textsFrom i) → all ≡ put q (textsFrom (i + 1))
+    unfolding textsFrom classTexts
+    texts-turn p i {row = row} h l f g e k =
+        let d : drop i (take n rows) ≡ row ∷ drop (i + 1) (take n rows) = next-row i h l (g ∙ rw f) in
+        k ∙ sym (then p (classText ws abi area (i + 1) row) _ e refl ∙ rw d)
+
+    pub texts-end : (p : List ℕ × ℕ) (i : ℕ) {all : List ℕ × ℕ} → n ≤ i → all ≡ put p (textsFrom i) → p ≡ all
+    unfolding textsFrom classTexts
+    texts-end p i h k =
+        let d : drop i (take n rows) ≡ [] = drop-of-length-le (take n rows) {i = i} (omega (arith, length-take n rows)) in
+        put-none p ∙ sym (rw d at k)
+
+pub set-put : (ws abi : List ℕ) (p : List ℕ × ℕ) {q : List ℕ × ℕ} {area stubs s t : List ℕ} (rows : List ℕ) {n : ℕ} → area ≡ freshArea → stubs ≡ stubWords
+    → n ≡ classCount ws → links (take n rows) s t ≡ linkAll abi stubs n 1 ws area → q ≡ put p (classTexts s abi t 1 (take n rows))
+    → q ≡ put p (setText ws abi)
 unfolding setText
-set-put ws abi p e f g h = h ∙ rw (e, f, g)
+set-put ws abi p rows e f g k h = h ∙ rw (← e, ← f, ← g, ← k)
 
 -- ---- the sheets
 
-module _ (abi : List ℕ) (p : List ℕ × ℕ) {row : ℕ} (read : row ≡ readAbiSheet abi (replicate 6477 0) .refusal) where
+module _ (abi : List ℕ) (p : List ℕ × ℕ) {row : ℕ} (read : row ≡ readAbiSheet abi (replicate abiSheetWords 0) .refusal) where
   pub abi-good : row ≡ 0 → p ≡ put p (abiLine abi)
   unfolding abiLine
   abi-good h = rw (← read, eq-eqb row 0 h) (put-none p)
@@ -122,13 +148,13 @@ module _ (abi : List ℕ) (p : List ℕ × ℕ) {row : ℕ} (read : row ≡ read
     unfolding listing
     listing-refused h e = rw (← read, ne-eqb row 0 h) e
 
-    pub listing-put : {m : List ℕ} → row ≡ 0 → m ≡ readAbiSheet abi (replicate 6477 0) .memory → q ≡ put p (classesText m classes)
+    pub listing-put : {m : List ℕ} → row ≡ 0 → m ≡ readAbiSheet abi (replicate abiSheetWords 0) .memory → q ≡ put p (classesText m classes)
         → q ≡ put p (listing abi classes)
     unfolding listing
     listing-put h f e = rw (← read, eq-eqb row 0 h, ← f) e
 
-module _ (abi classes : List ℕ) (p : List ℕ × ℕ) {row : ℕ} (read : row ≡ readClassSheet classes (replicate 11684 0) .refusal) {q : List ℕ × ℕ} where
-  pub classes-put : {m : List ℕ} → row ≡ 0 → m ≡ readClassSheet classes (replicate 11684 0) .memory → q ≡ put p (setText m abi)
+module _ (abi classes : List ℕ) (p : List ℕ × ℕ) {row : ℕ} (read : row ≡ readClassSheet classes (replicate sheetWords 0) .refusal) {q : List ℕ × ℕ} where
+  pub classes-put : {m : List ℕ} → row ≡ 0 → m ≡ readClassSheet classes (replicate sheetWords 0) .memory → q ≡ put p (setText m abi)
       → q ≡ put p (classesText abi classes)
   unfolding classesText
   classes-put h f e = rw (← read, eq-eqb row 0 h, ← f) e

@@ -4,9 +4,10 @@ use mathlib.Core.Bool.{cond}
 use mathlib.Core.List.{List, [], _∷_, _++_}
 use lib.ListN.{replicate}
 use lib.Dec.{eqb}
+use Rattle.abi_sheet.specs.AbiSheet.{abiSheetWords}
 use Rattle.words.specs.Folds.{table}
 use Rattle.descriptor.specs.Bytes.{text}
-use Rattle.class_sheet.specs.ClassSheet.{classCount}
+use Rattle.class_sheet.specs.ClassSheet.{classCount, sheetWords}
 use Rattle.sheet.specs.Sheet.{readClassSheet, readAbiSheet}
 use Rattle.sheet.specs.declared.Read.{Read}
 use Rattle.sheet.specs.declared.Read.the-variants.{Words, Refused as Unread}
@@ -34,34 +35,64 @@ freshArea = 1 ∷ replicate 4095 0
 unfoldable pub stubWords : List ℕ
 stubWords = table 1024 (λ i. 4026531840 + i)
 
--- a class's lines after its link, or the line of its refusal. Reading goes by the words as this link leaves them; a class's chain is linked
--- before it and later links leave it, so the lines are the same after all links.
-unfoldable pub linkText : List ℕ → ℕ → Outcome → List ℕ
-linkText abi c o = cond (eqb (o .refusal) 0) (classLines (o .set) abi (o .area) c) (classRefused c (o .refusal))
+-- a link's row, 0 where it is accepted, with the words and the area that it leaves
+pub record Linked : Type 0 where
+  pub row : ℕ
+  pub set : List ℕ
+  pub area : List ℕ
 
--- the lines of n classes from class c on, each linked in the words and the area that the link before it left
-unfoldable pub linkTexts : List ℕ → List ℕ → ℕ → ℕ → List ℕ → List ℕ → List ℕ
-linkTexts abi stubs zero c ws area = []
-linkTexts abi stubs (suc n) c ws area =
-    let o : Outcome = linkDef ws abi c area stubs in linkText abi c o ++ linkTexts abi stubs n (c + 1) (o .set) (o .area)
+abbrev pub linked : ℕ → List ℕ → List ℕ → Linked
+linked row ws area = record { row = row; set = ws; area = area }
 
--- the lines of all classes of a set
+unfoldable pub linkOne : List ℕ → List ℕ → ℕ → List ℕ → List ℕ → Linked
+linkOne abi stubs c ws area = let o : Outcome = linkDef ws abi c area stubs in linked (o .refusal) (o .set) (o .area)
+
+-- the rows of several links, with the words and the area after all of them
+pub record Links : Type 0 where
+  pub rows : List ℕ
+  pub set : List ℕ
+  pub area : List ℕ
+
+abbrev pub links : List ℕ → List ℕ → List ℕ → Links
+links rows ws area = record { rows = rows; set = ws; area = area }
+
+-- n classes from class c on, each linked in the words and the area that the link before it left
+unfoldable pub linkAll : List ℕ → List ℕ → ℕ → ℕ → List ℕ → List ℕ → Links
+linkAll abi stubs zero c ws area = links [] ws area
+linkAll abi stubs (suc n) c ws area =
+    let o : Linked = linkOne abi stubs c ws area in
+    let rest : Links = linkAll abi stubs n (c + 1) (o .set) (o .area) in
+    links (o .row ∷ rest .rows) (rest .set) (rest .area)
+
+-- ---- "and writes class number, name, words, slots; then slot, name, descriptor, target"; "A refusal prints `class N refused R`"
+
+-- a class's text, by its link's row
+unfoldable pub classText : List ℕ → List ℕ → List ℕ → ℕ → ℕ → List ℕ
+classText ws abi area c row = cond (eqb row 0) (classLines ws abi area c) (classRefused c row)
+
+-- the texts of the classes from class c on
+unfoldable pub classTexts : List ℕ → List ℕ → List ℕ → ℕ → List ℕ → List ℕ
+classTexts ws abi area c [] = []
+classTexts ws abi area c (row ∷ rows) = classText ws abi area c row ++ classTexts ws abi area (c + 1) rows
+
+-- the texts of all classes of a set, in the words and the area after all links
 unfoldable pub setText : List ℕ → List ℕ → List ℕ
-setText ws abi = linkTexts abi stubWords (classCount ws) 1 ws freshArea
+setText ws abi =
+    let all : Links = linkAll abi stubWords (classCount ws) 1 ws freshArea in classTexts (all .set) abi (all .area) 1 (all .rows)
 
 -- ---- the whole: "reads `abi.bin`, then `classes.bin`"; "a bad sheet `abi refused R` or `classes refused R` and ends"
 
 -- what stands on the line of a bad ABI sheet; nothing for a good one
 unfoldable pub abiLine : List ℕ → List ℕ
 abiLine abi =
-    let row : ℕ = readAbiSheet abi (replicate 6477 0) .refusal in cond (eqb row 0) [] (sheetRefused (text "abi") row)
+    let row : ℕ = readAbiSheet abi (replicate abiSheetWords 0) .refusal in cond (eqb row 0) [] (sheetRefused (text "abi") row)
 
 -- the text where the ABI words are read
 unfoldable pub classesText : List ℕ → List ℕ → List ℕ
 classesText abi classes =
-    let read = readClassSheet classes (replicate 11684 0) in
+    let read = readClassSheet classes (replicate sheetWords 0) in
     cond (eqb (read .refusal) 0) (setText (read .memory) abi) (sheetRefused (text "classes") (read .refusal))
 
 unfoldable pub listing : List ℕ → List ℕ → List ℕ
 listing abi classes =
-    let read = readAbiSheet abi (replicate 6477 0) in cond (eqb (read .refusal) 0) (classesText (read .memory) classes) (abiLine abi)
+    let read = readAbiSheet abi (replicate abiSheetWords 0) in cond (eqb (read .refusal) 0) (classesText (read .memory) classes) (abiLine abi)

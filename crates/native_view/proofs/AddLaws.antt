@@ -14,21 +14,21 @@ use Rattle.words.specs.declared.Found.{Found}
 use Rattle.words.specs.declared.Found.the-variants.{At, Nothing}
 use Rattle.words.proofs.Bools.{by}
 use Rattle.words.proofs.ListLaws.{by-found, found-by, restFrom, rest-start, rest-turn, rest-end}
-use Rattle.growth.proofs.Lists.{list-more, list-ext}
-use Rattle.class_sheet.specs.ClassSheet.{classFirstInterface, classInterfaceCount, classCompilerTable, classCompilerSlots, compilerWord, interfaceWord, methodFlags}
+use Rattle.words.proofs.Ext.{list-more, list-ext}
+use Rattle.class_sheet.specs.ClassSheet.{classFirstInterface, classInterfaceCount, classCompilerTable, classCompilerSlots, compilerWord, interfaceWord, methodFlags, methodLimit, interfaceLimit}
 use Rattle.linking.specs.Chain.{onFound, listCount, ownMethods, ownInterfaces, methodIs}
 use Rattle.linking.specs.Abi.{slotAt, classAbi}
 use Rattle.linking.specs.Vtable.{Entry, empty}
 use Rattle.linking.specs.Compiler.{New, signatureSources, fromMethod, fromSlot, isDeclared, addNamed, addFrom, addedFrom, compilerTargets, nativeView, addedMethods}
-use Rattle.chain.proofs.ChainLaws.{own-interfaces-length, own-interface-at}
+use Rattle.linking.proofs.ChainLaws.{own-interfaces-length, own-interface-at}
 use Rattle.abi.proofs.Laws.{slot-at-room}
 use Rattle.growth.specs.News.{refName, refDescriptor, newAt, firstNews}
-use Rattle.vtable.specs.Arrays.{marked, entriesOf}
-use Rattle.native_view.specs.Native.{below, SmallMarks, interfaceSlot, sourceRef, refFlags, newOf, addedAt}
+use Rattle.reading.specs.Arrays.{methodOf, entriesOf}
+use Rattle.native_view.specs.Native.{below, SheetMark, SmallMarks, interfaceSlot, sourceRef, refFlags, newOf, addedAt}
 use Rattle.native_view.proofs.FoundLaws.{found-cons, found-all}
 use Rattle.native_view.proofs.ViewLaws.{slot-below}
 
-pub small-mark : (ms : List ℕ) (n i : ℕ) {k : ℕ} → SmallMarks ms n → k ≡ below ms n i → k ≤ 512
+pub small-mark : (ms : List ℕ) (n i : ℕ) {k : ℕ} → SmallMarks ms n → k ≡ below ms n i → SheetMark k
 unfolding SmallMarks
 small-mark ms n i h e = rw e (h i)
 
@@ -64,7 +64,7 @@ pub none-yet : (ws text abi labels refs flags lasts : List ℕ) → firstNews ws
 unfolding firstNews listFrom
 none-yet ws text abi labels refs flags lasts = refl
 
-pub interface-end : (ws : List ℕ) (c k : ℕ) {n : ℕ} → n ≤ k → n ≡ listCount (classFirstInterface ws c) (classInterfaceCount ws c) 256
+pub interface-end : (ws : List ℕ) (c k : ℕ) {n : ℕ} → n ≤ k → n ≡ listCount (classFirstInterface ws c) (classInterfaceCount ws c) interfaceLimit
     → length (ownInterfaces ws c) ≤ k
 interface-end ws c k h e = omega (arith, own-interfaces-length ws c)
 
@@ -73,7 +73,7 @@ module _ (ws text abi labels : List ℕ) where
 
   module _ (i c : ℕ) where
     -- a turn of the loop along the interfaces
-    pub interface-is : (k : ℕ) {f n d : ℕ} {r : Found} → k < n → n ≡ listCount (classFirstInterface ws c) (classInterfaceCount ws c) 256
+    pub interface-is : (k : ℕ) {f n d : ℕ} {r : Found} → k < n → n ≡ listCount (classFirstInterface ws c) (classInterfaceCount ws c) interfaceLimit
         → f ≡ classFirstInterface ws c → d ≡ interfaceWord ws (f + k) → r ≡ andThen (classAbi ws text abi labels d) (slotAt abi i)
         → (k < length (ownInterfaces ws c)) × (r ≡ interfaceSlot ws text abi labels i (getD (ownInterfaces ws c) k 0))
     unfolding interfaceSlot
@@ -98,36 +98,36 @@ module _ (ws text abi labels : List ℕ) where
           → q ≡ firstFound (slotAt abi i) (signatureSources ws text abi labels c)
       source-next e g = rw (sources-are, ← own, e) g
 
-    pub source-room : (s : ℕ) → firstFound (slotAt abi i) (signatureSources ws text abi labels c) ≡ At s → s < 512
+    pub source-room : (s : ℕ) → firstFound (slotAt abi i) (signatureSources ws text abi labels c) ≡ At s → s < methodLimit
     source-room s e = found-by (slotAt abi i) (signatureSources ws text abi labels c) s (λ a m q. slot-at-room abi a i s q) e
 
-    pub ref-method : (k : ℕ) → (k ≡ 0 → ⊥) → At (k - 1) ≡ sourceRef ws text abi labels c i (marked k)
+    pub ref-method : (k m : ℕ) {o : Found} → o ≡ methodOf k → o ≡ At m → At m ≡ sourceRef ws text abi labels c i (methodOf k)
     unfolding sourceRef
-    ref-method k n = simp (ne-eqb k 0 n)
+    ref-method k m h e = rw (← h, e)
 
-    module _ (k : ℕ) (z : k ≡ 0) {r : Found} (e : r ≡ firstFound (slotAt abi i) (signatureSources ws text abi labels c)) where
-      pub ref-slot : (s : ℕ) → r ≡ At s → At (512 + s) ≡ sourceRef ws text abi labels c i (marked k)
+    module _ (k : ℕ) {o : Found} (h : o ≡ methodOf k) (z : o ≡ Nothing) {r : Found} (e : r ≡ firstFound (slotAt abi i) (signatureSources ws text abi labels c)) where
+      pub ref-slot : (s : ℕ) → r ≡ At s → At (methodLimit + s) ≡ sourceRef ws text abi labels c i (methodOf k)
       unfolding sourceRef
-      ref-slot s t = simp (eq-eqb k 0 z) (rw (← e, t))
+      ref-slot s t = rw (← h, z) (rw (← e, t))
 
-      pub ref-none : r ≡ Nothing → Nothing ≡ sourceRef ws text abi labels c i (marked k)
+      pub ref-none : r ≡ Nothing → Nothing ≡ sourceRef ws text abi labels c i (methodOf k)
       unfolding sourceRef
-      ref-none t = simp (eq-eqb k 0 z) (rw (← e, t))
+      ref-none t = rw (← h, z) (rw (← e, t))
 
   -- ---- flags
 
   module _ (r : ℕ) where
-    pub flags-slot : 512 ≤ r → 1 ≡ refFlags ws text abi labels r
+    pub flags-slot : methodLimit ≤ r → 1 ≡ refFlags ws text abi labels r
     unfolding refFlags
-    flags-slot h = simp (le-ltb r 512 h)
+    flags-slot h = simp (le-ltb r methodLimit h)
 
-    pub flags-abstract : {f : ℕ} → r < 512 → f ≡ methodFlags ws r → f / 1024 % 2 ≡ 1 → f - 1024 ≡ refFlags ws text abi labels r
+    pub flags-abstract : {f : ℕ} → r < methodLimit → f ≡ methodFlags ws r → f / 1024 % 2 ≡ 1 → f - 1024 ≡ refFlags ws text abi labels r
     unfolding refFlags
-    flags-abstract {f = f} h e a = simp (lt-ltb r 512 h) (rw (← e) (simp (eq-eqb (f / 1024 % 2) 1 a)))
+    flags-abstract {f = f} h e a = simp (lt-ltb r methodLimit h) (rw (← e) (simp (eq-eqb (f / 1024 % 2) 1 a)))
 
-    pub flags-same : {f : ℕ} → r < 512 → f ≡ methodFlags ws r → (f / 1024 % 2 ≡ 1 → ⊥) → f ≡ refFlags ws text abi labels r
+    pub flags-same : {f : ℕ} → r < methodLimit → f ≡ methodFlags ws r → (f / 1024 % 2 ≡ 1 → ⊥) → f ≡ refFlags ws text abi labels r
     unfolding refFlags
-    flags-same {f = f} h e a = simp (lt-ltb r 512 h) (rw (← e) (simp (ne-eqb (f / 1024 % 2) 1 a)))
+    flags-same {f = f} h e a = simp (lt-ltb r methodLimit h) (rw (← e) (simp (ne-eqb (f / 1024 % 2) 1 a)))
 
   -- ---- a method that is added, unless it is declared
 
@@ -155,42 +155,40 @@ module _ (ws text abi labels : List ℕ) where
 
   -- ---- what one target adds
 
-  of-method : (m t : ℕ) → m < 512 → newOf ws text abi labels m t ≡ fromMethod ws text abi labels m t
+  of-method : (m t : ℕ) → m < methodLimit → newOf ws text abi labels m t ≡ fromMethod ws text abi labels m t
   unfolding newOf refName refDescriptor refFlags
-  of-method m t h = rw (lt-ltb m 512 h)
+  of-method m t h = rw (lt-ltb m methodLimit h)
 
-  of-slot : (s t : ℕ) → s < 512 → newOf ws text abi labels (512 + s) t ≡ fromSlot ws text abi labels s t
+  of-slot : (s t : ℕ) → s < methodLimit → newOf ws text abi labels (methodLimit + s) t ≡ fromSlot ws text abi labels s t
   unfolding newOf refName refDescriptor refFlags
   of-slot s t h =
-      let e : 512 + s - 512 ≡ s = omega arith in
-      rw (le-ltb (512 + s) 512 (omega arith), lt-ltb (512 + s) 1024 (omega arith), e)
+      let e : methodLimit + s - methodLimit ≡ s = omega arith in
+      rw (le-ltb (methodLimit + s) methodLimit (omega arith), lt-ltb (methodLimit + s) 1024 (omega arith), e)
 
-  add-from : (c i t k : ℕ) → k ≤ 512 → addFrom ws text abi labels c i t (marked k) []
-      ≡ onFound (sourceRef ws text abi labels c i (marked k)) (λ r. addNamed ws text abi labels c (newOf ws text abi labels r t) []) []
-  unfolding sourceRef
+  add-from : (c i t k : ℕ) → SheetMark k → addFrom ws text abi labels c i t (methodOf k) []
+      ≡ onFound (sourceRef ws text abi labels c i (methodOf k)) (λ r. addNamed ws text abi labels c (newOf ws text abi labels r t) []) []
+  unfolding sourceRef SheetMark
   add-from c i t k h =
-      by (eqb k 0)
+      by-found (methodOf k)
+      (λ m q. rw q (ap (λ (x : New). addNamed ws text abi labels c x []) (sym (of-method m t (h m q)))))
       (λ q.
       rw q
       (by-found (firstFound (slotAt abi i) (signatureSources ws text abi labels c))
       (λ s p. rw p (ap (λ (x : New). addNamed ws text abi labels c x []) (sym (of-slot s t (source-room i c s p)))))
       (λ p. rw p)))
-      (λ q.
-      let l : k - 1 < 512 = omega arith in
-      rw q (ap (λ (x : New). addNamed ws text abi labels c x []) (sym (of-method (k - 1) t l))))
 
   module _ (c i t w k : ℕ) (xs : List New) where
-    pub add-skip : (eqb t 0 || eqb t w) ≡ true → xs ≡ xs ++ addedAt ws text abi labels c i t (record { word = w; method = marked k })
+    pub add-skip : (eqb t 0 || eqb t w) ≡ true → xs ≡ xs ++ addedAt ws text abi labels c i t (record { word = w; method = methodOf k })
     unfolding addedAt
     add-skip h = rw h (sym (append-nil xs))
 
-    module _ (l : k ≤ 512) (h : (eqb t 0 || eqb t w) ≡ false) {q : Found} (e : q ≡ sourceRef ws text abi labels c i (marked k)) where
+    module _ (l : SheetMark k) (h : (eqb t 0 || eqb t w) ≡ false) {q : Found} (e : q ≡ sourceRef ws text abi labels c i (methodOf k)) where
       pub add-at : (r : ℕ) {ys : List New} → q ≡ At r → ys ≡ xs ++ addNamed ws text abi labels c (newOf ws text abi labels r t) []
-          → ys ≡ xs ++ addedAt ws text abi labels c i t (record { word = w; method = marked k })
+          → ys ≡ xs ++ addedAt ws text abi labels c i t (record { word = w; method = methodOf k })
       unfolding addedAt
       add-at r g m = rw (h, add-from c i t k l, ← e, g) m
 
-      pub add-none : q ≡ Nothing → xs ≡ xs ++ addedAt ws text abi labels c i t (record { word = w; method = marked k })
+      pub add-none : q ≡ Nothing → xs ≡ xs ++ addedAt ws text abi labels c i t (record { word = w; method = methodOf k })
       unfolding addedAt
       add-none g = rw (h, add-from c i t k l, ← e, g) (sym (append-nil xs))
 
@@ -218,27 +216,43 @@ module _ (ws text abi labels : List ℕ) where
       (λ o. rw o)))))
 
   module _ (c : ℕ) (vs vm : List ℕ) (n : ℕ) where
-    pub rest-all : (count : ℕ) (xs : List New) → count ≡ min (classCompilerSlots ws c) 1024 → xs ≡ [] → xs ++ addRest c vs vm n count 0
+    rest-all : (count : ℕ) (xs : List New) → count ≡ min (classCompilerSlots ws c) 1024 → xs ≡ [] → xs ++ addRest c vs vm n count 0
         ≡ addedFrom ws text abi labels c (entriesOf vs vm n) 0 (compilerTargets ws text abi labels c)
     unfolding addRest compilerTargets
     rest-all count xs e f = rw (f, rest-start (targetAt c) 0 count, e)
 
-    pub rest-add : (count i : ℕ) (xs ys A : List New) {t w k : ℕ} → i < count → t ≡ targetAt c i → w ≡ below vs n i → k ≡ below vm n i
-        → ys ≡ xs ++ addedAt ws text abi labels c i t (record { word = w; method = marked k }) → xs ++ addRest c vs vm n count i ≡ A
+    -- the loop's entry, where the arrays hold none
+    pub rest-begin : (refs flags lasts : List ℕ) (count : ℕ) → count ≡ min (classCompilerSlots ws c) 1024
+        → firstNews ws text abi labels refs flags lasts 0 ++ addRest c vs vm n count 0
+        ≡ addedFrom ws text abi labels c (entriesOf vs vm n) 0 (compilerTargets ws text abi labels c)
+    rest-begin refs flags lasts count e =
+        rest-all count (firstNews ws text abi labels refs flags lasts 0) e (none-yet ws text abi labels refs flags lasts)
+
+    rest-add : (count i : ℕ) (xs ys A : List New) {t w k : ℕ} → i < count → t ≡ targetAt c i → w ≡ below vs n i → k ≡ below vm n i
+        → ys ≡ xs ++ addedAt ws text abi labels c i t (record { word = w; method = methodOf k }) → xs ++ addRest c vs vm n count i ≡ A
         → ys ++ addRest c vs vm n count (i + 1) ≡ A
     unfolding addRest
     rest-add count i xs ys A {t = t} {w = w} {k = k} h et ew ek e g =
         let z : 0 + i ≡ i = omega arith in
         let r : restFrom (targetAt c) 0 count i ≡ t ∷ restFrom (targetAt c) 0 count (i + 1) =
         rw et (rest-turn (targetAt c) 0 count i h ∙ rw z) in
-        let s : getD (entriesOf vs vm n) i empty ≡ record { word = w; method = marked k } = rw (ew, ek) (slot-below vs vm n i) in
+        let s : getD (entriesOf vs vm n) i empty ≡ record { word = w; method = methodOf k } = rw (ew, ek) (slot-below vs vm n i) in
         let o : addedFrom ws text abi labels c (entriesOf vs vm n) i (restFrom (targetAt c) 0 count i)
-        ≡ addedAt ws text abi labels c i t (record { word = w; method = marked k })
+        ≡ addedAt ws text abi labels c i t (record { word = w; method = methodOf k })
         ++ addedFrom ws text abi labels c (entriesOf vs vm n) (i + 1) (restFrom (targetAt c) 0 count (i + 1)) =
         rw r (rw s at (add-cons c (entriesOf vs vm n) i t (restFrom (targetAt c) 0 count (i + 1)))) in
-        rw e (append-assoc xs (addedAt ws text abi labels c i t (record { word = w; method = marked k }))
+        rw e (append-assoc xs (addedAt ws text abi labels c i t (record { word = w; method = methodOf k }))
         (addedFrom ws text abi labels c (entriesOf vs vm n) (i + 1) (restFrom (targetAt c) 0 count (i + 1))))
         ∙ ap (λ (l : List New). xs ++ l) (sym o) ∙ g
+
+    -- a turn, by what the callees ensure: the arrays and the count before and after
+    pub rest-turned : (refs flags lasts : List ℕ) (new count i : ℕ) (A : List New) (rs fs ls : List ℕ) (m : ℕ) {t w k : ℕ} → i < count
+        → t ≡ targetAt c i → w ≡ below vs n i → k ≡ below vm n i → firstNews ws text abi labels rs fs ls m
+        ≡ firstNews ws text abi labels refs flags lasts new ++ addedAt ws text abi labels c i t (record { word = w; method = methodOf k })
+        → firstNews ws text abi labels refs flags lasts new ++ addRest c vs vm n count i ≡ A
+        → firstNews ws text abi labels rs fs ls m ++ addRest c vs vm n count (i + 1) ≡ A
+    rest-turned refs flags lasts new count i A rs fs ls m h et ew ek e g =
+        rest-add count i (firstNews ws text abi labels refs flags lasts new) (firstNews ws text abi labels rs fs ls m) A h et ew ek e g
 
     pub rest-none : (count i : ℕ) (xs A : List New) → count ≤ i → xs ++ addRest c vs vm n count i ≡ A → xs ≡ A
     unfolding addRest addedFrom

@@ -1,4 +1,3 @@
 pub mod AddLaws
-pub mod Examples
 pub mod FoundLaws
 pub mod ViewLaws

@@ -6,22 +6,22 @@ use Prim.Native.Nat.{ℕ, zero, suc, _+_, _-_, _≤_, _<_, min}
 use native.Mathlib.Omega.{arith}
 use lib.ListN.{length, getD, set, take, drop, List·getD-eq-default}
 use lib.Dec.{eqb, ltb}
-use borrow.Author.Tests.{eq-eqb, ne-eqb, lt-ltb, le-ltb, ltb-true, ltb-false, eqb-true}
+use borrow.Author.Tests.{lt-ltb, le-ltb, ltb-true, ltb-false}
 use Rattle.words.specs.Lists.{listFrom, numbers, allFound}
 use Rattle.words.specs.declared.Found.{Found}
 use Rattle.words.specs.declared.Found.the-variants.{At, Nothing}
 use Rattle.words.proofs.Bools.{by}
 use Rattle.words.proofs.ListLaws.{length-list-from, getD-list-from}
-use Rattle.growth.proofs.Lists.{list-more}
-use Rattle.class_sheet.specs.ClassSheet.{classTablePlace, classSlotCount}
+use Rattle.words.proofs.Ext.{list-more}
+use Rattle.class_sheet.specs.ClassSheet.{classTablePlace, classSlotCount, methodLimit}
 use Rattle.linking.specs.Chain.{onFound, parentOf}
 use Rattle.linking.specs.Abi.{chainAbi}
-use Rattle.linking.specs.Vtable.{Entry, empty, readEntry, readSlot, tableEntries, parentEntries, fixedOf}
+use Rattle.linking.specs.Vtable.{Entry, empty, readSlot, tableEntries, parentEntries, fixedOf}
 use Rattle.linking.specs.Compiler.{New, ownerState, isEmptied, viewFrom, nativeView, entryMethods}
-use Rattle.vtable.specs.Arrays.{markOf, marked, entryAt, entriesOf}
-use Rattle.vtable.proofs.ArrayLaws.{length-entries, entry-is, push-slot}
-use Rattle.vtable.proofs.ReadLaws.{read-back}
-use Rattle.native_view.specs.Native.{below, SmallMarks, markMethods}
+use Rattle.reading.specs.Arrays.{markOf, methodOf, entryAt, entriesOf}
+use Rattle.reading.proofs.ArrayLaws.{no-method, none-back, length-entries, entry-is, push-slot}
+use Rattle.reading.proofs.ReadLaws.{read-room}
+use Rattle.native_view.specs.Native.{below, SheetMark, SmallMarks, marksIn, methodsIn, markMethods}
 
 -- ---- elements of the first n
 
@@ -35,14 +35,14 @@ below-out xs n i h = simp (le-ltb i n h)
 
 -- slot i of the first n, empty past them
 pub slot-below : (ts ms : List ℕ) (n i : ℕ)
-    → getD (entriesOf ts ms n) i empty ≡ record { word = below ts n i; method = marked (below ms n i) }
+    → getD (entriesOf ts ms n) i empty ≡ record { word = below ts n i; method = methodOf (below ms n i) }
 unfolding below entryAt
 slot-below ts ms n i =
     by (ltb i n) (λ q. rw q (entry-is ts ms n i empty (ltb-true i n q)))
     (λ q.
     let l = ltb-false i n q in
     let h : length (entriesOf ts ms n) ≤ i = omega (arith, length-entries ts ms n) in
-    rw q (List·getD-eq-default (entriesOf ts ms n) empty h))
+    rw (q, no-method) (List·getD-eq-default (entriesOf ts ms n) empty h))
 
 -- the ABI classes of a chain, as a part of the array that holds them
 pub abis-are : (at : List ℕ) (n : ℕ) (X : List ℕ) {l : List ℕ} {k : ℕ} → take n at ≡ X → k ≡ n → l ≡ take k (drop 0 at) → l ≡ X
@@ -51,16 +51,16 @@ abis-are at n X e f g = g ∙ rw f e
 module _ (ws text abi labels : List ℕ) where
   -- ---- a slot that is emptied
 
-  module _ (abis : List ℕ) (i w k : ℕ) where
-    pub emptied-unknown : k ≡ 0 → false ≡ isEmptied ws text abi labels abis i (record { word = w; method = marked k })
+  module _ (abis : List ℕ) (i w k : ℕ) {o : Found} (method : o ≡ methodOf k) where
+    pub emptied-unknown : o ≡ Nothing → false ≡ isEmptied ws text abi labels abis i (record { word = w; method = methodOf k })
     unfolding isEmptied
-    emptied-unknown e = simp (eq-eqb k 0 e)
+    emptied-unknown e = rw (← method, e)
 
-    pub emptied-known : {s m : ℕ} {b : Bool} → (k ≡ 0 → ⊥) → m ≡ k - 1 → s ≡ ownerState ws text abi labels m
+    pub emptied-known : {s m : ℕ} {b : Bool} → o ≡ At m → s ≡ ownerState ws text abi labels m
         → b ≡ onFound (fixedOf ws text abi labels abis m) (eqb i) false
-        → (not (eqb s 3) && not b) ≡ isEmptied ws text abi labels abis i (record { word = w; method = marked k })
+        → (not (eqb s 3) && not b) ≡ isEmptied ws text abi labels abis i (record { word = w; method = methodOf k })
     unfolding isEmptied
-    emptied-known n e f g = simp (ne-eqb k 0 n) (rw (f, g, e))
+    emptied-known e f g = rw (f, g) (rw (← method, e))
 
   -- ---- the view of the slots, one more at the end
 
@@ -76,29 +76,31 @@ module _ (ws text abi labels : List ℕ) where
         let z : j + 1 + length xs ≡ j + suc (length xs) = omega arith in
         ap (λ (l : List Entry). viewAt abis j x ∷ l) (rw z at (view-snoc (j + 1) xs e))
 
-    viewed : (g : Bool) (w k : ℕ) → _≡_ {A = Entry} (record { word = cond g 0 w; method = marked (cond g 0 k) }) (cond g empty (record { word = w; method = marked k }))
-    viewed true w k = refl
+    viewed : (g : Bool) (w k : ℕ) → _≡_ {A = Entry} (record { word = cond g 0 w; method = methodOf (cond g (markOf Nothing) k) }) (cond g empty (record { word = w; method = methodOf k }))
+    viewed true w k = rw none-back
     viewed false w k = refl
 
     pub view-start : (ts ms vs vm : List ℕ) → entriesOf vs vm 0 ≡ viewFrom ws text abi labels abis 0 (entriesOf ts ms 0)
     unfolding entriesOf listFrom viewFrom
     view-start ts ms vs vm = refl
 
-    pub view-turn : (i : ℕ) (ts ms vs vm us um : List ℕ) {w k x y a b p q : ℕ} {g : Bool} → i < length vs → i < length vm
+    pub view-turn : (i : ℕ) (ts ms vs vm us um : List ℕ) {w k a b : ℕ} {g : Bool} → i < length vs → i < length vm
         → entriesOf vs vm i ≡ viewFrom ws text abi labels abis 0 (entriesOf ts ms i) → a ≡ i → w ≡ getD ts a 0 → b ≡ i → k ≡ getD ms b 0
-        → ((v : ℕ) → g ≡ isEmptied ws text abi labels abis i (record { word = v; method = marked k })) → x ≡ cond g 0 w → y ≡ cond g 0 k
-        → p ≡ i → us ≡ set vs p x → q ≡ i → um ≡ set vm q y
+        → ((v : ℕ) → g ≡ isEmptied ws text abi labels abis i (record { word = v; method = methodOf k }))
+        → us ≡ set vs i (cond g 0 w) → um ≡ set vm i (cond g (markOf Nothing) k)
         → entriesOf us um (i + 1) ≡ viewFrom ws text abi labels abis 0 (entriesOf ts ms (i + 1))
     unfolding entriesOf entryAt
-    view-turn i ts ms vs vm us um {w = w} {k = k} {x = x} {y = y} {g = g} h l e ea ew eb ek eg ex ey ep eu eq em =
-        let new : entriesOf us um (i + 1) ≡ entriesOf vs vm i ++ (record { word = x; method = marked y } ∷ []) =
-        rw (eu, ep, em, eq, push-slot vs vm i x y h l) in
-        let old : entriesOf ts ms (i + 1) ≡ entriesOf ts ms i ++ (record { word = w; method = marked k } ∷ []) =
+    view-turn i ts ms vs vm us um {w = w} {k = k} {g = g} h l e ea ew eb ek eg eu em =
+        let x : ℕ = cond g 0 w in
+        let y : ℕ = cond g (markOf Nothing) k in
+        let new : entriesOf us um (i + 1) ≡ entriesOf vs vm i ++ (record { word = x; method = methodOf y } ∷ []) =
+        rw (eu, em, push-slot vs vm i x y h l) in
+        let old : entriesOf ts ms (i + 1) ≡ entriesOf ts ms i ++ (record { word = w; method = methodOf k } ∷ []) =
         rw (ew, ek, ea, eb) (list-more (entryAt ts ms) i) in
         let z : 0 + length (entriesOf ts ms i) ≡ i = omega (arith, length-entries ts ms i) in
-        let v : _≡_ {A = Entry} (record { word = x; method = marked y }) (viewAt abis i (record { word = w; method = marked k })) =
-        rw (ex, ey, ← (eg w)) (viewed g w k) in
-        new ∙ rw (old, view-snoc 0 (entriesOf ts ms i) (record { word = w; method = marked k }), z, ← v, e)
+        let v : _≡_ {A = Entry} (record { word = x; method = methodOf y }) (viewAt abis i (record { word = w; method = methodOf k })) =
+        rw (← (eg w)) (viewed g w k) in
+        new ∙ rw (old, view-snoc 0 (entriesOf ts ms i) (record { word = w; method = methodOf k }), z, ← v, e)
 
     -- ---- the marks of the view are those of sheet methods
 
@@ -114,51 +116,37 @@ module _ (ws text abi labels : List ℕ) where
         (λ q. let b : _≡_ {A = Found} Nothing (At m) = rw q at h in absurd (let z : _≡_ {A = ℕ} 0 1 = cc in omega arith))
         (λ q. rw q at h)
 
-    pub view-small : (E : List Entry) (vs vm : List ℕ) (n : ℕ) → ((i m : ℕ) → (getD E i empty) .method ≡ At m → m < 512)
+    pub view-small : (E : List Entry) (vs vm : List ℕ) (n : ℕ) → ((i m : ℕ) → (getD E i empty) .method ≡ At m → m < methodLimit)
         → entriesOf vs vm n ≡ viewFrom ws text abi labels abis 0 E → SmallMarks vm n
-    unfolding SmallMarks
-    view-small E vs vm n h e i =
-        let g : marked (below vm n i) ≡ (viewAt abis (0 + i) (getD E i empty)) .method =
+    unfolding SmallMarks SheetMark
+    view-small E vs vm n h e i m t =
+        let g : methodOf (below vm n i) ≡ (viewAt abis (0 + i) (getD E i empty)) .method =
         sym (ap (λ (x : Entry). x .method) (rw e at (slot-below vs vm n i))) ∙ ap (λ (x : Entry). x .method) (view-at 0 E i) in
-        by (eqb (below vm n i) 0) (λ q. let z = eqb-true (below vm n i) 0 q in omega arith)
-        (λ q.
-        let t : At (below vm n i - 1) ≡ (viewAt abis (0 + i) (getD E i empty)) .method = rw q at g in
-        omega (arith, h i (below vm n i - 1) (view-method (0 + i) (below vm n i - 1) (getD E i empty) (sym t))))
-
-  mark-room : (f : Found) (m : ℕ) → marked (markOf f) ≡ f → f ≡ At m → m < 512
-  mark-room (At k) m h e =
-      by (ltb k 512) (λ q. let l = ltb-true k 512 q in let z : k ≡ m = cc in omega arith)
-      (λ q. let b : _≡_ {A = Found} Nothing (At k) = rw q at h in absurd (let z : _≡_ {A = ℕ} 0 1 = cc in omega arith))
-  mark-room Nothing m h e = absurd (let z : _≡_ {A = ℕ} 0 1 = cc in omega arith)
-
-  -- what Reading finds is a method of the sheet
-  pub read-room : (c i w m : ℕ) → (readEntry ws text abi labels c i w) .method ≡ At m → m < 512
-  read-room c i w m e =
-      mark-room ((readEntry ws text abi labels c i w) .method) m (ap (λ (x : Entry). x .method) (read-back ws text abi labels c i w)) e
+        h i m (view-method (0 + i) m (getD E i empty) (sym g ∙ t))
 
   -- ---- the parent's entries
 
   module _ (area : List ℕ) (c : ℕ) where
-    no-method : (m : ℕ) {X : Type 0} → Nothing ≡ At m → X
-    no-method m e = absurd (let z : _≡_ {A = ℕ} 0 1 = cc in omega arith)
+    not-at : (m : ℕ) {X : Type 0} → Nothing ≡ At m → X
+    not-at m e = absurd (let z : _≡_ {A = ℕ} 0 1 = cc in omega arith)
 
-    table-room : (p i m : ℕ) → (getD (tableEntries ws text abi labels area p) i empty) .method ≡ At m → m < 512
+    table-room : (p i m : ℕ) → (getD (tableEntries ws text abi labels area p) i empty) .method ≡ At m → m < methodLimit
     unfolding tableEntries readSlot
     table-room p i m e =
         by (ltb i (min (classSlotCount ws p) 1024))
         (λ q.
         let g = getD-list-from (readSlot ws text abi labels area p) 0 (min (classSlotCount ws p) 1024) i empty (ltb-true i (min (classSlotCount ws p) 1024) q) in
-        read-room p (0 + i) (getD area (classTablePlace ws p + 1 + (0 + i)) 0) m (rw g at e))
+        read-room ws text abi labels p (0 + i) (getD area (classTablePlace ws p + 1 + (0 + i)) 0) m (rw g at e))
         (λ q.
         let l = ltb-false i (min (classSlotCount ws p) 1024) q in
         let h : length (listFrom (readSlot ws text abi labels area p) 0 (min (classSlotCount ws p) 1024)) ≤ i =
         omega (arith, length-list-from (readSlot ws text abi labels area p) 0 (min (classSlotCount ws p) 1024)) in
-        no-method m (rw (List·getD-eq-default (listFrom (readSlot ws text abi labels area p) 0 (min (classSlotCount ws p) 1024)) empty h) at e))
+        not-at m (rw (List·getD-eq-default (listFrom (readSlot ws text abi labels area p) 0 (min (classSlotCount ws p) 1024)) empty h) at e))
 
-    pub parent-room : (i m : ℕ) → (getD (parentEntries ws text abi labels area c) i empty) .method ≡ At m → m < 512
+    pub parent-room : (i m : ℕ) → (getD (parentEntries ws text abi labels area c) i empty) .method ≡ At m → m < methodLimit
     unfolding parentEntries
     parent-room i m e =
-        by (eqb (parentOf ws c) 0) (λ q. no-method m (rw q at e)) (λ q. table-room (parentOf ws c) i m (rw q at e))
+        by (eqb (parentOf ws c) 0) (λ q. not-at m (rw q at e)) (λ q. table-room (parentOf ws c) i m (rw q at e))
 
     -- the view and the marks as the code has them
     module _ (ts ms : List ℕ) (n : ℕ) (read : entriesOf ts ms n ≡ parentEntries ws text abi labels area c) where
@@ -170,12 +158,30 @@ module _ (ws text abi labels : List ℕ) where
       pub native-small : (vs vm abis : List ℕ) → entriesOf vs vm n ≡ viewFrom ws text abi labels abis 0 (entriesOf ts ms n) → SmallMarks vm n
       native-small vs vm abis g = view-small abis (parentEntries ws text abi labels area c) vs vm n parent-room (g ∙ rw read)
 
-      methods-from : (new : List New) (m k : ℕ)
-          → allFound (λ i. marked (getD ms i 0)) (numbers m k) ≡ entryMethods ws text abi labels new (listFrom (entryAt ts ms) m k)
-      unfolding entryMethods listFrom entryAt allFound
-      methods-from new m zero = refl
-      methods-from new m (suc k) = rw (methods-from new (m + 1) k)
+      marks-from : (m k : ℕ) → listFrom (λ i. methodOf (getD ms i 0)) m k ≡ methodsIn (listFrom (entryAt ts ms) m k)
+      unfolding listFrom entryAt methodsIn
+      marks-from m zero = refl
+      marks-from m (suc k) = rw (marks-from (m + 1) k)
 
-      pub methods-are : (new : List New) → markMethods ms n ≡ entryMethods ws text abi labels new (parentEntries ws text abi labels area c)
-      unfolding entriesOf markMethods
-      methods-are new = methods-from new 0 n ∙ ap (entryMethods ws text abi labels new) read
+      -- the marks of the parent's slots, each at its slot
+      pub marks-are : marksIn ms n ≡ methodsIn (parentEntries ws text abi labels area c)
+      unfolding entriesOf marksIn
+      marks-are = marks-from 0 n ∙ ap methodsIn read
+
+  -- ---- the known ones of them, in order
+
+  known-from : (f : ℕ → Found) (new : List New) (m k : ℕ) (E : List Entry) → listFrom f m k ≡ methodsIn E
+      → allFound f (numbers m k) ≡ entryMethods ws text abi labels new E
+  unfolding listFrom methodsIn allFound entryMethods
+  known-from f new m zero [] e = refl
+  known-from f new m zero (x ∷ es) e = let z : _≡_ {A = ℕ} 0 1 = cc in absurd (omega arith)
+  known-from f new m (suc k) [] e = let z : _≡_ {A = ℕ} 0 1 = cc in absurd (omega arith)
+  known-from f new m (suc k) (x ∷ es) e =
+      let h : f m ≡ x .method = cc in
+      let t : listFrom f (m + 1) k ≡ methodsIn es = cc in
+      rw (h, known-from f new (m + 1) k es t)
+
+  pub methods-are : (ms : List ℕ) (n : ℕ) (E : List Entry) (new : List New) → marksIn ms n ≡ methodsIn E
+      → markMethods ms n ≡ entryMethods ws text abi labels new E
+  unfolding marksIn markMethods
+  methods-are ms n E new e = known-from (λ i. methodOf (getD ms i 0)) new 0 n E e

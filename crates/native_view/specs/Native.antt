@@ -1,29 +1,42 @@
 -- The method that one compiler target adds, as the code makes it: what names its signature is a number, as in `growth`. Assumes nothing.
-use Prim.Native.Nat.{ℕ, _+_, _≤_}
+use mathlib.Core.Path.{_≡_}
+use Prim.Native.Nat.{ℕ, _+_, _<_}
 use mathlib.Core.Bool.{cond, _||_}
-use mathlib.Core.List.{List, []}
+use mathlib.Core.List.{List, [], _∷_}
 use lib.ListN.{getD}
 use lib.Dec.{eqb, ltb}
-use Rattle.words.specs.Lists.{numbers, allFound, orElse, andThen, mapFound, firstFound}
+use Rattle.words.specs.Lists.{listFrom, numbers, allFound, orElse, andThen, mapFound, firstFound}
 use Rattle.words.specs.declared.Found.{Found}
-use Rattle.class_sheet.specs.ClassSheet.{methodFlags, interfaceWord}
+use Rattle.words.specs.declared.Found.the-variants.{At}
+use Rattle.class_sheet.specs.ClassSheet.{methodFlags, interfaceWord, methodLimit}
 use Rattle.linking.specs.Abi.{slotAt, classAbi}
 use Rattle.linking.specs.Vtable.{Entry}
 use Rattle.linking.specs.Compiler.{New, withoutAbstract, signatureSources, addFrom}
-use Rattle.vtable.specs.Arrays.{marked}
+use Rattle.reading.specs.Arrays.{methodOf}
 use Rattle.growth.specs.News.{refName, refDescriptor}
 
 -- element i of the first n of an array, 0 past them
 unfoldable pub below : List ℕ → ℕ → ℕ → ℕ
 below xs n i = cond (ltb i n) (getD xs i 0) 0
 
--- each of the first n marks is of a method of the sheet
+-- a mark is of a method of the sheet, or of none; and so is each of the first n marks
+unfoldable pub SheetMark : ℕ → Type 0
+SheetMark k = (m : ℕ) → methodOf k ≡ At m → m < methodLimit
+
 unfoldable pub SmallMarks : List ℕ → ℕ → Type 0
-SmallMarks ms n = (i : ℕ) → below ms n i ≤ 512
+SmallMarks ms n = (i : ℕ) → SheetMark (below ms n i)
+
+-- what the first n marks stand for, mark by mark; and entry by entry what a table's entries hold
+unfoldable pub marksIn : List ℕ → ℕ → List Found
+marksIn ms n = listFrom (λ i. methodOf (getD ms i 0)) 0 n
+
+unfoldable pub methodsIn : List Entry → List Found
+methodsIn [] = []
+methodsIn (e ∷ es) = e .method ∷ methodsIn es
 
 -- the methods of the first n marks, in order
 unfoldable pub markMethods : List ℕ → ℕ → List ℕ
-markMethods ms n = allFound (λ i. marked (getD ms i 0)) (numbers 0 n)
+markMethods ms n = allFound (λ i. methodOf (getD ms i 0)) (numbers 0 n)
 
 module _ (ws text abi labels : List ℕ) where
   -- the slot at index i of the ABI entry of the class that interface word k names
@@ -32,11 +45,11 @@ module _ (ws text abi labels : List ℕ) where
 
   -- what a target at index i takes its signature from: the view's method there, else an ABI slot
   unfoldable pub sourceRef : ℕ → ℕ → Found → Found
-  sourceRef c i method = orElse method (mapFound (λ s. 512 + s) (firstFound (slotAt abi i) (signatureSources ws text abi labels c)))
+  sourceRef c i method = orElse method (mapFound (λ s. methodLimit + s) (firstFound (slotAt abi i) (signatureSources ws text abi labels c)))
 
   -- "flags without 0x0400" of a method, flags 1 of a slot
   unfoldable pub refFlags : ℕ → ℕ
-  refFlags r = cond (ltb r 512) (withoutAbstract (methodFlags ws r)) 1
+  refFlags r = cond (ltb r methodLimit) (withoutAbstract (methodFlags ws r)) 1
 
   -- the method of target t that takes its signature from r
   unfoldable pub newOf : ℕ → ℕ → New

@@ -5,17 +5,18 @@ ghost use mathlib.Core.Path.{_≡_};
 ghost use mathlib.Core.Bool.{false, cond};
 ghost use mathlib.Core.List.{List, _∷_, [], _++_};
 ghost use Prim.Native.Nat.{ℕ, _+_, _-_, _≤_, _<_, min};
-ghost use lib.ListN.{length};
+ghost use lib.ListN.{length, set, drop};
 ghost use lib.Dec.{eqb};
 ghost use Rattle.words.specs.Lists.{numbers, find, firstFound, andThen, some};
+ghost use Rattle.words.specs.declared.Found.the-variants.{Nothing};
 ghost use Rattle.class_sheet.specs.ClassSheet.{classCount, classCompilerTable, classCompilerSlots, compilerWord};
 ghost use Rattle.linking.specs.Chain.{onFound, ownMethods, ownInterfaces, methodIs};
 ghost use Rattle.linking.specs.Abi.{slotAt, classAbi};
 ghost use Rattle.linking.specs.Vtable.{fixedOf, parentEntries};
-ghost use Rattle.linking.specs.Compiler.{New, holds, ownerState, isEmptied, viewFrom, nativeView, signatureSources, addNamed, compilerTargets, addedFrom, addedMethods, entryMethods};
-ghost use Rattle.vtable.specs.Arrays.{marked, entriesOf};
+ghost use Rattle.linking.specs.Compiler.{holds, ownerState, isEmptied, viewFrom, nativeView, signatureSources, addNamed, compilerTargets, addedFrom, addedMethods};
+ghost use Rattle.reading.specs.Arrays.{markOf, methodOf, entriesOf};
 ghost use Rattle.growth.specs.News.{refName, refDescriptor, firstNews};
-ghost use Rattle.native_view.specs.Native.{below, SmallMarks, markMethods, interfaceSlot, sourceRef, refFlags, newOf, addedAt};
+ghost use Rattle.native_view.specs.Native.{below, SheetMark, SmallMarks, marksIn, methodsIn, interfaceSlot, sourceRef, refFlags, newOf, addedAt};
 
 // How many slots the native view has, and how many methods the compiler table adds.
 pub struct Native {
@@ -69,7 +70,7 @@ fn fixed_here(
 ) -> bool
     ensures { λ r. ⌜ r ≡ onFound (fixedOf (now (ws .entry)) (now (text .entry)) (now (abi .entry)) (now (labels .entry)) (now (abis .entry)) m) (eqb i) false ⌝ }
 {
-    match vtable::fixed_of(ws, text, abi, labels, abis, m) {
+    match abi::fixed_of(ws, text, abi, labels, abis, m) {
         Found::At(j) => i == j,
         Found::Nothing => false,
     }
@@ -85,19 +86,26 @@ fn is_emptied(
     i: u32,
     k: u32,
 ) -> bool
-    ensures { λ r. ⌜ ((w : ℕ) → r ≡ isEmptied (now (ws .entry)) (now (text .entry)) (now (abi .entry)) (now (labels .entry)) (now (abis .entry)) i (record { word = w; method = marked k })) ⌝ }
+    ensures { λ r. ⌜ ((w : ℕ) → r ≡ isEmptied (now (ws .entry)) (now (text .entry)) (now (abi .entry)) (now (labels .entry)) (now (abis .entry)) i (record { word = w; method = methodOf k })) ⌝ }
 {
-    if k == 0 {
-        return false;
+    match reading::method_of(k) {
+        Found::At(m) => {
+            (owner_state(ws, m) != 3) & !fixed_here(ws, text, abi, labels, abis, i, m)
+        }
+        Found::Nothing => false,
     }
-    (owner_state(ws, k - 1) != 3) & !fixed_here(ws, text, abi, labels, abis, i, k - 1)
 }
 
-// Nothing where it is gone, else x.
-fn unless(gone: bool, x: u32) -> u32
-    ensures { λ r. ⌜ r ≡ cond gone 0 x ⌝ }
+// Stores slot i of the view: word w and mark k, or an empty slot where it is gone.
+fn view_slot(vs: &mut [u32], vm: &mut [u32], i: u32, gone: bool, w: u32, k: u32)
+    ensures words { λ _. ⌜ now (vs .exit) ≡ set (now (vs .entry)) i (cond gone 0 w) ⌝ }
+    ensures marks { λ _. ⌜ now (vm .exit) ≡ set (now (vm .entry)) i (cond gone (markOf Nothing) k) ⌝ }
 {
-    if gone { 0 } else { x }
+    if gone {
+        reading::clear_slot(vs, vm, i);
+    } else {
+        reading::put_slot(vs, vm, i, w, k);
+    }
 }
 
 // Fills the arrays with the view of the n slots.
@@ -121,8 +129,7 @@ fn view_entries(
         let w = words::word_at(ts, words::wide(i));
         let k = words::word_at(ms, words::wide(i));
         let gone = is_emptied(ws, text, abi, labels, abis, i, k);
-        words::put_word(vs, words::wide(i), unless(gone, w));
-        words::put_word(vm, words::wide(i), unless(gone, k));
+        view_slot(vs, vm, i, gone, w, k);
         i += 1;
     }
 }
@@ -205,14 +212,14 @@ fn signature_slot(ws: &[u32], text: &[u8], abi: &[u32], labels: &[u8], i: u32, c
 
 // What a target at index i takes its signature from, where the view's method has mark k.
 fn source_ref(ws: &[u32], text: &[u8], abi: &[u32], labels: &[u8], c: u32, i: u32, k: u32) -> Found
-    ensures { λ r. ⌜ r ≡ sourceRef (now (ws .entry)) (now (text .entry)) (now (abi .entry)) (now (labels .entry)) c i (marked k) ⌝ }
+    ensures { λ r. ⌜ r ≡ sourceRef (now (ws .entry)) (now (text .entry)) (now (abi .entry)) (now (labels .entry)) c i (methodOf k) ⌝ }
 {
-    if k != 0 {
-        return Found::At(k - 1);
-    }
-    match signature_slot(ws, text, abi, labels, i, c) {
-        Found::At(s) => Found::At(512 + s),
-        Found::Nothing => Found::Nothing,
+    match reading::method_of(k) {
+        Found::At(m) => Found::At(m),
+        Found::Nothing => match signature_slot(ws, text, abi, labels, i, c) {
+            Found::At(s) => Found::At(class_sheet::METHOD_LIMIT + s),
+            Found::Nothing => Found::Nothing,
+        },
     }
 }
 
@@ -220,7 +227,7 @@ fn source_ref(ws: &[u32], text: &[u8], abi: &[u32], labels: &[u8], c: u32, i: u3
 fn ref_flags(ws: &[u32], r: u32) -> u32
     ensures { λ f. ⌜ ((text abi labels : List ℕ) → f ≡ refFlags (now (ws .entry)) text abi labels r) ⌝ }
 {
-    if 512 <= r {
+    if class_sheet::METHOD_LIMIT <= r {
         return 1;
     }
     let flags = class_sheet::method_flags(ws, r);
@@ -293,8 +300,8 @@ fn add<'a>(
     lasts: &mut [u32],
     n: u32,
 ) -> u32
-    requires { ⌜ (n < 1024) × (k ≤ 512) × (1024 ≤ length (now refs)) × (1024 ≤ length (now flags)) × (1024 ≤ length (now lasts)) ⌝ }
-    ensures is { λ m. ⌜ firstNews (now (ws .entry)) (now (text .entry)) (now (abi .entry)) (now (labels .entry)) (now (refs .exit)) (now (flags .exit)) (now (lasts .exit)) m ≡ firstNews (now (ws .entry)) (now (text .entry)) (now (abi .entry)) (now (labels .entry)) (now (refs .entry)) (now (flags .entry)) (now (lasts .entry)) n ++ addedAt (now (ws .entry)) (now (text .entry)) (now (abi .entry)) (now (labels .entry)) c i t (record { word = w; method = marked k }) ⌝ }
+    requires { ⌜ (n < 1024) × (SheetMark k) × (1024 ≤ length (now refs)) × (1024 ≤ length (now flags)) × (1024 ≤ length (now lasts)) ⌝ }
+    ensures is { λ m. ⌜ firstNews (now (ws .entry)) (now (text .entry)) (now (abi .entry)) (now (labels .entry)) (now (refs .exit)) (now (flags .exit)) (now (lasts .exit)) m ≡ firstNews (now (ws .entry)) (now (text .entry)) (now (abi .entry)) (now (labels .entry)) (now (refs .entry)) (now (flags .entry)) (now (lasts .entry)) n ++ addedAt (now (ws .entry)) (now (text .entry)) (now (abi .entry)) (now (labels .entry)) c i t (record { word = w; method = methodOf k }) ⌝ }
     ensures count { λ m. ⌜ m ≤ n + 1 ⌝ }
 {
     if (t == 0) | (t == w) {
@@ -373,15 +380,16 @@ fn view_parent<'a>(
     ensures members { λ r. ⌜ firstNews (now (ws .entry)) (now (text .entry)) (now (abi .entry)) (now (labels .entry)) (now (refs .exit)) (now (flags .exit)) (now (lasts .exit)) r ≡ addedMethods (now (ws .entry)) (now (text .entry)) (now (abi .entry)) (now (labels .entry)) (now (area .entry)) c ⌝ }
     ensures count { λ r. ⌜ r ≤ 1024 ⌝ }
 {
-    let mut at = [0u32; 64];
+    let mut at = [0u32; class_sheet::CLASS_LIMIT as usize];
     let k = abi::chain_abi(ws, text, abi, labels, chain::parent_of(ws, c), &mut at);
     let abis = words::word_part(&at, 0, words::wide(k));
     view_entries(ws, text, abi, labels, abis, ts, ms, n, vs, vm);
     add_methods(ws, text, abi, labels, c, vs, vm, n, refs, flags, lasts)
 }
 
-// Fills the arrays with the native view of class c's parent: words and marks; with the marks of the parent's slots; and with the methods that c's
-// compiler table adds.
+// Fills the arrays with the native view of class c's parent, words and marks; with the marks of the parent's slots, each at its slot; and with
+// the methods that c's compiler table adds. Past the marks of the parent's slots their array stays. What the others hold past the counts that
+// are answered is the program's choice and means nothing; their lengths stay.
 pub fn native_view<'a>(
     ws: &[u32],
     text: &'a [u8],
@@ -397,13 +405,14 @@ pub fn native_view<'a>(
     lasts: &mut [u32; 1024],
 ) -> Native
     ensures view { λ r. ⌜ entriesOf (now (vs .exit)) (now (vm .exit)) (r .n) ≡ nativeView (now (ws .entry)) (now (text .entry)) (now (abi .entry)) (now (labels .entry)) (now (area .entry)) c ⌝ }
-    ensures parent { λ r. ⌜ ((new : List New) → markMethods (now (known .exit)) (r .n) ≡ entryMethods (now (ws .entry)) (now (text .entry)) (now (abi .entry)) (now (labels .entry)) new (parentEntries (now (ws .entry)) (now (text .entry)) (now (abi .entry)) (now (labels .entry)) (now (area .entry)) c)) ⌝ }
+    ensures parent { λ r. ⌜ marksIn (now (known .exit)) (r .n) ≡ methodsIn (parentEntries (now (ws .entry)) (now (text .entry)) (now (abi .entry)) (now (labels .entry)) (now (area .entry)) c) ⌝ }
     ensures members { λ r. ⌜ firstNews (now (ws .entry)) (now (text .entry)) (now (abi .entry)) (now (labels .entry)) (now (refs .exit)) (now (flags .exit)) (now (lasts .exit)) (r .added) ≡ addedMethods (now (ws .entry)) (now (text .entry)) (now (abi .entry)) (now (labels .entry)) (now (area .entry)) c ⌝ }
     ensures counts { λ r. ⌜ (r .n ≤ 1024) × (r .added ≤ 1024) ⌝ }
     ensures arrays { λ r. ⌜ (length (now (vs .exit)) ≡ 1024) × (length (now (vm .exit)) ≡ 1024) × (length (now (known .exit)) ≡ 1024) × (length (now (refs .exit)) ≡ 1024) × (length (now (flags .exit)) ≡ 1024) × (length (now (lasts .exit)) ≡ 1024) ⌝ }
+    ensures rest { λ r. ⌜ drop (r .n) (now (known .exit)) ≡ drop (r .n) (now (known .entry)) ⌝ }
 {
     let mut ts = [0u32; 1024];
-    let n = vtable::parent_entries(ws, text, abi, labels, area, c, &mut ts, known);
+    let n = reading::parent_entries(ws, text, abi, labels, area, c, &mut ts, known);
     let added = view_parent(
         ws,
         text,

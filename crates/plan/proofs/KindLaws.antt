@@ -1,192 +1,275 @@
--- Laws of the plans of each kind of class. Assumes nothing.
+-- Laws of the plans of each kind of class: what the code has of its fields and its table is what the definition says. Assumes nothing.
 use mathlib.Core.Path.{_≡_, refl, sym, ap, _∙_}
 use mathlib.Core.Bool.{Bool, true, false, cond}
 use mathlib.Core.Logic.{_≢_}
 use mathlib.Core.List.{List, [], _∷_}
-use Prim.Native.Nat.{ℕ, _/_, _%_, _≤_, _<_}
+use Prim.Native.Nat.{ℕ, suc, _+_, _/_, _%_, _≤_, _<_}
 use native.Mathlib.Omega.{arith}
-use lib.ListN.{take}
+use lib.ListN.{length, replicate}
 use lib.Dec.{eqb}
-use borrow.Author.Tests.{eq-eqb, ne-eqb}
+use borrow.Author.Tests.{eq-eqb, ne-eqb, le-ltb, eqb-true, eqb-false}
+use Rattle.words.proofs.Bools.{by}
 use Rattle.words.specs.Lists.{listFrom}
-use Rattle.class_sheet.specs.ClassSheet.{classKind, classFlags, classCompilerTable}
-use Rattle.linking.specs.Vtable.{Built, built, parentEntries, buildInterfaceMethods, buildMethods}
+use Rattle.words.proofs.FoldLaws.{length-stores}
+use Rattle.words.proofs.ListLaws.{length-list-from}
+use Rattle.class_sheet.specs.ClassSheet.{classKind, classFlags, classCompilerTable, fieldLimit}
+use Rattle.linking.specs.Set.{overlaid}
+use Rattle.linking.specs.Vtable.{Entry, Built, built, parentEntries, buildInterfaceMethods, buildMethods}
 use Rattle.linking.specs.Abi.{classAbi}
 use Rattle.linking.specs.Compiler.{New, addedMethods, compilerTable}
-use Rattle.linking.specs.Fields.{numberFields, addedFields, builtWords, tooManyWords, generatedRefusal}
+use Rattle.linking.specs.Fields.{numberFields, builtWords, generatedRefusal, generatedIndices}
 use Rattle.linking.specs.Link as L
-use Rattle.vtable.specs.Arrays.{entriesOf}
+use Rattle.reading.specs.Arrays.{entriesOf}
+use Rattle.vtable.specs.Arrays.{stepOf}
+use Rattle.vtable.specs.declared.Step.{Step}
+use Rattle.vtable.specs.declared.Step.the-variants.{Next}
+use Rattle.reading.proofs.ArrayLaws.{length-entries}
 use Rattle.vtable.proofs.TableLaws.{interface-same}
-use Rattle.field.specs.Numbers.{outcomeOf, builtFields, generatedFields}
+use Rattle.field.specs.Numbers.{addedTo, namesOver, flagsOver, indicesOver, numbered, numberedOf, builtFields, generatedFields}
 use Rattle.field.specs.declared.Numbered.{Numbered}
 use Rattle.field.proofs.OutcomeLaws.{built-accepted, built-refused, generated-accepted, generated-refused}
-use Rattle.field.proofs.AddedLaws.{any-area}
-use Rattle.growth.specs.News.{firstNews}
+use Rattle.field.proofs.AddedLaws.{any-area, added-few, members-are}
+use Rattle.growth.specs.News.{newAt, firstNews}
 use Rattle.plan.specs.declared.Plan.{Plan}
-use Rattle.plan.specs.Plans.{barePlanned, methodsOf, fieldsOf, plannedOf, tableRow}
-use Rattle.plan.proofs.TableLaws.{row-none, row-passes, Table, builtOf, planning, table-stops, table-passes}
+use Rattle.plan.specs.declared.Table.{Table}
+use Rattle.plan.specs.Plans.{bare, bareBuilt, fewSlots, tableFrom, tableOf, methodsOf, fieldsOf, noPlan, planFrom, Planning}
+use Rattle.plan.proofs.TableLaws.{bare-entries, table-is, length-bare, Passed, table-passes, table-stops}
+
+-- ---- the answer, from the fields and the table
+
+pub stopped : (f : Numbered) (t : Table) {r : Plan} → r ≡ noPlan (t .row) → t .row ≢ 0 → r ≡ planFrom f t
+stopped f t e h = rw (ne-eqb (t .row) 0 h) e
+
+pub passed : (f : Numbered) (t : Table) {r : Plan}
+    → r ≡ record { indices = f .indices; n = t .n; own = f .n; instance = f .words; added = f .added + t .added; row = 0 } → t .row ≡ 0
+    → r ≡ planFrom f t
+passed f t e z = rw (eq-eqb (t .row) 0 z) e
+
+pub added-is : (s : Step) (a : ℕ) {t : Table} → t ≡ tableFrom s a → t .added ≡ a
+added-is s a e = ap (λ (x : Table). x .added) e
+
+-- few members are added
+pub few-fields : (ws text abi labels : List ℕ) (c : ℕ) {f : Numbered} → f ≡ numberedOf (builtFields ws text abi labels c) → f .row ≡ 0 → f .added ≤ 1024
+few-fields ws text abi labels c e z =
+    let n = ap (λ (x : Numbered). x .added) (built-accepted ws text abi labels c e z .1) in
+    omega (arith, added-few ws text abi labels c (classAbi ws text abi labels c))
+
+pub no-fields : (ws text : List ℕ) (c : ℕ) {f : Numbered} → f ≡ numberedOf (generatedFields ws text c) → f .row ≡ 0 → f .added ≤ 1024
+no-fields ws text c e z = let n = ap (λ (x : Numbered). x .added) (generated-accepted ws text c e z .1) in omega arith
+
+-- ---- the answer and the arrays of a plan
+
+module _ (ws text abi labels : List ℕ) (c : ℕ) (ts refs flags lasts : List ℕ) where
+  abbrev news : ℕ → List New
+  news k = firstNews ws text abi labels refs flags lasts k
+
+  pub refused-plan : (words row : ℕ) {P : L.Planned} {r : Plan} → r ≡ noPlan row → row ≢ 0 → P ≡ L.unplanned row
+      → Planning ws text abi labels c words P r ts refs flags lasts
+  refused-plan words row e h f = let n = ap (λ (x : Plan). x .added) e in rw f (record { answer = e; fronts = h; few = omega arith })
+
+  pub accepted-plan : (p : L.Plan) (f : Numbered) (t : Table) (words a : ℕ) {P : L.Planned} {r : Plan} → P ≡ L.planned p → r ≡ planFrom f t
+      → t .row ≡ 0 → entriesOf ts [] (t .n) ≡ bare (p .table) → f ≡ numberedOf (numbered (p .indices) words a)
+      → a + t .added ≡ length (p .newMethods) + length (p .newFields) → p .newMethods ≡ methodsOf ws c (news (a + t .added))
+      → p .newFields ≡ fieldsOf ws c (news (a + t .added)) → a + t .added ≤ 1024 → Planning ws text abi labels c words P r ts refs flags lasts
+  accepted-plan p f t words a e g z b n s m k o =
+      let q : t .n ≡ length (p .table) = sym (length-entries ts [] (t .n)) ∙ (ap length b ∙ length-bare (p .table)) in
+      let w : planFrom f t .added ≡ a + t .added = rw (eq-eqb (t .row) 0 z, n) in
+      let v = ap (λ (x : Plan). x .added) g in
+      rw e (record { answer = g ∙ rw (eq-eqb (t .row) 0 z, n, q, s); fronts = (rw q at b, rw s at m, rw s at k); few = omega arith })
+
+pub plan-by : {ws text abi labels : List ℕ} {c words : ℕ} {P Q : L.Planned} {r : Plan} {ts refs flags lasts : List ℕ} → P ≡ Q
+    → Planning ws text abi labels c words P r ts refs flags lasts → Planning ws text abi labels c words Q r ts refs flags lasts
+plan-by e h = rw (← e) h
 
 module _ (ws text abi labels area : List ℕ) (c : ℕ) where
-  -- a plan that is refused
-  pub no-plan : (r : Plan) (ts is refs flags lasts : List ℕ) {row : ℕ} {Q : L.Planned} → r .row ≡ row → row ≢ 0 → L.unplanned row ≡ Q
-      → plannedOf ws text abi labels c ts is refs flags lasts r ≡ Q
-  no-plan r ts is refs flags lasts {row = row} e h q = rw e (simp (ne-eqb row 0 h) q)
-
-  -- what a plan adds, from the arrays
-  abbrev added : List ℕ → List ℕ → List ℕ → ℕ → List New
-  added refs flags lasts k = firstNews ws text abi labels refs flags lasts k
-
   -- ---- the table of a built class
 
-  module _ {f : ℕ} (flags : f ≡ classFlags ws c) {B : Built} where
-    pub table-interface : f / 512 % 2 ≡ 1 → B ≡ built (buildInterfaceMethods ws text [] [] c) → B ≡ L.builtTable ws text abi labels area c
+  module _ {f : ℕ} (flags : f ≡ classFlags ws c) where
+    pub interface-table : (n : ℕ) (ts ms : List ℕ) {t : Table} → f / 512 % 2 ≡ 1 → entriesOf ts ms n ≡ buildInterfaceMethods ws text [] [] c
+        → t ≡ tableFrom (Next n) 0 → tableOf t ts ≡ bareBuilt (fewSlots (L.builtTable ws text abi labels area c))
     unfolding L.builtTable
-    table-interface h e = e ∙ rw (← flags) (simp (eq-eqb (f / 512 % 2) 1 h) (ap built (interface-same ws text abi labels c)))
+    interface-table n ts ms h e g =
+        table-is (Next n) 0 ts ms (L.builtTable ws text abi labels area c) g
+        (ap built e ∙ rw (← flags) (simp (eq-eqb (f / 512 % 2) 1 h) (ap built (interface-same ws text abi labels c))))
 
-    pub table-class : f / 512 % 2 ≢ 1 → B ≡ buildMethods ws text abi labels area c → B ≡ L.builtTable ws text abi labels area c
+    pub class-table : (s : Step) (ts ms : List ℕ) {t : Table} → f / 512 % 2 ≢ 1 → stepOf s ts ms ≡ buildMethods ws text abi labels area c
+        → t ≡ tableFrom s 0 → tableOf t ts ≡ bareBuilt (fewSlots (L.builtTable ws text abi labels area c))
     unfolding L.builtTable
-    table-class h e = e ∙ rw (← flags) (simp (ne-eqb (f / 512 % 2) 1 h))
+    class-table s ts ms h e g = table-is s 0 ts ms (L.builtTable ws text abi labels area c) g (e ∙ rw (← flags) (simp (ne-eqb (f / 512 % 2) 1 h)))
 
   -- ---- a built class
 
-  module _ (r : Numbered) (numbers : outcomeOf r ≡ builtFields ws text abi labels c) where
-    pub built-row : r .row ≢ 0 → L.unplanned (r .row) ≡ barePlanned (L.planBuilt ws text abi labels area c)
+  length-news : (gs : List ℕ) → length (L.newFieldsOf ws text abi labels area gs) ≡ length gs
+  unfolding L.newFieldsOf
+  length-news [] = refl
+  length-news (g ∷ gs) = ap suc (length-news gs)
+
+  module _ (f : Numbered) (numbers : f ≡ numberedOf (builtFields ws text abi labels c)) where
+    pub built-row : (words : ℕ) (ts refs flags lasts : List ℕ) {r : Plan} → r ≡ noPlan (f .row) → f .row ≢ 0
+        → Planning ws text abi labels c words (L.planBuilt ws text abi labels area c) r ts refs flags lasts
     unfolding L.planBuilt
-    built-row h = let p = built-refused ws text abi labels c r numbers h in rw (p .1, p .0)
+    built-row words ts refs flags lasts e h =
+        let p = built-refused ws text abi labels c numbers h in
+        refused-plan ws text abi labels c ts refs flags lasts words (f .row) e h (rw (p .1, p .0))
 
-    module _ (zero : r .row ≡ 0) (t : Table) (table : builtOf t ≡ L.builtTable ws text abi labels area c) where
-      plan-table : barePlanned (planning t (take (r .n) (r .indices)) [] (L.newFieldsOf ws text abi labels area (addedFields ws text abi labels (classAbi ws text abi labels c) c)) (builtOf t))
-          ≡ barePlanned (L.planBuilt ws text abi labels area c)
+    module _ (t : Table) (ts : List ℕ) (table : tableOf t ts ≡ bareBuilt (fewSlots (L.builtTable ws text abi labels area c))) (zero : f .row ≡ 0) where
+      abbrev gs : List ℕ
+      gs = addedTo ws text abi labels c
+
+      built-stops : t .row ≢ 0 → L.planBuilt ws text abi labels area c ≡ L.unplanned (t .row)
       unfolding L.planBuilt
-      plan-table = let p = built-accepted ws text abi labels c r numbers zero in rw (p .0, p .1, table)
+      built-stops h = rw (built-accepted ws text abi labels c numbers zero .0) (table-stops t ts (L.builtTable ws text abi labels area c) table _ _ _ h)
 
-      pub built-stops : {row : ℕ} → row ≡ tableRow (t .row) (t .n) → row ≢ 0 → L.unplanned row ≡ barePlanned (L.planBuilt ws text abi labels area c)
-      built-stops e h =
-          table-stops t (take (r .n) (r .indices)) [] (L.newFieldsOf ws text abi labels area (addedFields ws text abi labels (classAbi ws text abi labels c) c)) e h
-          ∙ plan-table
+      abbrev plan-of : Passed (L.builtTable ws text abi labels area c) (t .n) ts → L.Plan
+      plan-of q =
+          record {
+            table = q .slots;
+            indices = numberFields ws text abi labels (classAbi ws text abi labels c) c .indices;
+            newMethods = [];
+            newFields = L.newFieldsOf ws text abi labels area gs;
+          }
 
-      pub built-planned : (refs flags lasts : List ℕ) (k : ℕ) {n row : ℕ} → classKind ws c ≡ 0 → n ≡ t .n → row ≡ tableRow (t .row) (t .n) → row ≡ 0
-          → added refs flags lasts k ≡ L.newFieldsOf ws text abi labels [] (addedFields ws text abi labels (classAbi ws text abi labels c) c)
-          → L.planned
-          (record {
-            table = entriesOf (t .words) [] n;
-            indices = take (r .n) (r .indices);
-            newMethods = methodsOf ws c (added refs flags lasts k);
-            newFields = fieldsOf ws c (added refs flags lasts k);
-          })
-          ≡ barePlanned (L.planBuilt ws text abi labels area c)
-      built-planned refs flags lasts k kind s e z n =
-          let p = row-passes (t .row) (t .n) (sym e ∙ z) in
-          let a = any-area ws text abi labels area (addedFields ws text abi labels (classAbi ws text abi labels c) c) in
-          rw (kind, s, n, ← a)
-          (table-passes t (take (r .n) (r .indices)) [] (L.newFieldsOf ws text abi labels area (addedFields ws text abi labels (classAbi ws text abi labels c) c)) (p .0) (p .1)
-          ∙ plan-table)
+      built-passes : (q : Passed (L.builtTable ws text abi labels area c) (t .n) ts) → L.planBuilt ws text abi labels area c ≡ L.planned (plan-of q)
+      unfolding L.planBuilt L.withinSlots
+      built-passes q =
+          rw (built-accepted ws text abi labels c numbers zero .0, q .table, le-ltb 1024 (length (q .slots)) (q .few))
 
-    pub built-instance : r .row ≡ 0 → classKind ws c ≡ 0 → r .words ≡ L.newWords ws text abi labels area c
-    unfolding L.newWords
-    built-instance z kind = built-accepted ws text abi labels c r numbers z .2 ∙ rw kind
+      built-words : classKind ws c ≡ 0 → L.newWords ws text abi labels area c ≡ builtWords ws text abi labels (classAbi ws text abi labels c) c
+      unfolding L.newWords
+      built-words k = rw k
 
-  -- ---- a plan that adds nothing
+      pub built-plan : (a d b : List ℕ) {r : Plan} {refs flags lasts : List ℕ} → classKind ws c ≡ 0 → t .added ≡ 0 → refs ≡ namesOver gs a
+          → flags ≡ flagsOver gs d → lasts ≡ indicesOver abi gs b → (length refs ≡ 1024) × (length flags ≡ 1024) × (length lasts ≡ 1024)
+          → r ≡ planFrom f t
+          → Planning ws text abi labels c (L.newWords ws text abi labels area c) (L.planBuilt ws text abi labels area c) r ts refs flags lasts
+      built-plan a d b {refs = refs} {flags = flags} {lasts = lasts} kind none e k l n g =
+          by (eqb (t .row) 0)
+          (λ z.
+          let o = eqb-true (t .row) 0 z in
+          let q = table-passes t ts (L.builtTable ws text abi labels area c) table o in
+          let few = added-few ws text abi labels c (classAbi ws text abi labels c) in
+          let la : length refs ≡ length a = rw e (length-stores (length gs) _ a) in
+          let ld : length flags ≡ length d = rw k (length-stores (length gs) _ d) in
+          let lb : length lasts ≡ length b = rw l (length-stores (length gs) _ b) in
+          let m = members-are ws text abi labels gs a d b e k l (omega arith) (omega arith) (omega arith) in
+          let s : length gs + t .added ≡ length gs = omega arith in
+          let both : length gs + t .added ≡ 0 + length (L.newFieldsOf ws text abi labels area gs) = omega (arith, length-news gs) in
+          accepted-plan ws text abi labels c ts refs flags lasts (plan-of q) f t (L.newWords ws text abi labels area c) (length gs) (built-passes q) g o
+          (q .words) (rw (built-words kind) (built-accepted ws text abi labels c numbers zero .1)) both (rw kind refl)
+          (rw (kind, s, m) (any-area ws text abi labels area gs)) (omega arith))
+          (λ z.
+          let h = eqb-false (t .row) 0 z in
+          refused-plan ws text abi labels c ts refs flags lasts (L.newWords ws text abi labels area c) (t .row) (g ∙ rw (ne-eqb (t .row) 0 h)) h (built-stops h))
 
-  no-news : (refs flags lasts : List ℕ) → firstNews ws text abi labels refs flags lasts 0 ≡ []
-  unfolding firstNews listFrom
-  no-news refs flags lasts = refl
+  -- ---- a class that gets no instance words
 
-  either : (b : Bool) {l : List New} → l ≡ [] → (cond b [] l ≡ []) × (cond b l [] ≡ [])
-  either true e = (refl, e)
-  either false e = (e, refl)
-
-  pub plain-planned : (is : List ℕ) (t : Table) (refs flags lasts : List ℕ) {n row : ℕ} → n ≡ t .n → row ≡ tableRow (t .row) (t .n) → row ≡ 0
-      → L.planned
-      (record {
-        table = entriesOf (t .words) [] n;
-        indices = is;
-        newMethods = methodsOf ws c (added refs flags lasts 0);
-        newFields = fieldsOf ws c (added refs flags lasts 0);
-      })
-      ≡ barePlanned (planning t is [] [] (builtOf t))
-  plain-planned is t refs flags lasts s e f =
-      let p = row-passes (t .row) (t .n) (sym e ∙ f) in
-      let g = either (eqb (classKind ws c) 0) (no-news refs flags lasts) in
-      rw (s, g .0, g .1) (table-passes t is [] [] (p .0) (p .1))
-
-  pub no-words : classKind ws c ≢ 0 → 0 ≡ L.newWords ws text abi labels area c
+  no-words : classKind ws c ≢ 0 → L.newWords ws text abi labels area c ≡ 0
   unfolding L.newWords
   no-words h = simp (ne-eqb (classKind ws c) 0 h)
 
   -- ---- an array class
 
-  module _ (ps qs : List ℕ) (n : ℕ) (table : entriesOf ps qs n ≡ parentEntries ws text abi labels area c) (count : n ≤ 1024) where
-    abbrev inherited : Table
-    inherited = record { words = ps; marks = qs; n = n; row = 0 }
-
-    array-table : barePlanned (planning inherited [] [] [] (builtOf inherited)) ≡ barePlanned (L.planArray ws text abi labels area c)
-    unfolding L.planArray
-    array-table = rw table
-
-    pub array-planned : (ts refs flags lasts : List ℕ) → entriesOf ts [] n ≡ entriesOf ps [] n
-        → L.planned
-        (record {
-          table = entriesOf ts [] n;
-          indices = [];
-          newMethods = methodsOf ws c (added refs flags lasts 0);
-          newFields = fieldsOf ws c (added refs flags lasts 0);
-        })
-        ≡ barePlanned (L.planArray ws text abi labels area c)
-    array-planned ts refs flags lasts s = rw s (plain-planned [] inherited refs flags lasts refl (row-none 0 n refl count) refl ∙ array-table)
+  pub array-plan : (ts ms : List ℕ) (n : ℕ) → classKind ws c ≢ 0 → entriesOf ts ms n ≡ parentEntries ws text abi labels area c → n ≤ 1024
+      → (refs flags lasts : List ℕ)
+      → Planning ws text abi labels c (L.newWords ws text abi labels area c) (L.planArray ws text abi labels area c)
+      (record { indices = replicate fieldLimit 0; n = n; own = 0; instance = 0; added = 0; row = 0 }) ts refs flags lasts
+  unfolding L.planArray L.withinSlots overlaid firstNews listFrom
+  array-plan ts ms n kind table few refs flags lasts =
+      rw (no-words kind)
+      (accepted-plan ws text abi labels c ts refs flags lasts
+      (record { table = parentEntries ws text abi labels area c; indices = []; newMethods = []; newFields = [] })
+      (record { indices = replicate fieldLimit 0; n = 0; words = 0; added = 0; row = 0 }) (record { n = n; added = 0; row = 0 }) 0 0
+      (rw (← table, length-entries ts ms n, le-ltb 1024 n few)) refl refl (sym (bare-entries ts ms n) ∙ ap bare table) refl refl
+      (either (eqb (classKind ws c) 0)) (either (eqb (classKind ws c) 0)) (omega arith))
+    where
+      either : (b : Bool) → [] ≡ cond {A = List New} b [] []
+      either true = refl
+      either false = refl
 
   -- ---- a generated class
 
-  module _ (r : Numbered) (numbers : outcomeOf r ≡ generatedFields ws text c) where
-    pub generated-row : r .row ≢ 0 → L.unplanned (r .row) ≡ barePlanned (L.planGenerated ws text abi labels area c)
+  module _ {k : ℕ} (code : k ≡ classCompilerTable ws c) where
+    pub methods-table : (s : Step) (ts ms : List ℕ) {t : Table} → k ≡ 0 → stepOf s ts ms ≡ buildMethods ws text abi labels area c
+        → t ≡ tableFrom s 0 → tableOf t ts ≡ bareBuilt (fewSlots (L.generatedTable ws text abi labels area c))
+    unfolding L.generatedTable
+    methods-table s ts ms z e g = table-is s 0 ts ms (L.generatedTable ws text abi labels area c) g (e ∙ rw (← code) (simp (eq-eqb k 0 z)))
+
+    pub compiled-table : (n a : ℕ) (ts ms : List ℕ) {t : Table} → k ≢ 0 → entriesOf ts ms n ≡ compilerTable ws text abi labels area c
+        → t ≡ tableFrom (Next n) a → tableOf t ts ≡ bareBuilt (fewSlots (L.generatedTable ws text abi labels area c))
+    unfolding L.generatedTable
+    compiled-table n a ts ms h e g = table-is (Next n) a ts ms (L.generatedTable ws text abi labels area c) g (ap built e ∙ rw (← code) (simp (ne-eqb k 0 h)))
+
+    pub adds-none : (s : Step) (refs flags lasts : List ℕ) {t : Table} → k ≡ 0 → t ≡ tableFrom s 0
+        → firstNews ws text abi labels refs flags lasts (t .added) ≡ L.generatedMethods ws text abi labels area c
+    unfolding L.generatedMethods firstNews listFrom
+    adds-none s refs flags lasts z g = rw (added-is s 0 g, ← code) (simp (eq-eqb k 0 z))
+
+    pub adds-methods : (s : Step) (a : ℕ) (refs flags lasts : List ℕ) {t : Table} → k ≢ 0
+        → firstNews ws text abi labels refs flags lasts a ≡ addedMethods ws text abi labels area c → t ≡ tableFrom s a
+        → firstNews ws text abi labels refs flags lasts (t .added) ≡ L.generatedMethods ws text abi labels area c
+    unfolding L.generatedMethods
+    adds-methods s a refs flags lasts h e g = rw (added-is s a g, ← code) (simp (ne-eqb k 0 h) e)
+
+  module _ (f : Numbered) (numbers : f ≡ numberedOf (generatedFields ws text c)) where
+    pub generated-row : (words : ℕ) (ts refs flags lasts : List ℕ) {r : Plan} → r ≡ noPlan (f .row) → f .row ≢ 0
+        → Planning ws text abi labels c words (L.planGenerated ws text abi labels area c) r ts refs flags lasts
     unfolding L.planGenerated
-    generated-row h =
-        let e = generated-refused ws text c r numbers h in
-        let n : generatedRefusal ws text c ≢ 0 = (λ z. h (e ∙ z)) in
-        rw e (simp (ne-eqb (generatedRefusal ws text c) 0 n))
+    generated-row words ts refs flags lasts e h =
+        let p = generated-refused ws text c numbers h in
+        let n : generatedRefusal ws text c ≢ 0 = (λ z. h (p ∙ z)) in
+        refused-plan ws text abi labels c ts refs flags lasts words (f .row) e h (rw p (simp (ne-eqb (generatedRefusal ws text c) 0 n)))
 
-    module _ (zero : r .row ≡ 0) where
-      pub methods-table : (t : Table) → classCompilerTable ws c ≡ 0 → builtOf t ≡ buildMethods ws text abi labels area c
-          → barePlanned (planning t (take (r .n) (r .indices)) [] [] (builtOf t)) ≡ barePlanned (L.planGenerated ws text abi labels area c)
-      unfolding L.planGenerated L.generatedTable L.generatedMethods
-      methods-table t k e =
-          let p = generated-accepted ws text c r numbers zero in
-          rw (k, p .0, p .1, e)
+    module _ (t : Table) (ts : List ℕ) (table : tableOf t ts ≡ bareBuilt (fewSlots (L.generatedTable ws text abi labels area c))) (zero : f .row ≡ 0) where
+      generated-stops : t .row ≢ 0 → L.planGenerated ws text abi labels area c ≡ L.unplanned (t .row)
+      unfolding L.planGenerated
+      generated-stops h =
+          rw (generated-accepted ws text c numbers zero .0) (table-stops t ts (L.generatedTable ws text abi labels area c) table _ _ _ h)
 
-      -- with a compiler table
-      module _ (ts ms : List ℕ) (n : ℕ) (E : List New) (some : classCompilerTable ws c ≢ 0)
-          (table : entriesOf ts ms n ≡ compilerTable ws text abi labels area c) (added : E ≡ addedMethods ws text abi labels area c) where
-        abbrev prepared : Table
-        prepared = record { words = ts; marks = ms; n = n; row = 0 }
+      abbrev made-of : Passed (L.generatedTable ws text abi labels area c) (t .n) ts → L.Plan
+      made-of q =
+          record {
+            table = q .slots;
+            indices = generatedIndices ws text c;
+            newMethods = L.generatedMethods ws text abi labels area c;
+            newFields = [];
+          }
 
-        compiled-table : barePlanned (planning prepared (take (r .n) (r .indices)) E [] (builtOf prepared)) ≡ barePlanned (L.planGenerated ws text abi labels area c)
-        unfolding L.planGenerated L.generatedTable L.generatedMethods
-        compiled-table =
-            let p = generated-accepted ws text c r numbers zero in
-            rw (p .0, p .1, table, added) (simp (ne-eqb (classCompilerTable ws c) 0 some))
+      generated-passes : (q : Passed (L.generatedTable ws text abi labels area c) (t .n) ts) → L.planGenerated ws text abi labels area c ≡ L.planned (made-of q)
+      unfolding L.planGenerated L.withinSlots
+      generated-passes q =
+          rw (generated-accepted ws text c numbers zero .0, q .table, le-ltb 1024 (length (q .slots)) (q .few))
 
-        pub compiled-stops : {row : ℕ} → row ≡ tableRow 0 n → row ≢ 0 → L.unplanned row ≡ barePlanned (L.planGenerated ws text abi labels area c)
-        compiled-stops e h = table-stops prepared (take (r .n) (r .indices)) E [] e h ∙ compiled-table
-
-        pub compiled-planned : {row : ℕ} → classKind ws c ≢ 0 → row ≡ tableRow 0 n → row ≡ 0
-            → L.planned
-            (record { table = entriesOf ts [] n; indices = take (r .n) (r .indices); newMethods = methodsOf ws c E; newFields = fieldsOf ws c E })
-            ≡ barePlanned (L.planGenerated ws text abi labels area c)
-        compiled-planned kind e z =
-            let p = row-passes 0 n (sym e ∙ z) in
-            simp (ne-eqb (classKind ws c) 0 kind) (table-passes prepared (take (r .n) (r .indices)) E [] refl (p .1) ∙ compiled-table)
+      pub generated-plan : {r : Plan} (refs flags lasts : List ℕ) → classKind ws c ≢ 0
+          → firstNews ws text abi labels refs flags lasts (t .added) ≡ L.generatedMethods ws text abi labels area c → t .added ≤ 1024
+          → r ≡ planFrom f t → Planning ws text abi labels c (L.newWords ws text abi labels area c) (L.planGenerated ws text abi labels area c) r ts refs flags lasts
+      unfolding firstNews
+      generated-plan refs flags lasts kind new few g =
+          by (eqb (t .row) 0)
+          (λ z.
+          let o = eqb-true (t .row) 0 z in
+          let q = table-passes t ts (L.generatedTable ws text abi labels area c) table o in
+          let n : length (L.generatedMethods ws text abi labels area c) ≡ t .added = rw (← new) (length-list-from (newAt ws text abi labels refs flags lasts) 0 (t .added)) in
+          let s : 0 + t .added ≡ t .added = omega arith in
+          rw (no-words kind)
+          (accepted-plan ws text abi labels c ts refs flags lasts (made-of q) f t 0 0 (generated-passes q) g o (q .words)
+          (generated-accepted ws text c numbers zero .1) (omega arith) (rw s (simp (ne-eqb (classKind ws c) 0 kind) (sym new)))
+          (simp (ne-eqb (classKind ws c) 0 kind)) (omega arith)))
+          (λ z.
+          let h = eqb-false (t .row) 0 z in
+          refused-plan ws text abi labels c ts refs flags lasts (L.newWords ws text abi labels area c) (t .row) (g ∙ rw (ne-eqb (t .row) 0 h)) h
+          (generated-stops h))
 
   -- ---- by the kind
 
   module _ {k : ℕ} (kind : k ≡ classKind ws c) where
-    pub kind-built : k ≡ 0 → barePlanned (L.planBuilt ws text abi labels area c) ≡ barePlanned (L.plan ws text abi labels area c)
+    pub kind-built : k ≡ 0 → L.planBuilt ws text abi labels area c ≡ L.plan ws text abi labels area c
     unfolding L.plan
     kind-built e = rw (← kind) (simp (eq-eqb k 0 e))
 
-    pub kind-generated : k ≢ 0 → k ≡ 1 → barePlanned (L.planGenerated ws text abi labels area c) ≡ barePlanned (L.plan ws text abi labels area c)
+    pub kind-generated : k ≢ 0 → k ≡ 1 → L.planGenerated ws text abi labels area c ≡ L.plan ws text abi labels area c
     unfolding L.plan
     kind-generated h e = rw (← kind) (simp (ne-eqb k 0 h, eq-eqb k 1 e))
 
-    pub kind-array : k ≢ 0 → k ≢ 1 → barePlanned (L.planArray ws text abi labels area c) ≡ barePlanned (L.plan ws text abi labels area c)
+    pub kind-array : k ≢ 0 → k ≢ 1 → L.planArray ws text abi labels area c ≡ L.plan ws text abi labels area c
     unfolding L.plan
     kind-array h e = rw (← kind) (simp (ne-eqb k 0 h, ne-eqb k 1 e))

@@ -1,54 +1,35 @@
 -- Laws of a plan's table: by its words, and the rows that refuse it. Assumes nothing.
 use mathlib.Core.Path.{_≡_, refl, sym, ap, _∙_}
-use mathlib.Core.Bool.{Bool, true, false, cond}
 use mathlib.Core.Logic.{_≢_}
 use mathlib.Core.List.{List, [], _∷_}
 use Prim.Native.Nat.{ℕ, zero, suc, _+_, _≤_, _<_}
 use native.Mathlib.Omega.{arith}
-use lib.ListN.{length, getD, set}
-use lib.Seq.{ext-getD}
-use lib.Dec.{eqb, ltb}
-use borrow.Author.Tests.{eq-eqb, ne-eqb, lt-ltb, le-ltb, ltb-true, ltb-false, eqb-true}
+use lib.ListN.{length}
+use lib.Dec.{ltb}
+use borrow.Author.Tests.{eq-eqb, ne-eqb, lt-ltb, le-ltb, ltb-false}
 use Rattle.words.proofs.Bools.{by}
-use Rattle.words.proofs.FoldLaws.{stores-turn}
-use Rattle.words.specs.Folds.{stores}
 use Rattle.words.specs.Lists.{listFrom}
-use Rattle.linking.specs.Vtable.{Entry, Built, built, refused, empty}
+use Rattle.linking.specs.Vtable.{Entry, Built, built, refused}
 use Rattle.linking.specs.Compiler.{New}
 use Rattle.linking.specs.Link as L
-use Rattle.vtable.specs.Arrays.{entryAt, entriesOf, stepOf, stepCount}
+use Rattle.reading.specs.Arrays.{methodOf, entryAt, entriesOf}
+use Rattle.vtable.specs.Arrays.{stepOf, stepCount}
 use Rattle.vtable.specs.declared.Step.{Step}
 use Rattle.vtable.specs.declared.Step.the-variants.{Next, Moved, Taken}
-use Rattle.vtable.proofs.ArrayLaws.{length-entries, entry-is}
-use Rattle.field.proofs.AddedLaws.{getD-stores}
-use Rattle.plan.specs.Plans.{bare, barePlan, barePlanned, stepRow, tableRow}
+use Rattle.reading.proofs.ArrayLaws.{length-entries}
+use Rattle.plan.specs.Plans.{bare, bareBuilt, fewSlots, stepRow, tableRow, tableFrom, tableOf}
+use Rattle.plan.specs.declared.Table.{Table}
 
 -- ---- a table by its words
 
 bare-from : (ts ms : List ℕ) (m n : ℕ) → bare (listFrom (entryAt ts ms) m n) ≡ listFrom (entryAt ts []) m n
-unfolding bare listFrom entryAt
+unfolding bare listFrom entryAt methodOf
 bare-from ts ms m zero = refl
 bare-from ts ms m (suc n) = rw (bare-from ts ms (m + 1) n)
 
 pub bare-entries : (ts ms : List ℕ) (n : ℕ) → bare (entriesOf ts ms n) ≡ entriesOf ts [] n
 unfolding entriesOf
 bare-entries ts ms n = bare-from ts ms 0 n
-
-same-words : (a b : List ℕ) (n : ℕ) → ((i : ℕ) → i < n → getD a i 0 ≡ getD b i 0) → entriesOf a [] n ≡ entriesOf b [] n
-unfolding entryAt
-same-words a b n h =
-    ext-getD empty (entriesOf a [] n) (entriesOf b [] n) (rw (length-entries a [] n, length-entries b [] n))
-    (λ i l.
-    let g : i < n = rw (length-entries a [] n) at l in
-    entry-is a [] n i empty g ∙ (rw (h i g) (sym (entry-is b [] n i empty g))))
-
-pub copied : (ts : List ℕ) (n i : ℕ) (slots : List ℕ) {d : List ℕ} → n ≤ length slots → i ≡ n → d ≡ stores i (λ k. getD ts k 0) slots
-    → entriesOf d [] n ≡ entriesOf ts [] n
-copied ts n i slots h e f = rw (f, e) (same-words (stores n (λ k. getD ts k 0) slots) ts n (λ j l. getD-stores n (λ k. getD ts k 0) slots j l h))
-
-pub copied-turn : (ts : List ℕ) (i : ℕ) (slots : List ℕ) {d o : List ℕ} {w a b : ℕ} → d ≡ stores i (λ k. getD ts k 0) slots → w ≡ getD ts a 0
-    → a ≡ i → o ≡ set d b w → b ≡ i → o ≡ stores (i + 1) (λ k. getD ts k 0) slots
-copied-turn ts i slots e f g h k = stores-turn i (λ k. getD ts k 0) slots (rw k at h) e (rw g at f)
 
 -- ---- rows 11 to 13
 
@@ -64,74 +45,50 @@ pub row-none : (row n : ℕ) → row ≡ 0 → n ≤ 1024 → 0 ≡ tableRow row
 unfolding tableRow
 row-none row n e h = simp (eq-eqb row 0 e, le-ltb 1024 n h)
 
--- no row refuses: the table's own is 0, and it has at most 1,024 slots
-pub row-passes : (row n : ℕ) → tableRow row n ≡ 0 → (row ≡ 0) × (n ≤ 1024)
+-- ---- what building a table came to
+
+pub table-is : (s : Step) (added : ℕ) (ts ms : List ℕ) (B : Built) {t : Table} → t ≡ tableFrom s added → stepOf s ts ms ≡ B
+    → tableOf t ts ≡ bareBuilt (fewSlots B)
 unfolding tableRow
-row-passes row n h =
-    by (eqb row 0)
-    (λ q. (
-      eqb-true row 0 q,
-      by (ltb 1024 n)
-          (λ l. let z : 13 ≡ 0 = rw (q, l) at h in absurd (omega arith))
-          (λ l. ltb-false 1024 n l),
-    ))
-    (λ q. let z : row ≡ 0 = rw q at h in absurd (ne row q z))
-  where
-    ne : (k : ℕ) → eqb k 0 ≡ false → k ≡ 0 → ⊥
-    ne k q z = let t : true ≡ false = sym (eq-eqb k 0 z) ∙ q in let o : _≡_ {A = ℕ} 0 1 = cc in omega arith
+table-is (Next n) added ts ms B e f =
+    rw (e, ← f, length-entries ts ms n) (by (ltb 1024 n) (λ l. rw l) (λ l. rw (l, bare-entries ts ms n)))
+table-is Moved added ts ms B e f = rw (e, ← f)
+table-is Taken added ts ms B e f = rw (e, ← f)
 
--- a table in two arrays, of so many slots, or the row that refuses it
-pub record Table : Type 0 where
-  pub words : List ℕ
-  pub marks : List ℕ
-  pub n : ℕ
-  pub row : ℕ
+pub length-bare : (T : List Entry) → length (bare T) ≡ length T
+unfolding bare
+length-bare [] = refl
+length-bare (e ∷ T) = ap suc (length-bare T)
 
-abbrev pub builtOf : Table → Built
-builtOf t = cond (eqb (t .row) 0) (built (entriesOf (t .words) (t .marks) (t .n))) (refused (t .row))
+-- a table that no row refuses: its slots, of which the array has the words
+pub record Passed (B : Built) (n : ℕ) (ts : List ℕ) : Type 0 where
+  pub slots : List Entry
+  pub table : B ≡ built slots
+  pub few : length slots ≤ 1024
+  pub words : entriesOf ts [] n ≡ bare slots
 
--- what building it came to
-abbrev pub stepTable : Step → List ℕ → List ℕ → Table
-stepTable s ts ms = record { words = ts; marks = ms; n = stepCount s; row = stepRow s }
-
-pub step-built : (s : Step) (ts ms : List ℕ) → builtOf (stepTable s ts ms) ≡ stepOf s ts ms
-step-built (Next n) ts ms = refl
-step-built Moved ts ms = refl
-step-built Taken ts ms = refl
-
-pub step-refusal : (s : Step) {a b r : ℕ} → a ≡ stepRow s → b ≡ stepCount s → r ≡ tableRow a b → r ≡ tableRow (stepRow s) (stepCount s)
-step-refusal s e f g = g ∙ rw (e, f)
-
-module _ (t : Table) (is : List ℕ) (ms fs : List New) where
-  abbrev pub planning : Built → L.Planned
-  planning B = L.onTable B (λ T. L.withinSlots (record { table = T; indices = is; newMethods = ms; newFields = fs }))
-
-  own-row : t .row ≢ 0 → L.unplanned (t .row) ≡ planning (builtOf t)
-  own-row h = simp (ne-eqb (t .row) 0 h)
-
-  many-slots : t .row ≡ 0 → 1024 < t .n → L.unplanned 13 ≡ planning (builtOf t)
-  unfolding L.withinSlots
-  many-slots e h = simp (eq-eqb (t .row) 0 e, length-entries (t .words) (t .marks) (t .n), lt-ltb 1024 (t .n) h)
-
-  pub table-stops : {r : ℕ} → r ≡ tableRow (t .row) (t .n) → r ≢ 0 → L.unplanned r ≡ barePlanned (planning (builtOf t))
-  table-stops {r = r} e h =
-      by (eqb (t .row) 0)
-      (λ q.
-      let z = eqb-true (t .row) 0 q in
-      by (ltb 1024 (t .n))
-      (λ l. rw (e ∙ sym (row-many (t .row) (t .n) z (above l))) (ap barePlanned (many-slots z (above l))))
-      (λ l. absurd (h (e ∙ sym (row-none (t .row) (t .n) z (ltb-false 1024 (t .n) l))))))
-      (λ q. let z = ne (t .row) q in rw (e ∙ sym (row-own (t .row) (t .n) z)) (ap barePlanned (own-row z)))
+module _ (t : Table) (ts : List ℕ) (B : Built) (is : tableOf t ts ≡ bareBuilt (fewSlots B)) where
+  pub table-passes : t .row ≡ 0 → Passed B (t .n) ts
+  table-passes z = passes B (rw (eq-eqb (t .row) 0 z) at is)
     where
-      above : ltb 1024 (t .n) ≡ true → 1024 < t .n
-      above l = omega (arith, ltb-true 1024 (t .n) l)
+      passes : (C : Built) → built (entriesOf ts [] (t .n)) ≡ bareBuilt (fewSlots C) → Passed C (t .n) ts
+      passes (built T) e =
+          by (ltb 1024 (length T))
+          (λ l. let f : built (entriesOf ts [] (t .n)) ≡ refused 13 = rw l at e in absurd (let o : _≡_ {A = ℕ} 0 1 = cc in omega arith))
+          (λ l.
+          let f : built (entriesOf ts [] (t .n)) ≡ built (bare T) = rw l at e in
+          record { slots = T; table = refl; few = ltb-false 1024 (length T) l; words = cc })
+      passes (refused n) e = absurd (let o : _≡_ {A = ℕ} 0 1 = cc in omega arith)
 
-      ne : (k : ℕ) → eqb k 0 ≡ false → k ≢ 0
-      ne k q z = let t : true ≡ false = sym (eq-eqb k 0 z) ∙ q in let o : _≡_ {A = ℕ} 0 1 = cc in absurd (omega arith)
-
-  pub table-passes : t .row ≡ 0 → t .n ≤ 1024
-      → L.planned (record { table = entriesOf (t .words) [] (t .n); indices = is; newMethods = ms; newFields = fs }) ≡ barePlanned (planning (builtOf t))
+  pub table-stops : (is : List ℕ) (ms fs : List New) → t .row ≢ 0
+      → L.onTable B (λ T. L.withinSlots (record { table = T; indices = is; newMethods = ms; newFields = fs })) ≡ L.unplanned (t .row)
   unfolding L.withinSlots
-  table-passes e h =
-      simp (eq-eqb (t .row) 0 e, length-entries (t .words) (t .marks) (t .n), le-ltb 1024 (t .n) h)
-      (rw (bare-entries (t .words) (t .marks) (t .n)))
+  table-stops js ms fs h = stops B (rw (ne-eqb (t .row) 0 h) at is)
+    where
+      stops : (C : Built) → refused (t .row) ≡ bareBuilt (fewSlots C)
+          → L.onTable C (λ T. L.withinSlots (record { table = T; indices = js; newMethods = ms; newFields = fs })) ≡ L.unplanned (t .row)
+      stops (built T) e =
+          by (ltb 1024 (length T))
+          (λ l. let f : refused (t .row) ≡ refused 13 = rw l at e in let g : t .row ≡ 13 = cc in rw (l, g))
+          (λ l. let f : refused (t .row) ≡ built (bare T) = rw l at e in absurd (let o : _≡_ {A = ℕ} 0 1 = cc in omega arith))
+      stops (refused n) e = let g : t .row ≡ n = cc in rw g

@@ -1,7 +1,7 @@
 -- DEMAND 3 OF WHAT `replay` LEAVES (specs/Replayed.antt), from demand 3 and the contract of `replay`. Assumes nothing.
 use mathlib.Core.Path.{_≡_, refl, sym, ap, _∙_, subst}
 use mathlib.Core.Bool.{true}
-use mathlib.Core.List.{List, [], _∷_, _++_}
+use mathlib.Core.List.{List, [], _∷_}
 use Prim.Native.Nat.{ℕ, zero, suc, _+_, _*_, _/_, _<_}
 use native.Mathlib.Omega.{arith}
 use lib.ListN.{length, getD, take, drop}
@@ -15,8 +15,8 @@ use Rattle.slots.specs.Slots.{Unique, Kept}
 use Rattle.calls.specs.Calls.{Call, link, State, outcome, step, run, LinkedIn, now, later, tableAt}
 use Rattle.calls.specs.Demand.{Linked, Claim}
 use Rattle.calls.proofs.Theorem.{demand-3}
-use Rattle.replay.specs.Replay.{stubList, callOf, callAt, callsOf, state, answerOf, answersOf, over}
-use Rattle.replay.specs.Replayed.{Told, Made, Keeps, Holds, Replayed}
+use Rattle.replay.specs.Replay.{stubList, callOf, callAt, callsOf, state, answersOf, over}
+use Rattle.replay.specs.Replayed.{Told, Made, Holds, Replayed}
 
 -- ---- the answer words tell who is linked
 

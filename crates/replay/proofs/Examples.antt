@@ -1,7 +1,6 @@
 -- The definitions, computed. Assumes nothing.
-use Prim.Native.Nat.{ℕ}
 use mathlib.Core.Path.{_≡_, refl}
-use mathlib.Core.List.{List, [], _∷_}
+use mathlib.Core.List.{[], _∷_}
 use Rattle.words.specs.Lists.{listFrom}
 use Rattle.calls.specs.Calls.{link, ask}
 use Rattle.replay.specs.Replay.{callOf, callAt, callsOf, over, overAt}

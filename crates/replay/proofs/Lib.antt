@@ -1,3 +1,4 @@
+pub mod Answers
 pub mod ReplayLaws
 pub mod Demand
 pub mod Examples

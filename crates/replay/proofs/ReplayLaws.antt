@@ -10,9 +10,8 @@ use native.Mathlib.Numerals.{add-one}
 use lib.ListN.{length, getD, set, take, drop}
 use lib.Dec.{eqb}
 use borrow.Author.Tests.{eq-eqb, ne-eqb}
-use Rattle.words.specs.Lists.{listFrom}
 use Rattle.words.proofs.ListLaws.{restFrom, rest-start, rest-turn, rest-end}
-use Rattle.linking.specs.Link.{Outcome, linkDef}
+use Rattle.linking.specs.Link.{linkDef}
 use Rattle.linking.specs.Ask.{askDef}
 use Rattle.area.specs.Area as area
 use Rattle.area.specs.declared.Answer.{Answer}
@@ -25,11 +24,6 @@ use Rattle.replay.specs.Replay.{stubList, callOf, callAt, callsOf, state
 over-none : (old : List ℕ) → over [] old ≡ old
 unfolding over
 over-none old = refl
-
-nothing-over : (xs : List ℕ) → over xs [] ≡ []
-unfolding over
-nothing-over [] = refl
-nothing-over (x ∷ xs) = refl
 
 pub over-end : (at : ℕ) (old : List ℕ) → overAt at [] old ≡ old
 unfolding overAt

@@ -1,6 +1,6 @@
 -- A list of links and asks as words, and what the calls answer one after the other: the state between two calls and what each leaves are
 -- `calls`' own (Calls.antt). Assumes nothing.
-use Prim.Native.Nat.{ℕ, zero, suc, _+_, _*_, _/_}
+use Prim.Native.Nat.{ℕ, zero, suc, _*_, _/_}
 use mathlib.Core.Bool.{cond}
 use mathlib.Core.List.{List, [], _∷_, _++_}
 use lib.ListN.{length, getD, take, drop}

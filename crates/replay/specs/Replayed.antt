@@ -28,7 +28,7 @@ pub record Told (calls answers : List ℕ) (c place slots : ℕ) : Type 0 where
 
 -- memory before and after, and the words of the calls
 module _ (ws abi area answers calls stubs ws′ area′ answers′ : List ℕ) where
-  -- the contract of `replay`, word for word
+  -- the contract of `replay`: the set and the area are as the calls leave them, and their answers are laid over the lent ones
   abbrev pub Made : Type 0
   Made =
       (state ws′ area′ ≡ run abi (callsOf calls stubs) (state ws area))

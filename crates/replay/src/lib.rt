@@ -3,8 +3,8 @@ use area::Answer;
 ghost use mathlib.Core.Path.{_≡_};
 ghost use Prim.Native.Nat.{_+_, _<_, _^_};
 ghost use Rattle.area.specs.Area.{outcome};
-ghost use Rattle.calls.specs.Calls.{run};
-ghost use Rattle.replay.specs.Replay.{callOf, callsOf, state, called, answerWords, answersOf, over, overAt};
+ghost use Rattle.replay.specs.Replay.{callOf, called, answerWords, overAt};
+ghost use Rattle.replay.specs.Replayed.{Made};
 
 // Makes the call that five words tell.
 fn one_call(set: &mut [u32], abi: &[u32], area: &mut [u32], call: &[u32], stubs: &[u32]) -> Answer
@@ -51,7 +51,7 @@ pub fn replay(
     stubs: &[u32],
     answers: &mut [u32],
 )
-    ensures { λ _. ⌜ (state (now (set .exit)) (now (area .exit)) ≡ run (now (abi .entry)) (callsOf (now (calls .entry)) (now (stubs .entry))) (state (now (set .entry)) (now (area .entry)))) × (now (answers .exit) ≡ over (answersOf (now (abi .entry)) (callsOf (now (calls .entry)) (now (stubs .entry))) (state (now (set .entry)) (now (area .entry)))) (now (answers .entry))) ⌝ }
+    ensures { λ _. ⌜ Made (now (set .entry)) (now (abi .entry)) (now (area .entry)) (now (answers .entry)) (now (calls .entry)) (now (stubs .entry)) (now (set .exit)) (now (area .exit)) (now (answers .exit)) ⌝ }
 {
     let n = calls.len() / 5;
     let mut i: usize = 0;

@@ -14,7 +14,8 @@ use Rattle.class_sheet.specs.ClassSheet.{classCount, methodCount, fieldCount, i
 use Rattle.abi_sheet.specs.AbiSheet.{abiClassCount, abiSlotCount, abiFieldCount, abiContentEnd, abiTextOf}
 use Rattle.class_sheet.proofs.Kept as C
 use Rattle.abi_sheet.proofs.Kept as A
-use Rattle.class_rules.specs.ClassRules.{classLimits, classFits, classNumbers, classLists, classRecord, methodRecord, fieldRecord, interfaceNames, methodsApart, fieldsApart, classesApart, apartBefore, classRecords}
+use Rattle.class_rules.specs.ClassRules.{classLimits, classFits, classNumbers, classLists, classRecord, methodRecord, fieldRecord, interfaceNames, classRecords}
+use Rattle.apart.specs.Apart.{methodsApart, fieldsApart, classesApart, apartBefore}
 use Rattle.abi_rules.specs.AbiRules.{abiLimits, abiFits, abiClassRecord, abiSlotRecord, abiFieldRecord, abiRecords}
 use Rattle.class_rules.proofs.Laws as class
 use Rattle.abi_rules.proofs.Laws as abiLaws

@@ -15,8 +15,8 @@ use Rattle.text.specs.Text.{nameAt}
 use Rattle.descriptor.specs.Machine.{isFieldDescriptor, isMethodDescriptor}
 use Rattle.set_rules.specs.Known.{isDescriptor, isKnown, Known, recordTyped}
 use Rattle.set_rules.specs.SetRules.{methodTyped, fieldTyped, classDescriptors, abiSlotTyped, abiFieldTyped, abiDescriptors}
-use Rattle.class_sheet.specs.ClassSheet.{methodCount, fieldCount, methodsAt, fieldsAt, methodWord, fieldWord}
-use Rattle.abi_sheet.specs.AbiSheet.{abiSlotCount, abiFieldCount, abiSlotsAt, abiFieldsAt, abiSlotWord, abiFieldWord}
+use Rattle.class_sheet.specs.ClassSheet.{memberWidth, methodCount, fieldCount, methodsAt, fieldsAt, methodWord, fieldWord}
+use Rattle.abi_sheet.specs.AbiSheet.{abiMemberWidth, abiSlotCount, abiFieldCount, abiSlotsAt, abiFieldsAt, abiSlotWord, abiFieldWord}
 use Rattle.words.specs.Folds.{allOf}
 use Rattle.words.specs.Lists.{fold}
 use Rattle.words.proofs.FoldLaws.{all-ext}
@@ -97,30 +97,30 @@ next-record first width i e = rw add-one (omega (arith, mul-suc width i))
 
 -- ---- the records of each sheet
 
-pub methods-typed : (ws text : List ℕ) (n : ℕ) → allOf n (recordTyped true ws (methodsAt ws) 6 text) ≡ allOf n (methodTyped ws text)
+pub methods-typed : (ws text : List ℕ) (n : ℕ) → allOf n (recordTyped true ws (methodsAt ws) memberWidth text) ≡ allOf n (methodTyped ws text)
 unfolding recordTyped isDescriptor methodTyped methodWord
 methods-typed ws text n = all-ext n _ _ (λ i l. refl)
 
-pub fields-typed : (ws text : List ℕ) (n : ℕ) → allOf n (recordTyped false ws (fieldsAt ws) 6 text) ≡ allOf n (fieldTyped ws text)
+pub fields-typed : (ws text : List ℕ) (n : ℕ) → allOf n (recordTyped false ws (fieldsAt ws) memberWidth text) ≡ allOf n (fieldTyped ws text)
 unfolding recordTyped isDescriptor fieldTyped fieldWord
 fields-typed ws text n = all-ext n _ _ (λ i l. refl)
 
-pub slots-typed : (abi text : List ℕ) (n : ℕ) → allOf n (recordTyped true abi (abiSlotsAt abi) 5 text) ≡ allOf n (abiSlotTyped abi text)
+pub slots-typed : (abi text : List ℕ) (n : ℕ) → allOf n (recordTyped true abi (abiSlotsAt abi) abiMemberWidth text) ≡ allOf n (abiSlotTyped abi text)
 unfolding recordTyped isDescriptor abiSlotTyped abiSlotWord
 slots-typed abi text n = all-ext n _ _ (λ i l. refl)
 
-pub abi-fields-typed : (abi text : List ℕ) (n : ℕ) → allOf n (recordTyped false abi (abiFieldsAt abi) 5 text) ≡ allOf n (abiFieldTyped abi text)
+pub abi-fields-typed : (abi text : List ℕ) (n : ℕ) → allOf n (recordTyped false abi (abiFieldsAt abi) abiMemberWidth text) ≡ allOf n (abiFieldTyped abi text)
 unfolding recordTyped isDescriptor abiFieldTyped abiFieldWord
 abi-fields-typed abi text n = all-ext n _ _ (λ i l. refl)
 
 pub class-typed : (ws text : List ℕ) {m n f k : ℕ} {a b : Bool}
-    → m ≡ methodsAt ws → n ≡ methodCount ws → a ≡ allOf n (recordTyped true ws m 6 text)
-    → f ≡ fieldsAt ws → k ≡ fieldCount ws → b ≡ allOf k (recordTyped false ws f 6 text) → (a && b) ≡ classDescriptors ws text
+    → m ≡ methodsAt ws → n ≡ methodCount ws → a ≡ allOf n (recordTyped true ws m memberWidth text)
+    → f ≡ fieldsAt ws → k ≡ fieldCount ws → b ≡ allOf k (recordTyped false ws f memberWidth text) → (a && b) ≡ classDescriptors ws text
 unfolding classDescriptors
 class-typed ws text e₁ e₂ p e₃ e₄ q = rw (p, q, e₁, e₂, e₃, e₄, methods-typed, fields-typed)
 
 pub abi-typed : (abi text : List ℕ) {s n f k : ℕ} {a b : Bool}
-    → s ≡ abiSlotsAt abi → n ≡ abiSlotCount abi → a ≡ allOf n (recordTyped true abi s 5 text)
-    → f ≡ abiFieldsAt abi → k ≡ abiFieldCount abi → b ≡ allOf k (recordTyped false abi f 5 text) → (a && b) ≡ abiDescriptors abi text
+    → s ≡ abiSlotsAt abi → n ≡ abiSlotCount abi → a ≡ allOf n (recordTyped true abi s abiMemberWidth text)
+    → f ≡ abiFieldsAt abi → k ≡ abiFieldCount abi → b ≡ allOf k (recordTyped false abi f abiMemberWidth text) → (a && b) ≡ abiDescriptors abi text
 unfolding abiDescriptors
 abi-typed abi text e₁ e₂ p e₃ e₄ q = rw (p, q, e₁, e₂, e₃, e₄, slots-typed, abi-fields-typed)

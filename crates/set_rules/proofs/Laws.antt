@@ -9,17 +9,17 @@ use borrow.Author.Tests.{not-false}
 use Rattle.words.proofs.Bools.{and-both}
 use Rattle.text.specs.Text.{unpackedText, textOfWords, nameAt}
 use Rattle.text.proofs.Laws.{text-part}
-use Rattle.class_sheet.specs.ClassSheet.{textLength, textWords, textOf}
-use Rattle.abi_sheet.specs.AbiSheet.{abiTextLength, abiTextWords, abiTextOf}
+use Rattle.class_sheet.specs.ClassSheet.{textLimit, textLength, textWords, textOf}
+use Rattle.abi_sheet.specs.AbiSheet.{abiTextLimit, abiTextLength, abiTextWords, abiTextOf}
 use Rattle.class_rules.specs.ClassRules.{classFits}
 use Rattle.abi_rules.specs.AbiRules.{abiFits}
 use Rattle.class_rules.proofs.Laws as class
 use Rattle.abi_rules.proofs.Laws as abi
 use Rattle.set_rules.specs.SetRules.{setFits, recordsRefusal, setRefusal}
 
--- a text that was unpacked into 8,192 bytes and is handed on as its part
-pub text-handed : (ws : List ℕ) (k : ℕ) (d : List ℕ) {n : ℕ} {t p : List ℕ} → k ≤ 8192 → length d ≡ 8192 → t ≡ unpackedText ws k d → n ≡ k
-    → p ≡ nameAt t 0 n → p ≡ textOfWords ws k
+-- a text that was unpacked into bytes that have room for it and is handed on as its part
+pub text-handed : (ws : List ℕ) (k : ℕ) (d : List ℕ) {room n : ℕ} {t p : List ℕ} → k ≤ room → length d ≡ room → t ≡ unpackedText ws k d
+    → n ≡ k → p ≡ nameAt t 0 n → p ≡ textOfWords ws k
 text-handed ws k d {t = t} h l e f g = g ∙ rw f (text-part ws k d (omega arith) e)
 
 pub set-3 : (ws abi : List ℕ) {f : Bool} → f ≡ setFits ws abi → not f ≡ true → 3 ≡ setRefusal ws abi
@@ -28,11 +28,11 @@ set-3 ws abi e h = rw (← e, h)
 
 -- both texts are there and the rest is rows 4 and 5
 module _ (ws a : List ℕ) {f : Bool} (fit : f ≡ setFits ws a) (h : not f ≡ false) where
-  pub set-text : textLength ws ≤ 8192
+  pub set-text : textLength ws ≤ textLimit
   unfolding setFits
   set-text = class.fits ws (and-both (classFits ws) (abiFits a) (sym fit ∙ not-false f h) .0) .0 .text
 
-  pub set-abi-text : abiTextLength a ≤ 8192
+  pub set-abi-text : abiTextLength a ≤ abiTextLimit
   unfolding setFits
   set-abi-text = abi.fits a (and-both (classFits ws) (abiFits a) (sym fit ∙ not-false f h) .1) .0 .text
 

@@ -6,7 +6,7 @@ use mathlib.Core.List.{List}
 use Prim.Native.Nat.{ℕ, _+_, _*_}
 use lib.ListN.{getD}
 use lib.Dec.{eqb}
-use Rattle.text.specs.Text.{nameAt}
+use Rattle.text.specs.Text.{descriptorStartWord, descriptorLengthWord, nameAt}
 use Rattle.descriptor.specs.Machine.{isFieldDescriptor, isMethodDescriptor}
 
 -- the bytes are a descriptor: a method's, or else a field's
@@ -21,7 +21,8 @@ isKnown known start len = eqb (getD known start 0) (len + 1)
 pub record Known (method : Bool) (text known : List ℕ) : Type 0 where
   pub good : (start len : ℕ) → getD known start 0 ≡ len + 1 → isDescriptor method (nameAt text start len) ≡ true
 
--- record i of those from word `first` on has a descriptor: words 2 and 3 are its start and length
+-- record i of those from word `first` on has a descriptor
 unfoldable pub recordTyped : Bool → List ℕ → ℕ → ℕ → List ℕ → ℕ → Bool
 recordTyped method ws first width text i =
-    isDescriptor method (nameAt text (getD ws (first + width * i + 2) 0) (getD ws (first + width * i + 3) 0))
+    isDescriptor method
+    (nameAt text (getD ws (first + width * i + descriptorStartWord) 0) (getD ws (first + width * i + descriptorLengthWord) 0))

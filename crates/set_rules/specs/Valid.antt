@@ -1,12 +1,13 @@
--- What an accepted set guarantees: the facts that the tests of rows 3 to 5 stand for, in plain words. proofs/Valid.antt proves them
--- from the tests; the theorems on links cite them. Assumes nothing.
+-- The facts that the tests of rows 3 to 5 stand for, in plain words. proofs/Valid.antt proves that a set is accepted if and only if it
+-- has them (`valid-exactly`); the theorems on links cite them. Assumes nothing.
 use mathlib.Core.Path.{_≡_}
 use mathlib.Core.List.{List}
 use Prim.Native.Nat.{ℕ, _+_, _-_, _/_, _%_, _≤_, _<_}
 use lib.ListN.{length, getD}
+use Rattle.text.specs.Text.{nameAt}
 use Rattle.descriptor.specs.Grammar.{FieldDerivation, MethodDerivation}
-use Rattle.class_sheet.specs.ClassSheet.{classCount, methodCount, fieldCount, interfaceCount, compilerCount, textLength, contentEnd, textOf, interfaceWord, classNameStart, classNameLength, classParent, classFlags, classKind, classFirstMethod, classMethodCount, classFirstField, classFieldCount, classFirstInterface, classInterfaceCount, classLinkState, classInstanceWords, classCompilerTable, classCompilerSlots, classTablePlace, classSlotCount, className, methodNameStart, methodNameLength, methodDescriptorStart, methodDescriptorLength, methodFlags, methodDescriptor, fieldNameStart, fieldNameLength, fieldDescriptorStart, fieldDescriptorLength, fieldFlags, fieldDescriptor}
-use Rattle.abi_sheet.specs.AbiSheet.{abiClassCount, abiSlotCount, abiFieldCount, abiTextLength, abiContentEnd, abiTextOf, abiClassNameStart, abiClassNameLength, abiClassTableSizePlusOne, abiClassInstanceWordsPlusOne, abiClassFirstSlot, abiClassSlotCount, abiClassFirstField, abiClassFieldCount, abiSlotNameStart, abiSlotNameLength, abiSlotDescriptorStart, abiSlotDescriptorLength, abiSlotIndex, abiSlotDescriptor, abiFieldNameStart, abiFieldNameLength, abiFieldDescriptorStart, abiFieldDescriptorLength, abiFieldIndex, abiFieldDescriptor}
+use Rattle.class_sheet.specs.ClassSheet.{classLimit, methodLimit, fieldLimit, interfaceLimit, compilerLimit, textLimit, classCount, methodCount, fieldCount, interfaceCount, compilerCount, textLength, contentEnd, textOf, interfaceWord, classNameStart, classNameLength, classParent, classFlags, classKind, classFirstMethod, classMethodCount, classFirstField, classFieldCount, classFirstInterface, classInterfaceCount, classLinkState, classInstanceWords, classCompilerTable, classCompilerSlots, classTablePlace, classSlotCount, className, methodNameStart, methodNameLength, methodDescriptorStart, methodDescriptorLength, methodFlags, methodDescriptor, fieldNameStart, fieldNameLength, fieldDescriptorStart, fieldDescriptorLength, fieldFlags, fieldDescriptor}
+use Rattle.abi_sheet.specs.AbiSheet.{abiClassLimit, abiSlotLimit, abiFieldLimit, abiTextLimit, abiClassCount, abiSlotCount, abiFieldCount, abiTextLength, abiContentEnd, abiTextOf, abiClassNameStart, abiClassNameLength, abiClassTableSizePlusOne, abiClassInstanceWordsPlusOne, abiClassFirstSlot, abiClassSlotCount, abiClassFirstField, abiClassFieldCount, abiSlotNameStart, abiSlotNameLength, abiSlotDescriptorStart, abiSlotDescriptorLength, abiSlotIndex, abiSlotDescriptor, abiFieldNameStart, abiFieldNameLength, abiFieldDescriptorStart, abiFieldDescriptorLength, abiFieldIndex, abiFieldDescriptor}
 
 -- a part of the text that is a name or a descriptor
 pub record Part (text : List ℕ) (start len : ℕ) : Type 0 where
@@ -14,6 +15,14 @@ pub record Part (text : List ℕ) (start len : ℕ) : Type 0 where
   pub short : len ≤ 255
   pub inside : start + len ≤ length text
   pub printable : (i : ℕ) → i < len → (33 ≤ getD text (start + i) 0) × (getD text (start + i) 0 ≤ 126)
+
+-- a record with a name, a descriptor and a number: a method or a field of a class sheet, a slot or a field of an ABI sheet. `Derived` is
+-- the grammar of its descriptor, `Within` the rule for its number.
+pub record ValidMember (text : List ℕ) (Derived : List ℕ → Type 0) (Within : ℕ → Type 0) (nameStart nameLength start len n : ℕ) : Type 0 where
+  pub name : Part text nameStart nameLength
+  pub descriptor : Part text start len
+  pub number : Within n
+  pub derivation : Derived (nameAt text start len)
 
 -- c is the number of a class
 abbrev pub IsClass : List ℕ → ℕ → Type 0
@@ -34,27 +43,28 @@ pub record ValidClass (ws : List ℕ) (c : ℕ) : Type 0 where
   pub no-compiler : classCompilerTable ws c ≡ 0 → classCompilerSlots ws c ≡ 0
   pub compiler : (classCompilerTable ws c ≡ 0 → ⊥) → classCompilerTable ws c - 1 + classCompilerSlots ws c ≤ compilerCount ws
 
-pub record ValidMethod (ws : List ℕ) (m : ℕ) : Type 0 where
-  pub name : Part (textOf ws) (methodNameStart ws m) (methodNameLength ws m)
-  pub descriptor : Part (textOf ws) (methodDescriptorStart ws m) (methodDescriptorLength ws m)
-  pub flags : methodFlags ws m < 8192
-  pub flag-0x0200 : methodFlags ws m / 512 % 2 ≡ 0
-  pub derivation : MethodDerivation (methodDescriptor ws (textOf ws) m)
+-- method flags within 0x1DFF: below 2^13, and not 0x0200
+abbrev pub MethodFlags : ℕ → Type 0
+MethodFlags f = (f < 8192) × (f / 512 % 2 ≡ 0)
 
-pub record ValidField (ws : List ℕ) (f : ℕ) : Type 0 where
-  pub name : Part (textOf ws) (fieldNameStart ws f) (fieldNameLength ws f)
-  pub descriptor : Part (textOf ws) (fieldDescriptorStart ws f) (fieldDescriptorLength ws f)
-  pub flags : fieldFlags ws f ≤ 65535
-  pub derivation : FieldDerivation (fieldDescriptor ws (textOf ws) f)
+abbrev pub ValidMethod : List ℕ → ℕ → Type 0
+ValidMethod ws m =
+    ValidMember (textOf ws) MethodDerivation MethodFlags (methodNameStart ws m) (methodNameLength ws m) (methodDescriptorStart ws m)
+    (methodDescriptorLength ws m) (methodFlags ws m)
+
+abbrev pub ValidField : List ℕ → ℕ → Type 0
+ValidField ws f =
+    ValidMember (textOf ws) FieldDerivation (λ n. n ≤ 65535) (fieldNameStart ws f) (fieldNameLength ws f) (fieldDescriptorStart ws f)
+    (fieldDescriptorLength ws f) (fieldFlags ws f)
 
 -- class words that rows 3 to 5 accept
 pub record Valid (ws : List ℕ) : Type 0 where
-  pub class-count : classCount ws ≤ 64
-  pub method-count : methodCount ws ≤ 512
-  pub field-count : fieldCount ws ≤ 512
-  pub interface-count : interfaceCount ws ≤ 256
-  pub compiler-count : compilerCount ws ≤ 2048
-  pub text-length : textLength ws ≤ 8192
+  pub class-count : classCount ws ≤ classLimit
+  pub method-count : methodCount ws ≤ methodLimit
+  pub field-count : fieldCount ws ≤ fieldLimit
+  pub interface-count : interfaceCount ws ≤ interfaceLimit
+  pub compiler-count : compilerCount ws ≤ compilerLimit
+  pub text-length : textLength ws ≤ textLimit
   pub fits : contentEnd ws ≤ length ws
   pub class : (c : ℕ) → IsClass ws c → ValidClass ws c
   pub method : (m : ℕ) → m < methodCount ws → ValidMethod ws m
@@ -76,24 +86,22 @@ pub record ValidAbiClass (abi : List ℕ) (a : ℕ) : Type 0 where
   pub slots : abiClassFirstSlot abi a + abiClassSlotCount abi a ≤ abiSlotCount abi
   pub fields : abiClassFirstField abi a + abiClassFieldCount abi a ≤ abiFieldCount abi
 
-pub record ValidAbiSlot (abi : List ℕ) (s : ℕ) : Type 0 where
-  pub name : Part (abiTextOf abi) (abiSlotNameStart abi s) (abiSlotNameLength abi s)
-  pub descriptor : Part (abiTextOf abi) (abiSlotDescriptorStart abi s) (abiSlotDescriptorLength abi s)
-  pub index : abiSlotIndex abi s ≤ 1023
-  pub derivation : MethodDerivation (abiSlotDescriptor abi (abiTextOf abi) s)
+abbrev pub ValidAbiSlot : List ℕ → ℕ → Type 0
+ValidAbiSlot abi s =
+    ValidMember (abiTextOf abi) MethodDerivation (λ n. n ≤ 1023) (abiSlotNameStart abi s) (abiSlotNameLength abi s)
+    (abiSlotDescriptorStart abi s) (abiSlotDescriptorLength abi s) (abiSlotIndex abi s)
 
-pub record ValidAbiField (abi : List ℕ) (f : ℕ) : Type 0 where
-  pub name : Part (abiTextOf abi) (abiFieldNameStart abi f) (abiFieldNameLength abi f)
-  pub descriptor : Part (abiTextOf abi) (abiFieldDescriptorStart abi f) (abiFieldDescriptorLength abi f)
-  pub index : abiFieldIndex abi f ≤ 4095
-  pub derivation : FieldDerivation (abiFieldDescriptor abi (abiTextOf abi) f)
+abbrev pub ValidAbiField : List ℕ → ℕ → Type 0
+ValidAbiField abi f =
+    ValidMember (abiTextOf abi) FieldDerivation (λ n. n ≤ 4095) (abiFieldNameStart abi f) (abiFieldNameLength abi f)
+    (abiFieldDescriptorStart abi f) (abiFieldDescriptorLength abi f) (abiFieldIndex abi f)
 
 -- ABI words that rows 3 to 5 accept
 pub record ValidAbi (abi : List ℕ) : Type 0 where
-  pub class-count : abiClassCount abi ≤ 64
-  pub slot-count : abiSlotCount abi ≤ 512
-  pub field-count : abiFieldCount abi ≤ 256
-  pub text-length : abiTextLength abi ≤ 8192
+  pub class-count : abiClassCount abi ≤ abiClassLimit
+  pub slot-count : abiSlotCount abi ≤ abiSlotLimit
+  pub field-count : abiFieldCount abi ≤ abiFieldLimit
+  pub text-length : abiTextLength abi ≤ abiTextLimit
   pub fits : abiContentEnd abi ≤ length abi
   pub class : (a : ℕ) → a < abiClassCount abi → ValidAbiClass abi a
   pub slot : (s : ℕ) → s < abiSlotCount abi → ValidAbiSlot abi s

@@ -3,18 +3,13 @@ ghost use mathlib.Core.Path.{_≡_};
 ghost use Prim.Native.Nat.{_^_, _≤_, _<_};
 ghost use Rattle.words.specs.Folds.{allOf};
 ghost use Rattle.text.specs.Text.{nameAt};
+ghost use Rattle.class_sheet.specs.ClassSheet.{memberWidth};
 ghost use Rattle.set_rules.specs.Known.{isDescriptor, isKnown, Known, recordTyped};
 ghost use Rattle.set_rules.specs.SetRules.{classDescriptors, abiDescriptors, classRefusal, abiRefusal, setFits, recordsRefusal, setRefusal};
 
-// The words of a method or field record of a class sheet, and of a slot or field record of an ABI sheet. In both, words 2 and 3 are the
-// start and the length of the descriptor.
-const MEMBER_WIDTH: usize = 6;
-
-const ABI_MEMBER_WIDTH: usize = 5;
-
 // The most bytes that a text has, and so where its parts may start. Many records share a descriptor: `known`, a byte for each start, has one
 // more than the length of a part that starts there and was found to be a descriptor, so that it is read but once.
-const STARTS: usize = 8192;
+const STARTS: usize = class_sheet::TEXT_LIMIT as usize;
 
 // Whether the bytes are a descriptor: a method's, or else a field's.
 fn is_descriptor(method: bool, s: &[u8]) -> bool
@@ -52,17 +47,19 @@ fn part_typed(method: bool, text: &[u8], start: u32, len: u32, known: &mut [u8])
 
 // Whether each of n records from word `first` on has a descriptor. One that ends past the words has none: its length is 0.
 fn records_typed(method: bool, ws: &[u32], first: usize, width: usize, n: u32, text: &[u8]) -> bool
-    requires { ⌜ (first < 2 ^ 38) × (width ≤ 6) ⌝ }
+    requires { ⌜ (first < 2 ^ 38) × (width ≤ memberWidth) ⌝ }
     ensures { λ r. ⌜ r ≡ allOf n (recordTyped method (now (ws .entry)) first width (now (text .entry))) ⌝ }
 {
     let mut known = [0u8; STARTS];
     let mut at = first;
     let mut i: u32 = 0;
     while i < n {
-        if ws.len() <= at + 3 {
+        if ws.len() <= at + text::DESCRIPTOR_LENGTH {
             return false;
         }
-        if !part_typed(method, text, ws[at + 2], ws[at + 3], &mut known) {
+        let start = ws[at + text::DESCRIPTOR_START];
+        let len = ws[at + text::DESCRIPTOR_LENGTH];
+        if !part_typed(method, text, start, len, &mut known) {
             return false;
         }
         at += width;
@@ -77,10 +74,10 @@ fn class_descriptors_ok(ws: &[u32], text: &[u8]) -> bool
 {
     let methods = class_sheet::methods_at(ws);
     let count = class_sheet::method_count(ws);
-    let methods_ok = records_typed(true, ws, methods, MEMBER_WIDTH, count, text);
+    let methods_ok = records_typed(true, ws, methods, class_sheet::MEMBER_WIDTH, count, text);
     let fields = class_sheet::fields_at(ws);
     let count = class_sheet::field_count(ws);
-    methods_ok & records_typed(false, ws, fields, MEMBER_WIDTH, count, text)
+    methods_ok & records_typed(false, ws, fields, class_sheet::MEMBER_WIDTH, count, text)
 }
 
 // Row 5 for an ABI sheet.
@@ -89,10 +86,10 @@ fn abi_descriptors_ok(abi: &[u32], text: &[u8]) -> bool
 {
     let slots = abi_sheet::slots_at(abi);
     let count = abi_sheet::slot_count(abi);
-    let slots_ok = records_typed(true, abi, slots, ABI_MEMBER_WIDTH, count, text);
+    let slots_ok = records_typed(true, abi, slots, abi_sheet::MEMBER_WIDTH, count, text);
     let fields = abi_sheet::fields_at(abi);
     let count = abi_sheet::field_count(abi);
-    slots_ok & records_typed(false, abi, fields, ABI_MEMBER_WIDTH, count, text)
+    slots_ok & records_typed(false, abi, fields, abi_sheet::MEMBER_WIDTH, count, text)
 }
 
 // Rows 4 and 5 for a class sheet: the number that refuses, or 0.
@@ -148,9 +145,9 @@ pub fn set_refusal(ws: &[u32], abi: &[u32]) -> u32
     if !set_fits(ws, abi) {
         return 3;
     }
-    let mut text = [0u8; 8192];
+    let mut text = [0u8; class_sheet::TEXT_LIMIT as usize];
     class_sheet::unpack_text(ws, &mut text);
-    let mut labels = [0u8; 8192];
+    let mut labels = [0u8; abi_sheet::TEXT_LIMIT as usize];
     abi_sheet::unpack_text(abi, &mut labels);
     records_refusal(
         ws,

@@ -12,8 +12,8 @@ use Rattle.words.proofs.Bools.{by, and-both, and-3, and-4, passed}
 use Rattle.words.proofs.FoldLaws.{all-each}
 use Rattle.block.specs.Block.{blockCount, sheetWords, leastFit}
 use Rattle.text.specs.Text.{zeroRest}
-use Rattle.class_sheet.specs.ClassSheet.{classCount, textLength, textAt, contentEnd, textOf, classTablePlace, classSlotCount}
-use Rattle.abi_sheet.specs.AbiSheet.{abiTextLength, abiTextAt, abiContentEnd, abiTextOf}
+use Rattle.class_sheet.specs.ClassSheet.{blockLimit, classCount, textLength, textAt, contentEnd, textOf, classTablePlace, classSlotCount}
+use Rattle.abi_sheet.specs.AbiSheet.{abiBlockLimit, abiTextLength, abiTextAt, abiContentEnd, abiTextOf}
 use Rattle.class_rules.specs.ClassRules.{classLimits, classFits, unlinked, classForm, classRecords}
 use Rattle.abi_rules.specs.AbiRules.{abiLimits, abiFits, abiForm, abiRecords}
 use Rattle.set_rules.specs.SetRules.{classDescriptors, classRefusal, abiDescriptors, abiRefusal, setRefusal}
@@ -39,7 +39,7 @@ module _ (bs : List ℕ) (room : ℕ) (e : classSheetRefusal bs room ≡ 0) wher
   class-passed : (classForm ws ≡ true) × (classRefusal ws (textOf ws) ≡ 0)
   unfolding classSheetRefusal classRows
   class-passed =
-      let p = passed (not (classForm ws)) 3 _ (omega arith) (rows-passed 92 classRows bs room e) in (not-false _ (p .0), p .1)
+      let p = passed (not (classForm ws)) 3 _ (omega arith) (rows-passed blockLimit classRows bs room e) in (not-false _ (p .0), p .1)
 
   formed : (classLimits ws ≡ true) × (leastFit (contentEnd ws) (length ws) ≡ true) × (zeroRest ws (4 * textAt ws + textLength ws) ≡ true)
       × (allOf (classCount ws) (λ i. unlinked ws (i + 1)) ≡ true)
@@ -71,7 +71,7 @@ module _ (bs : List ℕ) (room : ℕ) (e : abiSheetRefusal bs room ≡ 0) where
 
   abi-passed : (abiForm abi ≡ true) × (abiRefusal abi (abiTextOf abi) ≡ 0)
   unfolding abiSheetRefusal abiRows
-  abi-passed = let p = passed (not (abiForm abi)) 3 _ (omega arith) (rows-passed 51 abiRows bs room e) in (not-false _ (p .0), p .1)
+  abi-passed = let p = passed (not (abiForm abi)) 3 _ (omega arith) (rows-passed abiBlockLimit abiRows bs room e) in (not-false _ (p .0), p .1)
 
   abi-tests : (abiFits abi ≡ true) × (abiRecords abi (abiTextOf abi) ≡ true) × (abiDescriptors abi (abiTextOf abi) ≡ true)
   unfolding abiRefusal abiFits abiForm

@@ -6,8 +6,8 @@ use lib.ListN.{drop, length}
 use lib.Dec.{eqb}
 use Rattle.words.specs.Folds.{allOf}
 use Rattle.block.specs.Block.{blockCount, sheetWords, checkOk, shapeOk}
-use Rattle.class_sheet.specs.ClassSheet.{textOf}
-use Rattle.abi_sheet.specs.AbiSheet.{abiTextOf}
+use Rattle.class_sheet.specs.ClassSheet.{blockLimit, textOf}
+use Rattle.abi_sheet.specs.AbiSheet.{abiBlockLimit, abiTextOf}
 use Rattle.class_rules.specs.ClassRules.{classForm}
 use Rattle.abi_rules.specs.AbiRules.{abiForm}
 use Rattle.set_rules.specs.SetRules.{classRefusal, abiRefusal}
@@ -53,7 +53,7 @@ unfoldable pub classRows : List ℕ → ℕ
 classRows ws = cond (not (classForm ws)) 3 (classRefusal ws (textOf ws))
 
 unfoldable pub classSheetRefusal : List ℕ → ℕ → ℕ
-classSheetRefusal bs room = sheetRefusal 92 classRows bs room
+classSheetRefusal bs room = sheetRefusal blockLimit classRows bs room
 
 unfoldable pub readClassSheet : List ℕ → List ℕ → Outcome
 readClassSheet bs ws = readSheet classSheetRefusal bs ws
@@ -63,7 +63,7 @@ unfoldable pub abiRows : List ℕ → ℕ
 abiRows abi = cond (not (abiForm abi)) 3 (abiRefusal abi (abiTextOf abi))
 
 unfoldable pub abiSheetRefusal : List ℕ → ℕ → ℕ
-abiSheetRefusal bs room = sheetRefusal 51 abiRows bs room
+abiSheetRefusal bs room = sheetRefusal abiBlockLimit abiRows bs room
 
 unfoldable pub readAbiSheet : List ℕ → List ℕ → Outcome
 readAbiSheet bs ws = readSheet abiSheetRefusal bs ws

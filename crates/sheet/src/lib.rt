@@ -29,7 +29,7 @@ fn class_rows(ws: &[u32]) -> u32
     if !class_rules::form_ok(ws) {
         return 3;
     }
-    let mut text = [0u8; 8192];
+    let mut text = [0u8; class_sheet::TEXT_LIMIT as usize];
     class_sheet::unpack_text(ws, &mut text);
     set_rules::class_refusal(ws, text::name_at(&text, 0, class_sheet::text_length(ws)))
 }
@@ -38,12 +38,12 @@ fn class_rows(ws: &[u32]) -> u32
 fn class_sheet_refusal(bytes: &[u8], room: usize) -> u32
     ensures { λ r. ⌜ r ≡ classSheetRefusal (now (bytes .entry)) room ⌝ }
 {
-    let row = block_refusal(bytes, room, 92);
+    let row = block_refusal(bytes, room, class_sheet::BLOCK_LIMIT);
     if row != 0 {
         return row;
     }
     let n = block::block_count(bytes);
-    let mut sheet = [0u32; 11684];
+    let mut sheet = [0u32; class_sheet::SHEET_WORDS];
     block::unpack(bytes, n, &mut sheet);
     class_rows(words::word_part(&sheet, 0, 127 * words::wide(n)))
 }
@@ -55,7 +55,7 @@ fn abi_rows(abi: &[u32]) -> u32
     if !abi_rules::form_ok(abi) {
         return 3;
     }
-    let mut text = [0u8; 8192];
+    let mut text = [0u8; abi_sheet::TEXT_LIMIT as usize];
     abi_sheet::unpack_text(abi, &mut text);
     set_rules::abi_refusal(abi, text::name_at(&text, 0, abi_sheet::text_length(abi)))
 }
@@ -64,12 +64,12 @@ fn abi_rows(abi: &[u32]) -> u32
 fn abi_sheet_refusal(bytes: &[u8], room: usize) -> u32
     ensures { λ r. ⌜ r ≡ abiSheetRefusal (now (bytes .entry)) room ⌝ }
 {
-    let row = block_refusal(bytes, room, 51);
+    let row = block_refusal(bytes, room, abi_sheet::BLOCK_LIMIT);
     if row != 0 {
         return row;
     }
     let n = block::block_count(bytes);
-    let mut sheet = [0u32; 6477];
+    let mut sheet = [0u32; abi_sheet::SHEET_WORDS];
     block::unpack(bytes, n, &mut sheet);
     abi_rows(words::word_part(&sheet, 0, 127 * words::wide(n)))
 }

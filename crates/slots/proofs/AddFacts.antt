@@ -16,20 +16,12 @@ use Rattle.class_sheet.specs.ClassSheet.{methodName, methodDescriptor, methodTa
 use Rattle.linking.specs.Chain.{onFound, eligible}
 use Rattle.linking.specs.Abi.{chainAbi, minimumSize}
 use Rattle.linking.specs.Vtable.{Entry, empty, Built, built, refused, onBuilt, fixedOf, entryIsOther, methodEntry, putMethod, addMethod, addMethods}
+use Rattle.linking.proofs.Plans.{built-same, not-built}
 use Rattle.slots.specs.Slots.{In, here, there}
 use Rattle.slots.proofs.ListFacts.{found-same, set-at, snoc-at}
-use Rattle.slots.proofs.PlaceFacts.{Signature, Ordered, Placed, Good, fixed-placed, placed-sub}
-use Rattle.slots.proofs.FixedFacts.{methodSignature, Fixes, Live, live-fixes, fixed-some, fixed-none, fixed-room}
+use Rattle.slots.proofs.PlaceFacts.{Signature, OneIndex, Placed, Good}
+use Rattle.slots.proofs.FixedFacts.{methodSignature, Fixes, Live, fixed-some, fixed-none, fixed-room}
 use Rattle.slots.proofs.EntryFacts.{at, Shows, shows, known-below, set-good, append-good, slotFor, slot-below, slot-shows, slot-none, not-other}
-
-pub built-same : {T U : List Entry} → built T ≡ built U → T ≡ U
-built-same e = cc
-
-pub not-built : {X : Type 0} {n : ℕ} {T : List Entry} → refused n ≡ built T → X
-not-built e = absurd (omega (arith, zero-one e))
-  where
-    zero-one : {n : ℕ} {T : List Entry} → refused n ≡ built T → _≡_ {A = ℕ} 0 1
-    zero-one e = cc
 
 built-on : (b : Built) (f : List Entry → Built) (T : List Entry) → onBuilt b f ≡ built T → (U : List Entry) × (b ≡ built U) × (f U ≡ built T)
 built-on (built U) f T e = (U, refl, e)
@@ -52,7 +44,7 @@ module _ (ws text abi labels : List ℕ) where
         → T ++ (methodEntry ws text abi labels m ∷ []) ≡ U → Did c m T U
 
   -- "each eligible method takes its fixed slot, else the slot of its signature, else a new last one"; rows 11 and 12 refuse the rest
-  module _ (c : ℕ) (within : c ≤ 64) (ordered : Ordered (Fixes ws text abi labels c)) (m : ℕ) (T : List Entry)
+  module _ (c : ℕ) (within : c ≤ 64) (one : OneIndex (Fixes ws text abi labels c)) (m : ℕ) (T : List Entry)
       (room : minimumSize abi (chainAbi ws text abi labels c) ≤ length T) where
     fixed-seat : (i : ℕ) → Fixes ws text abi labels c (methodSignature ws text m) i
         → onFound (slotFor ws text abi labels m T) (λ j. not (eqb j i)) false ≡ false
@@ -65,7 +57,7 @@ module _ (ws text abi labels : List ℕ) where
           unique j n (methodSignature ws text m) k (slot-shows ws text abi labels m T n q) ∙ e)
           (λ q. absurd (slot-none ws text abi labels m T q j k));
       same = not-other ws text abi labels m T i other;
-      placed = λ g. placed-sub (live-fixes ws text abi labels c) (methodSignature ws text m) i (fixed-placed ordered (methodSignature ws text m) i f);
+      placed = λ g j l. one (methodSignature ws text m) j i (l .fixes) f;
     }
 
     own-seat : (i : ℕ) → slotFor ws text abi labels m T ≡ At i → Seat c m T i
@@ -80,10 +72,7 @@ module _ (ws text abi labels : List ℕ) where
 
     last-placed : fixedOf ws text abi labels (chainAbi ws text abi labels c) m ≡ Nothing
         → Placed (Live ws text abi labels c) (methodSignature ws text m) (length T)
-    last-placed e = record {
-      index = λ j f. absurd (fixed-none ws text abi labels c within m j e (f .fixes));
-      signature = λ s f. absurd (let r = fixed-room ws text abi labels c within s (length T) (f .fixes) in omega arith);
-    }
+    last-placed e j f = absurd (fixed-none ws text abi labels c within m j e (f .fixes))
 
     did : (U : List Entry)
         → putMethod ws text abi labels (fixedOf ws text abi labels (chainAbi ws text abi labels c) m) (slotFor ws text abi labels m T) m T ≡ built U
@@ -120,20 +109,20 @@ module _ (ws text abi labels : List ℕ) where
     skip : {m : ℕ} {ms : List ℕ} {T U : List Entry} → Adds c ms T U → Adds c (m ∷ ms) T U
     add : {m : ℕ} {ms : List ℕ} {T U W : List Entry} → eligible ws text m ≡ true → Did c m T U → Adds c ms U W → Adds c (m ∷ ms) T W
 
-  pub adds : (c : ℕ) → c ≤ 64 → Ordered (Fixes ws text abi labels c) → (ms : List ℕ) (T U : List Entry)
+  pub adds : (c : ℕ) → c ≤ 64 → OneIndex (Fixes ws text abi labels c) → (ms : List ℕ) (T U : List Entry)
       → minimumSize abi (chainAbi ws text abi labels c) ≤ length T
       → addMethods ws text abi labels (chainAbi ws text abi labels c) ms T ≡ built U → Adds c ms T U
   unfolding addMethods addMethod
-  adds c within ordered [] T U room e = rw (built-same e) done
-  adds c within ordered (m ∷ ms) T U room e =
+  adds c within one [] T U room e = rw (built-same e) done
+  adds c within one (m ∷ ms) T U room e =
       by (eligible ws text m)
       (λ q.
       let b =
       built-on (putMethod ws text abi labels (fixedOf ws text abi labels (chainAbi ws text abi labels c) m) (slotFor ws text abi labels m T) m T)
       (addMethods ws text abi labels (chainAbi ws text abi labels c) ms) U (rw q at e) in
-      let d = did c within ordered m T room (b .0) (b .1) in
-      add q d (adds c within ordered ms (b .0) U (omega (arith, did-longer d)) (b .2)))
-      (λ q. skip (adds c within ordered ms T U room (rw q at e)))
+      let d = did c within one m T room (b .0) (b .1) in
+      add q d (adds c within one ms (b .0) U (omega (arith, did-longer d)) (b .2)))
+      (λ q. skip (adds c within one ms T U room (rw q at e)))
 
   pub adds-good : {c : ℕ} {ms : List ℕ} {T U : List Entry} → Adds c ms T U
       → Good (Live ws text abi labels c) (Shows ws text T) → Good (Live ws text abi labels c) (Shows ws text U)

@@ -10,8 +10,8 @@ use Rattle.words.specs.declared.Found.the-variants.{At, Nothing}
 use Rattle.words.proofs.ListLaws.{by-found, find-member, find-passes}
 use Rattle.class_sheet.specs.ClassSheet.{methodTarget}
 use Rattle.linking.specs.Chain.{ownMethods, parentOf, chain, ownTarget, findByTarget}
-use Rattle.chain.proofs.ChainLaws.{chain-more}
-use Rattle.slots.specs.Slots.{In, here, there, ChainMethod, ChainSlot, Orderly}
+use Rattle.linking.proofs.ChainLaws.{chain-more}
+use Rattle.slots.specs.Slots.{In, here, there, ChainMethod, ChainSlot}
 use Rattle.slots.specs.Made.{Conditions}
 use Rattle.slots.proofs.ListFacts.{in-member, in-cons, find-misses, found-in, found-only}
 
@@ -40,16 +40,9 @@ module _ (ws text abi labels : List ℕ) where
     pub slot-up : {s : ℕ} → ChainSlot ws text abi labels (parentOf ws c) s → ChainSlot ws text abi labels c s
     slot-up k = record { class = k .class; along = chain-up ws c h (k .along); entry = k .entry; named = k .named; own = k .own }
 
-    orderly-up : Orderly ws text abi labels c → Orderly ws text abi labels (parentOf ws c)
-    orderly-up o = record {
-      one-index = λ s z k l. o .one-index s z (slot-up k) (slot-up l);
-      one-name = λ s z k l. o .one-name s z (slot-up k) (slot-up l);
-      one-descriptor = λ s z k l. o .one-descriptor s z (slot-up k) (slot-up l);
-    }
-
     pub conditions-up : {P : ℕ → Type 0} → Conditions ws text abi labels P c → Conditions ws text abi labels P (parentOf ws c)
     conditions-up k = record {
-      orderly = orderly-up (k .orderly);
+      one-index = λ s z i j. k .one-index s z (slot-up i) (slot-up j);
       targets-nonzero = λ m i. k .targets-nonzero m (method-up i);
       targets-different = λ m n i j. k .targets-different m n (method-up i) (method-up j);
       stubs-nonzero = k .stubs-nonzero;

@@ -7,14 +7,14 @@ use native.Mathlib.Omega.{arith}
 use lib.ListN.{getD}
 use Rattle.words.specs.declared.Found.the-variants.{At, Nothing}
 use Rattle.class_sheet.specs.ClassSheet.{textOf, methodTarget}
-use Rattle.abi_sheet.specs.AbiSheet.{abiTextOf, abiSlotName, abiSlotDescriptor}
+use Rattle.abi_sheet.specs.AbiSheet.{abiTextOf, abiSlotName}
 use Rattle.linking.specs.Chain.{ownMethods, parentOf, chain}
 use Rattle.linking.specs.Abi.{abiSlots, slotIndex, classAbi}
 use Rattle.linking.specs.Vtable.{empty, methodEntry}
-use Rattle.linking.specs.Assemble.{Lent, method, built, array, slot, abi, lent, link, answers, after, tableOf}
+use Rattle.linking.proofs.Assemble.{Lent, method, built, array, slot, abi, lent, link, answers, after, tableOf}
 use Rattle.linking.proofs.Opened.{opened}
 use Rattle.words.proofs.ListLaws.{getD-list-from}
-use Rattle.slots.specs.Slots.{In, Unique, Kept, ChainMethod, ChainSlot, Orderly}
+use Rattle.slots.specs.Slots.{In, here, Unique, Keeps, Kept, ChainMethod, ChainSlot}
 use Rattle.slots.specs.Made.{Made, Conditions, readWords, startFrom, tableFrom, inheritedFrom}
 use Rattle.slots.proofs.ListFacts.{not-found, found-same, in-cons, in-none}
 use Rattle.slots.proofs.Tables.{table-unique, table-kept}
@@ -110,19 +110,12 @@ a-method m k = the-methods (k .owner) (rw along at (k .along)) m (k .own)
 a-slot : (s : ℕ) → ChainSlot ws text sheet labels 3 s → Slot s
 a-slot s k = the-slots (k .class) (rw along at (k .along)) (k .entry) (k .named) s (k .own)
 
-orderly : Orderly ws text sheet labels 3
-orderly = record {
+conditions : Conditions ws text sheet labels P 3
+conditions = record {
   one-index = λ s z k l n d.
       let a = a-slot s k in let b = a-slot z l in
       let e : getD (abiSlotName sheet labels s) 0 0 ≡ getD (abiSlotName sheet labels z) 0 0 = ap (λ (x : List ℕ). getD x 0 0) n in
       a .index ∙ omega (arith, a .small, b .small, a .letter, b .letter, e) ∙ sym (b .index);
-  one-name = λ s z k l e. ap (λ (x : ℕ). abiSlotName sheet labels x) (omega (arith, (a-slot s k) .index, (a-slot z l) .index, e));
-  one-descriptor = λ s z k l e. ap (λ (x : ℕ). abiSlotDescriptor sheet labels x) (omega (arith, (a-slot s k) .index, (a-slot z l) .index, e));
-}
-
-conditions : Conditions ws text sheet labels P 3
-conditions = record {
-  orderly = orderly;
   targets-nonzero = λ m k e. omega (arith, (a-method m k) .target, e);
   targets-different = λ m n k l e. omega (arith, (a-method m k) .target, (a-method n l) .target, e);
   stubs-nonzero = λ x p e. omega (arith, p .0, e);
@@ -170,6 +163,17 @@ made = each (Made ws text sheet labels tables P) (3 ∷ 2 ∷ 1 ∷ []) (third, 
       from = refl;
       words = refl;
     }
+
+-- ---- slot 1 of class 3: the child's foo over its parent's
+
+pub overridden : Keeps ws text sheet labels 3 (tables 3) (tables 2) 1 0
+unfolding opened ws text sheet labels
+overridden = record {
+  method = 1;
+  known = record { slot = omega arith; reads = refl };
+  signature = record { name = refl; descriptor = refl };
+  target = inr (record { method = 1; own = here; eligible = refl; signature = record { name = refl; descriptor = refl }; target-is = refl });
+}
 
 -- ---- so the claims hold of them
 

@@ -18,12 +18,13 @@ use Rattle.abi_sheet.specs.AbiSheet.{abiSlotName, abiSlotDescriptor, abiClassTa
 use Rattle.linking.specs.Chain.{ownMethods, parentOf, chain, methodIs, ownMethod}
 use Rattle.linking.specs.Abi.{abiSlots, slotIndex, slotIs, vtableIndex, slotAt, classSize, classAbi, chainAbi, fixedIndex, minimumSize}
 use Rattle.linking.specs.Vtable.{ownFixed, findByIndex, fixedOf}
-use Rattle.chain.proofs.ChainLaws.{along-up, own-method-member, own-method-is}
-use Rattle.abi.proofs.Laws.{chain-abi-whole, slot-at-is, minimum-size-member}
-use Rattle.slots.specs.Slots.{In, SameSignature, ChainSlot, Orderly}
+use Rattle.linking.proofs.ChainLaws.{along-up, own-method-member, own-method-is}
+use Rattle.linking.proofs.AbiLaws.{chain-abi-whole, slot-at-is, minimum-size-member}
+use Rattle.slots.specs.Slots.{In, SameSignature, ChainSlot}
+use Rattle.slots.specs.Made.{OneSlotIndex}
 use Rattle.slots.proofs.ListFacts.{FoundBy, not-found, found-same, in-member, member-in, in-none, find-misses, found-in, found-misses, all-found, found-of-all}
 use Rattle.slots.proofs.ChainFacts.{chain-cases}
-use Rattle.slots.proofs.PlaceFacts.{Signature, sameParts, Ordered}
+use Rattle.slots.proofs.PlaceFacts.{Signature, sameParts, OneIndex}
 
 -- ---- signatures
 
@@ -95,19 +96,13 @@ module _ (ws text abi labels : List ℕ) where
   pub live-fixes : (c : ℕ) (s : Signature) (i : ℕ) → Live c s i → Fixes c s i
   live-fixes c s i l = l .fixes
 
-  -- "each signature (name and descriptor) has one index and each index one signature"
-  pub fixes-ordered : {c : ℕ} → Orderly ws text abi labels c → Ordered (Fixes c)
+  -- "each signature (name and descriptor) has one index"
+  pub fixes-once : {c : ℕ} → OneSlotIndex ws text abi labels c → OneIndex (Fixes c)
   unfolding slotSignature
-  fixes-ordered o = record {
-    one-index = λ s i j f g.
-        let e = f .is ∙ sym (g .is) in
-        sym (f .index) ∙ o .one-index (f .slot) (g .slot) (f .along) (g .along) (ap (λ (z : Signature). z .name) e) (ap (λ (z : Signature). z .descriptor) e)
-        ∙ g .index;
-    one-signature = λ s z i f g.
-        let e = f .index ∙ sym (g .index) in
-        sym (f .is) ∙ sameParts (o .one-name (f .slot) (g .slot) (f .along) (g .along) e) (o .one-descriptor (f .slot) (g .slot) (f .along) (g .along) e)
-        ∙ g .is;
-  }
+  fixes-once o s i j f g =
+      let e = f .is ∙ sym (g .is) in
+      sym (f .index) ∙ o (f .slot) (g .slot) (f .along) (g .along) (ap (λ (z : Signature). z .name) e) (ap (λ (z : Signature). z .descriptor) e)
+      ∙ g .index
 
   -- a class that is an array, or has no ABI entry, adds nothing
   pub live-up : (c : ℕ) → 0 < c → (classKind ws c ≡ 2) ⊎ (classAbi ws text abi labels c ≡ Nothing)

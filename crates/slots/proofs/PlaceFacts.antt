@@ -1,5 +1,5 @@
 -- Signatures at indices: what is fixed, F, against what a table shows, K. A table is good if each signature that it shows is where it is
--- fixed, if at all, at an index that is fixed for no other, and is shown once. Assumes nothing.
+-- fixed, if at all, and is shown once. Assumes nothing.
 use mathlib.Core.Path.{_≡_, sym, _∙_}
 use mathlib.Core.Logic.{_⊎_, inl, inr}
 use mathlib.Core.List.{List}
@@ -13,36 +13,26 @@ pub sameParts : {n m d e : List ℕ} → n ≡ m → d ≡ e
     → _≡_ {A = Signature} (record { name = n; descriptor = d }) (record { name = m; descriptor = e })
 sameParts p q = cc
 
--- each signature has one index and each index one signature
-pub record Ordered (F : Signature → ℕ → Type 0) : Type 0 where
-  pub one-index : (s : Signature) (i j : ℕ) → F s i → F s j → i ≡ j
-  pub one-signature : (s z : Signature) (i : ℕ) → F s i → F z i → s ≡ z
+-- each signature has one index
+abbrev pub OneIndex : (Signature → ℕ → Type 0) → Type 0
+OneIndex F = (s : Signature) (i j : ℕ) → F s i → F s j → i ≡ j
 
-pub record Placed (F : Signature → ℕ → Type 0) (s : Signature) (i : ℕ) : Type 0 where
-  pub index : (j : ℕ) → F s j → j ≡ i
-  pub signature : (z : Signature) → F z i → z ≡ s
+-- s is fixed at i, if at all
+abbrev pub Placed : (Signature → ℕ → Type 0) → Signature → ℕ → Type 0
+Placed F s i = (j : ℕ) → F s j → j ≡ i
 
 pub record Good (F : Signature → ℕ → Type 0) (K : ℕ → Signature → Type 0) : Type 0 where
   pub placed : (i : ℕ) (s : Signature) → K i s → Placed F s i
   pub unique : (i j : ℕ) (s : Signature) → K i s → K j s → i ≡ j
 
-pub fixed-placed : {F : Signature → ℕ → Type 0} → Ordered F → (s : Signature) (i : ℕ) → F s i → Placed F s i
-fixed-placed o s i f = record { index = λ j g. o .one-index s j i g f; signature = λ z g. o .one-signature z s i g f }
-
 -- ---- less is fixed
 
 module _ {F G : Signature → ℕ → Type 0} (sub : (s : Signature) (i : ℕ) → F s i → G s i) where
-  pub ordered-sub : Ordered G → Ordered F
-  ordered-sub o = record {
-    one-index = λ s i j f g. o .one-index s i j (sub s i f) (sub s j g);
-    one-signature = λ s z i f g. o .one-signature s z i (sub s i f) (sub z i g);
-  }
-
-  pub placed-sub : (s : Signature) (i : ℕ) → Placed G s i → Placed F s i
-  placed-sub s i p = record { index = λ j f. p .index j (sub s j f); signature = λ z f. p .signature z (sub z i f) }
+  pub one-sub : OneIndex G → OneIndex F
+  one-sub o s i j f g = o s i j (sub s i f) (sub s j g)
 
   pub good-sub : {K : ℕ → Signature → Type 0} → Good G K → Good F K
-  good-sub g = record { placed = λ i s k. placed-sub s i (g .placed i s k); unique = g .unique }
+  good-sub g = record { placed = λ i s k j f. g .placed i s k j (sub s j f); unique = g .unique }
 
 -- ---- another table
 
@@ -73,7 +63,7 @@ module _ {F : Signature → ℕ → Type 0} {K L : ℕ → Signature → Type 0}
       one j k z (inr e) (inr f) = g .unique j k z e f
 
   -- it shows no more but what is fixed there
-  pub good-fixed : Ordered F → ((i : ℕ) (s : Signature) → L i s → K i s ⊎ F s i) → Good F K → Good F L
+  pub good-fixed : OneIndex F → ((i : ℕ) (s : Signature) → L i s → K i s ⊎ F s i) → Good F K → Good F L
   good-fixed o less g = record {
     placed = λ i s l. at i s (less i s l);
     unique = λ i j s l m. one i j s (less i s l) (less j s m);
@@ -81,13 +71,13 @@ module _ {F : Signature → ℕ → Type 0} {K L : ℕ → Signature → Type 0}
     where
       at : (i : ℕ) (s : Signature) → K i s ⊎ F s i → Placed F s i
       at i s (inl k) = g .placed i s k
-      at i s (inr f) = fixed-placed o s i f
+      at i s (inr f) = λ j h. o s j i h f
 
       one : (i j : ℕ) (s : Signature) → K i s ⊎ F s i → K j s ⊎ F s j → i ≡ j
       one i j s (inl k) (inl l) = g .unique i j s k l
-      one i j s (inl k) (inr f) = sym (g .placed i s k .index j f)
-      one i j s (inr f) (inl k) = g .placed j s k .index i f
-      one i j s (inr f) (inr h) = o .one-index s i j f h
+      one i j s (inl k) (inr f) = sym (g .placed i s k j f)
+      one i j s (inr f) (inl k) = g .placed j s k i f
+      one i j s (inr f) (inr h) = o s i j f h
 
 pub good-none : {F : Signature → ℕ → Type 0} {K : ℕ → Signature → Type 0} → ((i : ℕ) (s : Signature) → K i s → ⊥) → Good F K
 good-none none = record { placed = λ i s k. absurd (none i s k); unique = λ i j s k l. absurd (none i s k) }

@@ -15,12 +15,12 @@ use Rattle.class_sheet.specs.ClassSheet.{classKind, methodTarget}
 use Rattle.linking.specs.Chain.{ownMethods, parentOf, chain}
 use Rattle.linking.specs.Abi.{classAbi}
 use Rattle.linking.specs.Vtable.{Entry, empty, ownFixed, findByIndex, readEntry, slotWord, slotWords}
-use Rattle.chain.proofs.ChainLaws.{along-none, target-none}
+use Rattle.linking.proofs.ChainLaws.{along-none, target-none}
 use Rattle.slots.specs.Slots.{In, Known, ChainMethod}
 use Rattle.slots.specs.Made.{readWords, Conditions}
 use Rattle.slots.proofs.ListFacts.{not-found}
 use Rattle.slots.proofs.ChainFacts.{method-up, conditions-up, target-absent, target-own}
-use Rattle.slots.proofs.PlaceFacts.{Signature, Ordered, Good, good-fixed}
+use Rattle.slots.proofs.PlaceFacts.{Signature, OneIndex, Good, good-fixed}
 use Rattle.slots.proofs.FixedFacts.{methodSignature, Live, index-live, index-parent}
 use Rattle.slots.proofs.EntryFacts.{at, known-below, Shows}
 
@@ -176,10 +176,10 @@ module _ (ws text abi labels : List ℕ) where
         pub table-origin : (i : ℕ) → i < length (slotWords stubs 0 T) → Origin c (getD (slotWords stubs 0 T) i 0)
         table-origin i h = written-origin (each i (rw (length-words stubs 0 T) at h))
 
-        pub table-good : ((d : ℕ) → In d (chain ws c) → classKind ws d ≡ 2 → ownMethods ws d ≡ []) → Ordered (Live ws text abi labels c)
+        pub table-good : ((d : ℕ) → In d (chain ws c) → classKind ws d ≡ 2 → ownMethods ws d ≡ []) → OneIndex (Live ws text abi labels c)
             → Good (Live ws text abi labels c) (Shows ws text T)
             → Good (Live ws text abi labels c) (Shows ws text (readWords ws text abi labels c (slotWords stubs 0 T)))
-        table-good bare ordered g = good-fixed ordered back g
+        table-good bare one g = good-fixed one back g
           where
             back : (i : ℕ) (s : Signature) → Shows ws text (readWords ws text abi labels c (slotWords stubs 0 T)) i s
                 → Shows ws text T i s ⊎ Live ws text abi labels c s i

@@ -13,7 +13,7 @@ use Rattle.words.proofs.ListLaws.{by-found}
 use Rattle.linking.specs.Abi.{chainAbi, minimumSize}
 use Rattle.linking.specs.Vtable.{Entry, empty, fixedOf, putFixed, relay, relayStep, relayed, extended}
 use Rattle.slots.proofs.ListFacts.{not-found, set-at, snoc-at, blank-at, extended-at}
-use Rattle.slots.proofs.PlaceFacts.{Signature, Ordered, Good, fixed-placed, good-less, good-none}
+use Rattle.slots.proofs.PlaceFacts.{Signature, OneIndex, Good, good-less, good-none}
 use Rattle.slots.proofs.FixedFacts.{methodSignature, Fixes, fixed-some, fixed-none, fixed-room}
 use Rattle.slots.proofs.EntryFacts.{at, Shows, shows-same, shows-entry, set-good, append-good}
 
@@ -53,7 +53,7 @@ module _ (ws text abi labels : List ℕ) where
   blank-none : (n i : ℕ) (s : Signature) → Shows ws text (replicate n empty) i s → ⊥
   blank-none n i s k = not-found (sym (ap (λ (e : Entry). e .method) (blank-at n i empty)) ∙ k .holds)
 
-  module _ (c : ℕ) (within : c ≤ 64) (ordered : Ordered (Fixes ws text abi labels c)) where
+  module _ (c : ℕ) (within : c ≤ 64) (one : OneIndex (Fixes ws text abi labels c)) where
     -- the entries T laid out already share no signature with those to come, E
     record Laying (T E : List Entry) : Type 0 where
       good : Good (Fixes ws text abi labels c) (Shows ws text T)
@@ -89,7 +89,7 @@ module _ (ws text abi labels : List ℕ) where
             let n = l .room in
             let below : i < length T = omega arith in
             record {
-              good = set-good ws text T e m known i below (fixed-placed ordered (methodSignature ws text m) i f) (λ j k. absurd (new j k)) (l .good);
+              good = set-good ws text T e m known i below (λ j g. one (methodSignature ws text m) j i g f) (λ j k. absurd (new j k)) (l .good);
               room = simp length-set n;
               rest = rest-next;
               apart = λ j k s a b. elim (set-at T i j e empty below) [
@@ -102,10 +102,7 @@ module _ (ws text abi labels : List ℕ) where
         lay-last q =
             let n = l .room in
             record {
-              good = append-good ws text T e m known (record {
-                index = λ j f. absurd (fixed-none ws text abi labels c within m j q f);
-                signature = λ s f. absurd (let r = fixed-room ws text abi labels c within s (length T) f in omega arith);
-              }) new (l .good);
+              good = append-good ws text T e m known (λ j f. absurd (fixed-none ws text abi labels c within m j q f)) new (l .good);
               room = simp length-append (omega arith);
               rest = rest-next;
               apart = λ j k s a b. elim (snoc-at T e j empty) [

@@ -15,15 +15,16 @@ use Rattle.class_sheet.specs.ClassSheet.{classKind}
 use Rattle.linking.specs.Chain.{ownMethods, parentOf, chain}
 use Rattle.linking.specs.Abi.{classAbi, chainAbi, minimumSize}
 use Rattle.linking.specs.Vtable.{Entry, built, readEntry, relayed, extended, addMethods, slotWords}
-use Rattle.chain.proofs.ChainLaws.{parent-below, parent-within}
+use Rattle.linking.proofs.ChainLaws.{parent-below, parent-within}
+use Rattle.linking.proofs.Plans.{built-same}
 use Rattle.slots.specs.Slots.{In, Unique, Declares, Keeps, Kept}
 use Rattle.slots.specs.Made.{readWords, startFrom, tableFrom, inheritedFrom, Made, Conditions}
 use Rattle.slots.proofs.ListFacts.{not-found}
 use Rattle.slots.proofs.ChainFacts.{chain-here, chain-up, method-here, conditions-up}
-use Rattle.slots.proofs.PlaceFacts.{Ordered, Good, ordered-sub, good-sub, good-none}
-use Rattle.slots.proofs.FixedFacts.{methodSignature, same-signature, signature-same, Fixes, Live, live-fixes, fixes-ordered, live-up}
+use Rattle.slots.proofs.PlaceFacts.{OneIndex, Good, one-sub, good-sub, good-none}
+use Rattle.slots.proofs.FixedFacts.{methodSignature, same-signature, signature-same, Fixes, Live, live-fixes, fixes-once, live-up}
 use Rattle.slots.proofs.EntryFacts.{at, Shows}
-use Rattle.slots.proofs.AddFacts.{built-same, adds, adds-good, adds-each, Declared, Stays, stays-same, adds-stays}
+use Rattle.slots.proofs.AddFacts.{adds, adds-good, adds-each, Declared, Stays, stays-same, adds-stays}
 use Rattle.slots.proofs.StartFacts.{extended-same, extended-room, extended-good, relayed-good, relayed-room, relayed-each}
 use Rattle.slots.proofs.ReadFacts.{read-at, known-read, read-word, read-no-class, Origin, Firm, ours, lent, blank, firm-any, read-firm, table-origin, table-good, table-known, table-word}
 
@@ -41,8 +42,8 @@ module _ (ws text abi labels : List ℕ) (tables : ℕ → List ℕ) (P : ℕ �
     abbrev inherited : List Entry
     inherited = inheritedFrom ws text abi labels tables c
 
-    ordered : Ordered (Fixes ws text abi labels c)
-    ordered = fixes-ordered ws text abi labels (k .orderly)
+    one : OneIndex (Fixes ws text abi labels c)
+    one = fixes-once ws text abi labels (k .one-index)
 
     -- the parent's entries: none, or its table's, read
 
@@ -94,9 +95,9 @@ module _ (ws text abi labels : List ℕ) (tables : ℕ → List ℕ) (P : ℕ �
 
     relayed-starts : (a : ℕ) → classAbi ws text abi labels c ≡ At a → Starts (relayed ws text abi labels (chainAbi ws text abi labels c) inherited)
     relayed-starts a e = record {
-      good = good-sub (live-fixes ws text abi labels c) (relayed-good ws text abi labels c within ordered inherited (inherited-good .unique));
-      room = relayed-room ws text abi labels c within ordered inherited (inherited-good .unique);
-      firm = relayed-each ws text abi labels c within ordered inherited (inherited-good .unique) (λ i e. Firm ws text abi labels P c i e)
+      good = good-sub (live-fixes ws text abi labels c) (relayed-good ws text abi labels c within one inherited (inherited-good .unique));
+      room = relayed-room ws text abi labels c within one inherited (inherited-good .unique);
+      firm = relayed-each ws text abi labels c within one inherited (inherited-good .unique) (λ i e. Firm ws text abi labels P c i e)
           (firm-any ws text abi labels P e) (λ i. blank refl refl) inherited-firm;
       same = λ n. not-found (sym n ∙ e);
     }
@@ -117,7 +118,7 @@ module _ (ws text abi labels : List ℕ) (tables : ℕ → List ℕ) (P : ℕ �
         → addMethods ws text abi labels (chainAbi ws text abi labels c) (ownMethods ws c) (startFrom ws text abi labels c inherited) ≡ built T → Makes T
     built-makes T e =
         let a =
-        adds ws text abi labels c within ordered (ownMethods ws c) (startFrom ws text abi labels c inherited) T (starts .room) e in
+        adds ws text abi labels c within one (ownMethods ws c) (startFrom ws text abi labels c inherited) T (starts .room) e in
         record {
           good = adds-good ws text abi labels a (starts .good);
           firm = adds-each ws text abi labels (λ i e. Firm ws text abi labels P c i e) a
@@ -183,7 +184,7 @@ module _ (ws text abi labels : List ℕ) (tables : ℕ → List ℕ) (P : ℕ �
           origin = rw (t .words) (table-origin ws text abi labels P c k (t .stubs) (t .entries) (t .enough) (t .lent) (m .firm));
           good = rw (t .words)
               (table-good ws text abi labels P c k (t .stubs) (t .entries) (t .enough) (t .lent) (m .firm) bare
-              (ordered-sub (live-fixes ws text abi labels c) ordered) (m .good));
+              (one-sub (live-fixes ws text abi labels c) one) (m .good));
           kept = λ n none. rw (t .words) (kept-one (t .stubs) (t .entries) (t .enough) (t .lent) m n none);
         }
 

@@ -9,10 +9,11 @@ use lib.ListN.{length, getD}
 use lib.Dec.{eqb}
 use Rattle.words.specs.Lists.{listFrom}
 use Rattle.class_sheet.specs.ClassSheet.{classKind, methodTarget}
+use Rattle.abi_sheet.specs.AbiSheet.{abiSlotName, abiSlotDescriptor}
 use Rattle.linking.specs.Chain.{onFound, ownMethods, parentOf}
-use Rattle.linking.specs.Abi.{classAbi, chainAbi}
+use Rattle.linking.specs.Abi.{slotIndex, classAbi, chainAbi}
 use Rattle.linking.specs.Vtable.{Entry, Built, built, readEntry, relayed, extended, addMethods, slotWords}
-use Rattle.slots.specs.Slots.{ChainMethod, Orderly}
+use Rattle.slots.specs.Slots.{ChainMethod, ChainSlot}
 
 module _ (ws text abi labels : List ℕ) where
   -- the entries of a table of these words, read along class c's chain
@@ -46,10 +47,15 @@ module _ (ws text abi labels : List ℕ) where
     pub from : tableFrom c (inheritedFrom tables c) ≡ built entries
     pub words : tables c ≡ slotWords stubs 0 entries
 
-  -- "under an orderly ABI sheet, where the chain's method targets and all stubs lent are nonzero, the targets all different and none of
-  -- them a stub"
+  -- "over the ABI classes the chain names, each signature (name and descriptor) has one index": of orderly, the half that the claims rest on
+  abbrev pub OneSlotIndex : ℕ → Type 0
+  OneSlotIndex c =
+      (s z : ℕ) → ChainSlot ws text abi labels c s → ChainSlot ws text abi labels c z → abiSlotName abi labels s ≡ abiSlotName abi labels z
+      → abiSlotDescriptor abi labels s ≡ abiSlotDescriptor abi labels z → slotIndex abi s ≡ slotIndex abi z
+
+  -- so ordered, and "where the chain's method targets and all stubs lent are nonzero, the targets all different and none of them a stub"
   pub record Conditions (P : ℕ → Type 0) (c : ℕ) : Type 0 where
-    pub orderly : Orderly ws text abi labels c
+    pub one-index : OneSlotIndex c
     pub targets-nonzero : (m : ℕ) → ChainMethod ws text abi labels c m → methodTarget ws m ≢ 0
     pub targets-different : (m k : ℕ) → ChainMethod ws text abi labels c m → ChainMethod ws text abi labels c k → methodTarget ws m ≡ methodTarget ws k → m ≡ k
     pub stubs-nonzero : (x : ℕ) → P x → x ≢ 0

@@ -1,20 +1,17 @@
 -- The terms of demand 3 that speak of one class's table: known slots, signatures, chains, orderly ABI sheets. A table is a list of slot words;
 -- methods, chains and Reading go by one sheet. Assumes nothing.
-use Prim.Native.Nat.{ℕ, _+_, _<_, _≤_}
+use Prim.Native.Nat.{ℕ, _<_}
 use mathlib.Core.Path.{_≡_}
-use mathlib.Core.Logic.{_≢_, _⊎_}
-use mathlib.Core.Bool.{Bool, true, false, cond}
-use mathlib.Core.List.{List, [], _∷_}
+use mathlib.Core.Logic.{_⊎_}
+use mathlib.Core.Bool.{true}
+use mathlib.Core.List.{List, _∷_}
 use lib.ListN.{length, getD}
-use lib.Dec.{eqb}
-use Rattle.words.specs.Lists.{listFrom}
-use Rattle.words.specs.declared.Found.{Found}
-use Rattle.words.specs.declared.Found.the-variants.{At, Nothing}
-use Rattle.class_sheet.specs.ClassSheet.{classKind, methodName, methodDescriptor, methodTarget}
+use Rattle.words.specs.declared.Found.the-variants.{At}
+use Rattle.class_sheet.specs.ClassSheet.{methodName, methodDescriptor, methodTarget}
 use Rattle.abi_sheet.specs.AbiSheet.{abiSlotName, abiSlotDescriptor}
-use Rattle.linking.specs.Chain.{onFound, ownMethods, parentOf, chain, eligible}
-use Rattle.linking.specs.Abi.{abiSlots, slotIndex, classAbi, chainAbi}
-use Rattle.linking.specs.Vtable.{Entry, Built, built, readEntry, relayed, extended, addMethods, slotWords}
+use Rattle.linking.specs.Chain.{ownMethods, parentOf, chain, eligible}
+use Rattle.linking.specs.Abi.{abiSlots, slotIndex, classAbi}
+use Rattle.linking.specs.Vtable.{readEntry}
 
 -- x is an element of the list
 pub data In (x : ℕ) : List ℕ → Type 0 where

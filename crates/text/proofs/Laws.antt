@@ -193,6 +193,21 @@ printable-each text start len l h i k =
     rw (← (part-at text start len i 0 k))
     (printable-at (take len (drop start text)) h i (rw (length-part text start len l) k))
 
+-- and what it takes: such bytes only
+printable-if : (s : List ℕ) → ((i : ℕ) → i < length s → (33 ≤ getD s i 0) × (getD s i 0 ≤ 126)) → printable s ≡ true
+unfolding printable
+printable-if [] h = refl
+printable-if (b ∷ s) h =
+    let p = h 0 (omega arith) in
+    rw (le-leb 33 b (p .0), le-leb b 126 (p .1)) (printable-if s (λ i l. h (suc i) (omega arith)))
+
+pub printable-all : (text : List ℕ) (start len : ℕ) → start + len ≤ length text
+    → ((i : ℕ) → i < len → (33 ≤ getD text (start + i) 0) × (getD text (start + i) 0 ≤ 126)) → printable (nameAt text start len) ≡ true
+unfolding nameAt
+printable-all text start len l h =
+    printable-if (take len (drop start text))
+    (λ i k. let j : i < len = rw (length-part text start len l) at k in rw (part-at text start len i 0 j) (h i j))
+
 -- ---- the rule for a part
 
 module _ (text : List ℕ) (clean : Bool) (start len : ℕ) where

@@ -57,11 +57,29 @@ unfoldable pub partClean : List ℕ → Bool → ℕ → ℕ → Bool
 partClean text clean start len =
     leb 1 len && leb len 255 && leb (start + len) (length text) && (clean || printable (nameAt text start len))
 
+-- ---- a record of a name, a descriptor and a number, by its words: where each begins in the text and how long it is, then the number
+
+abbrev pub nameStartWord : ℕ
+nameStartWord = 0
+
+abbrev pub nameLengthWord : ℕ
+nameLengthWord = 1
+
+abbrev pub descriptorStartWord : ℕ
+descriptorStartWord = 2
+
+abbrev pub descriptorLengthWord : ℕ
+descriptorLengthWord = 3
+
+abbrev pub numberWord : ℕ
+numberWord = 4
+
 -- a name and a descriptor, whose starts and lengths are the four words from `at` on
 unfoldable pub signatureClean : List ℕ → ℕ → List ℕ → Bool → Bool
 signatureClean ws at text clean =
-    partClean text clean (getD ws at 0) (getD ws (at + 1) 0) && partClean text clean (getD ws (at + 2) 0) (getD ws (at + 3) 0)
+    partClean text clean (getD ws at 0) (getD ws (at + nameLengthWord) 0)
+    && partClean text clean (getD ws (at + descriptorStartWord) 0) (getD ws (at + descriptorLengthWord) 0)
 
 -- record i of this width: a name, a descriptor, and a number up to `most`
 unfoldable pub memberClean : List ℕ → ℕ → ℕ → List ℕ → Bool → ℕ → Bool
-memberClean ws width most text clean i = signatureClean ws (width * i) text clean && leb (getD ws (width * i + 4) 0) most
+memberClean ws width most text clean i = signatureClean ws (width * i) text clean && leb (getD ws (width * i + numberWord) 0) most

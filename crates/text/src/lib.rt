@@ -5,6 +5,16 @@ ghost use lib.ListN.{length};
 ghost use Rattle.words.specs.Folds.{allOf, stores};
 ghost use Rattle.text.specs.Text.{textByte, textStores, unpackedText, zeroRest, nameAt, sameBytes, printable, partClean, signatureClean, memberClean};
 
+// The words of a record of a name, a descriptor and a number, after the name's start: the name's length, the descriptor's start and length,
+// and the number.
+pub const NAME_LENGTH: usize = 1;
+
+pub const DESCRIPTOR_START: usize = 2;
+
+pub const DESCRIPTOR_LENGTH: usize = 3;
+
+pub const NUMBER: usize = 4;
+
 // The smaller of two numbers.
 fn least(a: usize, b: usize) -> usize
     ensures { λ r. ⌜ (r ≤ a) × (r ≤ b) ⌝ }
@@ -140,10 +150,15 @@ pub fn signature_clean(ws: &[u32], at: usize, text: &[u8], clean: bool) -> bool
     if ws.len() - 4 < at {
         return false;
     }
-    if !part_clean(text, clean, ws[at], ws[at + 1]) {
+    if !part_clean(text, clean, ws[at], ws[at + NAME_LENGTH]) {
         return false;
     }
-    part_clean(text, clean, ws[at + 2], ws[at + 3])
+    part_clean(
+        text,
+        clean,
+        ws[at + DESCRIPTOR_START],
+        ws[at + DESCRIPTOR_LENGTH],
+    )
 }
 
 // Whether record i of this width is in order: a name, a descriptor, and a number up to `most`.
@@ -154,7 +169,7 @@ fn member_clean(ws: &[u32], width: u32, most: u32, text: &[u8], clean: bool, i: 
     if !signature_clean(ws, at, text, clean) {
         return false;
     }
-    words::word_at(ws, at + 4) <= most
+    words::word_at(ws, at + NUMBER) <= most
 }
 
 // Whether each of the n records is.

@@ -7,27 +7,26 @@ use Prim.Native.Nat.{ℕ, zero, suc, _+_, _-_, _≤_, _<_, min}
 use native.Mathlib.Omega.{arith}
 use lib.ListN.{length, getD, set, List·getD-eq-default}
 use lib.Dec.{eqb, ltb}
-use borrow.Author.Tests.{ltb-true, ltb-false, lt-ltb, le-ltb, eq-eqb, ne-eqb}
+use borrow.Author.Tests.{ltb-true, ltb-false, lt-ltb, le-ltb}
 use Rattle.words.proofs.Bools.{by}
 use Rattle.words.specs.Lists.{listFrom}
 use Rattle.words.proofs.ListLaws.{restFrom, rest-start, rest-turn, rest-end}
 use Rattle.words.specs.declared.Found.{Found}
 use Rattle.words.specs.declared.Found.the-variants.{At, Nothing}
-use Rattle.class_sheet.specs.ClassSheet.{classFirstMethod, classMethodCount, methodName, methodDescriptor, methodTarget}
+use Rattle.class_sheet.specs.ClassSheet.{classFirstMethod, classMethodCount, methodName, methodDescriptor, methodTarget, methodLimit}
 use Rattle.linking.specs.Chain.{onFound, listCount, ownMethods, eligible, methodIs}
 use Rattle.linking.specs.Vtable.{Entry, Built, built, refused, empty, entryIsOther, fixedOf, slotOf, methodEntry, putMethod, addMethod, addMethods}
 use Rattle.vtable.specs.declared.Step.{Step}
 use Rattle.vtable.specs.declared.Step.the-variants.{Next, Moved, Taken}
-use Rattle.vtable.specs.Arrays.{marked, entryAt, entriesOf, markIs, slotIn, otherIn, stepOf, stepCount}
-use Rattle.vtable.proofs.ArrayLaws.{length-entries, entry-is}
+use Rattle.reading.specs.Arrays.{markOf, methodOf, entryAt, entriesOf}
+use Rattle.vtable.specs.Arrays.{slotIn, otherIn, stepOf, stepCount}
+use Rattle.reading.proofs.ArrayLaws.{method-back, length-entries, entry-is}
 use Rattle.vtable.proofs.SlotLaws.{slot-in}
 
 -- the entry with a method's mark is the method's
-pub mark-entry : (ws text abi labels : List ℕ) (m : ℕ) {t : ℕ} → t ≡ methodTarget ws m
-    → _≡_ {A = Entry} (record { word = t; method = marked (m + 1) }) (methodEntry ws text abi labels m)
-mark-entry ws text abi labels m e =
-    let z : m + 1 - 1 ≡ m = omega arith in
-    simp (ne-eqb (m + 1) 0 (λ (z : m + 1 ≡ 0). omega arith), z, e)
+pub mark-entry : (ws text abi labels : List ℕ) (m : ℕ) {t k : ℕ} → m < methodLimit → t ≡ methodTarget ws m → k ≡ markOf (At m)
+    → _≡_ {A = Entry} (record { word = t; method = methodOf k }) (methodEntry ws text abi labels m)
+mark-entry ws text abi labels m h e f = rw (f, e, method-back m (omega arith))
 
 module _ (ws text : List ℕ) (m : ℕ) where
   -- ---- whether the fixed slot holds another signature
@@ -37,16 +36,15 @@ module _ (ws text : List ℕ) (m : ℕ) where
     unfolding otherIn
     other-past h = simp (le-ltb i n h)
 
-    pub other-none : {k a : ℕ} → i < n → k ≡ getD ms a 0 → a ≡ i → k ≡ 0 → false ≡ otherIn ws text m ms n i
-    unfolding otherIn
-    other-none {k = k} h e f z = let g : getD ms i 0 ≡ 0 = sym (rw f at e) ∙ z in simp (lt-ltb i n h) (rw g)
+    module _ {k a : ℕ} {o : Found} (h : i < n) (mark : k ≡ getD ms a 0) (here : a ≡ i) (method : o ≡ methodOf k) where
+      pub other-none : o ≡ Nothing → false ≡ otherIn ws text m ms n i
+      unfolding otherIn
+      other-none e = rw (lt-ltb i n h, ← here, ← mark, ← method, e)
 
-    pub other-is : {k a : ℕ} {b : Bool} {name descriptor : List ℕ} → i < n → k ≡ getD ms a 0 → a ≡ i → k ≢ 0 → name ≡ methodName ws text m
-        → descriptor ≡ methodDescriptor ws text m → b ≡ markIs ws text name descriptor k → not b ≡ otherIn ws text m ms n i
-    unfolding otherIn markIs
-    other-is {k = k} h e f z p q g =
-        let x : getD ms i 0 ≡ k = sym (rw f at e) in
-        simp (lt-ltb i n h) (rw (g, p, q, x) (simp (ne-eqb k 0 z)))
+      pub other-is : {j : ℕ} {b : Bool} {name descriptor : List ℕ} → o ≡ At j → name ≡ methodName ws text m
+          → descriptor ≡ methodDescriptor ws text m → b ≡ methodIs ws text j name descriptor → not b ≡ otherIn ws text m ms n i
+      unfolding otherIn
+      other-is e p q g = rw (g, p, q) (rw (lt-ltb i n h, ← here, ← mark, ← method, e))
 
   other-entry : (abi labels ts ms : List ℕ) (n i : ℕ)
       → entryIsOther ws text abi labels (methodName ws text m) (methodDescriptor ws text m) (getD (entriesOf ts ms n) i empty)
@@ -54,12 +52,9 @@ module _ (ws text : List ℕ) (m : ℕ) where
   unfolding entryIsOther otherIn entryAt
   other-entry abi labels ts ms n i =
       by (ltb i n)
-      (λ q. rw q (rw (entry-is ts ms n i empty (below i n q))))
+      (λ q. rw q (rw (entry-is ts ms n i empty (ltb-true i n q))))
       (λ q. rw q (rw (List·getD-eq-default (entriesOf ts ms n) empty (past-end ts ms i n q))))
     where
-      below : (i n : ℕ) → ltb i n ≡ true → i < n
-      below i n q = omega (arith, ltb-true i n q)
-
       past-end : (ts ms : List ℕ) (i n : ℕ) → ltb i n ≡ false → length (entriesOf ts ms n) ≤ i
       past-end ts ms i n q = omega (arith, ltb-false i n q, length-entries ts ms n)
 
@@ -117,7 +112,7 @@ module _ (ws text : List ℕ) (m : ℕ) where
 -- ---- all of a class's own methods
 
 module _ (ws text abi labels abis : List ℕ) (first count : ℕ) where
-  pub adds-start : (c : ℕ) (T : List Entry) → first ≡ classFirstMethod ws c → count ≡ listCount (classFirstMethod ws c) (classMethodCount ws c) 512
+  pub adds-start : (c : ℕ) (T : List Entry) → first ≡ classFirstMethod ws c → count ≡ listCount (classFirstMethod ws c) (classMethodCount ws c) methodLimit
       → addMethods ws text abi labels abis (restFrom (λ k. k) first count 0) T ≡ addMethods ws text abi labels abis (ownMethods ws c) T
   unfolding ownMethods
   adds-start c T e f = rw (rest-start (λ k. k) first count, e, f)

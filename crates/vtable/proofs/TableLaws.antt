@@ -7,7 +7,7 @@ use native.Mathlib.Omega.{arith}
 use Rattle.words.proofs.Bools.{by}
 use Rattle.words.specs.Lists.{listFrom, keep}
 use Rattle.words.proofs.ListLaws.{restFrom, rest-start, rest-turn, rest-end}
-use Rattle.class_sheet.specs.ClassSheet.{classFirstMethod, classMethodCount}
+use Rattle.class_sheet.specs.ClassSheet.{classFirstMethod, classMethodCount, methodLimit}
 use Rattle.linking.specs.Chain.{listCount, ownMethods, eligible}
 use Rattle.linking.specs.Abi.{chainAbi}
 use Rattle.linking.specs.Vtable.{Entry, Built, methodEntry, methodEntries, inheritedTable, addMethods, buildMethods, buildInterfaceMethods}
@@ -41,7 +41,7 @@ module _ (ws text : List ℕ) where
 
   module _ (first count : ℕ) where
     pub eligibles-start : (c : ℕ) {T : List Entry} → T ≡ [] → first ≡ classFirstMethod ws c
-        → count ≡ listCount (classFirstMethod ws c) (classMethodCount ws c) 512
+        → count ≡ listCount (classFirstMethod ws c) (classMethodCount ws c) methodLimit
         → T ++ methodEntries ws text [] [] (keep (eligible ws text) (restFrom (λ k. k) first count 0)) ≡ buildInterfaceMethods ws text [] [] c
     unfolding buildInterfaceMethods ownMethods
     eligibles-start c t e f = rw (t, rest-start (λ k. k) first count, e, f)

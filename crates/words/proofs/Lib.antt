@@ -1,5 +1,7 @@
 pub mod Bools
+pub mod Ext
 pub mod FoldLaws
 pub mod Laws
 pub mod ListLaws
 pub mod Lists
+pub mod Rows

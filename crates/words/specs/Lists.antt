@@ -28,10 +28,6 @@ abbrev pub mapFound : (ℕ → ℕ) → Found → Found
 mapFound f (At n) = At (f n)
 mapFound f Nothing = Nothing
 
-abbrev pub foundIs : Found → (ℕ → Bool) → Bool → Bool
-foundIs (At n) p otherwise = p n
-foundIs Nothing p otherwise = otherwise
-
 -- the first number of the list that passes the test
 unfoldable pub find : (ℕ → Bool) → List ℕ → Found
 find p [] = Nothing

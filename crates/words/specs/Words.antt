@@ -9,6 +9,10 @@ use lib.Dec.{leb}
 unfoldable pub leWord : List ℕ → ℕ → ℕ
 leWord bs b = getD bs b 0 + 256 * getD bs (b + 1) 0 + 65536 * getD bs (b + 2) 0 + 16777216 * getD bs (b + 3) 0
 
+-- how many words hold so many bytes, four a word
+abbrev pub wordsFor : ℕ → ℕ
+wordsFor bytes = (bytes + 3) / 4
+
 -- byte j of a word, counted from the lowest
 unfoldable pub byteOf : ℕ → ℕ → ℕ
 byteOf w j = w / 256 ^ j % 256

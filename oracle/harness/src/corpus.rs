@@ -11,6 +11,7 @@ use crate::oracle::Oracle;
 use crate::random::Random;
 use crate::readings;
 use crate::side::{Answer, Linker};
+use crate::telling;
 
 use format::{Reader, Writer};
 
@@ -37,15 +38,28 @@ pub struct Summary {
 /// up to `count`.
 pub fn make(seed: u64, count: usize) -> (Vec<u32>, Summary) {
     let mut oracle = Oracle::default();
-    let chosen: Vec<_> = choose(&mut oracle, seed, count).into_iter().map(|number| (number, None)).collect();
+    let chosen: Vec<_> = choose(&mut oracle, seed, count).into_iter().map(|number| (generate::case(seed, number), None)).collect();
     build(&mut oracle, seed, &chosen, [READINGS, DESCRIPTORS], false, &format!("oracle/corpus {seed} {count}"))
+}
+
+/// The telling rows with the Rust's answers; a row that says otherwise is an error.
+pub fn telling() -> Result<(Vec<u32>, Summary), String> {
+    let mut oracle = Oracle::default();
+    let rows = telling::rows();
+    for row in &rows {
+        oracle.new_case(row.case.rebuilds);
+        row.check(&mut oracle)?;
+    }
+    let chosen: Vec<_> = rows.into_iter().map(|row| (row.case, None)).collect();
+    Ok(build(&mut oracle, 0, &chosen, [0, 0], false, "oracle/corpus telling"))
 }
 
 /// A few small cases of `seed`, and one thing each, in all but the first, that the Rust did not answer.
 pub fn spoiled(seed: u64) -> (Vec<u32>, Summary) {
     let mut oracle = Oracle::default();
     let small: Vec<_> = (0..LOOKED_AT).filter(|&number| is_small(&mut oracle, &generate::case(seed, number))).take(4).collect();
-    let chosen: Vec<_> = small.into_iter().zip([None, Some(Spoil::Answer), Some(Spoil::Set), Some(Spoil::Area)]).collect();
+    let small = small.into_iter().map(|number| generate::case(seed, number));
+    let chosen: Vec<_> = small.zip([None, Some(Spoil::Answer), Some(Spoil::Set), Some(Spoil::Area)]).collect();
     build(&mut oracle, seed, &chosen, [2, 2], true, &format!("oracle/corpus spoiled {seed}"))
 }
 
@@ -75,7 +89,7 @@ fn last_accepted(oracle: &mut Oracle, case: &Case) -> Option<usize> {
 fn build(
     oracle: &mut Oracle,
     seed: u64,
-    chosen: &[(u64, Option<Spoil>)],
+    chosen: &[(Case, Option<Spoil>)],
     [readings, descriptors]: [u64; 2],
     spoil: bool,
     made: &str,
@@ -83,10 +97,9 @@ fn build(
     let mut writer = Writer::default();
     let mut longest = Longest::default();
     let mut counts = Counts::default();
-    for &(number, spoil) in chosen {
-        let case = generate::case(seed, number);
-        longest.case(&case);
-        write_case(&mut writer, oracle, &case, &mut counts, spoil);
+    for (case, spoil) in chosen {
+        longest.case(case);
+        write_case(&mut writer, oracle, case, &mut counts, *spoil);
     }
     let mut random = Random::new(seed);
     for number in 0..readings {

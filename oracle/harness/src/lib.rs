@@ -1,4 +1,4 @@
-//! The oracle: the original Rust linker as a judge, a model of document 01 beside it, and the
+//! The oracle: the original Rust linker as a judge, a model of the specification beside it, and the
 //! machinery that compares them.
 
 pub mod buckets;
@@ -8,10 +8,12 @@ pub mod corpus;
 pub mod demand3;
 pub mod drive;
 pub mod generate;
-pub mod model;
 pub mod oracle;
 pub mod random;
 pub mod readings;
 pub mod sheet;
 pub mod shrink;
-pub mod side;
+pub mod telling;
+
+pub use model;
+pub use model::side;

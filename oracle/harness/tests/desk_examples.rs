@@ -1,4 +1,4 @@
-//! "The desk's examples" of document 01, on the oracle and on the model.
+//! "The desk's examples" of the specification, on the oracle and on the model.
 
 mod desk;
 

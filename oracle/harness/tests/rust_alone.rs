@@ -1,4 +1,4 @@
-//! What the original does where document 01 asks for something else: each entry of
+//! What the original does where the specification asks for something else: each entry of
 //! docs/DIFFERENCES.md that can be shown, shown on the original alone.
 
 use std::pin::pin;

@@ -27,7 +27,7 @@ unsafe extern "C" {
     ) -> u32;
 
     fn lgt_interface_dispatch_table(
-        set: *mut u32,
+        set: *const u32,
         set_len: usize,
         abi: *const u32,
         abi_len: usize,
@@ -91,7 +91,7 @@ impl Linker for Library {
 
     fn ask(&mut self, set: &mut [u32], abi: &[u32], class: u32, interface: u32, area: &mut [u32], stubs: &[u32]) -> Answer {
         let (set_len, area_len) = (set.len(), area.len());
-        let (set, abi_words, area, stub_words) = (self.lent(set), self.read_only(abi), self.lent(area), self.read_only(stubs));
+        let (set, abi_words, area, stub_words) = (self.read_only(set), self.read_only(abi), self.lent(area), self.read_only(stubs));
         answered(2, |answer| unsafe {
             lgt_interface_dispatch_table(
                 set,

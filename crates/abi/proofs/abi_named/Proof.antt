@@ -1,3 +1,5 @@
+-- A search: the classes before a do not have the name, and what is found from a on is what is found at all. The classes left grow fewer.
+-- Assumes nothing.
 use Rattle.words.proofs.ListLaws.{findFrom, find-start, seek-hit, seek-miss, find-end}
 use native.Mathlib.Omega.{arith}
 use mathlib.Core.Path.{_≡_, _∙_}

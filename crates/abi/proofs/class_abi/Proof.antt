@@ -1,3 +1,4 @@
+-- The class's name is looked up. Assumes nothing.
 use Rattle.linking.specs.Abi.{classAbi}
 use borrow.Author.Needs.{needs}
 use Rattle.abi.proofs.class_abi.Statement.{statement}

@@ -1,4 +1,6 @@
+-- The size so far, folded with the slots left, is the size of all of them; the slots left grow fewer. Assumes nothing.
 use Prim.Native.Nat.{max}
+use Rattle.abi_sheet.specs.AbiSheet.{abiSlotLimit}
 use Rattle.words.proofs.ListLaws.{foldFrom, fold-start, fold-turn, fold-end}
 use Rattle.linking.specs.Abi.{abiSlots, slotIndex, classSize}
 use native.Mathlib.Omega.{arith}
@@ -10,7 +12,7 @@ use Rattle.abi.proofs.class_size.Tie as tie
 
 abbrev Inv-loop : tie.InvT-loop
 Inv-loop abi a first n size₀ i₀ size i =
-    (i ≤ n) × (n ≤ 512 - first) × (foldFrom (λ k. k) (λ m s. max m (slotIndex abi s + 1)) size first n i ≡ classSize abi a)
+    (i ≤ n) × (n ≤ abiSlotLimit - first) × (foldFrom (λ k. k) (λ m s. max m (slotIndex abi s + 1)) size first n i ≡ classSize abi a)
 
 abbrev μ-loop : tie.MeasureT-loop
 μ-loop abi a first n size₀ i₀ size i = n - i

@@ -1,3 +1,4 @@
+-- A field record is a member record of the section's part. Assumes nothing.
 use mathlib.Core.Path.{_∙_}
 use Rattle.abi.proofs.RecordLaws.{record-field}
 use borrow.Author.Needs.{needs}

@@ -1,3 +1,4 @@
+-- The part from the fields' place on. Assumes nothing.
 use Rattle.abi.proofs.RecordLaws.{fields-are}
 use borrow.Author.Needs.{needs}
 use Rattle.abi.proofs.field_records.Statement.{statement}

@@ -1,3 +1,4 @@
+-- A search: no ABI class before the i-th fixes an index, and what is found from there on is what is found at all. Assumes nothing.
 use lib.ListN.{length}
 use Rattle.words.proofs.ListLaws.{foundFrom, found-start, found-hit, found-miss, found-end}
 use Rattle.linking.specs.Abi.{vtableIndex, fixedIndex}

@@ -1,6 +1,8 @@
+-- A search: no field record before the i-th has the signature, and what is found from there on is what is found at all. Assumes nothing.
 use native.Mathlib.Omega.{arith}
 use mathlib.Core.Path.{_≡_, _∙_}
 use Prim.Native.Nat.{_-_, _≤_}
+use Rattle.abi_sheet.specs.AbiSheet.{abiFieldLimit}
 use Rattle.words.proofs.ListLaws.{findFrom, find-start, find-hit, find-miss, find-end}
 use Rattle.linking.specs.Abi.{fieldIs, fixedField, abiFields}
 use borrow.Author.Needs.{needs}
@@ -9,7 +11,7 @@ use Rattle.abi.proofs.fixed_field.Tie as tie
 
 abbrev Inv-loop : tie.InvT-loop
 Inv-loop abi labels name descriptor a first n i₀ i =
-    (i ≤ n) × (n ≤ 256 - first) × (findFrom (λ f. fieldIs abi labels f name descriptor) first n i ≡ fixedField abi labels name descriptor a)
+    (i ≤ n) × (n ≤ abiFieldLimit - first) × (findFrom (λ f. fieldIs abi labels f name descriptor) first n i ≡ fixedField abi labels name descriptor a)
 
 abbrev μ-loop : tie.MeasureT-loop
 μ-loop abi labels name descriptor a first n i₀ i = n - i

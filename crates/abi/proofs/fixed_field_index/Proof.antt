@@ -1,3 +1,4 @@
+-- The record's index, cut at its limit. Assumes nothing.
 use Rattle.linking.specs.Abi.{fixedFieldIndex}
 use borrow.Author.Needs.{needs}
 use Rattle.abi.proofs.fixed_field_index.Statement.{statement}

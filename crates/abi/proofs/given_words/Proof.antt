@@ -1,3 +1,4 @@
+-- The class's word, cut at its limit. Assumes nothing.
 use Rattle.linking.specs.Abi.{givenWords}
 use borrow.Author.Needs.{needs}
 use Rattle.abi.proofs.given_words.Statement.{statement}

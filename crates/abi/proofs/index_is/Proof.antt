@@ -1,3 +1,4 @@
+-- The fifth word of a slot record, cut at its limit, is the index that it fixes. Assumes nothing.
 use Rattle.abi.proofs.RecordLaws.{index-read}
 use borrow.Author.Needs.{needs}
 use Rattle.abi.proofs.index_is.Statement.{statement}

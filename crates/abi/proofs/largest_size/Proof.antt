@@ -1,3 +1,4 @@
+-- The size so far, folded with the ABI classes left, is the size of all of them; the classes left grow fewer. Assumes nothing.
 use denote.Ref.{now}
 use lib.ListN.{length}
 use Prim.Native.Nat.{max}

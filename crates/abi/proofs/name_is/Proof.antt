@@ -1,3 +1,4 @@
+-- Names whose bytes differ at one place differ; any others are compared. Assumes nothing.
 use Rattle.abi.proofs.RecordLaws.{name-other}
 use borrow.Author.Needs.{needs}
 use Rattle.abi.proofs.name_is.Statement.{statement}

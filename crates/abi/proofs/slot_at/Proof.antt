@@ -1,18 +1,20 @@
+-- A search: no slot record before the k-th fixes the index, and what is found from there on is what is found at all. Assumes nothing.
 use native.Mathlib.Omega.{arith}
 use mathlib.Core.Path.{_≡_, _∙_}
 use Prim.Native.Nat.{_-_, _≤_}
-use Rattle.words.proofs.ListLaws.{findFrom, find-start, find-hit, find-miss, find-end}
+use Rattle.abi_sheet.specs.AbiSheet.{abiSlotLimit}
+use Rattle.words.proofs.ListLaws.{findFrom, find-start}
 use Rattle.abi.specs.Abis.{slotRecords}
 use lib.Dec.{eqb}
 use Rattle.linking.specs.Abi.{slotIndex, slotAt, abiSlots}
-use Rattle.abi.proofs.RecordLaws.{record-index}
+use Rattle.abi.proofs.RecordLaws.{record-index, turn-hit, turn-miss, turn-end}
 use borrow.Author.Needs.{needs}
 use Rattle.abi.proofs.slot_at.Statement.{statement}
 use Rattle.abi.proofs.slot_at.Tie as tie
 
 abbrev Inv-loop : tie.InvT-loop
 Inv-loop abi i a records first n k₀ k =
-    (k ≤ n) × (n ≤ 512 - first) × (records ≡ slotRecords abi) × (findFrom (λ s. eqb (slotIndex abi s) i) first n k ≡ slotAt abi i a)
+    (k ≤ n) × (n ≤ abiSlotLimit - first) × (records ≡ slotRecords abi) × (findFrom (λ s. eqb (slotIndex abi s) i) first n k ≡ slotAt abi i a)
 
 abbrev μ-loop : tie.MeasureT-loop
 μ-loop abi i a records first n k₀ k = n - k
@@ -22,23 +24,13 @@ unfolding slotAt abiSlots
 loop-holds c = (omega arith, omega arith, c .before .before .slot-records .ensures, find-start _ _ _ ∙ cc)
 
 returns : tie.Need-returns Inv-loop μ-loop
-returns c =
-    find-hit _ _ _ _ (c .before .before .loop-test .taken)
-    (c .before .index-is .ensures ∙ record-index _ _ _ (c .before .before .before .loop .inv .2)) (c .if1 .taken)
-    ∙ c .before .before .before .loop .inv .3
+returns c = search (turn-hit, record-index)
 
 loop-again : tie.Need-loop-again Inv-loop μ-loop
-loop-again c = (
-  omega arith,
-  omega arith,
-  c .before .before .before .loop .inv .2,
-  find-miss _ _ _ _ (c .before .before .loop-test .taken)
-      (c .before .index-is .ensures ∙ record-index _ _ _ (c .before .before .before .loop .inv .2)) (c .if1 .left)
-      ∙ c .before .before .before .loop .inv .3,
-)
+loop-again c = (omega arith, omega arith, search, search (turn-miss, record-index))
 
 returns-2 : tie.Need-returns-2 Inv-loop μ-loop
-returns-2 c = find-end _ _ _ _ (c .loop-test .left) ∙ c .before .loop .inv .3
+returns-2 c = search turn-end
 
 pub slot-at-spec : {M : Type 1} → statement M
 slot-at-spec =

@@ -1,3 +1,4 @@
+-- The record's index, cut at its limit. Assumes nothing.
 use Rattle.linking.specs.Abi.{slotIndex}
 use borrow.Author.Needs.{needs}
 use Rattle.abi.proofs.slot_index.Statement.{statement}

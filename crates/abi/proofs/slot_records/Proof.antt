@@ -1,3 +1,4 @@
+-- The part from the slots' place on. Assumes nothing.
 use Rattle.abi.proofs.RecordLaws.{slots-are}
 use borrow.Author.Needs.{needs}
 use Rattle.abi.proofs.slot_records.Statement.{statement}

@@ -1,3 +1,4 @@
+-- The index of the slot record that was found, if one was. Assumes nothing.
 use Rattle.linking.specs.Abi.{vtableIndex}
 use borrow.Author.Needs.{needs}
 use Rattle.abi.proofs.vtable_index.Statement.{statement}

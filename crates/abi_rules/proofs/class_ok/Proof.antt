@@ -1,3 +1,4 @@
+-- The name's test, told whether the text is printable, is the rule's; the rest is the definition's word for word. Assumes nothing.
 use mathlib.Core.Path.{_∙_}
 use Rattle.abi_rules.specs.AbiRules.{abiClassRecord}
 use Rattle.text.proofs.Laws.{clean-is}

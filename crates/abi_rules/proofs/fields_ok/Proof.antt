@@ -1,3 +1,4 @@
+-- The field records are member records of their section, which the code reads from its beginning on. Assumes nothing.
 use Rattle.abi_rules.proofs.Laws.{fields-are}
 use borrow.Author.Needs.{needs}
 use Rattle.abi_rules.proofs.fields_ok.Statement.{statement}

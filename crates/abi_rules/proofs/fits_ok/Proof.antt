@@ -1,3 +1,4 @@
+-- The limits and the content's fit, as in the definition. Assumes nothing.
 use Rattle.abi_rules.specs.AbiRules.{abiFits}
 use borrow.Author.Needs.{needs}
 use Rattle.abi_rules.proofs.fits_ok.Statement.{statement}

@@ -1,3 +1,4 @@
+-- The four tests are the definition's. Assumes nothing.
 use Rattle.block.specs.Block.{leastFit}
 use Rattle.abi_rules.specs.AbiRules.{abiForm}
 use borrow.Author.Needs.{needs}

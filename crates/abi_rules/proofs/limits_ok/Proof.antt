@@ -1,3 +1,4 @@
+-- The four limits are the definition's. Assumes nothing.
 use Rattle.abi_rules.specs.AbiRules.{abiLimits}
 use borrow.Author.Needs.{needs}
 use Rattle.abi_rules.proofs.limits_ok.Statement.{statement}

@@ -1,3 +1,4 @@
+-- The three tests are the definition's, told whether the text is printable. Assumes nothing.
 use Rattle.abi_rules.specs.AbiRules.{abiRecords}
 use borrow.Author.Needs.{needs}
 use Rattle.abi_rules.proofs.records_ok.Statement.{statement}

@@ -1,3 +1,4 @@
+-- The slot records are member records of their section, which the code reads from its beginning on. Assumes nothing.
 use Rattle.abi_rules.proofs.Laws.{slots-are}
 use borrow.Author.Needs.{needs}
 use Rattle.abi_rules.proofs.slots_ok.Statement.{statement}

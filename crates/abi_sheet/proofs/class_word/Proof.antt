@@ -1,3 +1,4 @@
+-- The place is the sum that the definition names, by what the helpers answer. Assumes nothing.
 use Rattle.abi_sheet.specs.AbiSheet.{abiClassWord}
 use borrow.Author.Needs.{needs}
 use Rattle.abi_sheet.proofs.class_word.Statement.{statement}

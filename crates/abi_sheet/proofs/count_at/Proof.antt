@@ -1,3 +1,4 @@
+-- The count is the word of that number. Assumes nothing.
 use Rattle.abi_sheet.specs.AbiSheet.{abiCountAt}
 use borrow.Author.Needs.{needs}
 use Rattle.abi_sheet.proofs.count_at.Statement.{statement}

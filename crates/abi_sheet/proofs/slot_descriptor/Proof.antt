@@ -1,3 +1,4 @@
+-- The part of the text that the record names. Assumes nothing.
 use borrow.Author.Needs.{needs}
 use Rattle.abi_sheet.proofs.slot_descriptor.Statement.{statement}
 use Rattle.abi_sheet.proofs.slot_descriptor.Tie as tie

@@ -1,3 +1,4 @@
+-- The text is unpacked from the part that begins at the text section. Assumes nothing.
 use Rattle.abi_sheet.proofs.Laws.{text-is}
 use borrow.Author.Needs.{needs}
 use Rattle.abi_sheet.proofs.unpack_text.Statement.{statement}

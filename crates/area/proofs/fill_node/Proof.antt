@@ -1,3 +1,4 @@
+-- Three writes that follow one another are one. Assumes nothing.
 use Rattle.area.proofs.AreaLaws.{node-filled}
 use borrow.Author.Needs.{needs}
 use Rattle.area.proofs.fill_node.Statement.{statement}

@@ -1,3 +1,4 @@
+-- The definition's two tests. Assumes nothing.
 use Rattle.area.specs.Area.{mayNotWrite}
 use borrow.Author.Needs.{needs}
 use Rattle.area.proofs.may_not_write.Statement.{statement}

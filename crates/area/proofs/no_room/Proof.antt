@@ -1,3 +1,4 @@
+-- The code adds where the definition subtracts. Assumes nothing.
 use mathlib.Core.Path.{_∙_}
 use Rattle.area.proofs.AreaLaws.{room-is}
 use borrow.Author.Needs.{needs}

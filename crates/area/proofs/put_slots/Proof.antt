@@ -1,3 +1,4 @@
+-- The first j slots are written from the place on, and nothing else: the invariant. The measure is how many are left. Assumes nothing.
 use native.Mathlib.Omega.{arith}
 use Prim.Native.Nat.{_+_, _-_, _≤_}
 use mathlib.Core.Path.{_≡_}

@@ -1,3 +1,4 @@
+-- By the test. Assumes nothing.
 use borrow.Author.Tests.{eq-eqb, ne-eqb}
 use Rattle.area.proofs.slot_word.Statement.{statement}
 use Rattle.area.proofs.slot_word.Tie as tie

@@ -1,3 +1,5 @@
+-- What is left to walk at the node, when so many have been read, is the whole walk from the head: the invariant. The measure is how many nodes
+-- may still be read. Assumes nothing.
 use native.Mathlib.Omega.{arith}
 use Prim.Native.Nat.{_-_, _≤_, _<_, _^_}
 use mathlib.Core.Path.{_≡_, _∙_}
@@ -18,40 +20,34 @@ abbrev μ-loop : tie.MeasureT-loop
 loop-holds : tie.Need-loop-holds Inv-loop μ-loop
 loop-holds c = (omega arith, c .wide .ensures ∙ c .before .word-at .ensures, search walk-start, search needs)
 
+-- the list ends
 returns : tie.Need-returns Inv-loop μ-loop
-returns c = walk-missed _ _ _ _ (c .if1 .taken) ∙ c .before .before .loop .inv .2
+returns c = walk-missed _ _ _ _ _ (c .before .before .loop .inv .2) (c .if1 .taken)
 
+-- a link is not below word 0
 returns-2 : tie.Need-returns-2 Inv-loop μ-loop
 returns-2 c =
-    walk-broken _ _ _ _ _ _ (c .before .before .before .before .loop .inv .1) (c .before .wide2 .ensures) (c .before .before .if1 .left)
-    (c .before .before .before .loop-test .taken) (c .if2 .taken) ∙ c .before .before .before .before .loop .inv .2
+    let at-loop : tie.At-loop Inv-loop μ-loop = search in
+    walk-broken _ _ _ _ _ (at-loop .loop .inv .2) _ _ (at-loop .loop .inv .1) (c .before .wide2 .ensures) (c .before .before .if1 .left)
+    (search needs) (search needs)
 
+-- the interface's node
 returns-3 : tie.Need-returns-3 Inv-loop μ-loop
 returns-3 c =
-    let at-wide2 : tie.After-wide2 Inv-loop μ-loop = search in
     let at-loop : tie.At-loop Inv-loop μ-loop = search in
-    walk-hit _ _ _ _ _ _ (at-loop .loop .inv .1) (at-wide2 .wide2 .ensures) (at-wide2 .before .if1 .left)
-    (at-wide2 .before .before .loop-test .taken) (c .before .before .if2 .left) (c .before .word-at2 .ensures) (c .if3 .taken)
-    ∙ at-loop .loop .inv .2
+    let at-wide2 : tie.After-wide2 Inv-loop μ-loop = search in
+    walk-hit _ _ _ _ _ (at-loop .loop .inv .2) _ _ (at-loop .loop .inv .1) (at-wide2 .wide2 .ensures) (at-wide2 .before .if1 .left)
+    (search needs) (search needs) (c .before .word-at2 .ensures) (c .if3 .taken)
 
 loop-again : tie.Need-loop-again Inv-loop μ-loop
-loop-again c =
-    let at-if2 : tie.Else2 Inv-loop μ-loop = search in
-    let at-loop-test : tie.In-loop Inv-loop μ-loop = search in
-    let at-loop : tie.At-loop Inv-loop μ-loop = search in (
-      omega arith,
-      at-loop .loop .inv .1,
-      walk-turn _ _ _ _ _ _ (at-loop .loop .inv .1) (at-if2 .before .wide2 .ensures)
-          (at-if2 .before .before .if1 .left) (at-loop-test .loop-test .taken) (at-if2 .if2 .left) (c .before .before .word-at2 .ensures)
-          (c .before .if3 .left) (c .word-at3 .ensures) ∙ at-loop .loop .inv .2,
-      search needs,
-    )
+loop-again c = (omega arith, search needs, search walk-turn, search needs)
 
+-- after 64 nodes: the list ends, or there is one more
 returns-4 : tie.Need-returns-4 Inv-loop μ-loop
-returns-4 c = walk-missed _ _ _ _ (c .if4 .taken) ∙ c .before .before .loop .inv .2
+returns-4 c = walk-missed _ _ _ _ _ (c .before .before .loop .inv .2) (c .if4 .taken)
 
 returns-5 : tie.Need-returns-5 Inv-loop μ-loop
-returns-5 c = walk-out _ _ _ _ (c .before .loop-test .left) (c .if4 .left) ∙ c .before .before .loop .inv .2
+returns-5 c = walk-out _ _ _ _ _ (c .before .before .loop .inv .2) (search needs) (c .if4 .left)
 
 pub walk-spec : {M : Type 1} → statement M
 walk-spec =

@@ -1,5 +1,6 @@
+-- The class's own method, or the parent's implementation: the class's number falls. Assumes nothing.
 use denote.Ref.{now}
-use Rattle.chain.proofs.ChainLaws.{parent-below}
+use Rattle.linking.proofs.ChainLaws.{parent-below}
 use native.Mathlib.Nat.{pos-of-ne-zero}
 use native.Mathlib.Omega.{arith}
 use Rattle.ask.proofs.DispatchLaws.{implementation-none, implementation-hit, implementation-up}

@@ -1,3 +1,4 @@
+-- Row by row, in the definition's order. Assumes nothing.
 use Rattle.ask.proofs.AskLaws.{rows-set, rows-6, rows-7, rows-none}
 use borrow.Author.Needs.{needs}
 use Rattle.ask.proofs.ask_refusal.Statement.{statement}

@@ -1,3 +1,4 @@
+-- The table of the arrays is the definition's, and the rest is `finish_ask`'s. Assumes nothing.
 use Rattle.set_rules.proofs.Valid.{valid}
 use Rattle.ask.proofs.AskLaws.{node-built}
 use borrow.Author.Needs.{needs}

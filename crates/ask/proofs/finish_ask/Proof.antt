@@ -1,3 +1,4 @@
+-- Rows 16 and 15, and then the node as the definition writes it. Assumes nothing.
 use native.Mathlib.Omega.{arith}
 use mathlib.Core.List.{[]}
 use Rattle.ask.proofs.AskLaws.{finish-row, finish-full, node-fits, finish-done}

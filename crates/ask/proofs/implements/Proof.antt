@@ -1,3 +1,4 @@
+-- The definition's two tests. Assumes nothing.
 use borrow.Author.Needs.{needs}
 use Rattle.ask.proofs.implements.Statement.{statement}
 use Rattle.ask.proofs.implements.Tie as tie

@@ -1,10 +1,11 @@
+-- None of the first i methods implements: the invariant. The measure is how many are left. Assumes nothing.
 use native.Mathlib.Omega.{arith}
 use mathlib.Core.Path.{_≡_, _∙_}
 use Prim.Native.Nat.{_-_, _≤_}
 use Rattle.words.proofs.ListLaws.{findFrom, find-start, find-hit, find-miss, find-end}
 use Rattle.linking.specs.Ask.{ownImplementation}
 use Rattle.linking.specs.Chain.{isVirtual, methodIs, ownMethods}
-use Rattle.class_sheet.specs.ClassSheet.{methodFlags}
+use Rattle.class_sheet.specs.ClassSheet.{methodFlags, methodLimit}
 use mathlib.Core.Bool.{_&&_}
 use borrow.Author.Needs.{needs}
 use Rattle.ask.proofs.own_implementation.Statement.{statement}
@@ -12,7 +13,7 @@ use Rattle.ask.proofs.own_implementation.Tie as tie
 
 abbrev Inv-loop : tie.InvT-loop
 Inv-loop ws text name descriptor c first n i₀ i =
-    (i ≤ n) × (n ≤ 512 - first) × (findFrom
+    (i ≤ n) × (n ≤ methodLimit - first) × (findFrom
     (λ m. isVirtual (methodFlags ws m) && methodIs ws text m name descriptor) first n i ≡ ownImplementation ws text name descriptor c)
 
 abbrev μ-loop : tie.MeasureT-loop

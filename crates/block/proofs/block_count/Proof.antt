@@ -1,3 +1,4 @@
+-- Both sides are the length over 512, modulo 2^32. Assumes nothing.
 use mathlib.Core.Path.{refl}
 use Rattle.block.specs.Block.{blockCount}
 use borrow.Author.Needs.{needs}

@@ -1,3 +1,4 @@
+-- The invariant: the sum is that of the first j words modulo 2^32; j goes up to 127. Assumes nothing.
 use borrow.Author.Needs.{needs}
 use mathlib.Core.Path.{_≡_}
 use Prim.Native.Nat.{_-_, _%_, _^_, _≤_}

@@ -1,3 +1,5 @@
+-- The check word is the block's sum and its number from 1, modulo 2^32, as the law says of the parts that the code computes. Assumes
+-- nothing.
 use Rattle.block.proofs.Laws.{check-is}
 use borrow.Author.Needs.{needs}
 use Rattle.block.proofs.check_ok.Statement.{statement}

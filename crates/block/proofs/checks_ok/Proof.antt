@@ -1,3 +1,4 @@
+-- The invariant: the first k blocks have their check words; k goes up to n. Assumes nothing.
 use Rattle.block.specs.Block.{checkOk}
 use Rattle.words.proofs.FoldLaws.{all-none, all-turn, all-stop, all-done}
 use Rattle.words.specs.Folds.{allOf}

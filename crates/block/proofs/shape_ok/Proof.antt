@@ -1,3 +1,4 @@
+-- The code's test is the definition's. Assumes nothing.
 use Rattle.block.specs.Block.{shapeOk}
 use mathlib.Core.Path.{refl}
 use borrow.Author.Needs.{needs}

@@ -1,3 +1,4 @@
+-- The invariant: the words of the first k blocks stand in front, and what lies behind them is as it was; k goes up to n. Assumes nothing.
 use Rattle.block.proofs.Laws.{content-none, content-turn, unpacked-none, unpacked-all}
 use Rattle.block.specs.Block.{content}
 use lib.ListN.{length, drop}

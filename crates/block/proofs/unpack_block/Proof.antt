@@ -1,3 +1,4 @@
+-- The invariant: the block's first j words are stored; j goes up to 127. Assumes nothing.
 use borrow.Author.Needs.{needs}
 use mathlib.Core.Path.{_≡_}
 use Prim.Native.Nat.{_-_, _≤_}

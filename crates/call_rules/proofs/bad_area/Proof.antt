@@ -1,3 +1,4 @@
+-- The five tests are the definition's. Assumes nothing.
 use Rattle.linking.specs.Link.{badArea}
 use borrow.Author.Needs.{needs}
 use Rattle.call_rules.proofs.bad_area.Statement.{statement}

@@ -1,3 +1,4 @@
+-- The code's tests are the definition's, with the parent's name held against the fixed bytes. Assumes nothing.
 use Rattle.linking.specs.Link.{badArray}
 use borrow.Author.Needs.{needs}
 use Rattle.call_rules.proofs.bad_array.Statement.{statement}

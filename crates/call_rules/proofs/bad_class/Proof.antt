@@ -1,3 +1,4 @@
+-- The four tests are the definition's. Assumes nothing.
 use Rattle.linking.specs.Link.{badClass}
 use borrow.Author.Needs.{needs}
 use Rattle.call_rules.proofs.bad_class.Statement.{statement}

@@ -1,3 +1,4 @@
+-- Sums of widened numbers do not wrap, so the code's test is the definition's. Assumes nothing.
 use Rattle.linking.specs.Link.{endsBelow}
 use borrow.Author.Needs.{needs}
 use Rattle.call_rules.proofs.ends_below.Statement.{statement}

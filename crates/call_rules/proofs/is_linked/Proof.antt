@@ -1,3 +1,4 @@
+-- The table place is not 0, as in the definition. Assumes nothing.
 use borrow.Author.Needs.{needs}
 use Rattle.call_rules.proofs.is_linked.Statement.{statement}
 use Rattle.call_rules.proofs.is_linked.Tie as tie

@@ -1,3 +1,4 @@
+-- The two tests are the definition's. Assumes nothing.
 use Rattle.linking.specs.Link.{noClass}
 use borrow.Author.Needs.{needs}
 use Rattle.call_rules.proofs.no_class.Statement.{statement}

@@ -1,3 +1,4 @@
+-- The record's flags and name are tested as the definition tests them. Assumes nothing.
 use Rattle.linking.specs.Chain.{eligible}
 use borrow.Author.Needs.{needs}
 use Rattle.chain.proofs.eligible.Statement.{statement}

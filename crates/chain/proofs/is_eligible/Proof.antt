@@ -1,3 +1,4 @@
+-- Virtual, and the first byte is not `<`, as in the definition. Assumes nothing.
 use Rattle.linking.specs.Chain.{isEligible}
 use borrow.Author.Needs.{needs}
 use Rattle.chain.proofs.is_eligible.Statement.{statement}

@@ -1,3 +1,4 @@
+-- The code's test is the definition's. Assumes nothing.
 use mathlib.Core.Path.{refl}
 use Rattle.linking.specs.Chain.{isVirtual}
 use Rattle.chain.proofs.is_virtual.Statement.{statement}

@@ -1,3 +1,4 @@
+-- Record m of the method records is method m. Assumes nothing.
 use mathlib.Core.Path.{_∙_}
 use Rattle.chain.proofs.RecordLaws.{record-method}
 use borrow.Author.Needs.{needs}

@@ -1,3 +1,4 @@
+-- The words from the section's beginning to the end are all that follow it. Assumes nothing.
 use Rattle.chain.proofs.RecordLaws.{records-are}
 use borrow.Author.Needs.{needs}
 use Rattle.chain.proofs.method_records.Statement.{statement}

@@ -1,3 +1,5 @@
+-- The invariant: what is found from method i of the class's list on is what is found in the whole list; i goes up to the list's length.
+-- Assumes nothing.
 use native.Mathlib.Omega.{arith}
 use mathlib.Core.Path.{_≡_, _∙_}
 use Prim.Native.Nat.{_-_, _≤_}
@@ -5,13 +7,14 @@ use Rattle.words.proofs.ListLaws.{findFrom, find-start, find-hit, find-miss, fi
 use Rattle.linking.specs.Chain.{methodIs, ownMethods, ownMethod}
 use Rattle.chain.specs.Records.{methodRecords}
 use Rattle.chain.proofs.RecordLaws.{record-method}
+use Rattle.class_sheet.specs.ClassSheet.{methodLimit}
 use borrow.Author.Needs.{needs}
 use Rattle.chain.proofs.own_method.Statement.{statement}
 use Rattle.chain.proofs.own_method.Tie as tie
 
 abbrev Inv-loop : tie.InvT-loop
 Inv-loop ws text name descriptor c records first n i₀ i =
-    (i ≤ n) × (n ≤ 512 - first) × (records ≡ methodRecords ws)
+    (i ≤ n) × (n ≤ methodLimit - first) × (records ≡ methodRecords ws)
     × (findFrom (λ m. methodIs ws text m name descriptor) first n i ≡ ownMethod ws text name descriptor c)
 
 abbrev μ-loop : tie.MeasureT-loop
@@ -23,19 +26,19 @@ loop-holds c = (omega arith, omega arith, c .before .before .method-records .ens
 
 returns : tie.Need-returns Inv-loop μ-loop
 returns c =
-    find-hit _ _ _ _ (c .before .before .loop-test .taken)
-    (c .before .record-is .ensures ∙ record-method _ _ _ _ _ (c .before .before .before .loop .inv .2)) (c .if1 .taken)
-    ∙ c .before .before .before .loop .inv .3
+    let turn : tie.In-loop Inv-loop μ-loop = search in
+    let inv = turn .before .loop .inv in
+    find-hit _ _ _ _ (turn .loop-test .taken) (c .before .record-is .ensures ∙ record-method _ _ _ _ _ (inv .2)) (c .if1 .taken) ∙ inv .3
 
 loop-again : tie.Need-loop-again Inv-loop μ-loop
-loop-again c = (
-  omega arith,
-  omega arith,
-  c .before .before .before .loop .inv .2,
-  find-miss _ _ _ _ (c .before .before .loop-test .taken)
-      (c .before .record-is .ensures ∙ record-method _ _ _ _ _ (c .before .before .before .loop .inv .2)) (c .if1 .left)
-      ∙ c .before .before .before .loop .inv .3,
-)
+loop-again c =
+    let turn : tie.In-loop Inv-loop μ-loop = search in
+    let inv = turn .before .loop .inv in (
+      omega arith,
+      omega arith,
+      inv .2,
+      find-miss _ _ _ _ (turn .loop-test .taken) (c .before .record-is .ensures ∙ record-method _ _ _ _ _ (inv .2)) (c .if1 .left) ∙ inv .3,
+    )
 
 returns-2 : tie.Need-returns-2 Inv-loop μ-loop
 returns-2 c = find-end _ _ _ _ (c .loop-test .left) ∙ c .before .loop .inv .3

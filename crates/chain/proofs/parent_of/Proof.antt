@@ -1,3 +1,4 @@
+-- One case for a parent below its child, one for none. Assumes nothing.
 use borrow.Author.Tests.{lt-ltb, le-ltb}
 use Rattle.linking.specs.Chain.{parentOf}
 use borrow.Author.Needs.{needs}

@@ -1,3 +1,4 @@
+-- The target is the record's word of that number. Assumes nothing.
 use Rattle.chain.proofs.RecordLaws.{target-read}
 use borrow.Author.Needs.{needs}
 use Rattle.chain.proofs.record_target.Statement.{statement}

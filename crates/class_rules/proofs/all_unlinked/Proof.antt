@@ -1,3 +1,4 @@
+-- The invariant: none of the first i classes is linked; i goes up to their number. Assumes nothing.
 use native.Mathlib.Omega.{arith}
 use borrow.Author.Tests.{not-true, not-false}
 use mathlib.Core.Path.{_≡_}

@@ -1,3 +1,4 @@
+-- The name's test, told whether the text is printable, is the rule's; the rest is the definition's word for word. Assumes nothing.
 use Rattle.class_rules.specs.ClassRules.{classRecord}
 use Rattle.text.proofs.Laws.{clean-is}
 use mathlib.Core.Path.{_∙_}

@@ -1,3 +1,4 @@
+-- Without a table its slots are 0; with one its words lie inside the section. Assumes nothing.
 use borrow.Author.Tests.{eq-eqb, ne-eqb}
 use Rattle.class_rules.specs.ClassRules.{compilerOk}
 use borrow.Author.Needs.{needs}

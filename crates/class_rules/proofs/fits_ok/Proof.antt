@@ -1,3 +1,4 @@
+-- The limits and the content's fit, as in the definition. Assumes nothing.
 use Rattle.class_rules.specs.ClassRules.{classFits}
 use borrow.Author.Needs.{needs}
 use Rattle.class_rules.proofs.fits_ok.Statement.{statement}

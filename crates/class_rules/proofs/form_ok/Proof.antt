@@ -1,3 +1,4 @@
+-- A count above its limit, content that does not fit, and the rest of row 3: each of the three answers has its law. Assumes nothing.
 use native.Mathlib.Omega.{arith}
 use borrow.Author.Tests.{not-true, not-false}
 use Rattle.class_rules.proofs.Laws.{form-limits, form-short, form-rest}

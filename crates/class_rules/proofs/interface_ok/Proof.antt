@@ -1,3 +1,4 @@
+-- The word is the number of a class, as in the definition. Assumes nothing.
 use Rattle.class_rules.specs.ClassRules.{interfaceNames}
 use borrow.Author.Needs.{needs}
 use Rattle.class_rules.proofs.interface_ok.Statement.{statement}

@@ -1,3 +1,4 @@
+-- Table place and slot count are 0, as in the definition. Assumes nothing.
 use Rattle.class_rules.specs.ClassRules.{unlinked}
 use borrow.Author.Needs.{needs}
 use Rattle.class_rules.proofs.is_unlinked.Statement.{statement}

@@ -1,3 +1,4 @@
+-- The six limits are the definition's. Assumes nothing.
 use Rattle.class_rules.specs.ClassRules.{classLimits}
 use borrow.Author.Needs.{needs}
 use Rattle.class_rules.proofs.limits_ok.Statement.{statement}

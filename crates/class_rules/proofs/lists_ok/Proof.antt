@@ -1,3 +1,4 @@
+-- The four lists are the definition's. Assumes nothing.
 use Rattle.class_rules.specs.ClassRules.{classLists}
 use borrow.Author.Needs.{needs}
 use Rattle.class_rules.proofs.lists_ok.Statement.{statement}

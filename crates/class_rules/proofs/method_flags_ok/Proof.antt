@@ -1,3 +1,4 @@
+-- The code's test is the definition's. Assumes nothing.
 use mathlib.Core.Path.{refl}
 use Rattle.class_rules.specs.ClassRules.{methodFlagsOk}
 use Rattle.class_rules.proofs.method_flags_ok.Statement.{statement}

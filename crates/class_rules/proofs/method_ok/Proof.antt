@@ -1,3 +1,4 @@
+-- The signature is judged first, then the flags; both are words of the record that begins at its place. Assumes nothing.
 use Rattle.class_rules.proofs.Laws.{method-stop, method-on}
 use borrow.Author.Needs.{needs}
 use Rattle.class_rules.proofs.method_ok.Statement.{statement}

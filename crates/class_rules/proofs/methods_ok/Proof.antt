@@ -1,3 +1,4 @@
+-- The invariant: each of the first m method records is in order; m goes up to their number. Assumes nothing.
 use native.Mathlib.Omega.{arith}
 use borrow.Author.Tests.{not-true, not-false}
 use mathlib.Core.Path.{_≡_}

@@ -1,3 +1,4 @@
+-- The seven tests are the definition's. Assumes nothing.
 use Rattle.class_rules.specs.ClassRules.{classNumbers}
 use borrow.Author.Needs.{needs}
 use Rattle.class_rules.proofs.numbers_ok.Statement.{statement}

@@ -1,3 +1,4 @@
+-- The five tests are the definition's, told whether the text is printable. Assumes nothing.
 use Rattle.class_rules.specs.ClassRules.{classRecords}
 use borrow.Author.Needs.{needs}
 use Rattle.class_rules.proofs.records_ok.Statement.{statement}

@@ -1,3 +1,4 @@
+-- The count is the word of that number. Assumes nothing.
 use Rattle.class_sheet.specs.ClassSheet.{countAt}
 use borrow.Author.Needs.{needs}
 use Rattle.class_sheet.proofs.count_at.Statement.{statement}

@@ -1,3 +1,4 @@
+-- The part of the text that the record names. Assumes nothing.
 use borrow.Author.Needs.{needs}
 use Rattle.class_sheet.proofs.field_name.Statement.{statement}
 use Rattle.class_sheet.proofs.field_name.Tie as tie

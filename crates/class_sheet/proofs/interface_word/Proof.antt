@@ -1,3 +1,4 @@
+-- The place is the sum that the definition names, by what the helpers answer. Assumes nothing.
 use Rattle.class_sheet.specs.ClassSheet.{interfaceWord}
 use borrow.Author.Needs.{needs}
 use Rattle.class_sheet.proofs.interface_word.Statement.{statement}

@@ -1,3 +1,4 @@
+-- The sum that the definition names, far below 2^64. Assumes nothing.
 use native.Mathlib.Omega.{arith}
 use Rattle.class_sheet.specs.ClassSheet.{textAt}
 use borrow.Author.Needs.{needs}

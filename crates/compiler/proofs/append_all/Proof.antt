@@ -1,28 +1,21 @@
-use denote.Ref.{now}
-use Rattle.vtable.specs.Arrays.{entriesOf}
-use Rattle.native_view.specs.Native.{markMethods}
-use Rattle.linking.specs.Chain.{ownMethods}
-use Rattle.words.specs.Lists.{numbers}
-use mathlib.Core.List.{_++_}
+-- First the class's methods, then those of the parent's marks: a fold along both lists. Assumes nothing.
 use native.Mathlib.Omega.{arith}
 use Rattle.compiler.proofs.AppendLaws.{append-all}
 use borrow.Author.Needs.{needs}
 use Rattle.compiler.proofs.append_all.Statement.{statement}
 use Rattle.compiler.proofs.append_all.Tie as tie
 
+-- the function's entry, before its slices are known
+abbrev start : tie.After-shared-slice-known8 → tie.Start
+start c = c .before .before .before .before .before .before .before .before
+
 returns : tie.Need-returns
 returns c =
-    let at-append-known : tie.After-append-known = search in
-    let at-append-methods : tie.After-append-methods = search in
-    let start = at-append-methods .before .before .before .before .before .before .before .before .before .before .before .before .before in
-    let a = start .args in
-    let m = at-append-methods .append-methods .ensures in
-    let k = at-append-known .append-known .ensures in (
-      append-all (now (a .ws)) (now (a .text)) (now (a .abi)) (now (a .labels)) (now (a .refs)) (now (a .flags)) (now (a .lasts)) (a .n)
-          (entriesOf (now (a .ts)) (now (a .ms)) (a .end)) _ (ownMethods (now (a .ws)) (a .c) ++ numbers 512 (a .n))
-          (markMethods (now (a .known)) (a .count)) (m .0) (k .0),
-      omega (arith, m .1, k .1, start .pre .1),
-    )
+    let known : tie.After-append-known = search in
+    let own : tie.After-append-methods = search in
+    let m = own .append-methods .ensures in
+    let k = known .append-known .ensures in
+    (append-all _ _ _ _ _ _ _ _ _ _ _ _ (m .0) (k .0), omega (arith, m .1, k .1, start (own .before .before .before .before .before) .pre .1))
 
 pub append-all-spec : {M : Type 1} → statement M
 append-all-spec =

@@ -1,8 +1,10 @@
+-- The table so far, with the methods left appended, is that of all; the methods left grow fewer. Assumes nothing.
 use lib.ListN.{length}
 use native.Mathlib.Omega.{arith}
 use mathlib.Core.Path.{_≡_, _∙_}
 use Prim.Native.Nat.{_+_, _-_, _≤_}
-use Rattle.vtable.specs.Arrays.{entriesOf}
+use Rattle.class_sheet.specs.ClassSheet.{methodLimit}
+use Rattle.reading.specs.Arrays.{entriesOf}
 use Rattle.compiler.specs.Methods.{methodNumber}
 use Rattle.growth.specs.News.{firstNews}
 use Rattle.linking.specs.Compiler.{appendMethod}
@@ -21,7 +23,7 @@ Inv-loop ws text abi labels refs flags lasts n c ts₀ ms₀ end first own total
     × ((n ≤ 1024) × (end ≤ 1024) × (3584 ≤ length ts₀) × (3584 ≤ length ms₀)) × (length ts ≡ length ts₀) × (length ms ≡ length ms₀)
     × (foldFrom (methodNumber first own) (appendMethod ws text abi labels (firstNews ws text abi labels refs flags lasts n))
     (entriesOf ts ms r) 0 total j ≡ fold (appendMethod ws text abi labels (firstNews ws text abi labels refs flags lasts n))
-    (entriesOf ts₀ ms₀ end) (ownMethods ws c ++ numbers 512 n))
+    (entriesOf ts₀ ms₀ end) (ownMethods ws c ++ numbers methodLimit n))
 
 abbrev μ-loop : tie.MeasureT-loop
 μ-loop ws text abi labels refs flags lasts n c ts₀ ms₀ end first own total r₀ j₀ ts ms r j = total - j

@@ -1,10 +1,11 @@
+-- The slots before i are those of the compiler table; the slots left grow fewer. Assumes nothing.
 use lib.ListN.{length}
 use native.Mathlib.Omega.{arith}
 use mathlib.Core.Path.{_≡_}
 use Prim.Native.Nat.{_-_, _≤_, min}
 use Rattle.class_sheet.specs.ClassSheet.{classCompilerSlots}
 use Rattle.compiler.specs.Methods.{slotsIn}
-use Rattle.vtable.specs.Arrays.{entriesOf}
+use Rattle.reading.specs.Arrays.{entriesOf}
 use Rattle.compiler.proofs.EntryLaws.{slots-start, slots-turn}
 use borrow.Author.Needs.{needs}
 use Rattle.compiler.proofs.compiler_entries.Statement.{statement}
@@ -23,8 +24,7 @@ loop-holds c = (omega arith, omega arith, omega arith, omega arith, omega arith,
 
 loop-again : tie.Need-loop-again Inv-loop μ-loop
 loop-again c =
-    let at-wide2 : tie.After-wide2 Inv-loop μ-loop = search in
-    let at-put-word : tie.After-put-word Inv-loop μ-loop = search in
+    let at-put-slot : tie.After-put-slot Inv-loop μ-loop = search in
     let at-entry-mark : tie.After-entry-mark Inv-loop μ-loop = search in
     let at-loop : tie.At-loop Inv-loop μ-loop = search in
     let l = at-loop .loop in (
@@ -34,9 +34,8 @@ loop-again c =
       omega arith,
       omega arith,
       slots-turn _ _ _ _ _ _ _ (l .i) (at-entry-mark .entry-mark .result) (l .ts) (l .ms) _ _ (omega arith) (omega arith) (l .inv .5)
-          (at-entry-mark .before .compiler-target .ensures) (at-put-word .before .entry-word .ensures) (at-entry-mark .entry-mark .ensures)
-          (at-put-word .before .before .wide .ensures) (at-put-word .put-word .ensures) (at-wide2 .wide2 .ensures)
-          (c .before .before .put-word2 .ensures),
+          (at-entry-mark .before .compiler-target .ensures) (at-put-slot .before .entry-word .ensures) (at-entry-mark .entry-mark .ensures)
+          (at-put-slot .put-slot .ensures .0) (at-put-slot .put-slot .ensures .1),
     )
 
 returns : tie.Need-returns Inv-loop μ-loop
@@ -53,9 +52,6 @@ compiler-entries-spec =
     μ-loop
     (λ c κs. search needs)
     loop-holds
-    (λ c κs. search needs)
-    (λ c κs. search needs)
-    (λ c κs. search needs)
     (λ c κs. search needs)
     (λ c κs. search needs)
     (λ c κs. search needs)

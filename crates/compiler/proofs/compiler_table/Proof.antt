@@ -1,3 +1,4 @@
+-- The compiler table's slots, and then all that is appended. Assumes nothing.
 use Rattle.compiler.proofs.EntryLaws.{table-is}
 use borrow.Author.Needs.{needs}
 use Rattle.compiler.proofs.compiler_table.Statement.{statement}

@@ -1,3 +1,4 @@
+-- By cases: a method of the sheet, an added one, or neither. Assumes nothing.
 use Rattle.compiler.proofs.MethodLaws.{descriptor-own, descriptor-added, descriptor-none}
 use borrow.Author.Needs.{needs}
 use Rattle.compiler.proofs.descriptor_of.Statement.{statement}

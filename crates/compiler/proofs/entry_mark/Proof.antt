@@ -1,3 +1,4 @@
+-- By cases: a zero slot has the view's mark, another the mark of the first method with its target. Assumes nothing.
 use Rattle.compiler.proofs.EntryLaws.{method-zero, method-match}
 use borrow.Author.Needs.{needs}
 use Rattle.compiler.proofs.entry_mark.Statement.{statement}

@@ -1,3 +1,4 @@
+-- By cases: a zero slot has the view's word, another its target. Assumes nothing.
 use borrow.Author.Tests.{eq-eqb, ne-eqb}
 use borrow.Author.Needs.{needs}
 use Rattle.compiler.proofs.entry_word.Statement.{statement}

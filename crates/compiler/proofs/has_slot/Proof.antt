@@ -1,3 +1,4 @@
+-- A search: no slot before i has the signature, and whether one has from there on is whether one has at all. Assumes nothing.
 use native.Mathlib.Omega.{arith}
 use mathlib.Core.Path.{_≡_}
 use Prim.Native.Nat.{_-_, _≤_}

@@ -1,3 +1,4 @@
+-- By cases: a declared method, or an added one. Assumes nothing.
 use native.Mathlib.Omega.{arith}
 use Rattle.compiler.proofs.AppendLaws.{number-own, number-added}
 use borrow.Author.Needs.{needs}

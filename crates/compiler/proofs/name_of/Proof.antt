@@ -1,3 +1,4 @@
+-- By cases: a method of the sheet, an added one, or neither. Assumes nothing.
 use Rattle.compiler.proofs.MethodLaws.{name-own, name-added, name-none}
 use borrow.Author.Needs.{needs}
 use Rattle.compiler.proofs.name_of.Statement.{statement}

@@ -1,4 +1,4 @@
-use denote.Ref.{now}
+-- The native view and the added methods are made first, and the table by them; each array keeps its length. Assumes nothing.
 use mathlib.Core.Path.{_∙_}
 use Rattle.compiler.proofs.EntryLaws.{prepared-is}
 use borrow.Author.Needs.{needs}
@@ -7,14 +7,11 @@ use Rattle.compiler.proofs.prepare_generated.Tie as tie
 
 returns : tie.Need-returns
 returns c =
-    let at-native-view : tie.After-native-view = search in
-    let start = at-native-view .before .before .before .before .before .before .before .before .before .before .before .before in
-    let a = start .args in
-    let e = at-native-view .native-view .ensures in
+    let viewed : tie.After-native-view = search in
+    let e = viewed .native-view .ensures in
     let t = c .compiler-table .ensures in
-    let l = e .1 .1 .1 .1 in (
-      prepared-is (now (a .ws)) (now (a .text)) (now (a .abi)) (now (a .labels)) _ _ _ _ (a .c) _ _ _ (now (a .area)) _ (e .0) (e .1 .1 .0)
-          (e .1 .0) (t .0),
+    let l = e .1 .1 .1 .1 .0 in (
+      prepared-is _ _ _ _ _ _ _ _ _ _ _ _ _ _ (e .0) (e .1 .1 .0) (e .1 .0) (t .0),
       (
         e .1 .1 .0,
         (

@@ -1,3 +1,4 @@
+-- A search: no method before the i-th has the target, and what is found from there on is what is found at all. Assumes nothing.
 use native.Mathlib.Omega.{arith}
 use mathlib.Core.Path.{_≡_, _∙_}
 use Prim.Native.Nat.{_+_, _-_, _≤_}

@@ -1,3 +1,4 @@
+-- The method's target is compared. Assumes nothing.
 use borrow.Author.Needs.{needs}
 use Rattle.compiler.proofs.target_is.Statement.{statement}
 use Rattle.compiler.proofs.target_is.Tie as tie

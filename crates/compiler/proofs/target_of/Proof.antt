@@ -1,3 +1,4 @@
+-- By cases: a method of the sheet, or an added one. Assumes nothing.
 use Rattle.compiler.proofs.MethodLaws.{target-own, target-added}
 use borrow.Author.Needs.{needs}
 use Rattle.compiler.proofs.target_of.Statement.{statement}

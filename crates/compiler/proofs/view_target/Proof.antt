@@ -1,3 +1,4 @@
+-- A search: no mark before the i-th has the target, and what is found from there on is what is found at all. Assumes nothing.
 use native.Mathlib.Omega.{arith}
 use mathlib.Core.Path.{_≡_}
 use Prim.Native.Nat.{_-_, _≤_}
@@ -39,4 +40,5 @@ view-target-spec =
     (λ c. search needs)
     (λ c. search needs)
     loop-again
+    (λ c κs. search needs)
     returns-2)

@@ -1,4 +1,4 @@
--- `descriptor::argument_words` meets its contract. Assumes nothing.
+-- The receiver's word and the parameters' are counted where the bytes are a method descriptor, and else refused. Assumes nothing.
 use Rattle.descriptor.proofs.Turns.{argument-counted, argument-refused}
 use borrow.Author.Needs.{needs}
 use Rattle.descriptor.proofs.argument_words.Statement.{statement}

@@ -1,4 +1,4 @@
--- `descriptor::at_begin` meets its contract. Assumes nothing.
+-- An opening parenthesis leads to the parameters, anything else is a fault, as in the definition. Assumes nothing.
 use Rattle.descriptor.specs.Machine.{methodNext}
 use borrow.Author.Tests.{eq-eqb, ne-eqb}
 use Rattle.descriptor.proofs.at_begin.Statement.{statement}

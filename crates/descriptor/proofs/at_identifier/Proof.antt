@@ -1,4 +1,4 @@
--- `descriptor::at_identifier` meets its contract. Assumes nothing.
+-- A byte that a name may have leads inside the identifier, anything else is a fault, as in the definition. Assumes nothing.
 use mathlib.Core.Path.{sym, _∙_}
 use Rattle.descriptor.specs.Machine.{fieldNext}
 use borrow.Author.Needs.{needs}

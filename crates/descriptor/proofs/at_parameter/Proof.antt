@@ -1,4 +1,4 @@
--- `descriptor::at_parameter` meets its contract. Assumes nothing.
+-- A closing parenthesis leads to the return descriptor; anything else begins a type, as in the definition. Assumes nothing.
 use Rattle.descriptor.specs.Machine.{methodNext}
 use borrow.Author.Tests.{eq-eqb, ne-eqb}
 use borrow.Author.Needs.{needs}

@@ -1,4 +1,4 @@
--- `descriptor::at_type` meets its contract. Assumes nothing.
+-- One case for each test of the definition: an array, a class, a base type, a fault. Assumes nothing.
 use mathlib.Core.Path.{sym, _∙_}
 use Rattle.descriptor.specs.Machine.{fieldNext}
 use borrow.Author.Tests.{eq-eqb, ne-eqb}

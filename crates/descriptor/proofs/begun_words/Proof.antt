@@ -1,4 +1,4 @@
--- `descriptor::begun_words` meets its contract. Assumes nothing.
+-- Between parameters any byte but the closing parenthesis begins one; elsewhere none begins. Assumes nothing.
 use mathlib.Core.Path.{_∙_}
 use Rattle.descriptor.specs.Words.{begunWords}
 use borrow.Author.Needs.{needs}

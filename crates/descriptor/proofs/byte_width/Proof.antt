@@ -1,4 +1,4 @@
--- `descriptor::byte_width` meets its contract. Assumes nothing.
+-- J and D take two words, all else one, as in the definition. Assumes nothing.
 use Rattle.descriptor.specs.Words.{byteWidth}
 use Rattle.descriptor.proofs.byte_width.Statement.{statement}
 use Rattle.descriptor.proofs.byte_width.Tie as tie

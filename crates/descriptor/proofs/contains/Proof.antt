@@ -1,4 +1,4 @@
--- `descriptor::contains` meets its contract. Assumes nothing.
+-- The invariant: the byte is in the bytes if and only if it is in those from i on; i goes up to the length. Assumes nothing.
 use native.Mathlib.Omega.{arith}
 use mathlib.Core.Path.{_≡_, sym, _∙_}
 use Prim.Native.Nat.{_-_, _≤_}

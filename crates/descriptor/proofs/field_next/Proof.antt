@@ -1,4 +1,4 @@
--- `descriptor::field_next` meets its contract. Assumes nothing.
+-- One case for each state, and in it the step that the definition names. Assumes nothing.
 use Rattle.descriptor.specs.Machine.{fieldNext}
 use borrow.Author.Needs.{needs}
 use Rattle.descriptor.proofs.field_next.Statement.{statement}

@@ -1,4 +1,4 @@
--- `descriptor::in_identifier` meets its contract. Assumes nothing.
+-- One case for each test of the definition: the class name's end, the next identifier, or one byte more. Assumes nothing.
 use Rattle.descriptor.specs.Machine.{fieldNext}
 use borrow.Author.Tests.{eq-eqb, ne-eqb}
 use borrow.Author.Needs.{needs}

@@ -1,4 +1,4 @@
--- `descriptor::in_parameters` meets its contract. Assumes nothing.
+-- One case for each state among the parameters, and in it the step that the definition names. Assumes nothing.
 use Rattle.descriptor.specs.Machine.{methodNext}
 use borrow.Author.Needs.{needs}
 use Rattle.descriptor.proofs.in_parameters.Statement.{statement}

@@ -1,4 +1,4 @@
--- `descriptor::is_base_byte` meets its contract. Assumes nothing.
+-- The bytes are the definition's. Assumes nothing.
 use Rattle.descriptor.specs.Bytes.{isBaseByte}
 use borrow.Author.Needs.{needs}
 use Rattle.descriptor.proofs.is_base_byte.Statement.{statement}

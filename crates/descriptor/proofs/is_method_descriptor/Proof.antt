@@ -1,4 +1,5 @@
--- `descriptor::is_method_descriptor` meets its contract. Assumes nothing.
+-- The invariant: the state after all bytes is that of reading on from state q at i; i rises, also where bytes of an identifier are passed
+-- over. Assumes nothing.
 use native.Mathlib.Omega.{arith}
 use mathlib.Core.Path.{_≡_, _∙_}
 use Prim.Native.Nat.{_-_}

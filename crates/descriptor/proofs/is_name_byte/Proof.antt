@@ -1,4 +1,4 @@
--- `descriptor::is_name_byte` meets its contract. Assumes nothing.
+-- The four bytes that no name has are the definition's. Assumes nothing.
 use mathlib.Core.Bool.{not}
 use mathlib.Core.Path.{ap}
 use Rattle.descriptor.specs.Bytes.{isNameByte}

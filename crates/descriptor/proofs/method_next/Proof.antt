@@ -1,4 +1,4 @@
--- `descriptor::method_next` meets its contract. Assumes nothing.
+-- One case for each state, and in it the step that the definition names. Assumes nothing.
 use Rattle.descriptor.proofs.Turns.{returned-next}
 use borrow.Author.Needs.{needs}
 use Rattle.descriptor.proofs.method_next.Statement.{statement}

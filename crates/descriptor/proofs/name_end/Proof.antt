@@ -1,4 +1,4 @@
--- `descriptor::name_end` meets its contract. Assumes nothing.
+-- The invariant: the run of name bytes from j on ends where the one from i on does; j goes up to the length. Assumes nothing.
 use mathlib.Core.Path.{_≡_, refl, _∙_}
 use Prim.Native.Nat.{_-_}
 use lib.ListN.{length}

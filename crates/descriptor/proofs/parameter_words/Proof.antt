@@ -1,4 +1,4 @@
--- `descriptor::parameter_words` meets its contract. Assumes nothing.
+-- The invariant: the words so far and those that begin from i on are all, modulo 2^64; i goes up to the length. Assumes nothing.
 use Prim.Native.Nat.{_+_, _-_, _%_, _^_, _≤_, _<_}
 use native.Mathlib.Omega.{arith}
 use mathlib.Core.Path.{_≡_}

@@ -1,4 +1,4 @@
--- `descriptor::read_on` meets its contract. Assumes nothing.
+-- Inside an identifier reading goes on at the end of the run of name bytes, elsewhere at the next byte. Assumes nothing.
 use Rattle.descriptor.specs.Names.{readOn}
 use borrow.Author.Needs.{needs}
 use Rattle.descriptor.proofs.read_on.Statement.{statement}

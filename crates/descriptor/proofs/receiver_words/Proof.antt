@@ -1,4 +1,4 @@
--- `descriptor::receiver_words` meets its contract. Assumes nothing.
+-- The word is the definition's: 1 less the bit 0x0008. Assumes nothing.
 use borrow.Author.Needs.{needs}
 use Rattle.descriptor.proofs.receiver_words.Statement.{statement}
 use Rattle.descriptor.proofs.receiver_words.Tie as tie

@@ -1,4 +1,4 @@
--- `descriptor::width` meets its contract. Assumes nothing.
+-- The width is that of the first byte. Assumes nothing.
 use Rattle.descriptor.specs.Words.{width}
 use borrow.Author.Needs.{needs}
 use Rattle.descriptor.proofs.width.Statement.{statement}

@@ -1,3 +1,4 @@
+-- A static field adds nothing, another one its width. Assumes nothing.
 use native.Mathlib.Omega.{arith}
 use Rattle.field.proofs.MovedLaws.{add-static, add-instance}
 use borrow.Author.Needs.{needs}

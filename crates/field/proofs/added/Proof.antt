@@ -1,3 +1,4 @@
+-- By the ABI entry: its fields that the class does not declare, or none without an entry. Assumes nothing.
 use Rattle.field.proofs.AddedLaws.{added-none}
 use native.Mathlib.Omega.{arith}
 use borrow.Author.Needs.{needs}

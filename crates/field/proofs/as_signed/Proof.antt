@@ -1,3 +1,4 @@
+-- From 2^31 on the wrapped difference from zero is the magnitude; below, the number is its own. Assumes nothing.
 use Rattle.field.proofs.RuntimeLaws.{signed-below, signed-above}
 use borrow.Author.Needs.{needs}
 use Rattle.field.proofs.as_signed.Statement.{statement}

@@ -1,3 +1,6 @@
+-- The loop's invariant: the sum so far, taken on over the fields to come, is the whole sum. The measure is the fields to come. Assumes
+-- nothing.
+use Rattle.class_sheet.specs.ClassSheet.{fieldLimit}
 use Rattle.linking.specs.Fields.{addWidth, declaredWords}
 use Rattle.linking.specs.Chain.{ownFields}
 use Rattle.words.proofs.ListLaws.{foldFrom, fold-start, fold-turn, fold-end}
@@ -10,7 +13,7 @@ use Rattle.field.proofs.declared_words.Tie as tie
 
 abbrev Inv-loop : tie.InvT-loop
 Inv-loop ws text c first n sum₀ i₀ sum i =
-    (i ≤ n) × (n ≤ 512 - first) × (sum ≤ 2 * i) × (foldFrom (λ k. k) (addWidth ws text) sum first n i ≡ declaredWords ws text c)
+    (i ≤ n) × (n ≤ fieldLimit - first) × (sum ≤ 2 * i) × (foldFrom (λ k. k) (addWidth ws text) sum first n i ≡ declaredWords ws text c)
 
 abbrev μ-loop : tie.MeasureT-loop
 μ-loop ws text c first n sum₀ i₀ sum i = n - i

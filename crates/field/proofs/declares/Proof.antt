@@ -1,3 +1,4 @@
+-- Both tests are the definition's. Assumes nothing.
 use Rattle.field.specs.Numbers.{declaredBy}
 use borrow.Author.Needs.{needs}
 use Rattle.field.proofs.declares.Statement.{statement}

@@ -1,3 +1,4 @@
+-- The descriptor's width, which is at most 2. Assumes nothing.
 use Rattle.field.proofs.RuntimeLaws.{width-room}
 use borrow.Author.Needs.{needs}
 use Rattle.field.proofs.field_width.Statement.{statement}

@@ -1,3 +1,4 @@
+-- Without a parent the running word is 0, with one its instance words; the runtime words are those of the parent's chain. Assumes nothing.
 use mathlib.Core.Path.{refl}
 use Rattle.field.proofs.NumberLaws.{first-room, first-root, first-child}
 use native.Mathlib.Omega.{arith}

@@ -1,3 +1,4 @@
+-- By the ABI entry: what it fixes for the field's name and descriptor, or nothing without an entry. Assumes nothing.
 use borrow.Author.Needs.{needs}
 use Rattle.field.proofs.fixed_of.Statement.{statement}
 use Rattle.field.proofs.fixed_of.Tie as tie

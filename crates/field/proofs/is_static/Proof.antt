@@ -1,3 +1,4 @@
+-- The bit of the flags is the definition's. Assumes nothing.
 use borrow.Author.Needs.{needs}
 use Rattle.field.proofs.is_static.Statement.{statement}
 use Rattle.field.proofs.is_static.Tie as tie

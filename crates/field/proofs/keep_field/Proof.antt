@@ -1,3 +1,4 @@
+-- A field that the class declares leaves the list as it is; another one goes to its end. Assumes nothing.
 use Rattle.field.proofs.AddedLaws.{keep-none, keep-one}
 use native.Mathlib.Omega.{arith}
 use borrow.Author.Needs.{needs}

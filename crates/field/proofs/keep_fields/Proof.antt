@@ -1,3 +1,6 @@
+-- The loop's invariant: the ABI fields kept and those of the rest that are to be kept are the added ones. The measure is the fields to
+-- come. Assumes nothing.
+use Rattle.abi_sheet.specs.AbiSheet.{abiFieldLimit}
 use Rattle.words.specs.declared.Found.the-variants.{At}
 use Rattle.linking.specs.Fields.{addedFields}
 use Rattle.field.proofs.AddedLaws.{keptAt, kept-start, kept-turn, kept-end}
@@ -11,7 +14,7 @@ use Rattle.field.proofs.keep_fields.Tie as tie
 
 abbrev Inv-loop : tie.InvT-loop
 Inv-loop ws text abi labels a c gs₀ first n k₀ i₀ gs k i =
-    (i ≤ n) × (n ≤ 256 - first) × (k ≤ i) × (length gs ≡ length gs₀) × (256 ≤ length gs₀)
+    (i ≤ n) × (n ≤ abiFieldLimit - first) × (k ≤ i) × (length gs ≡ length gs₀) × (abiFieldLimit ≤ length gs₀)
     × (keptAt ws text abi labels c first n gs k i ≡ addedFields ws text abi labels (At a) c)
 
 abbrev μ-loop : tie.MeasureT-loop

@@ -1,3 +1,4 @@
+-- A static field keeps its index; another one gets the base, for which there is room. Assumes nothing.
 use Rattle.field.proofs.MovedLaws.{moved-static, moved-instance, moved-room}
 use borrow.Author.Needs.{needs}
 use Rattle.field.proofs.moved_index.Statement.{statement}

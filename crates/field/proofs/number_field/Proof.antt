@@ -1,3 +1,4 @@
+-- A static field takes the next static word; another one is numbered as an instance field. Assumes nothing.
 use Rattle.field.proofs.NumberLaws.{field-static, field-instance}
 use native.Mathlib.Omega.{arith}
 use borrow.Author.Needs.{needs}

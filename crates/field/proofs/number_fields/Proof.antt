@@ -1,9 +1,12 @@
+-- The loop's invariant: the numbering of the fields passed, taken on over those to come, comes to `numberFields`; the array holds their
+-- indices in front and after them what it held at the start; and the counters stay small. The measure is the fields to come. Assumes nothing.
 use Rattle.linking.specs.Fields.{numberFields}
-use Rattle.field.proofs.NumberLaws.{numberAt, number-start, number-turn, number-end}
-use Rattle.class_sheet.specs.ClassSheet.{classFirstField, classFieldCount}
-use Rattle.linking.specs.Chain.{listCount}
-use lib.ListN.{length}
-use mathlib.Core.Path.{_≡_, _∙_}
+use Rattle.field.specs.Numbers.{ownCount}
+use Rattle.field.proofs.FrontLaws.{rest-stays}
+use Rattle.field.proofs.NumberLaws.{numberAt, number-start, number-turn, number-done}
+use Rattle.class_sheet.specs.ClassSheet.{classFirstField, fieldLimit}
+use lib.ListN.{length, drop}
+use mathlib.Core.Path.{_≡_, refl, _∙_}
 use Prim.Native.Nat.{_+_, _-_, _*_, _≤_}
 use native.Mathlib.Omega.{arith}
 use borrow.Author.Needs.{needs}
@@ -12,55 +15,42 @@ use Rattle.field.proofs.number_fields.Tie as tie
 
 abbrev Inv-loop : tie.InvT-loop
 Inv-loop ws text abi labels own c indices₀ first n k₀ i₀ indices k i =
-    (i ≤ n) × (first ≡ classFirstField ws c) × (n ≡ listCount (classFirstField ws c) (classFieldCount ws c) 512)
-    × (length indices ≡ length indices₀) × (512 ≤ length indices₀) × (k .statics ≤ 2 * i) × (k .runtime ≤ 2147483649 + 2 * i)
-    × (k .running ≤ 65535 + 2 * i) × (numberAt ws text abi labels own first n indices k i ≡ numberFields ws text abi labels own c)
+    ((i ≤ n) × (first ≡ classFirstField ws c) × (n ≡ ownCount ws c) × (length indices ≡ length indices₀) × (fieldLimit ≤ length indices₀)
+    × (k .statics ≤ 2 * i) × (k .runtime ≤ 2147483649 + 2 * i) × (k .running ≤ 65535 + 2 * i))
+    × (numberAt ws text abi labels own first n indices k i ≡ numberFields ws text abi labels own c) × (drop i indices ≡ drop i indices₀)
 
 abbrev μ-loop : tie.MeasureT-loop
 μ-loop ws text abi labels own c indices₀ first n k₀ i₀ indices k i = n - i
 
 loop-holds : tie.Need-loop-holds Inv-loop μ-loop
 loop-holds c =
-    let at-field-count = c .before in
-    let at-class-first-field = at-field-count .before in
-    let entry = at-class-first-field .before .before .before .before .before .before in (
+    let counted : tie.After-field-count Inv-loop μ-loop = search in
+    let start : tie.Start Inv-loop μ-loop = search in (
       omega arith,
-      at-class-first-field .class-first-field .ensures,
-      at-field-count .field-count .ensures,
-      omega arith,
-      omega arith,
-      omega arith,
-      omega arith,
-      omega arith,
-      number-start _ _ _ _ _ _ (entry .args .indices .now) _ (at-class-first-field .class-first-field .ensures)
-          (at-field-count .field-count .ensures) (c .first-counters .ensures .0),
+      number-start _ _ _ _ _ _ (start .args .indices .now) _ (counted .before .class-first-field .ensures) (counted .field-count .ensures)
+          (c .first-counters .ensures .0),
+      refl,
     )
 
 number-field-requires : tie.Need-number-field-requires Inv-loop μ-loop
-number-field-requires c κs = (omega arith, omega arith, omega arith)
+number-field-requires c κs = omega arith
 
 loop-again : tie.Need-loop-again Inv-loop μ-loop
 loop-again c =
-    let at-put-word = c .before .before in
-    let at-wide = at-put-word .before in
-    let at-number-field = at-wide .before .before in
-    let at-test = at-number-field .before in
-    let at-loop = at-test .before in
+    let put : tie.After-put-word Inv-loop μ-loop = search in
+    let numbered : tie.After-number-field Inv-loop μ-loop = search in
+    let at-loop : tie.At-loop Inv-loop μ-loop = search in
     let l = at-loop .loop in (
       omega arith,
-      l .inv .1,
-      l .inv .2,
-      omega arith,
-      omega arith,
-      omega arith,
-      omega arith,
-      omega arith,
-      number-turn _ _ _ _ _ _ _ _ (l .indices) _ (l .k) _ (at-test .loop-test .taken) (omega arith)
-          (at-number-field .number-field .ensures .0) (at-put-word .put-word .ensures) (at-wide .wide .ensures) ∙ l .inv .8,
+      number-turn _ _ _ _ _ _ _ _ (l .indices) _ (l .k) _ (numbered .before .loop-test .taken) (omega arith) (numbered .number-field .ensures .0)
+          (put .put-word .ensures) (put .before .wide .ensures) ∙ l .inv .1,
+      rest-stays (l .i) (numbered .number-field .result .index) (l .indices) _ (l .inv .2) (put .put-word .ensures) (put .before .wide .ensures),
     )
 
 returns : tie.Need-returns Inv-loop μ-loop
-returns c = let l = c .before .loop in rw (← (l .inv .2)) (number-end _ _ _ _ _ _ _ _ (l .indices) (l .k) (omega arith) ∙ l .inv .8)
+returns c =
+    let l = c .before .loop in
+    number-done _ _ _ _ _ _ _ (l .i) (l .indices) _ (l .k) (omega arith) (omega arith) (l .inv .1) (l .inv .2) (l .inv .0 .2)
 
 pub number-fields-spec : {M : Type 1} → statement M
 number-fields-spec =

@@ -1,3 +1,4 @@
+-- In the rules' order: the fixed index, the running word where the ABI gives no words, else the index below zero. Assumes nothing.
 use Rattle.linking.specs.Abi.{fixedFieldIndex}
 use mathlib.Core.Path.{refl}
 use Rattle.field.proofs.NumberLaws.{instance-fixed, instance-running, instance-runtime}

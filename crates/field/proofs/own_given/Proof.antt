@@ -1,3 +1,4 @@
+-- By the ABI entry: the words plus 1 that it gives, or 0 without an entry. Assumes nothing.
 use borrow.Author.Needs.{needs}
 use Rattle.field.proofs.own_given.Statement.{statement}
 use Rattle.field.proofs.own_given.Tie as tie

@@ -1,3 +1,6 @@
+-- The loop's invariant: the largest end so far, taken on over the fields to come, is the whole largest. The measure is the fields to
+-- come. Assumes nothing.
+use Rattle.class_sheet.specs.ClassSheet.{fieldLimit}
 use Rattle.linking.specs.Fields.{runtimeEnd, ownRuntime}
 use Rattle.linking.specs.Chain.{ownFields}
 use Rattle.words.proofs.ListLaws.{foldFrom, fold-start, fold-turn, fold-end}
@@ -10,7 +13,7 @@ use Rattle.field.proofs.own_runtime.Tie as tie
 
 abbrev Inv-loop : tie.InvT-loop
 Inv-loop ws text c before first n end₀ i₀ end i =
-    (i ≤ n) × (n ≤ 512 - first) × (foldFrom (λ k. k) (λ k f. max k (runtimeEnd ws text f)) end first n i ≡ ownRuntime ws text before c)
+    (i ≤ n) × (n ≤ fieldLimit - first) × (foldFrom (λ k. k) (λ k f. max k (runtimeEnd ws text f)) end first n i ≡ ownRuntime ws text before c)
 
 abbrev μ-loop : tie.MeasureT-loop
 μ-loop ws text c before first n end₀ i₀ end i = n - i

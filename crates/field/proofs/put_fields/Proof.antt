@@ -1,3 +1,5 @@
+-- The loop's invariant: the arrays hold the first i ABI fields in front and after them what they held. The measure is the fields to come.
+-- Assumes nothing.
 use Rattle.field.specs.Numbers.{Small}
 use Rattle.linking.specs.Abi.{fixedFieldIndex}
 use Rattle.words.specs.Folds.{stores}

@@ -1,3 +1,5 @@
+-- The loop's invariant: the word so far, raised by the ABI fields to come, is the whole raised word. The measure is the fields to come.
+-- Assumes nothing.
 use Rattle.field.proofs.RuntimeLaws.{width-room}
 use mathlib.Core.Path.{sym}
 use mathlib.Core.List.{[]}

@@ -1,3 +1,4 @@
+-- A static field and one with a nonnegative index have no runtime words; of another one the magnitude is at least 1. Assumes nothing.
 use Rattle.field.proofs.RuntimeLaws.{end-static, end-negative, end-nonnegative, magnitude-room}
 use borrow.Author.Needs.{needs}
 use Rattle.field.proofs.runtime_end.Statement.{statement}

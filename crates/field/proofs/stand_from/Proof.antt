@@ -1,4 +1,7 @@
+-- The loop's invariant: the fields passed stand where they should, so whether all do is whether those to come do. The measure is the
+-- fields to come. Assumes nothing.
 use borrow.Author.Tests.{not-true, not-false}
+use Rattle.class_sheet.specs.ClassSheet.{fieldLimit}
 use Rattle.linking.specs.Fields.{standFrom}
 use Rattle.field.proofs.MovedLaws.{standAt, stand-start, stand-stop, stand-turn, stand-end}
 use Rattle.linking.specs.Chain.{ownFields}
@@ -11,7 +14,7 @@ use Rattle.field.proofs.stand_from.Tie as tie
 
 abbrev Inv-loop : tie.InvT-loop
 Inv-loop ws text c from first n at₀ i₀ at i =
-    (i ≤ n) × (n ≤ 512 - first) × (at ≤ 65535 + 2 * i) × (standAt ws text first n at i ≡ standFrom ws text from (ownFields ws c))
+    (i ≤ n) × (n ≤ fieldLimit - first) × (at ≤ 65535 + 2 * i) × (standAt ws text first n at i ≡ standFrom ws text from (ownFields ws c))
 
 abbrev μ-loop : tie.MeasureT-loop
 μ-loop ws text c from first n at₀ i₀ at i = n - i

@@ -1,3 +1,4 @@
+-- Both tests are the definition's. Assumes nothing.
 use borrow.Author.Needs.{needs}
 use Rattle.field.proofs.stands_at.Statement.{statement}
 use Rattle.field.proofs.stands_at.Tie as tie

@@ -1,3 +1,4 @@
+-- The four tests of the definition. Assumes nothing.
 use Rattle.growth.specs.Growth.{canGrow}
 use borrow.Author.Needs.{needs}
 use Rattle.growth.proofs.can_grow.Statement.{statement}

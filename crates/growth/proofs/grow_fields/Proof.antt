@@ -33,28 +33,23 @@ insert-requires c κs =
 
 part-put-indices-end : tie.Need-part-put-indices-end
 part-put-indices-end c =
-    let from : tie.After-wide2 = search in
-    let end : tie.After-interfaces-at = search in
-    let room : tie.Else1 = search in
-    let count : tie.After-field-count = search in
-    let g = code-grows _ _ _ _ _ (room .before .can-grow .ensures) (room .if1 .left) in
-    let r = fields-room _ _ (count .field-count .ensures) (end .interfaces-at .ensures .0) (from .before .fields-at .ensures .0)
-    (from .wide2 .ensures) g in
+    let inserted : tie.After-insert = search in
+    let r = insert-requires (inserted .before) (inserted .insert .lifetimes) in
     omega (arith, r .fits, room-is _ _ _ _ _ _ _ _ r, c .wide3 .ensures)
 
-cast-put-counts : tie.Need-cast-put-counts
-cast-put-counts c =
+cast-put-field-counts : tie.Need-cast-put-field-counts
+cast-put-field-counts c =
     let bytes : tie.After-new-text-length = search in
     let room : tie.Else1 = search in
     let g = code-grows _ _ _ _ _ (room .before .can-grow .ensures) (room .if1 .left) in
     omega (arith, g .bytes, bytes)
 
-put-counts-requires : tie.Need-put-counts-requires
-put-counts-requires c κs =
+put-field-counts-requires : tie.Need-put-field-counts-requires
+put-field-counts-requires c κs =
     let members : tie.After-new-count = search in
     let room = members .before in
     let g = code-grows _ _ _ _ _ (room .before .can-grow .ensures) (room .if1 .left) in
-    (omega (arith, members-fit _ _ _ _ _ _ _ _ g (members .new-count .ensures .0)), omega arith)
+    omega (arith, members-fit _ _ _ _ _ _ _ _ g (members .new-count .ensures .0))
 
 -- there is room: what each call leaves
 returns-2 : tie.Need-returns-2
@@ -76,7 +71,7 @@ returns-2 c =
     (first .class-first-field .ensures) (own .class-field-count .ensures) (room .if1 .left) (members .new-count .ensures .0)
     (old .wide .ensures ∙ old .before .text-length .ensures) (bytes .new-text-length .ensures .0) (end .interfaces-at .ensures .0)
     (from .before .fields-at .ensures .0) (from .wide2 .ensures) (copied .wide3 .ensures) (inserted .insert .ensures)
-    (indices .put-indices .ensures) (counts .put-counts .ensures)
+    (indices .put-indices .ensures) (counts .put-field-counts .ensures)
 
 pub grow-fields-spec : {M : Type 1} → statement M
 grow-fields-spec =
@@ -108,7 +103,7 @@ grow-fields-spec =
     (λ c. search needs)
     part-put-indices-end
     (λ c κs. search needs)
-    cast-put-counts
-    put-counts-requires
+    cast-put-field-counts
+    put-field-counts-requires
     (λ c. search needs)
     returns-2)

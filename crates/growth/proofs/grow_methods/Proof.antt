@@ -1,97 +1,67 @@
-use Rattle.growth.proofs.GrowthLaws.{code-grows, methods-room, methods-none, methods-done}
-use Rattle.growth.proofs.NewsLaws.{length-news}
-use mathlib.Core.List.{[]}
+-- The code writes the methods' tail and the counts, which is what `methodsGrown` says, where the set has room; else nothing. Assumes nothing.
+use Rattle.growth.proofs.GrowthLaws.{code-grows, members-fit, methods-room, methods-none, methods-done}
 use mathlib.Core.Path.{_∙_}
 use native.Mathlib.Omega.{arith}
 use borrow.Author.Needs.{needs}
 use Rattle.growth.proofs.grow_methods.Statement.{statement}
 use Rattle.growth.proofs.grow_methods.Tie as tie
 
+-- there is no room
 returns : tie.Need-returns
 returns c =
-    let at-can-grow = c .before in
-    let at-class-method-count = at-can-grow .before .before in
-    let at-class-first-method = at-class-method-count .before .before in
-    let at-method-count = at-class-first-method .before .before in
-    let entry = at-method-count .before .before .before .before .before .before .before .before .before in
-    let a = entry .args in
-    methods-none (a .set .now) (a .text .now) (a .abi .now) (a .labels .now) (a .refs .now) (a .flags .now) (a .lasts .now)
-    (a .c) _ _ _ (at-can-grow .can-grow .ensures) (at-method-count .method-count .ensures)
-    (at-class-first-method .class-first-method .ensures) (at-class-method-count .class-method-count .ensures) (c .if1 .taken)
+    let own : tie.After-class-method-count = search in
+    let first : tie.After-class-first-method = search in
+    let count : tie.After-method-count = search in
+    methods-none _ _ _ _ _ _ _ _ _ _ _ (c .before .can-grow .ensures) (count .method-count .ensures)
+    (first .class-first-method .ensures) (own .class-method-count .ensures) (c .if1 .taken)
 
 add-members : tie.Need-add-members
 add-members c =
-    let at-if1 = c .before in
-    let at-can-grow = at-if1 .before in
-    let entry = at-can-grow .before .before .before .before .before .before .before .before .before .before .before .before .before .before .before in
-    let a = entry .args in
-    let g = code-grows _ _ _ _ _ (at-can-grow .can-grow .ensures) (at-if1 .if1 .left) in
-    omega (arith, g .members)
+    let room = c .before in
+    omega (arith, code-grows _ _ _ _ _ (room .before .can-grow .ensures) (room .if1 .left) .members)
 
 insert-requires : tie.Need-insert-requires
 insert-requires c κs =
-    let at-wide2 = c .before in
-    let at-methods-at = at-wide2 .before in
-    let at-fields-at = at-methods-at .before .before in
-    let at-if1 = at-fields-at .before .before .before .before .before .before .before .before in
-    let at-can-grow = at-if1 .before in
-    let at-method-count = at-can-grow .before .before .before .before .before .before in
-    let entry = at-method-count .before .before .before .before .before .before .before .before .before in
-    let a = entry .args in
-    let g = code-grows _ _ _ _ _ (at-can-grow .can-grow .ensures) (at-if1 .if1 .left) in
-    methods-room (a .set .now) _ (at-method-count .method-count .ensures) (at-fields-at .fields-at .ensures .0)
-    (at-methods-at .methods-at .ensures .0) (at-wide2 .wide2 .ensures) g
+    let from : tie.After-wide2 = search in
+    let end : tie.After-fields-at = search in
+    let room : tie.Else1 = search in
+    let count : tie.After-method-count = search in
+    methods-room _ _ (count .method-count .ensures) (end .fields-at .ensures .0) (from .before .methods-at .ensures .0)
+    (from .wide2 .ensures)
+    (code-grows _ _ _ _ _ (room .before .can-grow .ensures) (room .if1 .left))
 
-cast-put-counts : tie.Need-cast-put-counts
-cast-put-counts c =
-    let at-new-text-length = c .before .before .before .before .before .before .before .before .before .before in
-    let at-wide = at-new-text-length .before .before in
-    let at-text-length = at-wide .before in
-    let at-if1 = at-text-length .before .before .before in
-    let at-can-grow = at-if1 .before in
-    let entry = at-can-grow .before .before .before .before .before .before .before .before .before .before .before .before .before .before .before in
-    let a = entry .args in
-    let g = code-grows _ _ _ _ _ (at-can-grow .can-grow .ensures) (at-if1 .if1 .left) in
-    let e0 = at-new-text-length .new-text-length .ensures .0 in
-    let e1 = at-wide .wide .ensures in
-    let e2 = at-text-length .text-length .ensures in
-    omega (arith, g .bytes)
+cast-put-method-counts : tie.Need-cast-put-method-counts
+cast-put-method-counts c =
+    let bytes : tie.After-new-text-length = search in
+    let room : tie.Else1 = search in
+    let g = code-grows _ _ _ _ _ (room .before .can-grow .ensures) (room .if1 .left) in
+    omega (arith, g .bytes, bytes)
 
-put-counts-requires : tie.Need-put-counts-requires
-put-counts-requires c κs =
-    let at-new-count = c .before .before .before .before .before .before .before .before .before .before .before .before .before .before .before in
-    let at-if1 = at-new-count .before in
-    let at-can-grow = at-if1 .before in
-    let entry = at-can-grow .before .before .before .before .before .before .before .before .before .before .before .before .before .before .before in
-    let a = entry .args in
-    let g = code-grows _ _ _ _ _ (at-can-grow .can-grow .ensures) (at-if1 .if1 .left) in
-    let l = length-news (a .set .now) (a .text .now) (a .abi .now) (a .labels .now) (a .refs .now) [] [] in
-    (omega (arith, g .members, at-new-count .new-count .ensures .0), omega arith)
+put-method-counts-requires : tie.Need-put-method-counts-requires
+put-method-counts-requires c κs =
+    let members : tie.After-new-count = search in
+    let room = members .before in
+    let g = code-grows _ _ _ _ _ (room .before .can-grow .ensures) (room .if1 .left) in
+    omega (arith, members-fit _ _ _ _ _ _ _ _ g (members .new-count .ensures .0))
 
+-- there is room: what each call leaves
 returns-2 : tie.Need-returns-2
 returns-2 c =
-    let at-put-counts = c .before .before in
-    let at-insert = at-put-counts .before .before .before .before in
-    let at-wide2 = at-insert .before .before in
-    let at-methods-at = at-wide2 .before in
-    let at-fields-at = at-methods-at .before .before in
-    let at-new-text-length = at-fields-at .before .before in
-    let at-wide = at-new-text-length .before .before in
-    let at-text-length = at-wide .before in
-    let at-new-count = at-text-length .before .before in
-    let at-if1 = at-new-count .before in
-    let at-can-grow = at-if1 .before in
-    let at-class-method-count = at-can-grow .before .before in
-    let at-class-first-method = at-class-method-count .before .before in
-    let at-method-count = at-class-first-method .before .before in
-    let entry = at-method-count .before .before .before .before .before .before .before .before .before in
-    let a = entry .args in
-    methods-done (a .set .now) (a .text .now) (a .abi .now) (a .labels .now) (a .refs .now) (a .flags .now) (a .lasts .now)
-    (a .c) _ _ _ (at-can-grow .can-grow .ensures) (at-method-count .method-count .ensures)
-    (at-class-first-method .class-first-method .ensures) (at-class-method-count .class-method-count .ensures) (at-if1 .if1 .left)
-    (at-new-count .new-count .ensures .0) (at-wide .wide .ensures ∙ at-text-length .text-length .ensures)
-    (at-new-text-length .new-text-length .ensures .0) (at-fields-at .fields-at .ensures .0) (at-methods-at .methods-at .ensures .0)
-    (at-wide2 .wide2 .ensures) (at-insert .insert .ensures) (at-put-counts .put-counts .ensures)
+    let counts = c .before .before in
+    let inserted : tie.After-insert = search in
+    let from : tie.After-wide2 = search in
+    let end : tie.After-fields-at = search in
+    let bytes : tie.After-new-text-length = search in
+    let old : tie.After-wide = search in
+    let members : tie.After-new-count = search in
+    let room = members .before in
+    let test = room .before in
+    let own = test .before .before in
+    let first = own .before .before in
+    methods-done _ _ _ _ _ _ _ _ _ _ _ (test .can-grow .ensures) (first .before .before .method-count .ensures)
+    (first .class-first-method .ensures) (own .class-method-count .ensures) (room .if1 .left) (members .new-count .ensures .0)
+    (old .wide .ensures ∙ old .before .text-length .ensures) (bytes .new-text-length .ensures .0) (end .fields-at .ensures .0)
+    (from .before .methods-at .ensures .0) (from .wide2 .ensures) (inserted .insert .ensures) (counts .put-method-counts .ensures)
 
 pub grow-methods-spec : {M : Type 1} → statement M
 grow-methods-spec =
@@ -115,7 +85,7 @@ grow-methods-spec =
     (λ c. search needs)
     (λ c. search needs)
     insert-requires
-    cast-put-counts
-    put-counts-requires
+    cast-put-method-counts
+    put-method-counts-requires
     (λ c. search needs)
     returns-2)

@@ -1,15 +1,11 @@
+-- The sum that the definition names, with the new members by their names alone. Assumes nothing.
 use Rattle.growth.proofs.GrowthLaws.{end-is}
-use native.Mathlib.Omega.{arith}
 use borrow.Author.Needs.{needs}
 use Rattle.growth.proofs.grown_end.Statement.{statement}
 use Rattle.growth.proofs.grown_end.Tie as tie
 
 returns : tie.Need-returns
-returns c =
-    let entry = c .before .before .before .before .before .before .before .before .before .before .before .before in
-    let a = entry .args in
-    end-is (a .ws .now) (a .text .now) (a .abi .now) (a .labels .now) (a .refs .now) (a .own) (c .text-at .ensures .0)
-    (omega arith) (omega arith)
+returns c = search end-is
 
 pub grown-end-spec : {M : Type 1} → statement M
 grown-end-spec =

@@ -1,16 +1,11 @@
-use Rattle.growth.proofs.GrowthLaws.{room-is, insert-is}
-use native.Mathlib.Omega.{arith}
+-- The tail is made apart and then copied over the content from the section's end on. Assumes nothing.
+use Rattle.growth.proofs.GrowthLaws.{end-within, insert-is}
 use borrow.Author.Needs.{needs}
 use Rattle.growth.proofs.insert.Statement.{statement}
 use Rattle.growth.proofs.insert.Tie as tie
 
 sub-n : tie.Need-sub-n
-sub-n c =
-    let entry = c .before .before .before .before .before .before .before .before .before .before .before .before .before in
-    let a = entry .args in
-    let i = room-is (a .set .now) (a .text .now) (a .abi .now) (a .labels .now) (a .refs .now) (a .end) (a .from) (a .own)
-    (entry .pre) in
-    omega arith
+sub-n c = search end-within
 
 returns : tie.Need-returns
 returns c = search insert-is

@@ -1,3 +1,4 @@
+-- The smaller of the length and 1,024. Assumes nothing.
 use Rattle.growth.proofs.NewsLaws.{count-few, count-many}
 use native.Mathlib.Omega.{arith}
 use borrow.Author.Needs.{needs}

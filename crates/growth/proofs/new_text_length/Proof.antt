@@ -1,3 +1,4 @@
+-- The invariant: the sum is the length of the first i members' text; the measure is what is left of them. Assumes nothing.
 use Rattle.growth.specs.News.{newCount}
 use Rattle.growth.proofs.NewsLaws.{textTo, length-none, length-turn, length-done}
 use lib.ListN.{length}
@@ -10,13 +11,14 @@ use Rattle.growth.proofs.new_text_length.Tie as tie
 
 abbrev Inv-loop : tie.InvT-loop
 Inv-loop ws text abi labels refs n sum₀ i₀ sum i =
-    (i ≤ n) × (n ≡ newCount refs) × (n < 1025) × (sum ≡ length (textTo ws text abi labels refs i)) × (sum ≤ 8589934592 * i)
+    ((i ≤ n) × (n ≡ newCount refs) × (n < 1025) × (sum ≤ 8589934592 * i))
+    × (sum ≡ length (textTo ws text abi labels refs i))
 
 abbrev μ-loop : tie.MeasureT-loop
 μ-loop ws text abi labels refs n sum₀ i₀ sum i = n - i
 
 loop-holds : tie.Need-loop-holds Inv-loop μ-loop
-loop-holds c = (omega arith, omega arith, omega arith, search length-none, omega arith)
+loop-holds c = (omega arith, search length-none)
 
 add-sum : tie.Need-add-sum Inv-loop μ-loop
 add-sum c = omega (arith, c .ref-descriptor .ensures .1, c .before .ref-name .ensures .1)
@@ -26,26 +28,16 @@ add-sum-2 c = omega (arith, c .ref-descriptor .ensures .1, c .before .ref-name .
 
 loop-again : tie.Need-loop-again Inv-loop μ-loop
 loop-again c =
-    let at-ref-name = c .before in
-    let at-word-at = at-ref-name .before in
-    let at-loop = at-word-at .before .before in
-    let entry = at-loop .before .before .before .before .before .before .before .before in
-    let a = entry .args in
-    let t = length-turn (a .ws .now) (a .text .now) (a .abi .now) (a .labels .now) (a .refs .now) (at-loop .loop .i)
-    (at-word-at .word-at .ensures) (at-ref-name .ref-name .ensures .0) (c .ref-descriptor .ensures .0) in
-    let p = c .ref-descriptor .ensures .1 in
-    let q = at-ref-name .ref-name .ensures .1 in
-    (omega arith, omega arith, omega arith, omega arith, omega arith)
+    let name = c .before in
+    let turn = name .before .before .before in (
+      omega (arith, c .ref-descriptor .ensures .1, name .ref-name .ensures .1),
+      length-turn _ _ _ _ _ _ (name .before .word-at .ensures) (name .ref-name .ensures .0) (c .ref-descriptor .ensures .0) (turn .loop .inv .1),
+    )
 
 returns : tie.Need-returns Inv-loop μ-loop
 returns c =
-    let at-loop = c .before in
-    let entry = at-loop .before .before .before .before .before .before .before .before in
-    let a = entry .args in (
-      length-done (a .ws .now) (a .text .now) (a .abi .now) (a .labels .now) (a .refs .now) (at-loop .loop .i) (omega arith)
-          (at-loop .loop .inv .3),
-      omega arith,
-    )
+    let end : tie.At-loop Inv-loop μ-loop = search in
+    (length-done _ _ _ _ _ (end .loop .i) (omega arith) (end .loop .inv .1), omega arith)
 
 pub new-text-length-spec : {M : Type 1} → statement M
 new-text-length-spec =

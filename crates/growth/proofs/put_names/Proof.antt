@@ -1,7 +1,8 @@
+-- The invariant: the text of the first i members is written, and `next` is where it ends; the measure is what is left of them. Assumes nothing.
 use Rattle.linking.specs.Link.{writeAt}
 use Rattle.linking.specs.Set.{newText}
 use Rattle.growth.specs.News.{newCount, named}
-use Rattle.growth.proofs.NewsLaws.{textTo, names-none, names-turn, names-done, next-turn, text-most, length-none}
+use Rattle.growth.proofs.NewsLaws.{textTo, names-none, names-turn, names-done, next-none, next-turn, next-within}
 use lib.ListN.{length}
 use mathlib.Core.Path.{_≡_}
 use Prim.Native.Nat.{_+_, _-_, _≤_}
@@ -12,68 +13,40 @@ use Rattle.growth.proofs.put_names.Tie as tie
 
 abbrev Inv-loop : tie.InvT-loop
 Inv-loop bytes₀ at ws text abi labels refs n next₀ i₀ bytes next i =
-    (i ≤ n) × (n ≡ newCount refs) × (bytes ≡ writeAt bytes₀ at (textTo ws text abi labels refs i))
-    × (next ≡ at + length (textTo ws text abi labels refs i)) × (length bytes ≡ length bytes₀)
-    × (at + length (newText (named ws text abi labels refs)) ≤ length bytes₀)
+    ((i ≤ n) × (n ≡ newCount refs) × (at + length (newText (named ws text abi labels refs)) ≤ length bytes₀))
+    × (length bytes ≡ length bytes₀)
+    × (next ≡ at + length (textTo ws text abi labels refs i))
+    × (bytes ≡ writeAt bytes₀ at (textTo ws text abi labels refs i))
 
 abbrev μ-loop : tie.MeasureT-loop
 μ-loop bytes₀ at ws text abi labels refs n next₀ i₀ bytes next i = n - i
 
 loop-holds : tie.Need-loop-holds Inv-loop μ-loop
 loop-holds c =
-    let entry = c .before .before .before .before .before .before .before .before in
-    let a = entry .args in (
-      omega arith,
-      omega arith,
-      names-none (a .ws .now) (a .text .now) (a .abi .now) (a .labels .now) (a .refs .now) (a .bytes .now)
-          (a .at),
-      omega (arith, length-none (a .ws .now) (a .text .now) (a .abi .now) (a .labels .now) (a .refs .now)),
-      omega arith,
-      entry .pre,
-    )
+    let entry : tie.Start Inv-loop μ-loop = search in
+    (omega (arith, entry .pre), omega arith, search next-none, search names-none)
 
 put-name-requires : tie.Need-put-name-requires Inv-loop μ-loop
 put-name-requires c κs =
-    let at-loop = c .before .before .before in
-    let entry = at-loop .before .before .before .before .before .before .before .before .before in
-    let a = entry .args in
-    omega (
-      arith,
-      next-turn (a .ws .now) (a .text .now) (a .abi .now) (a .labels .now) (a .refs .now) (at-loop .loop .i)
-          (c .word-at .ensures),
-      text-most (a .ws .now) (a .text .now) (a .abi .now) (a .labels .now) (a .refs .now)
-          (at-loop .loop .i + 1) (omega arith),
-    )
+    let turn : tie.At-loop Inv-loop μ-loop = search in
+    next-within _ _ _ _ _ _ (c .word-at .ensures) _ (omega arith) (turn .loop .inv .2) (omega arith)
 
+-- one more member's text is written
 loop-again : tie.Need-loop-again Inv-loop μ-loop
 loop-again c =
-    let at-put-name = c .before .before in
-    let at-word-at = at-put-name .before in
-    let at-loop = at-word-at .before .before .before in
-    let entry = at-loop .before .before .before .before .before .before .before .before .before in
-    let a = entry .args in (
+    let put : tie.After-put-name Inv-loop μ-loop = search in
+    let read = put .before .word-at .ensures in
+    let turn = put .before .before .before .before .loop .inv in (
       omega arith,
-      omega arith,
-      names-turn (a .ws .now) (a .text .now) (a .abi .now) (a .labels .now) (a .refs .now)
-          (at-loop .loop .i) (at-word-at .word-at .ensures) (a .bytes .now) (a .at) (omega arith) (at-loop .loop .inv .2)
-          (at-loop .loop .inv .3) (at-put-name .put-name .ensures .0),
-      omega (
-        arith,
-        next-turn (a .ws .now) (a .text .now) (a .abi .now)
-            (a .labels .now) (a .refs .now) (at-loop .loop .i) (at-word-at .word-at .ensures),
-        at-put-name .put-name .ensures .1,
-      ),
       search needs,
-      omega arith,
+      next-turn _ _ _ _ _ _ read _ (turn .2) (put .put-name .ensures .1),
+      names-turn _ _ _ _ _ _ read _ _ _ (turn .0 .2) (turn .3) (turn .2) (put .put-name .ensures .0),
     )
 
 returns : tie.Need-returns Inv-loop μ-loop
 returns c =
-    let at-loop = c .before in
-    let entry = at-loop .before .before .before .before .before .before .before .before .before in
-    let a = entry .args in
-    names-done (a .ws .now) (a .text .now) (a .abi .now) (a .labels .now) (a .refs .now) (a .bytes .now) (a .at) (at-loop .loop .i)
-    (omega arith) (at-loop .loop .inv .2)
+    let end : tie.At-loop Inv-loop μ-loop = search in
+    names-done _ _ _ _ _ _ _ (end .loop .i) (omega arith) (end .loop .inv .3)
 
 pub put-names-spec : {M : Type 1} → statement M
 put-names-spec =

@@ -1,8 +1,10 @@
+-- The invariant: i words are packed and written; the measure is what is left of them. Assumes nothing.
+use Rattle.words.specs.Words.{wordsFor}
 use Rattle.linking.specs.Link.{writeAt}
-use Rattle.growth.proofs.Writes.{packedTo, packed-none, packed-turn, packed-done}
+use Rattle.linking.proofs.Writes.{packedTo, packed-none, packed-turn, packed-done}
 use lib.ListN.{length}
 use mathlib.Core.Path.{_≡_}
-use Prim.Native.Nat.{_+_, _-_, _/_, _≤_}
+use Prim.Native.Nat.{_+_, _-_, _≤_}
 use native.Mathlib.Omega.{arith}
 use borrow.Author.Needs.{needs}
 use Rattle.growth.proofs.put_packed.Statement.{statement}
@@ -10,8 +12,9 @@ use Rattle.growth.proofs.put_packed.Tie as tie
 
 abbrev Inv-loop : tie.InvT-loop
 Inv-loop out₀ at bytes n i₀ out i =
-    (i ≤ n) × (out ≡ writeAt out₀ at (packedTo bytes i)) × (length out ≡ length out₀) × (at + (length bytes + 3) / 4 ≤ length out₀)
-    × (n ≡ (length bytes + 3) / 4)
+    ((i ≤ n) × (n ≡ wordsFor (length bytes)) × (at + wordsFor (length bytes) ≤ length out₀))
+    × (length out ≡ length out₀)
+    × (out ≡ writeAt out₀ at (packedTo bytes i))
 
 abbrev μ-loop : tie.MeasureT-loop
 μ-loop out₀ at bytes n i₀ out i = n - i
@@ -20,32 +23,21 @@ add-n : tie.Need-add-n Inv-loop μ-loop
 add-n c = omega arith
 
 loop-holds : tie.Need-loop-holds Inv-loop μ-loop
-loop-holds c =
-    let entry = c .before .before in
-    let a = entry .args in
-    (omega arith, packed-none (a .out .now) (a .at) (a .bytes .now), omega arith, entry .pre .0, omega arith)
+loop-holds c = (omega (arith, c .before .before .pre), omega arith, search packed-none)
 
 loop-again : tie.Need-loop-again Inv-loop μ-loop
 loop-again c =
-    let at-put-word = c .before .before in
-    let at-le-word = at-put-word .before in
-    let at-loop = at-le-word .before .before .before in
-    let entry = at-loop .before .before .before in
-    let a = entry .args in (
+    let put : tie.After-put-word Inv-loop μ-loop = search in
+    let turn : tie.At-loop Inv-loop μ-loop = search in (
       omega arith,
-      packed-turn (a .out .now) (a .at) (a .bytes .now) (at-loop .loop .i) (omega arith) (at-loop .loop .inv .1)
-          (at-le-word .le-word .ensures) (at-put-word .put-word .ensures),
       search needs,
-      omega arith,
-      omega arith,
+      packed-turn _ _ _ (turn .loop .i) (omega arith) (turn .loop .inv .2) (put .before .le-word .ensures) (put .put-word .ensures),
     )
 
 returns : tie.Need-returns Inv-loop μ-loop
 returns c =
-    let at-loop = c .before in
-    let entry = at-loop .before .before .before in
-    let a = entry .args in
-    packed-done (a .out .now) (a .at) (a .bytes .now) (at-loop .loop .i) (omega arith) (at-loop .loop .inv .1)
+    let end : tie.At-loop Inv-loop μ-loop = search in
+    packed-done _ _ _ (end .loop .i) (omega arith) (end .loop .inv .2)
 
 pub put-packed-spec : {M : Type 1} → statement M
 put-packed-spec =

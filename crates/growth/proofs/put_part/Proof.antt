@@ -1,5 +1,6 @@
+-- The invariant: the first j bytes of the part are written; the measure is what is left of it. Assumes nothing.
 use Rattle.linking.specs.Link.{writeAt}
-use Rattle.growth.proofs.Writes.{each-none, each-turn, each-done}
+use Rattle.linking.proofs.Writes.{each-none, each-turn, each-done}
 use lib.ListN.{length, take}
 use mathlib.Core.Path.{_≡_}
 use Prim.Native.Nat.{_+_, _-_, _≤_}

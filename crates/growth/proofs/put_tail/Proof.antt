@@ -1,98 +1,90 @@
-use Rattle.growth.proofs.GrowthLaws.{room-is, tail-parts, tail-is, length-short}
-use mathlib.Core.Path.{_∙_}
+-- The copied records, the new ones and the sections after are written one behind the other, and the text behind them. Assumes nothing.
+use Rattle.class_sheet.specs.ClassSheet.{memberWidth}
+use Rattle.linking.specs.Link.{writeAt}
+use Rattle.growth.specs.News.{news}
+use Rattle.growth.proofs.GrowthLaws.{room-is, frontOf, front-length, front-is, text-room, tail-is}
+use mathlib.Core.List.{List}
+use mathlib.Core.Path.{_≡_}
+use lib.ListN.{length}
+use Prim.Native.Nat.{ℕ, _+_, _*_, _-_}
 use native.Mathlib.Omega.{arith}
 use borrow.Author.Needs.{needs}
 use Rattle.growth.proofs.put_tail.Statement.{statement}
 use Rattle.growth.proofs.put_tail.Tie as tie
 
+-- what is measured before the first copy, and the entry
+abbrev measured : tie.After-copy-words2 → tie.After-text-at
+measured c =
+    let records : tie.After-put-records = c .before .before .before .before in
+    records .before .before .before .before .before .before .before
+
+abbrev start : tie.After-text-at → tie.Start
+start c =
+    let known : tie.After-shared-slice-known7 = c .before .before .before .before in
+    known .before .before .before .before .before .before .before .before
+
+-- the three parts before the text
+abbrev front : tie.Start → List ℕ
+front c =
+    let a = c .args in
+    frontOf (a .ws .now) (a .end) (a .from) (a .own)
+    (news (a .ws .now) (a .text .now) (a .abi .now) (a .labels .now) (a .refs .now) (a .flags .now) (a .lasts .now))
+
+-- how long they are, so where the text is put
+place : (c : tie.After-text-at)
+    → memberWidth * c .before .before .before .wide .result + memberWidth * c .before .wide2 .result + (c .text-at .result - start c .args .end)
+    ≡ length (front (start c))
+place c = search front-length
+
+-- they are written: the second copy's last value of `out`, its fourth argument
+written : (c : tie.After-copy-words2)
+    → c .copy-words2 .last .1 .1 .1 .0 ≡ writeAt (start (measured c) .args .out .now) 0 (front (start (measured c)))
+written c =
+    let records : tie.After-put-records = search in
+    let copied : tie.After-copy-words = search in
+    let from = measured c in
+    front-is _ _ _ _ _ _ _ _ (start from .pre .0) _ _ _ (start from .pre .1) (from .before .before .before .wide .ensures)
+    (from .before .wide2 .ensures) (from .before .before .new-count .ensures .0) (from .text-at .ensures .0)
+    (records .before .text-length .ensures) (copied .copy-words .ensures) (records .put-records .ensures) (c .copy-words2 .ensures)
+
+-- the new records fit behind the copied ones, and their names into the text
 put-records-requires : tie.Need-put-records-requires
 put-records-requires c κs =
-    let entry = c .before .before .before .before .before .before .before .before .before .before .before .before .before .before .before .before .before .before in
-    let a = entry .args in
-    let i = room-is (a .ws .now) (a .text .now) (a .abi .now) (a .labels .now) (a .refs .now) (a .end) (a .from) (a .own)
-    (entry .pre .0) in
-    let p = entry .pre .0 in
-    (omega arith, omega (arith, p .bytes))
+    let from : tie.After-text-at = search in
+    let room = start from .pre .0 in
+    (omega (arith, room-is _ _ _ _ _ _ _ _ room, room .most, start from .pre .1), omega (arith, room .bytes))
 
 put-text-requires : tie.Need-put-text-requires
 put-text-requires c κs =
-    let entry = c .before .before .before .before .before .before .before .before .before .before .before .before .before .before .before .before .before .before .before .before .before .before .before .before .before .before in
-    let a = entry .args in
-    let i = room-is (a .ws .now) (a .text .now) (a .abi .now) (a .labels .now) (a .refs .now) (a .end) (a .from) (a .own)
-    (entry .pre .0) in
-    let p = entry .pre .0 in
-    omega (arith, p .bytes)
+    let from : tie.After-text-at = search in
+    omega (arith, start from .pre .0 .bytes)
 
 add-put-packed : tie.Need-add-put-packed
 add-put-packed c =
-    let at-text-at = c .before .before .before .before .before .before .before .before .before .before .before .before .before .before .before .before .before .before .before .before in
-    let at-wide2 = at-text-at .before in
-    let at-new-count = at-wide2 .before in
-    let at-wide = at-new-count .before in
-    let entry = at-wide .before .before .before .before .before .before .before .before .before in
-    let a = entry .args in
-    let i = room-is (a .ws .now) (a .text .now) (a .abi .now) (a .labels .now) (a .refs .now) (a .end) (a .from) (a .own)
-    (entry .pre .0) in
-    let p = entry .pre .0 in
-    let e0 = at-text-at .text-at .ensures .0 in
-    let e1 = at-wide2 .wide2 .ensures in
-    let e2 = at-new-count .new-count .ensures .0 in
-    let e3 = at-wide .wide .ensures in
-    omega arith
+    let from : tie.After-text-at = search in
+    let room = start from .pre .0 in
+    omega (arith, room-is _ _ _ _ _ _ _ _ room, room .most, from .text-at .ensures .0)
 
+-- the text fits behind the three parts
 put-packed-requires : tie.Need-put-packed-requires
 put-packed-requires c κs =
-    let at-new-text-length = c .before .before .before in
-    let at-wide3 = at-new-text-length .before in
-    let at-text-length2 = at-wide3 .before in
-    let at-put-text = at-text-length2 .before .before in
-    let at-copy-words2 = at-put-text .before .before .before .before in
-    let at-put-records = at-copy-words2 .before .before .before .before in
-    let at-text-length = at-put-records .before in
-    let at-copy-words = at-text-length .before .before .before .before in
-    let at-text-at = at-copy-words .before .before in
-    let at-wide2 = at-text-at .before in
-    let at-new-count = at-wide2 .before in
-    let at-wide = at-new-count .before in
-    let entry = at-wide .before .before .before .before .before .before .before .before .before in
-    let a = entry .args in
-    let r = entry .pre .0 in
-    let e₁ = at-wide .wide .ensures in
-    let e₂ = at-wide2 .wide2 .ensures ∙ at-new-count .new-count .ensures .0 in
-    let e₃ = at-text-at .text-at .ensures .0 in
-    let i = room-is (a .ws .now) (a .text .now) (a .abi .now) (a .labels .now) (a .refs .now) (a .end) (a .from) (a .own) r in
-    let n = length-short (at-put-text .put-text .ensures) (at-wide3 .wide3 .ensures ∙ at-text-length2 .text-length2 .ensures)
-    (at-new-text-length .new-text-length .ensures .0) (c .part .ensures) in
-    let w = tail-parts (a .ws .now) (a .text .now) (a .abi .now) (a .labels .now) (a .refs .now) (a .end) (a .from) (a .own) r
-    (a .flags .now) (a .lasts .now) (a .out .now) (entry .pre .1) e₁ e₂ e₃ (at-text-length .text-length .ensures)
-    (at-copy-words .copy-words .ensures) (at-put-records .put-records .ensures) (at-copy-words2 .copy-words2 .ensures) in
-    (omega (arith, entry .pre .1, r .most, w .2), omega (arith, r .bytes))
+    let sections : tie.After-copy-words2 = search in
+    let bytes = c .before .before .before in
+    let entry = start (measured sections) in
+    text-room _ _ _ _ _ _ _ _ (entry .pre .0) _ _ _ _ (entry .pre .1) (written sections) (place (measured sections))
+    (bytes .before .wide3 .ensures) (bytes .before .before .text-length2 .ensures) (bytes .new-text-length .ensures .0)
+    (bytes .before .before .before .before .put-text .ensures) (c .part .ensures)
 
+-- and makes the tail whole
 returns : tie.Need-returns
 returns c =
-    let at-put-packed = c .before .before in
-    let at-part = at-put-packed .before in
-    let at-new-text-length = at-part .before .before .before in
-    let at-wide3 = at-new-text-length .before in
-    let at-text-length2 = at-wide3 .before in
-    let at-put-text = at-text-length2 .before .before in
-    let at-copy-words2 = at-put-text .before .before .before .before in
-    let at-put-records = at-copy-words2 .before .before .before .before in
-    let at-text-length = at-put-records .before in
-    let at-copy-words = at-text-length .before .before .before .before in
-    let at-text-at = at-copy-words .before .before in
-    let at-wide2 = at-text-at .before in
-    let at-new-count = at-wide2 .before in
-    let at-wide = at-new-count .before in
-    let entry = at-wide .before .before .before .before .before .before .before .before .before in
-    let a = entry .args in
-    tail-is (a .ws .now) (a .text .now) (a .abi .now) (a .labels .now) (a .refs .now) (a .end) (a .from) (a .own) (entry .pre .0)
-    (a .flags .now) (a .lasts .now) (a .out .now) _ (entry .pre .1) (at-wide .wide .ensures)
-    (at-wide2 .wide2 .ensures ∙ at-new-count .new-count .ensures .0) (at-text-at .text-at .ensures .0)
-    (at-text-length .text-length .ensures) (at-wide3 .wide3 .ensures ∙ at-text-length2 .text-length2 .ensures)
-    (at-new-text-length .new-text-length .ensures .0) (at-copy-words .copy-words .ensures) (at-put-records .put-records .ensures)
-    (at-copy-words2 .copy-words2 .ensures) (at-put-text .put-text .ensures) (at-part .part .ensures)
-    (at-put-packed .put-packed .ensures)
+    let sections : tie.After-copy-words2 = search in
+    let part : tie.After-part = search in
+    let bytes = part .before .before .before in
+    let entry = start (measured sections) in
+    tail-is _ _ _ _ _ _ _ _ (entry .pre .0) _ _ _ _ (entry .pre .1) (written sections) (place (measured sections))
+    (bytes .before .wide3 .ensures) (bytes .before .before .text-length2 .ensures) (bytes .new-text-length .ensures .0)
+    (bytes .before .before .before .before .put-text .ensures) (part .part .ensures) (c .before .before .put-packed .ensures)
 
 pub put-tail-spec : {M : Type 1} → statement M
 put-tail-spec =

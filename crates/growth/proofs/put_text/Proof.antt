@@ -1,3 +1,4 @@
+-- The text is unpacked to the front, and the new names are written after it. Assumes nothing.
 use Rattle.growth.proofs.GrowthLaws.{text-put}
 use borrow.Author.Needs.{needs}
 use Rattle.growth.proofs.put_text.Statement.{statement}

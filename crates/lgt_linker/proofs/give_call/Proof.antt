@@ -1,3 +1,4 @@
+-- By the answer's case, whatever the set and the area hold. Assumes nothing.
 use mathlib.Core.Path.{sym, ap}
 use Rattle.area.specs.declared.Answer.{Answer}
 use Rattle.area.specs.Area.{outcome}

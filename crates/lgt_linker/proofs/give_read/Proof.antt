@@ -1,3 +1,4 @@
+-- By the answer's case, whatever the words hold. Assumes nothing.
 use mathlib.Core.Path.{sym, ap}
 use Rattle.sheet.specs.declared.Read.{Read}
 use Rattle.sheet.specs.Sheet.{outcome}

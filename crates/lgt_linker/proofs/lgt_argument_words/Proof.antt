@@ -1,3 +1,4 @@
+-- By the answer's case. Assumes nothing.
 use mathlib.Core.Path.{sym, ap, _∙_}
 use Rattle.descriptor.specs.declared.DescriptorWords.{DescriptorWords}
 use Rattle.descriptor.specs.Words.{answer}

@@ -1,3 +1,4 @@
+-- The answer handed out is that of the call. Assumes nothing.
 use mathlib.Core.Path.{_∙_}
 use borrow.Author.Needs.{needs}
 use Rattle.lgt_linker.proofs.lgt_interface_dispatch_table.Statement.{statement}
@@ -10,10 +11,4 @@ returns c =
 
 pub lgt-interface-dispatch-table-spec : {M : Type 1} → statement M
 lgt-interface-dispatch-table-spec =
-    tie.close
-    (tie.spec
-    (λ c κs. search needs)
-    (λ c κs. search needs)
-    (λ c. search needs)
-    (λ c. search needs)
-    returns)
+    tie.close (tie.spec (λ c κs. search needs) (λ c κs. search needs) (λ c. search needs) returns)

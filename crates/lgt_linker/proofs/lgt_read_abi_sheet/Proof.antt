@@ -1,3 +1,4 @@
+-- The answer handed out is that of the reading. Assumes nothing.
 use mathlib.Core.Path.{_∙_}
 use borrow.Author.Needs.{needs}
 use Rattle.lgt_linker.proofs.lgt_read_abi_sheet.Statement.{statement}

@@ -1,8 +1,9 @@
+-- The class's own slot record, or the parent's: the class's number falls. Assumes nothing.
 use native.Mathlib.Omega.{arith}
 use native.Mathlib.Nat.{pos-of-ne-zero}
 use mathlib.Core.Path.{sym, _∙_}
 use denote.Ref.{now}
-use Rattle.chain.proofs.ChainLaws.{parent-below}
+use Rattle.linking.proofs.ChainLaws.{parent-below}
 use Rattle.lines.proofs.NameLaws.{slot-none, slot-hit, slot-up}
 use borrow.Author.Needs.{needs}
 use Prim.Native.Nat.{ℕ, _<_}

@@ -1,3 +1,4 @@
+-- The digits before the last one, and then that: the number falls. Assumes nothing.
 use native.Mathlib.Omega.{arith}
 use Rattle.lines.proofs.ByteLaws.{put-digit, put-digits}
 use borrow.Author.Needs.{needs}

@@ -1,3 +1,4 @@
+-- The pieces in order are the line. Assumes nothing.
 use Rattle.lines.proofs.LineLaws.{class-refused-put}
 use borrow.Author.Needs.{needs}
 use Rattle.lines.proofs.class_refused.Statement.{statement}

@@ -1,3 +1,4 @@
+-- The line of the name and the descriptor that were looked up. Assumes nothing.
 use mathlib.Core.Path.{_∙_}
 use borrow.Author.Needs.{needs}
 use Rattle.lines.proofs.list_slot.Statement.{statement}

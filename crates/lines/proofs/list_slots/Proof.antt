@@ -1,12 +1,12 @@
+-- What is left to put, from the place on, ends where all lines do: the invariant. The measure is how many slots are left. Assumes nothing.
 use native.Mathlib.Omega.{arith}
 use Prim.Native.Nat.{_-_, _≤_}
 use mathlib.Core.Path.{_≡_, _∙_, sym}
 use lib.ListN.{length}
-use denote.Ref.{now}
-use Rattle.vtable.specs.Arrays.{entriesOf}
+use Rattle.reading.specs.Arrays.{entriesOf}
 use Rattle.lines.specs.Bytes.{put}
 use Rattle.lines.specs.Lines.{slotTexts}
-use Rattle.lines.proofs.SlotLaws.{slotsFrom, slots-start, slots-turn, slots-end}
+use Rattle.lines.proofs.SlotLaws.{slotsFrom, slots-start, slots-turned, slots-end}
 use borrow.Author.Needs.{needs}
 use Rattle.lines.proofs.list_slots.Statement.{statement}
 use Rattle.lines.proofs.list_slots.Tie as tie
@@ -27,16 +27,15 @@ loop-less c = omega arith
 
 loop-again : tie.Need-loop-again Inv-loop μ-loop
 loop-again c =
-    let at-word-at2 : tie.After-word-at2 Inv-loop μ-loop = search in
-    let at-wide : tie.After-wide Inv-loop μ-loop = search in
-    let start = at-wide .before .before .before .before .before .before .before .before .before .before in
-    let a = start .args in (
+    let turn : tie.At-loop Inv-loop μ-loop = search in
+    let test : tie.In-loop Inv-loop μ-loop = search in
+    let word : tie.After-word-at Inv-loop μ-loop = search in
+    let mark : tie.After-word-at2 Inv-loop μ-loop = search in
+    let put : tie.After-list-slot Inv-loop μ-loop = search in (
       omega arith,
       omega arith,
-      at-wide .before .before .loop .inv .2
-          ∙ slots-turn _ _ _ _ _ (now (a .ts)) (now (a .ms)) _ _ _ (at-wide .before .loop-test .taken) (at-wide .wide .ensures)
-          (at-word-at2 .before .before .word-at .ensures)
-          (at-word-at2 .before .wide2 .ensures) (at-word-at2 .word-at2 .ensures) (c .before .before .list-slot .ensures),
+      slots-turned _ _ _ _ _ _ _ _ _ _ (turn .loop .inv .2) (test .loop-test .taken) (word .before .wide .ensures) (word .word-at .ensures)
+          (mark .before .wide2 .ensures) (mark .word-at2 .ensures) (put .list-slot .ensures),
     )
 
 same-length : tie.Need-same-length Inv-loop μ-loop

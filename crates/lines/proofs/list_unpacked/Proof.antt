@@ -1,3 +1,4 @@
+-- The texts handed on are the sheets'. Assumes nothing.
 use denote.Ref.{now}
 use mathlib.Core.Path.{refl}
 use Rattle.set_rules.proofs.Laws.{text-handed}
@@ -8,17 +9,16 @@ use Rattle.lines.proofs.list_unpacked.Tie as tie
 
 returns : tie.Need-returns
 returns c =
-    let at-name-at2 : tie.After-name-at2 = search in
-    let at-name-at : tie.After-name-at = search in
-    let at-unpack-text2 : tie.After-unpack-text2 = search in
-    let at-unpack-text : tie.After-unpack-text = search in
-    let e = c .before .before .before .before .before .before .before .before .before .before .before .before .before .before .before .before .before .before .before .before in
-    let a = e .args in
+    let labels : tie.After-name-at2 = search in
+    let text : tie.After-name-at = search in
+    let abi-bytes : tie.After-unpack-text2 = search in
+    let bytes : tie.After-unpack-text = search in
+    let start : tie.Start = bytes .before .before .before .before .before .before in
+    let a = start .args in
     lines-unpacked (now (a .ws)) (now (a .abi)) (now (a .area)) _ _
-    (text-handed _ _ _ (e .pre .0) refl (at-unpack-text .unpack-text .ensures) (at-name-at .before .text-length .ensures)
-    (at-name-at .name-at .ensures))
-    (text-handed _ _ _ (e .pre .1) refl (at-unpack-text2 .unpack-text2 .ensures) (at-name-at2 .before .text-length2 .ensures)
-    (at-name-at2 .name-at2 .ensures))
+    (text-handed _ _ _ (start .pre .0) refl (bytes .unpack-text .ensures) (text .before .text-length .ensures) (text .name-at .ensures))
+    (text-handed _ _ _ (start .pre .1) refl (abi-bytes .unpack-text2 .ensures) (labels .before .text-length2 .ensures)
+    (labels .name-at2 .ensures))
     (c .before .before .list-with .ensures)
 
 pub list-unpacked-spec : {M : Type 1} → statement M

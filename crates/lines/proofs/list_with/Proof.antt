@@ -1,3 +1,4 @@
+-- The class's line, and then those of the table that is read. Assumes nothing.
 use Rattle.lines.proofs.SlotLaws.{lines-put}
 use borrow.Author.Needs.{needs}
 use Rattle.lines.proofs.list_with.Statement.{statement}

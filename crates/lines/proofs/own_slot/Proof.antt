@@ -1,3 +1,4 @@
+-- By whether the class has an ABI entry. Assumes nothing.
 use Rattle.lines.proofs.NameLaws.{own-none, own-slot}
 use borrow.Author.Needs.{needs}
 use Rattle.lines.proofs.own_slot.Statement.{statement}

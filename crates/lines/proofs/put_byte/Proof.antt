@@ -1,3 +1,4 @@
+-- By whether there is room. Assumes nothing.
 use Rattle.lines.proofs.ByteLaws.{byte-put, byte-full}
 use borrow.Author.Needs.{needs}
 use Rattle.lines.proofs.put_byte.Statement.{statement}

@@ -1,3 +1,4 @@
+-- What is left to put, from the place on, ends where all of it does: the invariant. The measure is how many bytes are left. Assumes nothing.
 use native.Mathlib.Omega.{arith}
 use Prim.Native.Nat.{_-_, _≤_}
 use mathlib.Core.Path.{_≡_, _∙_, sym}

@@ -1,3 +1,4 @@
+-- The word, and then the number. Assumes nothing.
 use Rattle.lines.proofs.ByteLaws.{then}
 use borrow.Author.Needs.{needs}
 use Rattle.lines.proofs.put_numbered.Statement.{statement}

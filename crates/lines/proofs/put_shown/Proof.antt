@@ -1,3 +1,4 @@
+-- A dash, or the part. Assumes nothing.
 use Rattle.lines.proofs.LineLaws.{shown-dash, shown-part}
 use borrow.Author.Needs.{needs}
 use Rattle.lines.proofs.put_shown.Statement.{statement}

@@ -1,3 +1,4 @@
+-- The pieces in order are the line. Assumes nothing.
 use Rattle.lines.proofs.LineLaws.{sheet-refused-put}
 use borrow.Author.Needs.{needs}
 use Rattle.lines.proofs.sheet_refused.Statement.{statement}

@@ -1,3 +1,4 @@
+-- By the mark, and else by the fixed slot. Assumes nothing.
 use Rattle.lines.proofs.NameLaws.{descriptor-known, descriptor-fixed, descriptor-none}
 use borrow.Author.Needs.{needs}
 use Rattle.lines.proofs.slot_descriptor.Statement.{statement}
@@ -16,13 +17,15 @@ pub slot-descriptor-spec : {M : Type 1} → statement M
 slot-descriptor-spec =
     tie.close
     (tie.spec
+    (λ c κs. search needs)
+    (λ c. search needs)
+    (λ c κs. search needs)
+    (λ c. search needs)
+    (λ c κs. search needs)
+    (λ c. search needs)
+    (λ c κs. search needs)
     (λ c. search needs)
     (λ c κs. search needs)
     returns
-    (λ c κs. search needs)
-    (λ c. search needs)
-    (λ c κs. search needs)
-    (λ c. search needs)
-    (λ c κs. search needs)
     returns-2
     returns-3)

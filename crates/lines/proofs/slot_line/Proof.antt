@@ -1,3 +1,4 @@
+-- The pieces in order are the line. Assumes nothing.
 use denote.Ref.{now}
 use Rattle.lines.proofs.LineLaws.{slot-line-put}
 use borrow.Author.Needs.{needs}

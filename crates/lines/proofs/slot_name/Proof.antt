@@ -1,3 +1,4 @@
+-- By the mark, and else by the fixed slot. Assumes nothing.
 use Rattle.lines.proofs.NameLaws.{name-known, name-fixed, name-none}
 use borrow.Author.Needs.{needs}
 use Rattle.lines.proofs.slot_name.Statement.{statement}
@@ -16,13 +17,15 @@ pub slot-name-spec : {M : Type 1} → statement M
 slot-name-spec =
     tie.close
     (tie.spec
+    (λ c κs. search needs)
+    (λ c. search needs)
+    (λ c κs. search needs)
+    (λ c. search needs)
+    (λ c κs. search needs)
+    (λ c. search needs)
+    (λ c κs. search needs)
     (λ c. search needs)
     (λ c κs. search needs)
     returns
-    (λ c κs. search needs)
-    (λ c. search needs)
-    (λ c κs. search needs)
-    (λ c. search needs)
-    (λ c κs. search needs)
     returns-2
     returns-3)

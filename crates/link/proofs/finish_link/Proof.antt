@@ -1,3 +1,4 @@
+-- Rows 14 and 15 by the new members' names alone; else what is stored and written. Assumes nothing.
 use Rattle.link.proofs.FinishLaws.{finish-full, finish-short, finish-done}
 use borrow.Author.Needs.{needs}
 use Rattle.link.proofs.finish_link.Statement.{statement}

@@ -1,3 +1,4 @@
+-- Row 3 bounds the texts, so both are unpacked whole; the rest is `link_fitting`'s. Assumes nothing.
 use mathlib.Core.Path.{refl, sym, _∙_}
 use borrow.Author.Tests.{not-false}
 use Rattle.set_rules.proofs.Laws.{text-handed, set-text, set-abi-text}

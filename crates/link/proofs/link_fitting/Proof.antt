@@ -1,3 +1,4 @@
+-- Rows 4 and 5 refuse, or the rest is `link_read`'s. Assumes nothing.
 use Rattle.link.proofs.PlannedLaws.{link-records, link-texts}
 use borrow.Author.Needs.{needs}
 use Rattle.link.proofs.link_fitting.Statement.{statement}

@@ -1,3 +1,4 @@
+-- Rows 6 and 7 refuse, or the rest is `link_planned`'s. Assumes nothing.
 use Rattle.link.proofs.PlannedLaws.{link-6, link-7, link-accepted}
 use borrow.Author.Needs.{needs}
 use Rattle.link.proofs.link_read.Statement.{statement}

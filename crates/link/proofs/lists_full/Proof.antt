@@ -1,3 +1,4 @@
+-- A built class grows by fields, every other one by methods. Assumes nothing.
 use Rattle.link.proofs.StoreLaws.{news-empty, news-some, full-none, full-fields, full-methods}
 use borrow.Author.Needs.{needs}
 use Rattle.link.proofs.lists_full.Statement.{statement}

@@ -1,3 +1,4 @@
+-- Two stores, and a third one unless the class is generated. Assumes nothing.
 use Rattle.link.proofs.StoreLaws.{record-worded, record-generated}
 use borrow.Author.Needs.{needs}
 use Rattle.link.proofs.record_link.Statement.{statement}

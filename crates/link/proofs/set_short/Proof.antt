@@ -1,3 +1,4 @@
+-- A built class grows by fields, every other one by methods. Assumes nothing.
 use Rattle.link.proofs.StoreLaws.{news-empty, news-some, short-none, short-fields, short-methods}
 use borrow.Author.Needs.{needs}
 use Rattle.link.proofs.set_short.Statement.{statement}

@@ -1,3 +1,4 @@
+-- The record, then the indices where the fields stand. Assumes nothing.
 use Rattle.link.proofs.StoreLaws.{indices-stored}
 use borrow.Author.Needs.{needs}
 use Rattle.link.proofs.store_indices.Statement.{statement}

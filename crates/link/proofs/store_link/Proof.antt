@@ -1,3 +1,4 @@
+-- A built class with new fields grows them; every other one its methods, if there are new ones. Assumes nothing.
 use mathlib.Core.Path.{_∙_}
 use borrow.Author.Tests.{eqb-true, not-true}
 use Rattle.words.proofs.Bools.{and-both}

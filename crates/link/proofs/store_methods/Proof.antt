@@ -1,3 +1,4 @@
+-- Nothing is added where nothing is new. Assumes nothing.
 use Rattle.link.proofs.StoreLaws.{methods-none, methods-some}
 use borrow.Author.Needs.{needs}
 use Rattle.link.proofs.store_methods.Statement.{statement}

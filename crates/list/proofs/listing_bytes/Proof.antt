@@ -1,3 +1,4 @@
+-- The array's length is its type's. Assumes nothing.
 use mathlib.Core.Path.{sym}
 use Prim.Native.Nat.{ℕ}
 use lib.ListN.{length-replicate}

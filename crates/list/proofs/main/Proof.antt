@@ -1,3 +1,4 @@
+-- No invariant is asked for. The measure is how many arguments are left. Assumes nothing.
 use Prim.Native.Nat.{_-_}
 use borrow.Author.Needs.{needs}
 use Rattle.list.proofs.main.Statement.{statement}

@@ -1,3 +1,4 @@
+-- By the row of the reading. Assumes nothing.
 use Rattle.listing.proofs.ListingLaws.{read-row, abi-good, abi-bad}
 use borrow.Author.Needs.{needs}
 use Rattle.listing.proofs.abi_line.Statement.{statement}

@@ -1,3 +1,4 @@
+-- A store to the first word of 4,096 zeros. Assumes nothing.
 use Rattle.listing.specs.Listing.{freshArea}
 use mathlib.Core.Path.{refl}
 use borrow.Author.Needs.{needs}

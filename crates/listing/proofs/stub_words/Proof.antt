@@ -1,3 +1,4 @@
+-- The first i words are stored: the invariant. The measure is how many are left. Assumes nothing.
 use Rattle.listing.proofs.ListingLaws.{stubs-are, stubs-turn}
 use native.Mathlib.Omega.{arith}
 use Prim.Native.Nat.{_+_, _-_, _≤_}

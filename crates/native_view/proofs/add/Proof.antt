@@ -1,3 +1,4 @@
+-- Target 0 and the view's own word add nothing; any other target adds the method that its source names, if there is one. Assumes nothing.
 use native.Mathlib.Omega.{arith}
 use Rattle.native_view.proofs.AddLaws.{add-skip, add-at, add-none}
 use borrow.Author.Needs.{needs}

@@ -1,3 +1,4 @@
+-- A declared method is not added; any other one goes behind the last. Assumes nothing.
 use native.Mathlib.Omega.{arith}
 use denote.Ref.{now}
 use Rattle.growth.specs.News.{firstNews}

@@ -1,3 +1,4 @@
+-- The slot of the class's ABI entry, if it has one. Assumes nothing.
 use mathlib.Core.Path.{_∙_}
 use Rattle.native_view.proofs.FoundLaws.{then-at, then-nothing}
 use borrow.Author.Needs.{needs}

@@ -1,3 +1,4 @@
+-- The word of the compiler section, counted from the class's first. Assumes nothing.
 use Rattle.class_sheet.specs.ClassSheet.{compilerWord}
 use borrow.Author.Needs.{needs}
 use Rattle.native_view.proofs.compiler_target.Statement.{statement}

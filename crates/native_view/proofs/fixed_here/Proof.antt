@@ -1,3 +1,4 @@
+-- By cases of the fixed index. Assumes nothing.
 use Rattle.native_view.proofs.FoundLaws.{on-at, on-nothing}
 use borrow.Author.Needs.{needs}
 use Rattle.native_view.proofs.fixed_here.Statement.{statement}

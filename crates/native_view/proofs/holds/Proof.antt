@@ -1,3 +1,4 @@
+-- The method's number lies inside the class's list. Assumes nothing.
 use Rattle.linking.specs.Compiler.{holds}
 use borrow.Author.Needs.{needs}
 use Rattle.native_view.proofs.holds.Statement.{statement}

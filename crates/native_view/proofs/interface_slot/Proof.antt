@@ -1,9 +1,10 @@
+-- A search: no interface before the k-th has a slot there, and what is found from there on is what is found at all. Assumes nothing.
 use native.Mathlib.Omega.{arith}
 use mathlib.Core.Path.{_≡_, _∙_}
 use Prim.Native.Nat.{_-_, _≤_}
 use Rattle.words.proofs.ListLaws.{foundFrom, found-start, found-hit, found-miss, found-end}
 use Rattle.words.specs.Lists.{firstFound}
-use Rattle.class_sheet.specs.ClassSheet.{classFirstInterface, classInterfaceCount}
+use Rattle.class_sheet.specs.ClassSheet.{classFirstInterface, classInterfaceCount, interfaceLimit}
 use Rattle.linking.specs.Chain.{listCount, ownInterfaces}
 use Rattle.native_view.specs.Native.{interfaceSlot}
 use Rattle.native_view.proofs.AddLaws.{interface-is, interface-end}
@@ -13,7 +14,7 @@ use Rattle.native_view.proofs.interface_slot.Tie as tie
 
 abbrev Inv-loop : tie.InvT-loop
 Inv-loop ws text abi labels i c first n k₀ k =
-    (k ≤ n) × (n ≡ listCount (classFirstInterface ws c) (classInterfaceCount ws c) 256) × (first ≡ classFirstInterface ws c)
+    (k ≤ n) × (n ≡ listCount (classFirstInterface ws c) (classInterfaceCount ws c) interfaceLimit) × (first ≡ classFirstInterface ws c)
     × (foundFrom (interfaceSlot ws text abi labels i) (ownInterfaces ws c) k ≡ firstFound (interfaceSlot ws text abi labels i)
     (ownInterfaces ws c))
 

@@ -1,3 +1,4 @@
+-- One of the class's methods has the signature where one is found. Assumes nothing.
 use Rattle.linking.specs.Chain.{ownMethod}
 use mathlib.Core.Bool.{true, false}
 use mathlib.Core.Path.{sym, _∙_}

@@ -1,7 +1,8 @@
+-- The parent's slots are read, and the view and the added methods made from them; each array keeps its length. Assumes nothing.
 use native.Mathlib.Omega.{arith}
 use denote.Ref.{now}
 use mathlib.Core.Path.{_∙_}
-use Rattle.native_view.proofs.ViewLaws.{methods-are}
+use Rattle.native_view.proofs.ViewLaws.{marks-are}
 use borrow.Author.Needs.{needs}
 use Rattle.native_view.proofs.native_view.Statement.{statement}
 use Rattle.native_view.proofs.native_view.Tie as tie
@@ -29,23 +30,26 @@ returns c =
     let v = c .view-parent .ensures in (
       v .0,
       (
-        λ new. methods-are (now (a .ws)) (now (a .text)) (now (a .abi)) (now (a .labels)) (now (a .area)) (a .c) _ _ _ (p .0) new,
+        marks-are (now (a .ws)) (now (a .text)) (now (a .abi)) (now (a .labels)) (now (a .area)) (a .c) _ _ _ (p .0),
         (
           v .1 .0,
           (
             (p .1 .0, v .1 .1),
             (
-              c .view-parent .kept .1 .1 .1 .1 .1 .1 .1 .1 .1 .0
-                  ∙ at-view-parent-arg5 .before .before .view-parent-arg3 .given .0 .1,
-              c .view-parent .kept .1 .1 .1 .1 .1 .1 .1 .1 .1 .1 .0
-                  ∙ at-view-parent-arg5 .before .view-parent-arg4 .given .0 .1,
-              p .1 .1 .1,
-              c .view-parent .kept .1 .1 .1 .1 .1 .1 .1 .1 .1 .1 .1 .0
-                  ∙ at-view-parent-arg5 .view-parent-arg5 .given .0 .1,
-              c .view-parent .kept .1 .1 .1 .1 .1 .1 .1 .1 .1 .1 .1 .1 .0
-                  ∙ c .before .before .view-parent-arg6 .given .0 .1,
-              c .view-parent .kept .1 .1 .1 .1 .1 .1 .1 .1 .1 .1 .1 .1 .1 .0
-                  ∙ c .before .view-parent-arg7 .given .0 .1,
+              (
+                c .view-parent .kept .1 .1 .1 .1 .1 .1 .1 .1 .1 .0
+                    ∙ at-view-parent-arg5 .before .before .view-parent-arg3 .given .0 .1,
+                c .view-parent .kept .1 .1 .1 .1 .1 .1 .1 .1 .1 .1 .0
+                    ∙ at-view-parent-arg5 .before .view-parent-arg4 .given .0 .1,
+                p .1 .1 .0 .1,
+                c .view-parent .kept .1 .1 .1 .1 .1 .1 .1 .1 .1 .1 .1 .0
+                    ∙ at-view-parent-arg5 .view-parent-arg5 .given .0 .1,
+                c .view-parent .kept .1 .1 .1 .1 .1 .1 .1 .1 .1 .1 .1 .1 .0
+                    ∙ c .before .before .view-parent-arg6 .given .0 .1,
+                c .view-parent .kept .1 .1 .1 .1 .1 .1 .1 .1 .1 .1 .1 .1 .1 .0
+                    ∙ c .before .view-parent-arg7 .given .0 .1,
+              ),
+              p .1 .1 .1 .1,
             ),
           ),
         ),

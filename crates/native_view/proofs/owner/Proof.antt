@@ -1,3 +1,4 @@
+-- A search: no class before the i-th holds the method, and what is found from there on is what is found at all. Assumes nothing.
 use native.Mathlib.Omega.{arith}
 use mathlib.Core.Path.{_≡_, _∙_}
 use Prim.Native.Nat.{_-_, _≤_}

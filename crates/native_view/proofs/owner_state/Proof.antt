@@ -1,3 +1,4 @@
+-- The state of the class that was found, 0 if none was. Assumes nothing.
 use denote.Ref.{now}
 use Rattle.class_sheet.specs.ClassSheet.{classLinkState}
 use mathlib.Core.Path.{_∙_}

@@ -1,3 +1,4 @@
+-- Three stores behind the last member make one member more. Assumes nothing.
 use Rattle.native_view.proofs.AddLaws.{pushed}
 use borrow.Author.Needs.{needs}
 use Rattle.native_view.proofs.push.Statement.{statement}

@@ -1,3 +1,4 @@
+-- By cases: a slot's flags are 1, a method's are its own without 0x0400. Assumes nothing.
 use Rattle.native_view.proofs.AddLaws.{flags-slot, flags-abstract, flags-same}
 use borrow.Author.Needs.{needs}
 use Rattle.native_view.proofs.ref_flags.Statement.{statement}

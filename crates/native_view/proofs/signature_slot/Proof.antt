@@ -1,3 +1,4 @@
+-- The class's own entry first, then its interfaces'. Assumes nothing.
 use Rattle.native_view.proofs.AddLaws.{source-own, source-next}
 use borrow.Author.Needs.{needs}
 use Rattle.native_view.proofs.signature_slot.Statement.{statement}

@@ -1,3 +1,4 @@
+-- The view's method first, then an ABI slot; a slot's number leaves room for 512 more. Assumes nothing.
 use mathlib.Core.Path.{sym, _∙_}
 use denote.Ref.{now}
 use native.Mathlib.Omega.{arith}
@@ -9,8 +10,8 @@ use Rattle.native_view.proofs.source_ref.Tie as tie
 returns : tie.Need-returns
 returns c = search ref-method
 
-add-t13 : tie.Need-add-t13
-add-t13 c =
+add-t14 : tie.Need-add-t14
+add-t14 c =
     let at-signature-slot : tie.After-signature-slot = search in
     let start : tie.Start = search in
     let a = start .args in
@@ -30,11 +31,13 @@ pub source-ref-spec : {M : Type 1} → statement M
 source-ref-spec =
     tie.close
     (tie.spec
-    (λ c. search needs)
-    returns
     (λ c κs. search needs)
     (λ c. search needs)
-    add-t13
     (λ c. search needs)
+    (λ c κs. search needs)
+    (λ c. search needs)
+    add-t14
+    (λ c. search needs)
+    returns
     returns-2
     returns-3)

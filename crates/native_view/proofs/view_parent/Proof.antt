@@ -1,36 +1,35 @@
-use denote.Ref.{now}
+-- The view by the ABI classes of the parent's chain has marks of sheet methods only, so the targets may add by it. Assumes nothing.
 use Rattle.native_view.proofs.ViewLaws.{native-is, native-small, abis-are}
 use Rattle.native_view.proofs.AddLaws.{added-are}
 use borrow.Author.Needs.{needs}
 use Rattle.native_view.proofs.view_parent.Statement.{statement}
 use Rattle.native_view.proofs.view_parent.Tie as tie
 
+-- the function's entry, from the chain's ABI classes on: before the slices that it fills and those that it reads
+abbrev read : tie.After-chain-abi → tie.After-shared-slice-known7
+read c = c .before .before .before .before .before .before .before .before
+
+abbrev start : tie.After-chain-abi → tie.Start
+start c = read c .before .before .before .before .before .before .before
+
 add-methods-requires : tie.Need-add-methods-requires
 add-methods-requires c κs =
-    let at-view-entries : tie.After-view-entries = search in
-    let start = at-view-entries .before .before .before .before .before .before .before .before .before .before .before .before .before .before .before .before .before .before .before .before .before in
-    let a = start .args in (
-      native-small (now (a .ws)) (now (a .text)) (now (a .abi)) (now (a .labels)) (now (a .area)) (a .c) _ _ _ (start .pre .0) _ _ _
-          (at-view-entries .view-entries .ensures),
-      start .pre .3,
-      start .pre .4,
-      start .pre .5,
-    )
+    let viewed : tie.After-view-entries = search in
+    let chained : tie.After-chain-abi = search in
+    let p = start chained .pre in (native-small _ _ _ _ _ _ _ _ _ (p .0) _ _ _ (viewed .view-entries .ensures), p .3, p .4, p .5)
 
 returns : tie.Need-returns
 returns c =
-    let at-add-methods : tie.After-add-methods = search in
-    let at-view-entries : tie.After-view-entries = search in
-    let at-word-part = at-view-entries .before .before .before in
-    let at-chain-abi = at-word-part .before .before .before in
-    let start = at-chain-abi .before .before .before .before .before .before .before .before .before .before .before .before .before .before .before in
-    let a = start .args in
-    let part = abis-are (at-chain-abi .chain-abi .last .1 .1 .1 .1 .1 .0) _ _ (at-chain-abi .chain-abi .ensures .0)
-    (at-word-part .before .wide .ensures) (at-word-part .word-part .ensures) in
-    let v = native-is (now (a .ws)) (now (a .text)) (now (a .abi)) (now (a .labels)) (now (a .area)) (a .c) _ _ _ (start .pre .0) _ _ _
-    (at-chain-abi .before .before .parent-of .ensures) part (at-view-entries .view-entries .ensures) in
-    let m = at-add-methods .add-methods .ensures in
-    (v, (added-are (now (a .ws)) (now (a .text)) (now (a .abi)) (now (a .labels)) (a .c) _ _ _ (now (a .area)) _ v (m .0), m .1))
+    let added : tie.After-add-methods = search in
+    let viewed : tie.After-view-entries = search in
+    let part : tie.After-word-part = search in
+    let chained : tie.After-chain-abi = search in
+    let m = added .add-methods .ensures in
+    let k = chained .chain-abi in
+    let abis = abis-are (k .last .1 .1 .1 .1 .1 .0) _ _ (k .ensures .0) (part .before .wide .ensures) (part .word-part .ensures) in
+    let v = native-is _ _ _ _ _ _ _ _ _ (start chained .pre .0) _ _ _ (chained .before .before .parent-of .ensures) abis
+    (viewed .view-entries .ensures) in
+    (v, (added-are _ _ _ _ _ _ _ _ _ _ v (m .0), m .1))
 
 pub view-parent-spec : {M : Type 1} → statement M
 view-parent-spec =

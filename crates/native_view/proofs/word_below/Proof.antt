@@ -1,3 +1,4 @@
+-- By cases: an element of the first n, or 0. Assumes nothing.
 use Rattle.native_view.proofs.ViewLaws.{below-in, below-out}
 use borrow.Author.Needs.{needs}
 use Rattle.native_view.proofs.word_below.Statement.{statement}

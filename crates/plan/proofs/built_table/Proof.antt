@@ -1,15 +1,30 @@
-use Rattle.plan.proofs.KindLaws.{table-interface, table-class}
+-- An interface's table is its eligible methods, another class's what `build_methods` makes. Assumes nothing.
+use Rattle.vtable.specs.declared.Step.the-variants.{Next}
+use Rattle.plan.proofs.KindLaws.{interface-table, class-table, added-is}
 use borrow.Author.Needs.{needs}
 use Rattle.plan.proofs.built_table.Statement.{statement}
 use Rattle.plan.proofs.built_table.Tie as tie
 
 returns : tie.Need-returns
-returns c = (search table-interface, c .build-interface-methods .ensures .1 .1 .0)
+returns c =
+    let filled : tie.After-build-interface-methods = search in
+    let test : tie.Then1 = search in
+    let e = filled .build-interface-methods .ensures in
+    let s = Next (filled .build-interface-methods .result) in (
+      interface-table _ _ _ _ _ _ (test .before .class-flags .ensures) _ _ _ (test .if1 .taken) (e .0) (c .step-table .ensures),
+      (added-is s _ (c .step-table .ensures), e .1 .1 .0),
+    )
 
 returns-2 : tie.Need-returns-2
-returns-2 c = (search table-class, c .build-methods .ensures .1 .1 .0)
+returns-2 c =
+    let filled : tie.After-build-methods = search in
+    let test : tie.Else1 = search in
+    let e = filled .build-methods .ensures in
+    let s = filled .build-methods .result in
+    let ms = filled .build-methods .last .1 .1 .1 .1 .1 .1 .1 .0 in (
+      class-table _ _ _ _ _ _ (test .before .class-flags .ensures) s _ ms (test .if1 .left) (e .0) (c .step-table2 .ensures),
+      (added-is s _ (c .step-table2 .ensures), e .1 .1 .0),
+    )
 
 pub built-table-spec : {M : Type 1} → statement M
-built-table-spec =
-    tie.close
-    (search (tie.spec, returns, returns-2, needs))
+built-table-spec = tie.close (search (tie.spec, returns, returns-2, needs))

@@ -1,3 +1,4 @@
+-- Three stores from a place on are the answer's three words laid over from there on. Assumes nothing.
 use Rattle.replay.proofs.ReplayLaws.{done-stored, refused-stored}
 use borrow.Author.Needs.{needs}
 use Rattle.replay.proofs.put_answer.Statement.{statement}

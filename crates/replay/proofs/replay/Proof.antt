@@ -1,3 +1,5 @@
+-- Invariant: the calls that are left, made from the state so far on, leave and answer what all of them do; the measure is their number.
+-- Assumes nothing.
 use lib.ListN.{length}
 use mathlib.Core.Path.{_≡_, refl, _∙_}
 use Prim.Native.Nat.{_-_, _/_, _≤_}
@@ -23,19 +25,14 @@ loop-holds c = (omega arith, refl, search run-start, search answers-start, refl,
 
 loop-again : tie.Need-loop-again Inv-loop μ-loop
 loop-again c =
-    let at-one-call : tie.After-one-call Inv-loop μ-loop = search in
-    let at-loop : tie.At-loop Inv-loop μ-loop = search in
-    let start = at-loop .before .before .before .before .before .before .before in
-    let l = at-loop .loop in
-    let a = start .args in
-    let w = at-one-call .before .word-part .ensures in
-    let o = at-one-call .one-call in (
+    let called : tie.After-one-call Inv-loop μ-loop = search in
+    let turn : tie.At-loop Inv-loop μ-loop = search in
+    let w = called .before .word-part .ensures in
+    let o = called .one-call in (
       omega arith,
       omega arith,
-      run-turn (a .abi .now) (a .calls .now) (a .stubs .now) (l .i) (omega arith) w (o .result) (l .set) (l .area) _ _ (o .ensures)
-          ∙ l .inv .2,
-      answers-turn (a .abi .now) (a .calls .now) (a .stubs .now) (l .i) (omega arith) w (o .result) (l .set) (l .area) _ _ (o .ensures)
-          (l .answers) (c .before .before .put-answer .ensures) ∙ l .inv .3,
+      run-turn _ _ _ _ (omega arith) w (o .result) _ _ _ _ (o .ensures) ∙ turn .loop .inv .2,
+      answers-turn _ _ _ _ (omega arith) w (o .result) _ _ _ _ (o .ensures) _ (c .before .before .put-answer .ensures) ∙ turn .loop .inv .3,
       search needs,
       search needs,
       search needs,

@@ -1,3 +1,4 @@
+-- Slots and fields are member records of their sections, and each descriptor is read as the definition reads it. Assumes nothing.
 use Rattle.set_rules.proofs.KnownLaws.{abi-typed}
 use borrow.Author.Needs.{needs}
 use Rattle.set_rules.proofs.abi_descriptors_ok.Statement.{statement}

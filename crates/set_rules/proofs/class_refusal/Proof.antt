@@ -1,3 +1,4 @@
+-- Row 4 first, then row 5, as the definition goes down the table. Assumes nothing.
 use Rattle.set_rules.specs.SetRules.{classRefusal}
 use borrow.Author.Needs.{needs}
 use Rattle.set_rules.proofs.class_refusal.Statement.{statement}

@@ -1,3 +1,4 @@
+-- One case for each of the two grammars. Assumes nothing.
 use Rattle.set_rules.proofs.KnownLaws.{of-method, of-field}
 use borrow.Author.Needs.{needs}
 use Rattle.set_rules.proofs.is_descriptor.Statement.{statement}

@@ -1,3 +1,4 @@
+-- The byte at the start is one more than the length, as in the definition. Assumes nothing.
 use Rattle.set_rules.specs.Known.{isKnown}
 use borrow.Author.Needs.{needs}
 use Rattle.set_rules.proofs.is_known.Statement.{statement}

@@ -1,3 +1,5 @@
+-- What is known is a descriptor; else it is read, and known from then on where it is one and short enough: what is known stays true.
+-- Assumes nothing.
 use Rattle.set_rules.proofs.KnownLaws.{known-typed, known-more}
 use borrow.Author.Needs.{needs}
 use Rattle.set_rules.proofs.part_typed.Statement.{statement}

@@ -1,3 +1,4 @@
+-- Row 4 of both sheets first, then row 5 of both, as the definition goes down the table. Assumes nothing.
 use Rattle.set_rules.specs.SetRules.{recordsRefusal}
 use borrow.Author.Needs.{needs}
 use Rattle.set_rules.proofs.records_refusal.Statement.{statement}

@@ -1,3 +1,5 @@
+-- The invariant: each of the first i records has a descriptor, `at` is record i's place, and what is known is true; i goes up to n.
+-- Assumes nothing.
 use native.Mathlib.Omega.{arith}
 use borrow.Author.Tests.{not-true, not-false}
 use mathlib.Core.Path.{_≡_, refl}
@@ -8,20 +10,21 @@ use Rattle.words.specs.Folds.{allOf}
 use Rattle.words.proofs.FoldLaws.{all-none, all-turn, all-stop, all-done}
 use Rattle.set_rules.proofs.KnownLaws.{known-none, record-typed, past-typed, next-record}
 use Rattle.set_rules.specs.Known.{Known, recordTyped}
+use Rattle.class_sheet.specs.ClassSheet.{memberWidth, textLimit}
 use borrow.Author.Needs.{needs}
 use Rattle.set_rules.proofs.records_typed.Statement.{statement}
 use Rattle.set_rules.proofs.records_typed.Tie as tie
 
 abbrev Inv-loop : tie.InvT-loop
 Inv-loop method ws first width n text known₀ at₀ i₀ known at i =
-    (i ≤ n) × (allOf i (recordTyped method ws first width text) ≡ true) × Known method text known × (length known ≡ 8192)
-    × (at ≡ first + width * i) × (at ≤ first + 6 * i)
+    (i ≤ n) × (allOf i (recordTyped method ws first width text) ≡ true) × Known method text known × (length known ≡ textLimit)
+    × (at ≡ first + width * i) × (at ≤ first + memberWidth * i)
 
 abbrev μ-loop : tie.MeasureT-loop
 μ-loop method ws first width n text known₀ at₀ i₀ known at i = n - i
 
 loop-holds : tie.Need-loop-holds Inv-loop μ-loop
-loop-holds c = (omega arith, all-none _, known-none 8192 _ _, omega arith, omega arith, omega arith)
+loop-holds c = (omega arith, all-none _, known-none textLimit _ _, omega arith, omega arith, omega arith)
 
 returns : tie.Need-returns Inv-loop μ-loop
 returns c =

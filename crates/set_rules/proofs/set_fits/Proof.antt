@@ -1,3 +1,4 @@
+-- Both sheets fit, as in the definition. Assumes nothing.
 use Rattle.set_rules.specs.SetRules.{setFits}
 use borrow.Author.Needs.{needs}
 use Rattle.set_rules.proofs.set_fits.Statement.{statement}

@@ -1,3 +1,4 @@
+-- Row 3 refuses first; where it does not, both texts fit their buffers, so rows 4 and 5 see the whole texts. Assumes nothing.
 use mathlib.Core.Path.{refl}
 use Rattle.set_rules.proofs.Laws.{set-3, set-text, set-abi-text, set-rest, text-handed}
 use borrow.Author.Needs.{needs}

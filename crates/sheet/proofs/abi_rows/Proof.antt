@@ -1,3 +1,4 @@
+-- Row 3 refuses first; where it does not, the text fits its buffer, so rows 4 and 5 see the whole text. Assumes nothing.
 use borrow.Author.Tests.{not-false}
 use mathlib.Core.Path.{refl, sym, _∙_}
 use Rattle.abi_rules.proofs.Laws.{formed}

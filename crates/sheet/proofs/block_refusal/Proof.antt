@@ -1,3 +1,4 @@
+-- Row 1 first, then row 2: each answer has its law. Assumes nothing.
 use Rattle.sheet.proofs.Laws.{block-1, block-2, block-0}
 use borrow.Author.Needs.{needs}
 use Rattle.sheet.proofs.block_refusal.Statement.{statement}

@@ -1,3 +1,4 @@
+-- Rows 1 and 2 refuse first; where they do not, the blocks' words fit the buffer, so rows 3 to 5 see all of them. Assumes nothing.
 use Rattle.sheet.specs.Sheet.{classSheetRefusal}
 use native.Mathlib.Omega.{arith}
 use Rattle.sheet.proofs.Laws.{sheet-early, sheet-rest}

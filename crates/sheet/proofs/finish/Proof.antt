@@ -1,3 +1,4 @@
+-- A refused sheet writes no block, an accepted one all of them: each answer has its law. Assumes nothing.
 use Rattle.sheet.proofs.Laws.{finish-refused, finish-read}
 use borrow.Author.Needs.{needs}
 use Rattle.sheet.proofs.finish.Statement.{statement}

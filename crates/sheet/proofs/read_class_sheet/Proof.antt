@@ -1,3 +1,4 @@
+-- The refusal is row by row the definition's, and `finish` writes what it says. Assumes nothing.
 use native.Mathlib.Omega.{arith}
 use Rattle.sheet.specs.Sheet.{readClassSheet, classSheetRefusal}
 use Rattle.sheet.proofs.Laws.{read-is}

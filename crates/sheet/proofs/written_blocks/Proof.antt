@@ -1,3 +1,4 @@
+-- None where a row refuses, else all. Assumes nothing.
 use Rattle.sheet.proofs.Laws.{written-none, written-all}
 use borrow.Author.Needs.{needs}
 use Rattle.sheet.proofs.written_blocks.Statement.{statement}

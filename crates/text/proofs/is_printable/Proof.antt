@@ -1,3 +1,5 @@
+-- The invariant: the text is printable if and only if all bytes so far are and those from i on are; i goes up to the length. Assumes
+-- nothing.
 use native.Mathlib.Omega.{arith}
 use Prim.Native.Nat.{_-_, _≤_}
 use mathlib.Core.Path.{_≡_, sym, _∙_}

@@ -1,3 +1,5 @@
+-- The name and the descriptor are judged first, then the number; the record's place, a product of two words, fits 64 bits. Assumes
+-- nothing.
 use native.Mathlib.Omega.{arith}
 use Rattle.text.proofs.Laws.{product, member-stop, member-on}
 use borrow.Author.Needs.{needs}

@@ -1,3 +1,4 @@
+-- The part is as many bytes from the start as are there, and so is the definition's. Assumes nothing.
 use Rattle.text.proofs.Laws.{name-is}
 use borrow.Author.Needs.{needs}
 use Rattle.text.proofs.name_at.Statement.{statement}

@@ -1,3 +1,4 @@
+-- One case for each test: empty, too long, outside the text, told printable, and looked at. Assumes nothing.
 use native.Mathlib.Omega.{arith}
 use Rattle.text.proofs.Laws.{part-empty, part-long, part-outside, part-told, part-seen}
 use borrow.Author.Needs.{needs}

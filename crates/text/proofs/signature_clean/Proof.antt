@@ -1,3 +1,5 @@
+-- Where the fourth word is not there the descriptor is empty, and refused; else the name's part decides, and then the descriptor's.
+-- Assumes nothing.
 use native.Mathlib.Omega.{arith}
 use Rattle.text.proofs.Laws.{signature-cut, signature-stop, signature-on}
 use borrow.Author.Needs.{needs}

@@ -1,3 +1,4 @@
+-- The invariant: bytes `start` to i are stored and no others; i goes up to `end`. Assumes nothing.
 use native.Mathlib.Omega.{arith}
 use Prim.Native.Nat.{_-_, _≤_}
 use mathlib.Core.Path.{_≡_}

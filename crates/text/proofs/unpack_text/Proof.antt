@@ -1,3 +1,5 @@
+-- Whole words are stored first and then the bytes that are left: together the first n bytes, where there is room for them. Assumes
+-- nothing.
 use native.Mathlib.Omega.{arith}
 use Rattle.text.proofs.Laws.{text-is, text-none}
 use borrow.Author.Needs.{needs}

@@ -1,3 +1,4 @@
+-- The invariant: the first 4 * w bytes are stored; w goes up to the number of words, and each word is four stores. Assumes nothing.
 use lib.ListN.{length-set}
 use native.Mathlib.Omega.{arith}
 use Prim.Native.Nat.{_*_, _-_, _≤_}

@@ -1,3 +1,4 @@
+-- The invariant: bytes `start` to b are 0; b goes up to the end of the words. Assumes nothing.
 use native.Mathlib.Omega.{arith}
 use lib.ListN.{length}
 use Prim.Native.Nat.{_*_, _-_, _≤_}

@@ -1,3 +1,5 @@
+-- A method that is not eligible is left out; any other one goes to its fixed slot, or to the slot of its signature, or behind the last
+-- one. Assumes nothing.
 use mathlib.Core.Path.{_∙_}
 use native.Mathlib.Omega.{arith}
 use borrow.Author.Tests.{not-true, not-false}

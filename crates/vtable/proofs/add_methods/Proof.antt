@@ -1,9 +1,12 @@
+-- The methods left, added to the table so far, make what all of them make of the first table; the methods left grow fewer. Assumes
+-- nothing.
+use Rattle.class_sheet.specs.ClassSheet.{methodLimit}
 use Rattle.vtable.proofs.AddLaws.{adds-start, adds-turn, adds-moved, adds-taken, adds-end, count-next}
 use native.Mathlib.Omega.{arith}
 use lib.ListN.{length}
 use Prim.Native.Nat.{_+_, _-_, _≤_}
 use mathlib.Core.Path.{_≡_, _∙_}
-use Rattle.vtable.specs.Arrays.{entriesOf}
+use Rattle.reading.specs.Arrays.{entriesOf}
 use Rattle.linking.specs.Vtable.{addMethods}
 use Rattle.linking.specs.Chain.{ownMethods}
 use Rattle.words.proofs.ListLaws.{restFrom}
@@ -14,7 +17,7 @@ use Rattle.vtable.proofs.add_methods.Tie as tie
 
 abbrev Inv-loop : tie.InvT-loop
 Inv-loop ws text abi labels abis c ts₀ ms₀ n first count k₀ i₀ ts ms k i =
-    (i ≤ count) × (k ≤ n + i) × (count ≤ 512 - first) × ((n ≤ 2048) × (3584 ≤ length ts₀) × (3584 ≤ length ms₀)) × (length ts ≡ length ts₀)
+    (i ≤ count) × (k ≤ n + i) × (count ≤ methodLimit - first) × ((n ≤ 2048) × (3584 ≤ length ts₀) × (3584 ≤ length ms₀)) × (length ts ≡ length ts₀)
     × (length ms ≡ length ms₀) × (addMethods ws text abi labels abis (restFrom (λ x. x) first count i)
     (entriesOf ts ms k) ≡ addMethods ws text abi labels abis (ownMethods ws c) (entriesOf ts₀ ms₀ n))
 

@@ -1,3 +1,4 @@
+-- The eligible methods, in their order. Assumes nothing.
 use borrow.Author.Needs.{needs}
 use Rattle.vtable.proofs.build_interface_methods.Statement.{statement}
 use Rattle.vtable.proofs.build_interface_methods.Tie as tie

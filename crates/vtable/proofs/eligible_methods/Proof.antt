@@ -1,9 +1,11 @@
+-- The table so far, followed by the entries of the methods left, is that of all; the methods left grow fewer. Assumes nothing.
 use native.Mathlib.Omega.{arith}
 use lib.ListN.{length}
 use Prim.Native.Nat.{_+_, _-_, _≤_}
 use mathlib.Core.List.{[], _++_}
 use mathlib.Core.Path.{_≡_, _∙_}
-use Rattle.vtable.specs.Arrays.{entriesOf}
+use Rattle.class_sheet.specs.ClassSheet.{methodLimit}
+use Rattle.reading.specs.Arrays.{entriesOf}
 use Rattle.linking.specs.Vtable.{methodEntries, buildInterfaceMethods}
 use Rattle.linking.specs.Chain.{eligible}
 use Rattle.words.specs.Lists.{keep}
@@ -16,7 +18,7 @@ use Rattle.vtable.proofs.eligible_methods.Tie as tie
 
 abbrev Inv-loop : tie.InvT-loop
 Inv-loop ws text c ts₀ ms₀ first count n₀ i₀ ts ms n i =
-    (i ≤ count) × (n ≤ i) × (count ≤ 512 - first) × ((512 ≤ length ts₀) × (512 ≤ length ms₀)) × (length ts ≡ length ts₀)
+    (i ≤ count) × (n ≤ i) × (count ≤ methodLimit - first) × ((methodLimit ≤ length ts₀) × (methodLimit ≤ length ms₀)) × (length ts ≡ length ts₀)
     × (length ms ≡ length ms₀) × (entriesOf ts ms n ++ methodEntries ws text [] []
     (keep (eligible ws text) (restFrom (λ x. x) first count i)) ≡ buildInterfaceMethods ws text [] [] c)
 

@@ -1,12 +1,13 @@
+-- The table so far is the first one with empty slots behind it; the slots missing grow fewer. Assumes nothing.
 use denote.Ref.{now}
-use Rattle.vtable.proofs.ArrayLaws.{extend-start, extend-turn, extend-end}
+use Rattle.vtable.proofs.BuildLaws.{extend-start, extend-turn, extend-end}
 use native.Mathlib.Omega.{arith}
 use lib.ListN.{length, replicate}
 use mathlib.Core.Path.{_≡_}
 use mathlib.Core.List.{_++_}
 use Prim.Native.Nat.{_+_, _-_, _≤_, max}
 use Rattle.linking.specs.Vtable.{empty}
-use Rattle.vtable.specs.Arrays.{entriesOf}
+use Rattle.reading.specs.Arrays.{entriesOf}
 use borrow.Author.Needs.{needs}
 use Rattle.vtable.proofs.extend.Statement.{statement}
 use Rattle.vtable.proofs.extend.Tie as tie
@@ -24,8 +25,7 @@ loop-holds c = (omega arith, omega arith, omega arith, omega arith, omega arith,
 
 loop-again : tie.Need-loop-again Inv-loop μ-loop
 loop-again c =
-    let at-wide2 : tie.After-wide2 Inv-loop μ-loop = search in
-    let at-put-word : tie.After-put-word Inv-loop μ-loop = search in
+    let at-clear-slot : tie.After-clear-slot Inv-loop μ-loop = search in
     let at-loop : tie.At-loop Inv-loop μ-loop = search in
     let start : tie.Start Inv-loop μ-loop = search in
     let l = at-loop .loop in
@@ -36,9 +36,7 @@ loop-again c =
       omega arith,
       omega arith,
       extend-turn (entriesOf (now (a .ts)) (now (a .ms)) (a .n)) (a .n) (l .j) (l .ts) (l .ms) _ _ (l .inv .0) (omega arith) (omega arith)
-          (l .inv .5)
-          (at-put-word .put-word .ensures) (at-put-word .before .wide .ensures) (c .before .before .put-word2 .ensures)
-          (at-wide2 .wide2 .ensures),
+          (l .inv .5) (at-clear-slot .clear-slot .ensures .0) (at-clear-slot .clear-slot .ensures .1),
     )
 
 returns : tie.Need-returns Inv-loop μ-loop
@@ -51,9 +49,6 @@ extend-spec =
     Inv-loop
     μ-loop
     loop-holds
-    (λ c κs. search needs)
-    (λ c κs. search needs)
-    (λ c κs. search needs)
     (λ c κs. search needs)
     (λ c. search needs)
     (λ c. search needs)

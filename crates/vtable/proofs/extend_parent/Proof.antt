@@ -1,3 +1,4 @@
+-- The parent's entries, and empty ones up to the minimum size. Assumes nothing.
 use native.Mathlib.Omega.{arith}
 use denote.Ref.{now}
 use Rattle.vtable.proofs.BuildLaws.{extended-is}
@@ -8,13 +9,14 @@ use Rattle.vtable.proofs.extend_parent.Tie as tie
 
 extend-requires : tie.Need-extend-requires
 extend-requires c κs =
-    let start = c .before .before .before .before .before .before .before .before .before .before .before .before .before .before .before .before .before .before in
+    let start : tie.Start = search in
     let a = start .args in
     let m = minimum-size-room (now (a .abi)) (now (a .abis)) in
-    let e = c .largest-size .ensures in (omega arith, omega arith, omega arith, omega arith)
+    let size : tie.After-largest-size = search in
+    let e = size .largest-size .ensures in (omega arith, omega arith, search needs, search needs)
 
 returns : tie.Need-returns
-returns c = (search extended-is, omega arith)
+returns c = (search extended-is, (omega arith, (search needs, search needs)))
 
 pub extend-parent-spec : {M : Type 1} → statement M
 extend-parent-spec =
@@ -23,6 +25,4 @@ extend-parent-spec =
     (λ c κs. search needs)
     (λ c κs. search needs)
     extend-requires
-    (λ c. search needs)
-    (λ c. search needs)
     returns)

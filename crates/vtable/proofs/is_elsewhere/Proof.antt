@@ -1,3 +1,4 @@
+-- By cases of what was found. Assumes nothing.
 use borrow.Author.Needs.{needs}
 use Rattle.vtable.proofs.is_elsewhere.Statement.{statement}
 use Rattle.vtable.proofs.is_elsewhere.Tie as tie

@@ -1,3 +1,4 @@
+-- Row 11 first, then row 12; else the method is stored at its fixed index. Assumes nothing.
 use native.Mathlib.Omega.{arith}
 use denote.Ref.{now}
 use mathlib.Core.Path.{_∙_}
@@ -17,6 +18,8 @@ returns-2 c = (search put-taken, omega arith)
 returns-3 : tie.Need-returns-3
 returns-3 c =
     let at-put-slot : tie.After-put-slot = search in
+    let at-mark-of : tie.After-mark-of = search in
+    let target : tie.After-method-target = search in
     let at-if2 : tie.Else2 = search in
     let at-is-elsewhere : tie.After-is-elsewhere = search in
     let start = at-is-elsewhere .before .before .before .before .before in
@@ -25,7 +28,7 @@ returns-3 c =
       put-there _ _ _ _ _ _ _ (at-is-elsewhere .is-elsewhere .ensures) _ _ _ (at-if2 .before .if1 .left)
           (at-if2 .before .before .holds-other .ensures) (at-if2 .if2 .left)
           (rw (s .0, s .1) (put-any (now (a .ts)) (now (a .ms)) _ _ _ _ (omega arith) (omega arith)
-          ∙ rw (mark-entry (now (a .ws)) (now (a .text)) [] [] (a .m) (at-put-slot .before .method-target .ensures)))),
+          ∙ rw (mark-entry (now (a .ws)) (now (a .text)) [] [] (a .m) (omega arith) (target .method-target .ensures) (at-mark-of .mark-of .ensures)))),
       omega arith,
     )
 
@@ -40,7 +43,7 @@ put-fixed-spec =
     (λ c. search needs)
     returns-2
     (λ c κs. search needs)
-    (λ c. search needs)
+    (λ c κs. search needs)
     (λ c κs. search needs)
     (λ c. search needs)
     (λ c. search needs)

@@ -4,7 +4,7 @@ use native.Mathlib.Omega.{arith}
 use lib.ListN.{length}
 use Prim.Native.Nat.{_+_, _-_, _≤_}
 use mathlib.Core.Path.{_≡_}
-use Rattle.vtable.specs.Arrays.{entryAt, entriesOf}
+use Rattle.reading.specs.Arrays.{entryAt, entriesOf}
 use Rattle.linking.specs.Vtable.{relayStep}
 use Rattle.words.specs.Lists.{fold}
 use Rattle.words.proofs.ListLaws.{foldFrom}

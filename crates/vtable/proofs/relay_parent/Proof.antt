@@ -1,3 +1,4 @@
+-- The minimum size in empty slots, and then each of the parent's entries relayed. Assumes nothing.
 use native.Mathlib.Omega.{arith}
 use denote.Ref.{now}
 use Rattle.vtable.proofs.BuildLaws.{relayed-is}
@@ -20,8 +21,6 @@ pub relay-parent-spec : {M : Type 1} → statement M
 relay-parent-spec =
     tie.close
     (tie.spec
-    (λ c. search needs)
-    (λ c. search needs)
     (λ c κs. search needs)
     (λ c κs. search needs)
     extend-requires

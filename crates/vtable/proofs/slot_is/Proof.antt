@@ -1,3 +1,4 @@
+-- The slot's mark is asked. Assumes nothing.
 use borrow.Author.Needs.{needs}
 use Rattle.vtable.proofs.slot_is.Statement.{statement}
 use Rattle.vtable.proofs.slot_is.Tie as tie

@@ -1,3 +1,4 @@
+-- The four cases of k % 4, each with its power of 256. Assumes nothing.
 use mathlib.Core.Path.{refl}
 use Rattle.words.proofs.Laws.{byte-0, byte-at}
 use native.Mathlib.Omega.{arith}

@@ -1,3 +1,4 @@
+-- The sum of two words does not wrap as a usize, and the test is the definition. Assumes nothing.
 use Rattle.words.specs.Words.{inside}
 use borrow.Author.Needs.{needs}
 use Rattle.words.proofs.is_inside.Statement.{statement}

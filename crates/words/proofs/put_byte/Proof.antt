@@ -1,3 +1,4 @@
+-- A store past the end changes nothing. Assumes nothing.
 use Rattle.words.proofs.Laws.{set-past}
 use borrow.Author.Needs.{needs}
 use Rattle.words.proofs.put_byte.Statement.{statement}

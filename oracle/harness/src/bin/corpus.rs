@@ -1,5 +1,5 @@
-//! `corpus SEED N FILE` writes a corpus; `corpus spoiled SEED FILE` one that no linker replays;
-//! `corpus replay FILE` replays one on the model.
+//! `corpus SEED N FILE` writes a corpus; `corpus telling FILE` that of the telling rows; `corpus
+//! spoiled SEED FILE` one that no linker replays; `corpus replay FILE` replays one on the model.
 
 use std::fs;
 use std::process::ExitCode;
@@ -12,6 +12,7 @@ fn main() -> ExitCode {
     let arguments: Vec<&str> = arguments.iter().map(String::as_str).collect();
     let result = match arguments.as_slice() {
         ["replay", file] => replay(file),
+        ["telling", file] => corpus::telling().and_then(|made| write(0, made, file)).map(|(message, _)| message),
         ["spoiled", seed, file] => match seed.parse() {
             Ok(seed) => write(seed, corpus::spoiled(seed), file).map(|(message, _)| message),
             _ => Err("SEED is a number".to_owned()),
@@ -23,7 +24,7 @@ fn main() -> ExitCode {
             },
             _ => Err("SEED and N are numbers".to_owned()),
         },
-        _ => Err("usage: corpus SEED N FILE, corpus spoiled SEED FILE, or corpus replay FILE".to_owned()),
+        _ => Err("usage: corpus SEED N FILE, corpus telling FILE, corpus spoiled SEED FILE, or corpus replay FILE".to_owned()),
     };
     match result {
         Ok(message) => {

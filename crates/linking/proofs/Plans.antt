@@ -1,0 +1,283 @@
+-- What a link comes to before anything is written: how many indices it gives, when it adds methods, which table it makes, and that a refusal has
+-- a number. Assumes nothing.
+use mathlib.Core.Path.{_≡_, refl, sym, ap, _∙_}
+use mathlib.Core.Logic.{_≢_, _⊎_, inl, inr}
+use mathlib.Core.Bool.{false, cond, not, true≢false}
+use mathlib.Core.List.{List, [], _∷_}
+use Prim.Native.Nat.{ℕ, suc, _+_, _≤_}
+use native.Mathlib.Omega.{arith}
+use lib.ListN.{length, getD, length-append}
+use lib.Dec.{eqb, ltb}
+use borrow.Author.Tests.{eqb-true, eqb-false}
+use Rattle.words.specs.Lists.{andThen, fold}
+use Rattle.words.specs.declared.Found.{Found}
+use Rattle.words.specs.declared.Found.the-variants.{At, Nothing}
+use Rattle.words.proofs.Bools.{by}
+use Rattle.words.proofs.ListLaws.{by-found}
+use Rattle.class_sheet.specs.ClassSheet.{classKind, classFlags, classFieldCount, classCompilerTable, fieldFlags, fieldName, fieldDescriptor, methodName, methodDescriptor}
+use Rattle.linking.proofs.ChainLaws.{own-fields-length}
+use Rattle.linking.specs.Chain.{onFound, ownMethods, ownFields, parentOf, isStatic, isInterface, eligible}
+use Rattle.linking.specs.Abi.{classAbi, chainAbi, fixedField}
+use Rattle.linking.specs.Vtable.{Entry, empty, Built, built, refused, onBuilt, parentEntries, inheritedTable, buildMethods, entryIsOther, fixedOf, slotOf, putMethod, addMethod, addMethods}
+use Rattle.linking.specs.Fields.{Numbering, numberField, numberFields, addedFields, tooManyWords, generatedRefusal, indicesPlus, generatedIndices, generatedBase, standFrom, ownGiven, runtimeWords, instanceWords}
+use Rattle.linking.specs.Link.{Plan, planned, unplanned, isNone, onTable, withinSlots, builtTable, planBuilt, generatedTable, planGenerated, planArray, plan, newFieldsOf, generatedMethods}
+use Rattle.linking.specs.Set.{newText}
+use Rattle.linking.proofs.Names.{Bytes, no-bytes, field-bytes, method-bytes}
+
+-- ---- how many indices
+
+module _ (ws text abi labels : List ℕ) (own : Found) where
+  number-one : (n : Numbering) (f : ℕ) → length (numberField ws text abi labels own n f .indices) ≡ length (n .indices) + 1
+  unfolding numberField
+  number-one n f =
+      by (isStatic (fieldFlags ws f)) (λ t. rw t (length-append (n .indices) _))
+      (λ q.
+      rw q
+      (by-found (andThen own (fixedField abi labels (fieldName ws text f) (fieldDescriptor ws text f)))
+      (λ g e. rw e (length-append (n .indices) _))
+      (λ e.
+      rw e
+      (by (eqb (ownGiven ws text abi labels own) 0) (λ t. rw t (length-append (n .indices) _)) (λ t. rw t (length-append (n .indices) _))))))
+
+  number-all : (fs : List ℕ) (n : Numbering) → length (fold (numberField ws text abi labels own) n fs .indices) ≡ length (n .indices) + length fs
+  unfolding fold
+  number-all [] n = omega arith
+  number-all (f ∷ fs) n = omega (arith, number-all fs (numberField ws text abi labels own n f), number-one n f)
+
+  number-fields : (c : ℕ) → length (numberFields ws text abi labels own c .indices) ≤ classFieldCount ws c
+  unfolding numberFields
+  number-fields c =
+      omega (
+        arith,
+        own-fields-length ws c,
+        number-all (ownFields ws c) (record {
+          indices = [];
+          statics = 0;
+          runtime = runtimeWords ws text (parentOf ws c);
+          running = cond (eqb (parentOf ws c) 0) 0 (instanceWords ws text (parentOf ws c));
+        }),
+      )
+
+plus-length : (ws text : List ℕ) (b : ℕ) (fs : List ℕ) → length (indicesPlus ws text b fs) ≡ length fs
+unfolding indicesPlus
+plus-length ws text b [] = refl
+plus-length ws text b (f ∷ fs) = ap suc (plus-length ws text b fs)
+
+generated-length : (ws text : List ℕ) (c : ℕ) → length (generatedIndices ws text c) ≤ classFieldCount ws c
+unfolding generatedIndices
+generated-length ws text c =
+    omega (
+      arith,
+      own-fields-length ws c,
+      plus-length ws text (cond (standFrom ws text (generatedBase ws text c) (ownFields ws c)) 0 (generatedBase ws text c)) (ownFields ws c),
+    )
+
+-- ---- a table is built or refused
+
+pub built-same : {T U : List Entry} → built T ≡ built U → T ≡ U
+built-same e = cc
+
+pub not-built : {X : Type 0} {n : ℕ} {T : List Entry} → refused n ≡ built T → X
+not-built e = absurd (omega (arith, zero-one e))
+  where
+    zero-one : {n : ℕ} {T : List Entry} → refused n ≡ built T → _≡_ {A = ℕ} 0 1
+    zero-one e = cc
+
+-- ---- a refused table has the number of its row
+
+refused-same : {m n : ℕ} → refused m ≡ refused n → m ≡ n
+refused-same e = cc
+
+refused-some : {m n : ℕ} → m ≢ 0 → refused m ≡ refused n → n ≢ 0
+refused-some h e z = h (refused-same e ∙ z)
+
+on-refused : (b : Built) (f : List Entry → Built) (n : ℕ) → onBuilt b f ≡ refused n
+    → (b ≡ refused n) ⊎ ((U : List Entry) × (f U ≡ refused n))
+on-refused (built U) f n e = inr (U, e)
+on-refused (refused m) f n e = inl e
+
+module _ (ws text abi labels : List ℕ) where
+  put-refused : (fixed slot : Found) (m : ℕ) (T : List Entry) (n : ℕ) → putMethod ws text abi labels fixed slot m T ≡ refused n → n ≢ 0
+  unfolding putMethod
+  put-refused (At i) slot m T n e =
+      by (onFound slot (λ j. not (eqb j i)) false) (λ t. refused-some {m = 11} (omega arith) (rw t at e))
+      (λ t.
+      let r = rw t at e in
+      by (entryIsOther ws text abi labels (methodName ws text m) (methodDescriptor ws text m) (getD T i empty))
+      (λ u. refused-some {m = 12} (omega arith) (rw u at r))
+      (λ u. not-built (sym (rw u at r))))
+  put-refused Nothing (At j) m T n e = not-built (sym e)
+  put-refused Nothing Nothing m T n e = not-built (sym e)
+
+  add-refused : (abis : List ℕ) (m : ℕ) (T : List Entry) (n : ℕ) → addMethod ws text abi labels abis m T ≡ refused n → n ≢ 0
+  unfolding addMethod
+  add-refused abis m T n e =
+      by (eligible ws text m)
+      (λ t.
+      put-refused (fixedOf ws text abi labels abis m) (slotOf ws text abi labels (methodName ws text m) (methodDescriptor ws text m) T) m T n (rw t at e))
+      (λ t. not-built (sym (rw t at e)))
+
+  adds-refused : (abis ms : List ℕ) (T : List Entry) (n : ℕ) → addMethods ws text abi labels abis ms T ≡ refused n → n ≢ 0
+  unfolding addMethods
+  adds-refused abis [] T n e = not-built (sym e)
+  adds-refused abis (m ∷ ms) T n e =
+      elim (on-refused (addMethod ws text abi labels abis m T) (addMethods ws text abi labels abis ms) n e)
+      [ inl r ↦ add-refused abis m T n r | inr r ↦ adds-refused abis ms (r .0) n (r .1) ]
+
+  module _ (area : List ℕ) (c : ℕ) where
+    build-refused : (n : ℕ) → buildMethods ws text abi labels area c ≡ refused n → n ≢ 0
+    unfolding buildMethods
+    build-refused n e = adds-refused (chainAbi ws text abi labels c) (ownMethods ws c) (inheritedTable ws text abi labels area c) n e
+
+    built-refused : (n : ℕ) → builtTable ws text abi labels area c ≡ refused n → n ≢ 0
+    unfolding builtTable
+    built-refused n e = by (isInterface (classFlags ws c)) (λ t. not-built (sym (rw t at e))) (λ t. build-refused n (rw t at e))
+
+    generated-refused : (n : ℕ) → generatedTable ws text abi labels area c ≡ refused n → n ≢ 0
+    unfolding generatedTable
+    generated-refused n e = by (eqb (classCompilerTable ws c) 0) (λ t. build-refused n (rw t at e)) (λ t. not-built (sym (rw t at e)))
+
+-- ---- plans
+
+unplanned-same : {m n : ℕ} → unplanned m ≡ unplanned n → m ≡ n
+unplanned-same e = cc
+
+pub planned-same : {p q : Plan} → planned p ≡ planned q → p ≡ q
+planned-same e = cc
+
+pub not-planned : {X : Type 0} {n : ℕ} {p : Plan} → unplanned n ≡ planned p → X
+not-planned e = absurd (omega (arith, zero-one e))
+  where
+    zero-one : {n : ℕ} {p : Plan} → unplanned n ≡ planned p → _≡_ {A = ℕ} 0 1
+    zero-one e = cc
+
+unplanned-some : {m n : ℕ} → m ≢ 0 → unplanned m ≡ unplanned n → n ≢ 0
+unplanned-some h e z = h (unplanned-same e ∙ z)
+
+within-planned : (q p : Plan) → withinSlots q ≡ planned p → q ≡ p
+unfolding withinSlots
+within-planned q p e = by (ltb 1024 (length (q .table))) (λ t. not-planned (rw t at e)) (λ t. planned-same (rw t at e))
+
+within-unplanned : (q : Plan) (n : ℕ) → withinSlots q ≡ unplanned n → n ≢ 0
+unfolding withinSlots
+within-unplanned q n e =
+    by (ltb 1024 (length (q .table))) (λ t. unplanned-some {m = 13} (omega arith) (rw t at e)) (λ t. not-planned (sym (rw t at e)))
+
+table-planned : (b : Built) (f : List Entry → Plan) (p : Plan) → onTable b (λ T. withinSlots (f T)) ≡ planned p
+    → (T : List Entry) × (b ≡ built T) × (f T ≡ p)
+table-planned (built T) f p e = (T, refl, within-planned (f T) p e)
+table-planned (refused n) f p e = not-planned e
+
+table-unplanned : (b : Built) (f : List Entry → Plan) (n : ℕ) → ((k : ℕ) → b ≡ refused k → k ≢ 0) → onTable b (λ T. withinSlots (f T)) ≡ unplanned n
+    → n ≢ 0
+table-unplanned (built T) f n h e = within-unplanned (f T) n e
+table-unplanned (refused m) f n h e = unplanned-some (h m refl) e
+
+module _ (ws text abi labels area : List ℕ) (c : ℕ) where
+  -- what a plan of class c has
+  pub record Plans (p : Plan) : Type 0 where
+    pub indices : length (p .indices) ≤ classFieldCount ws c
+    pub generated : isNone (p .newMethods) ≡ false → classKind ws c ≡ 1
+    pub method-bytes : Bytes text → Bytes labels → Bytes (newText (p .newMethods))
+    pub field-bytes : Bytes text → Bytes labels → Bytes (newText (p .newFields))
+    pub built : classKind ws c ≡ 0 → isInterface (classFlags ws c) ≡ false → buildMethods ws text abi labels area c ≡ built (p .table)
+    pub array : classKind ws c ≡ 2 → parentEntries ws text abi labels area c ≡ p .table
+
+  abbrev builtPlan : List Entry → Plan
+  builtPlan T =
+      record {
+        table = T;
+        indices = numberFields ws text abi labels (classAbi ws text abi labels c) c .indices;
+        newMethods = [];
+        newFields = newFieldsOf ws text abi labels area (addedFields ws text abi labels (classAbi ws text abi labels c) c);
+      }
+
+  abbrev generatedPlan : List Entry → Plan
+  generatedPlan T =
+      record { table = T; indices = generatedIndices ws text c; newMethods = generatedMethods ws text abi labels area c; newFields = [] }
+
+  plain-table : isInterface (classFlags ws c) ≡ false → (T : List Entry) → builtTable ws text abi labels area c ≡ built T
+      → buildMethods ws text abi labels area c ≡ built T
+  unfolding builtTable
+  plain-table f T e = rw f at e
+
+  plans-built : classKind ws c ≡ 0 → (p : Plan) → planBuilt ws text abi labels area c ≡ planned p → Plans p
+  unfolding planBuilt
+  plans-built kind p e =
+      by (tooManyWords ws text abi labels (classAbi ws text abi labels c) c) (λ t. not-planned (rw t at e))
+      (λ t.
+      let r = table-planned (builtTable ws text abi labels area c) builtPlan p (rw t at e) in
+      rw (← r .2)
+      (record {
+        indices = number-fields ws text abi labels (classAbi ws text abi labels c) c;
+        generated = λ n. absurd (true≢false n);
+        method-bytes = λ t l. no-bytes;
+        field-bytes = λ t l. field-bytes ws text abi labels t l area (addedFields ws text abi labels (classAbi ws text abi labels c) c);
+        built = λ k f. plain-table f (r .0) (r .1);
+        array = λ k. absurd (omega arith);
+      }))
+
+  plans-generated : classKind ws c ≡ 1 → (p : Plan) → planGenerated ws text abi labels area c ≡ planned p → Plans p
+  unfolding planGenerated
+  plans-generated kind p e =
+      by (eqb (generatedRefusal ws text c) 0)
+      (λ t.
+      let r = table-planned (generatedTable ws text abi labels area c) generatedPlan p (rw t at e) in
+      rw (← r .2)
+      (record {
+        indices = generated-length ws text c;
+        generated = λ n. kind;
+        method-bytes = λ t l. method-bytes ws text abi labels t l area c;
+        field-bytes = λ t l. no-bytes;
+        built = λ k f. absurd (omega arith);
+        array = λ k. absurd (omega arith);
+      }))
+      (λ t. not-planned (rw t at e))
+
+  plans-array : classKind ws c ≢ 0 → (p : Plan) → planArray ws text abi labels area c ≡ planned p → Plans p
+  unfolding planArray
+  plans-array kind p e =
+      let r = within-planned (record { table = parentEntries ws text abi labels area c; indices = []; newMethods = []; newFields = [] }) p e in
+      rw (← r)
+      (record {
+        indices = omega arith;
+        generated = λ n. absurd (true≢false n);
+        method-bytes = λ t l. no-bytes;
+        field-bytes = λ t l. no-bytes;
+        built = λ k f. absurd (kind k);
+        array = λ k. refl;
+      })
+
+  pub plans : (p : Plan) → plan ws text abi labels area c ≡ planned p → Plans p
+  unfolding plan
+  plans p e =
+      by (eqb (classKind ws c) 0) (λ t. plans-built (eqb-true (classKind ws c) 0 t) p (rw t at e))
+      (λ t.
+      let r = rw t at e in
+      by (eqb (classKind ws c) 1) (λ u. plans-generated (eqb-true (classKind ws c) 1 u) p (rw u at r))
+      (λ u. plans-array (eqb-false (classKind ws c) 0 t) p (rw u at r)))
+
+  -- ---- a plan that is refused has the number of its row
+
+  unplanned-built : (n : ℕ) → planBuilt ws text abi labels area c ≡ unplanned n → n ≢ 0
+  unfolding planBuilt
+  unplanned-built n e =
+      by (tooManyWords ws text abi labels (classAbi ws text abi labels c) c) (λ t. unplanned-some {m = 10} (omega arith) (rw t at e))
+      (λ t. table-unplanned (builtTable ws text abi labels area c) builtPlan n (built-refused ws text abi labels area c) (rw t at e))
+
+  unplanned-generated : (n : ℕ) → planGenerated ws text abi labels area c ≡ unplanned n → n ≢ 0
+  unfolding planGenerated
+  unplanned-generated n e =
+      by (eqb (generatedRefusal ws text c) 0)
+      (λ t. table-unplanned (generatedTable ws text abi labels area c) generatedPlan n (generated-refused ws text abi labels area c) (rw t at e))
+      (λ t. unplanned-some (eqb-false (generatedRefusal ws text c) 0 t) (rw t at e))
+
+  pub unplanned-number : (n : ℕ) → plan ws text abi labels area c ≡ unplanned n → n ≢ 0
+  unfolding plan planArray
+  unplanned-number n e =
+      by (eqb (classKind ws c) 0) (λ t. unplanned-built n (rw t at e))
+      (λ t.
+      let r = rw t at e in
+      by (eqb (classKind ws c) 1) (λ u. unplanned-generated n (rw u at r))
+      (λ u.
+      within-unplanned (record { table = parentEntries ws text abi labels area c; indices = []; newMethods = []; newFields = [] }) n (rw u at r)))

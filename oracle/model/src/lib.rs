@@ -1,0 +1,80 @@
+//! A plain model of the specification on the flat word forms, written from the paper and the
+//! chosen readings of its open points, not from the Rust. Rows are refused in the order of
+//! the paper's table; the comments quote the paper. A refusal says what it is about (`why`).
+
+mod ask;
+mod descriptors;
+mod fields;
+mod link;
+mod reading;
+mod rules;
+mod sheets;
+pub mod side;
+mod tables;
+pub mod why;
+
+use crate::side::{Answer, Linker};
+use crate::why::{Refused, Why};
+
+pub use ask::ask;
+pub use descriptors::argument_words;
+pub use link::link;
+pub use reading::{read_abi_sheet, read_class_sheet};
+
+/// The parts that other modules look at to tell which branches a case reaches.
+pub mod parts {
+    pub use super::fields::{BuiltFields, built_fields, generated_fields, runtime_words, width};
+    pub use super::sheets::{AbiClass, AbiRecord, AbiSheet, ClassSheet, Method, text_of_abi_words, text_of_class_words};
+    pub use super::tables::{Entry, eligible, fixed_index, minimum_size, native_view, reading};
+}
+
+/// The model as a side of the comparison.
+#[derive(Default)]
+pub struct Model;
+
+impl Linker for Model {
+    fn read_class_sheet(&mut self, bytes: &[u8], words: &mut [u32]) -> Answer {
+        answer(read_class_sheet(bytes, words).map(|words| (words, 0)))
+    }
+
+    fn read_abi_sheet(&mut self, bytes: &[u8], words: &mut [u32]) -> Answer {
+        answer(read_abi_sheet(bytes, words).map(|words| (words, 0)))
+    }
+
+    fn link(&mut self, set: &mut [u32], abi: &[u32], class: u32, area: &mut [u32], stubs: &[u32]) -> Answer {
+        answer(link(set, abi, class, area, stubs))
+    }
+
+    fn ask(&mut self, set: &mut [u32], abi: &[u32], class: u32, interface: u32, area: &mut [u32], stubs: &[u32]) -> Answer {
+        answer(ask(set, abi, class, interface, area, stubs))
+    }
+
+    fn argument_words(&mut self, descriptor: &[u8], flags: u32) -> Answer {
+        answer(argument_words(descriptor, flags).map(|words| (words, 0)).map_err(Refused::from))
+    }
+}
+
+/// "An accepted call gives 0 and its result; a refused one gives its number, zero in every
+/// other answer word"
+fn answer(result: Result<(u32, u32), Refused>) -> Answer {
+    match result {
+        Ok((first, second)) => Answer::accepted(first, second),
+        Err(refused) => Answer::refused(refused.row),
+    }
+}
+
+/// Refuses by `row` if `condition` holds.
+fn refuse(row: u32, condition: bool) -> Result<(), Refused> {
+    if condition { Err(Refused::from(row)) } else { Ok(()) }
+}
+
+/// Says of a refusal what it is about.
+trait Because {
+    fn because(self, why: impl FnOnce() -> Why) -> Self;
+}
+
+impl<T> Because for Result<T, Refused> {
+    fn because(self, why: impl FnOnce() -> Why) -> Self {
+        self.map_err(|refused| Refused { why: why(), ..refused })
+    }
+}
