@@ -1,42 +1,80 @@
 /*
- * The LGT class linker, proved in Rattle (crates/lgt_linker). Link with target/staticlib/liblgt_linker.a, which
- * `rt staticlib lgt_linker` makes, on x86-64 Linux. It calls memcpy, memmove and memset, and nothing else.
+ * The LGT class linker, proved in Rattle (crates/lgt_linker). Link with liblgt_linker.a: `rt staticlib lgt_linker` makes it in
+ * target/staticlib, `make install PREFIX=..` installs it with this header and a pkg-config file.
  *
- * What every function answers. The returned number is 0 if the call is accepted, else the number of its refusal (below;
- * docs/REFUSALS.md says what to mend). The other answer words go into the array `answer`, which is always written:
- * the results if the call is accepted, zeros if it is refused. A refused call leaves all other lent memory as it was.
+ * What it needs. x86-64 Linux; memcpy and memset, and nothing else: no allocation, no system call. Of the stack at most 138,568
+ * bytes were measured (docs/PERFORMANCE.md): give a thread that calls it LGT_STACK_BYTES. A thread of musl's default size,
+ * 128 KiB, is too small for a link. Frames are probed page by page, so a stack that is too short ends in its guard page
+ * and not in other memory.
+ *
+ * What every function answers. The returned number is 0 (LGT_ACCEPTED) if the call is accepted, else that of its refusal
+ * (LGT_REFUSED_.. below; lgt_refusal_text says what to mend). The other answer words go into the array `answer`, which is always
+ * written: the results if the call is accepted, zeros if it is refused. A refused call leaves all other lent memory as it was.
  * Any words and bytes of any length may be lent: no content makes a call undefined, and every call ends.
  *
  * What a caller owes. A slice is a pointer to its first element and the number of its elements, all of which are there and have
  * been written; its pointer is aligned for the element. With length 0 the pointer may be anything, NULL too. `answer` is never
  * NULL. What a call may write (every pointer without const) overlaps nothing else that is lent to the same call, and nobody
  * else touches the lent memory while the call runs. What is const may overlap what is const. Nothing is kept between
- * calls, so calls on different memory may run at once in several threads. Give a call 256 KiB of stack; those
- * that the gate measures take at most 137,000 bytes (docs/PERFORMANCE.md).
- *
- * Refusals, in the order in which they are judged:
- *    1  bytes that are no whole blocks of 512 or too many, or fewer than 127 words lent a block
- *    2  a block's check
- *    3  a count above its limit, content that does not fit its blocks or its words, an unclean end, a table place in a sheet
- *    4  a record
- *    5  a descriptor
- *    6  a class number: none of the set, linked already or not yet, its parent unlinked, or a wrong array class
- *    7  the area: empty, a wrong next free place, a table or a node outside, a list of more than 64 nodes
- *    8  a generated class's own words exceed its total
- *    9  a generated class's indices, neither all relative nor all absolute
- *   10  more than 65,535 instance or runtime words
- *   11  a fixed index that differs from the inherited one
- *   12  a fixed slot that holds another signature
- *   13  more than 1,024 slots
- *   16  an interface method without an implementation
- *   14  more than 512 methods, 512 fields or 8,192 text bytes
- *   15  too few stub words, free words of the area, or class words
+ * calls, so calls on different memory may run at once in several threads.
  */
 #ifndef LGT_LINKER_H
 #define LGT_LINKER_H
 
 #include <stddef.h>
 #include <stdint.h>
+
+/* The version of this library: the file VERSION, which a test holds this line to. */
+#define LGT_LINKER_VERSION "0.1.0"
+
+/* A compiler that can warns where an answer is not looked at. */
+#if defined(__GNUC__) || defined(__clang__)
+#define LGT_MUST_USE __attribute__((warn_unused_result))
+#else
+#define LGT_MUST_USE
+#endif
+
+/*
+ * ---- Refusals, in the order in which they are judged. Later versions have more: take an unknown number for a refusal.
+ */
+#define LGT_ACCEPTED 0u
+
+/* bytes that are no whole blocks or too many, or fewer than LGT_BLOCK_WORDS words lent a block */
+#define LGT_REFUSED_SHEET_SIZE 1u
+/* a block's check */
+#define LGT_REFUSED_BLOCK_CHECK 2u
+/* a count above its limit, content that does not fit its blocks or its words, an unclean end, a table place in a sheet */
+#define LGT_REFUSED_SHEET_COUNTS 3u
+/* a record */
+#define LGT_REFUSED_RECORD 4u
+/* a descriptor */
+#define LGT_REFUSED_DESCRIPTOR 5u
+/* a class number: none of the set, linked already or not yet, its parent unlinked, or a wrong array class */
+#define LGT_REFUSED_CLASS 6u
+/* the area: empty, a wrong next free place, a table or a node outside, a list of more than LGT_MOST_NODES nodes */
+#define LGT_REFUSED_AREA 7u
+/* a generated class's own words exceed its total */
+#define LGT_REFUSED_GENERATED_WORDS 8u
+/* a generated class's indices, neither all relative nor all absolute */
+#define LGT_REFUSED_GENERATED_INDICES 9u
+/* more than LGT_MOST_INSTANCE_WORDS instance or runtime words */
+#define LGT_REFUSED_INSTANCE_WORDS 10u
+/* a fixed index that differs from the inherited one */
+#define LGT_REFUSED_MOVED_SLOT 11u
+/* a fixed slot that holds another signature */
+#define LGT_REFUSED_TAKEN_SLOT 12u
+/* more than LGT_MOST_SLOTS slots */
+#define LGT_REFUSED_SLOT_COUNT 13u
+/* an interface method without an implementation */
+#define LGT_REFUSED_NO_IMPLEMENTATION 16u
+/* more than LGT_MOST_METHODS methods, LGT_MOST_FIELDS fields or LGT_MOST_TEXT_BYTES text bytes */
+#define LGT_REFUSED_SECTION_FULL 14u
+/* too few stub words, free words of the area, or class words */
+#define LGT_REFUSED_NO_ROOM 15u
+
+/*
+ * ---- Memory to lend
+ */
 
 /* Words that hold the blocks of every class sheet, and every set after any links. */
 #define LGT_CLASS_WORDS 11684
@@ -47,9 +85,199 @@
 /* The most slots of a table: as many stub words are enough for every call. */
 #define LGT_MOST_SLOTS 1024
 
+/* Words that a table of so many slots takes in the area: the class number, the slots, the head of its list of nodes. */
+#define LGT_TABLE_WORDS(slots) ((slots) + 2)
+
+/* A node of that list: the next node's place, the interface number, the slots. */
+#define LGT_NODE_WORDS(slots) ((slots) + 2)
+
+/* Stack for a thread that calls the library; the gate holds every call to it. */
+#define LGT_STACK_BYTES 262144
+
+/*
+ * ---- Limits
+ */
+#define LGT_MOST_CLASSES 64
+#define LGT_MOST_METHODS 512
+#define LGT_MOST_FIELDS 512
+#define LGT_MOST_INTERFACE_WORDS 256
+#define LGT_MOST_COMPILER_WORDS 2048
+#define LGT_MOST_TEXT_BYTES 8192
+#define LGT_MOST_NAME_BYTES 255
+#define LGT_MOST_INSTANCE_WORDS 65535
+#define LGT_MOST_NODES 64
+#define LGT_MOST_ABI_CLASSES 64
+#define LGT_MOST_ABI_SLOTS 512
+#define LGT_MOST_ABI_FIELDS 256
+#define LGT_MOST_ABI_INDEX 1023
+#define LGT_MOST_ABI_FIELD_INDEX 4095
+#define LGT_MOST_ABI_INSTANCE_WORDS 4096
+
+/*
+ * ---- Blocks. A block's words stand lowest byte first; the last is the sum of the others and the block's number, counted from 1.
+ */
+#define LGT_BLOCK_BYTES 512
+#define LGT_BLOCK_WORDS 127
+#define LGT_MOST_CLASS_BLOCKS 92
+#define LGT_MOST_ABI_BLOCKS 51
+
+/*
+ * ---- The class words. Six counts, at the indices LGT_SET_..; then the sections in the same order, one after the other: classes,
+ * methods, fields, interface words, compiler words, text (four bytes a word, lowest first). Classes are numbered from 1, so
+ * the record of class n begins at LGT_SET_COUNTS + LGT_CLASS_RECORD * (n - 1); all else is numbered from 0.
+ */
+#define LGT_SET_CLASSES 0
+#define LGT_SET_METHODS 1
+#define LGT_SET_FIELDS 2
+#define LGT_SET_INTERFACE_WORDS 3
+#define LGT_SET_COMPILER_WORDS 4
+#define LGT_SET_TEXT_BYTES 5
+#define LGT_SET_COUNTS 6
+
+/* The words of a class record. */
+#define LGT_CLASS_NAME_START 0
+#define LGT_CLASS_NAME_LENGTH 1
+#define LGT_CLASS_PARENT 2 /* a class number, 0 for none */
+#define LGT_CLASS_FLAGS 3
+#define LGT_CLASS_KIND 4
+#define LGT_CLASS_FIRST_METHOD 5
+#define LGT_CLASS_METHOD_COUNT 6
+#define LGT_CLASS_FIRST_FIELD 7
+#define LGT_CLASS_FIELD_COUNT 8
+#define LGT_CLASS_FIRST_INTERFACE 9
+#define LGT_CLASS_INTERFACE_COUNT 10
+#define LGT_CLASS_LINK_STATE 11
+#define LGT_CLASS_INSTANCE_WORDS 12
+#define LGT_CLASS_COMPILER_TABLE 13 /* 0 for none, else its first compiler word counted from 1 */
+#define LGT_CLASS_COMPILER_SLOTS 14
+#define LGT_CLASS_TABLE_PLACE 15 /* 0 while the class is not linked */
+#define LGT_CLASS_SLOT_COUNT 16
+#define LGT_CLASS_RECORD 17
+
+/* Kinds, and the flags and the link state that linking looks at. */
+#define LGT_KIND_BUILT 0
+#define LGT_KIND_GENERATED 1
+#define LGT_KIND_ARRAY 2
+#define LGT_FLAG_PRIVATE 0x0002
+#define LGT_FLAG_STATIC 0x0008
+#define LGT_FLAG_INTERFACE 0x0200
+#define LGT_FLAG_ABSTRACT 0x0400
+#define LGT_STATE_LINKED_BY_COMPILER 3
+
+/* The words of a method record. */
+#define LGT_METHOD_NAME_START 0
+#define LGT_METHOD_NAME_LENGTH 1
+#define LGT_METHOD_DESCRIPTOR_START 2
+#define LGT_METHOD_DESCRIPTOR_LENGTH 3
+#define LGT_METHOD_FLAGS 4
+#define LGT_METHOD_TARGET 5
+#define LGT_METHOD_RECORD 6
+
+/* The words of a field record. */
+#define LGT_FIELD_NAME_START 0
+#define LGT_FIELD_NAME_LENGTH 1
+#define LGT_FIELD_DESCRIPTOR_START 2
+#define LGT_FIELD_DESCRIPTOR_LENGTH 3
+#define LGT_FIELD_FLAGS 4
+#define LGT_FIELD_WORD_INDEX 5
+#define LGT_FIELD_RECORD 6
+
+/*
+ * ---- The ABI words. Four counts, at the indices LGT_ABI_SET_..; then the sections: classes, slots, fields, text.
+ */
+#define LGT_ABI_SET_CLASSES 0
+#define LGT_ABI_SET_SLOTS 1
+#define LGT_ABI_SET_FIELDS 2
+#define LGT_ABI_SET_TEXT_BYTES 3
+#define LGT_ABI_SET_COUNTS 4
+
+/* The words of an ABI class's record. */
+#define LGT_ABI_CLASS_NAME_START 0
+#define LGT_ABI_CLASS_NAME_LENGTH 1
+#define LGT_ABI_CLASS_TABLE_SIZE_PLUS_1 2 /* 0: none is given */
+#define LGT_ABI_CLASS_INSTANCE_WORDS_PLUS_1 3
+#define LGT_ABI_CLASS_FIRST_SLOT 4
+#define LGT_ABI_CLASS_SLOT_COUNT 5
+#define LGT_ABI_CLASS_FIRST_FIELD 6
+#define LGT_ABI_CLASS_FIELD_COUNT 7
+#define LGT_ABI_CLASS_RECORD 8
+
+/* The words of a slot row, and of a field row. */
+#define LGT_ABI_ROW_NAME_START 0
+#define LGT_ABI_ROW_NAME_LENGTH 1
+#define LGT_ABI_ROW_DESCRIPTOR_START 2
+#define LGT_ABI_ROW_DESCRIPTOR_LENGTH 3
+#define LGT_ABI_ROW_INDEX 4
+#define LGT_ABI_ROW_RECORD 5
+
 #ifdef __cplusplus
 extern "C" {
 #endif
+
+/* What to mend after a refusal: the sentence that docs/REFUSALS.md has for the number. A test holds them equal. */
+static inline const char *lgt_refusal_text(uint32_t refusal)
+{
+    switch (refusal) {
+    case LGT_ACCEPTED:
+        return "Nothing: the call is accepted.";
+    case LGT_REFUSED_SHEET_SIZE:
+        return "Fetch the file again whole: a sheet is at least one block of 512 bytes, has no part of a block, and at "
+               "most 92 blocks (class sheet) or 51 (ABI sheet). A caller lends at least 127 words for each block.";
+    case LGT_REFUSED_BLOCK_CHECK:
+        return "The file was damaged or changed by hand, as a block's check word does not fit its content: fetch it "
+               "again, or make it again from its text form.";
+    case LGT_REFUSED_SHEET_COUNTS:
+        return "Keep the counts within their limits and the file as short as its content allows, with zeros after the "
+               "content, and store only an unlinked set: every table place and slot count 0. A link or an interface "
+               "table asks, of each sheet, only that its counts keep their limits and that the lent words hold all of "
+               "its content: lend as many words as the counts and their sections take.";
+    case LGT_REFUSED_RECORD:
+        return "Mend the record named: lists and text parts lie inside their sections, two classes share no method or "
+               "field record, names and descriptors have 1 to 255 bytes from 0x21 to 0x7E, a parent comes before its "
+               "child, an interface is a class of the sheet, no two classes have one name, and each flag, kind, size "
+               "and index keeps its limit.";
+    case LGT_REFUSED_DESCRIPTOR:
+        return "Write the descriptor as the JVM Specification has it: a field's is one type such as `I`, `[J` or "
+               "`Ljava/lang/String;`; a method's is its parameters in parentheses and then its result, such as `(IJ)V`.";
+    case LGT_REFUSED_CLASS:
+        return "Ask for a class that is in the set, from 1 to the number of classes, and not yet linked; link its "
+               "parent first. An array class has no methods or fields and the parent `java/lang/Object`. For an "
+               "interface table, link both classes first.";
+    case LGT_REFUSED_AREA:
+        return "Lend the area as the last call left it, or a fresh one: word 0 holds the next free place (1 in a fresh "
+               "area), which is at most the area's length; no linked table and no node of the class's list reaches past "
+               "it, and the list has at most 64 nodes.";
+    case LGT_REFUSED_GENERATED_WORDS:
+        return "A generated class says too few instance words: raise its total to at least the words that its own "
+               "instance fields take.";
+    case LGT_REFUSED_GENERATED_INDICES:
+        return "A generated class's instance fields must all count from 0 (relative) or all from the end of the "
+               "inherited words (absolute): mend the field indices that do not fit the others.";
+    case LGT_REFUSED_INSTANCE_WORDS:
+        return "The class would have more than 65,535 instance words, or its chain more than 65,535 runtime words: take "
+               "fields out of the class or its ancestors.";
+    case LGT_REFUSED_MOVED_SLOT:
+        return "The ABI sheet fixes another index for this method than the one that the class inherits: give both the "
+               "same index, or drop the ABI entry.";
+    case LGT_REFUSED_TAKEN_SLOT:
+        return "The ABI sheet fixes for this method a slot that another method already holds: give one of the two "
+               "another index.";
+    case LGT_REFUSED_SLOT_COUNT:
+        return "The table would have more than 1,024 slots: take methods out of the class or its ancestors, or lower "
+               "the ABI's indices or table size.";
+    case LGT_REFUSED_SECTION_FULL:
+        return "The methods, fields or names that linking adds do not fit: a set holds at most 512 methods, 512 fields "
+               "and 8,192 text bytes. Take some out of the set or of the ABI sheet.";
+    case LGT_REFUSED_NO_ROOM:
+        return "Lend more memory: a stub word for each slot of the table, free words in the area for the table and two "
+               "more, and class words for the sections that grow.";
+    case LGT_REFUSED_NO_IMPLEMENTATION:
+        return "The class has no method that implements one of the interface's methods: declare it, not static and not "
+               "private, in the class or an ancestor.";
+    default:
+        return "This number is not known to the header's version, " LGT_LINKER_VERSION ": see docs/REFUSALS.md of the library's.";
+    }
+}
 
 /*
  * Reads a class sheet, blocks of 512 bytes, into words.
@@ -57,12 +285,14 @@ extern "C" {
  * Leaves: those words filled from the front, the rest of `words` as it was.
  * Refuses by 1 to 5.
  */
+LGT_MUST_USE
 uint32_t lgt_read_class_sheet(const uint8_t *bytes, size_t bytes_len, uint32_t *words, size_t words_len,
                               uint32_t answer[1]);
 
 /*
  * Reads an ABI sheet likewise.
  */
+LGT_MUST_USE
 uint32_t lgt_read_abi_sheet(const uint8_t *bytes, size_t bytes_len, uint32_t *words, size_t words_len,
                             uint32_t answer[1]);
 
@@ -77,6 +307,7 @@ uint32_t lgt_read_abi_sheet(const uint8_t *bytes, size_t bytes_len, uint32_t *wo
  * lacks: its list is then copied to the end of its section, and the sections behind move up. The class's link state stays.
  * Refuses by 3 to 15.
  */
+LGT_MUST_USE
 uint32_t lgt_link(uint32_t *set, size_t set_len, const uint32_t *abi, size_t abi_len, uint32_t class_number,
                   uint32_t *area, size_t area_len, const uint32_t *stubs, size_t stubs_len, uint32_t answer[2]);
 
@@ -85,10 +316,11 @@ uint32_t lgt_link(uint32_t *set, size_t set_len, const uint32_t *abi, size_t abi
  * Answers: answer[0], the place after the node's link word, where the interface number and then the slots stand, as many as
  * the interface's table has; answer[1], how many nodes of the class's list were read on the way, at most 64.
  * Leaves: nothing changed if the class's list has a node of the interface. Else, from the next free place on, a node: the
- * old list head, the interface number, the slots; the class's list head and word 0 of the area change. The set stays.
+ * old list head, the interface number, the slots; the class's list head and word 0 of the area change. The set is only read.
  * Refuses by 3 to 7, 16, 15.
  */
-uint32_t lgt_interface_dispatch_table(uint32_t *set, size_t set_len, const uint32_t *abi, size_t abi_len,
+LGT_MUST_USE
+uint32_t lgt_interface_dispatch_table(const uint32_t *set, size_t set_len, const uint32_t *abi, size_t abi_len,
                                       uint32_t class_number, uint32_t interface_number, uint32_t *area,
                                       size_t area_len, const uint32_t *stubs, size_t stubs_len, uint32_t answer[2]);
 
@@ -98,6 +330,7 @@ uint32_t lgt_interface_dispatch_table(uint32_t *set, size_t set_len, const uint3
  * Answers: answer[0], the words. Leaves nothing else written.
  * Refuses by 5.
  */
+LGT_MUST_USE
 uint32_t lgt_argument_words(const uint8_t *descriptor, size_t descriptor_len, uint32_t flags, uint64_t answer[1]);
 
 #ifdef __cplusplus

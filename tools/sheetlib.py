@@ -1,6 +1,6 @@
 """Sheets: the two layouts as data, the block form, and a judge of rows 1 to 5.
 
-The judge is written from document 01 ("What a call answers", "Sheets") and the
+The judge is written from docs/SPECIFICATION.md ("What a call answers", "Sheets") and the
 readings in docs/DECISIONS.md, not from the Rattle code, so that each can show the
 other's faults. All sums are of naturals: nothing wraps at 2^32.
 
@@ -305,6 +305,8 @@ class Fault:
     row: int
     clause: str  # which condition of the row, as clauses() lists them
     where: str  # the record and the byte, in plain words
+    at: tuple = ()  # the section, the record's number from 0 and the word or part; of a count its section and its limit
+    what: object = ""  # what is wrong there, in words for the text form; of a name that is taken, the first class that has it
 
 
 def judge(layout, data, lent=None):
@@ -383,10 +385,11 @@ def row_2(data):
 
 
 def count_faults(layout, counts):
-    limits = [(s.plural, s.limit) for s in layout.sections] + [("text bytes", layout.text_limit)]
-    for i, (count, (plural, limit)) in enumerate(zip(counts, limits)):
+    limits = [(s.name, s.plural, s.limit) for s in layout.sections] + [("text", "text bytes", layout.text_limit)]
+    for i, (count, (name, plural, limit)) in enumerate(zip(counts, limits)):
         if count > limit:
-            yield Fault(3, f"{plural}: at most {limit}", f"the count of {plural} at {spot(i)} is {count}, above {limit}")
+            yield Fault(3, f"{plural}: at most {limit}", f"the count of {plural} at {spot(i)} is {count}, above {limit}",
+                        (name, limit, "count"), f"{count} {plural}, above {limit}")
 
 
 def row_3(layout, words):
@@ -411,7 +414,8 @@ def row_3(layout, words):
         for word in ("table place", "slot count"):
             for i in range(len(sheet.records["class"])):
                 if sheet.get("class", i, word):
-                    yield Fault(3, f"{word}: zero", f"{said(sheet, 'class', i, word)}, and a sheet that is read is unlinked, so 0")
+                    yield Fault(3, f"{word}: zero", f"{said(sheet, 'class', i, word)}, and a sheet that is read is unlinked, so 0",
+                                ("class", i, word))
 
 
 def row_4(sheet):
@@ -422,12 +426,13 @@ def row_4(sheet):
             for word, most in section.most:
                 if sheet.get(section.name, i, word) > most:
                     yield Fault(4, f"{section.name} {word}: at most {most}",
-                                f"{said(sheet, section.name, i, word)}, above {most}")
+                                f"{said(sheet, section.name, i, word)}, above {most}", (section.name, i, word), f"above {most}")
             for word, mask in section.mask:
                 if sheet.get(section.name, i, word) & ~mask:
                     yield Fault(4, f"{section.name} {word}: within 0x{mask:04X}",
                                 f"{said(sheet, section.name, i, word)}, with the bits "
-                                f"0x{sheet.get(section.name, i, word) & ~mask:04X} outside 0x{mask:04X}")
+                                f"0x{sheet.get(section.name, i, word) & ~mask:04X} outside 0x{mask:04X}", (section.name, i, word),
+                                f"with the bits 0x{sheet.get(section.name, i, word) & ~mask:x} outside 0x{mask:x}")
     if sheet.layout is CLASS_SHEET:
         yield from class_faults(sheet)
 
@@ -440,19 +445,23 @@ def part_faults(sheet, section, i):
         length = sheet.get(section.name, i, part + " length")
         who = f"{section.name} {part}"
         if length < 1:
-            yield Fault(4, f"{who}: at least 1 byte", f"{said(sheet, section.name, i, part + ' length')}, below 1")
+            yield Fault(4, f"{who}: at least 1 byte", f"{said(sheet, section.name, i, part + ' length')}, below 1",
+                        (section.name, i, part), "is empty")
         if length > 255:
-            yield Fault(4, f"{who}: at most 255 bytes", f"{said(sheet, section.name, i, part + ' length')}, above 255")
+            yield Fault(4, f"{who}: at most 255 bytes", f"{said(sheet, section.name, i, part + ' length')}, above 255",
+                        (section.name, i, part), f"has {length} bytes, above 255")
         if start + length > len(sheet.text):
             yield Fault(4, f"{who}: inside the text", f"{said(sheet, section.name, i, part + ' start')} and "
-                        f"{part} length {length}: they end past the text of {len(sheet.text)} bytes")
+                        f"{part} length {length}: they end past the text of {len(sheet.text)} bytes",
+                        (section.name, i, part), "ends past the text")
             continue
         for k in range(start, start + length):
             if not 0x21 <= sheet.text[k] <= 0x7E:
                 clause = "from 0x21" if sheet.text[k] < 0x21 else "to 0x7E"
                 yield Fault(4, f"{who}: bytes {clause}",
                             f"{label(sheet, section.name, i)}: byte {k - start} of its {part}, "
-                            f"{spot(text_at + k // 4, k % 4)}, is 0x{sheet.text[k]:02X}, outside 0x21 to 0x7E")
+                            f"{spot(text_at + k // 4, k % 4)}, is 0x{sheet.text[k]:02X}, outside 0x21 to 0x7E",
+                            (section.name, i, part), f"has the byte 0x{sheet.text[k]:02X}, outside 0x21 to 0x7E")
 
 
 def list_faults(sheet, section, i):
@@ -462,7 +471,7 @@ def list_faults(sheet, section, i):
         if first + count > have:
             yield Fault(4, f"{section.name} {of} list: inside its section",
                         f"{said(sheet, section.name, i, first_word)} and {count_word} {count}: "
-                        f"the list ends past the {have} {sheet.layout.section(of).plural}")
+                        f"the list ends past the {have} {sheet.layout.section(of).plural}", (section.name, i, first_word))
 
 
 def class_faults(sheet):
@@ -474,28 +483,31 @@ def class_faults(sheet):
             return sheet.get("class", i, word)
         if get("parent") > i:
             yield Fault(4, "class parent: below the class",
-                        f"{said(sheet, 'class', i, 'parent')}, which is not below the class's own number {i + 1}")
+                        f"{said(sheet, 'class', i, 'parent')}, which is not below the class's own number {i + 1}",
+                        ("class", i, "parent"))
         table, slots = get("compiler table"), get("compiler slots")
         if table == 0 and slots:
             yield Fault(4, "class compiler slots: 0 without a table",
-                        f"{said(sheet, 'class', i, 'compiler slots')}, and there is no compiler table")
+                        f"{said(sheet, 'class', i, 'compiler slots')}, and there is no compiler table", ("class", i, "compiler slots"))
         if table and table - 1 + slots > words:
             yield Fault(4, "class compiler table: inside its section",
                         f"{said(sheet, 'class', i, 'compiler table')} and compiler slots {slots}: "
-                        f"the table ends past the {words} compiler words")
+                        f"the table ends past the {words} compiler words", ("class", i, "compiler table"))
         if get("table place") and get("slot count") > 1024:
-            yield Fault(4, "class linked slot count: at most 1024", f"{said(sheet, 'class', i, 'slot count')}, above 1024")
+            yield Fault(4, "class linked slot count: at most 1024", f"{said(sheet, 'class', i, 'slot count')}, above 1024",
+                        ("class", i, "slot count"))
         name = sheet.part("class", i, "name")
         if name in names:
             yield Fault(4, "class names: all different",
                         f"{label(sheet, 'class', i)}: class {names[name] + 1} has the same name "
-                        f"({said(sheet, 'class', i, 'name start')})")
+                        f"({said(sheet, 'class', i, 'name start')})", ("class", i, "same name"), names[name])
         names.setdefault(name, i)
     for i in range(len(sheet.records["interface word"])):
         if not 1 <= sheet.get("interface word", i, "class number") <= classes:
             zero = sheet.get("interface word", i, "class number") == 0
             yield Fault(4, "interface word: not 0" if zero else "interface word: at most the class count",
-                        f"{said(sheet, 'interface word', i, 'class number')}, and the classes are 1 to {classes}")
+                        f"{said(sheet, 'interface word', i, 'class number')}, and the classes are 1 to {classes}",
+                        ("interface word", i, "class number"))
     for of, first_word, count_word in CLASS_SHEET.section("class").lists[:2]:
         yield from overlap_faults(sheet, of, first_word, count_word)
 
@@ -509,7 +521,7 @@ def overlap_faults(sheet, of, first_word, count_word):
             if max(a, first) < min(b, first + count):
                 yield Fault(4, f"class {of} lists: apart",
                             f"{said(sheet, 'class', i, first_word)} and {count_word} {count}: "
-                            f"{of} {max(a, first)} is in the list of {label(sheet, 'class', j)} too")
+                            f"{of} {max(a, first)} is in the list of {label(sheet, 'class', j)} too", ("class", i, first_word))
         spans.append((i, first, first + count))
 
 
@@ -526,7 +538,8 @@ def row_5(sheet):
                 k = start + broken.at
                 yield Fault(5, f"{section.name} descriptor: {broken.rule}",
                             f"{label(sheet, section.name, i)}: byte {broken.at} of its descriptor, "
-                            f"{spot(text_at + k // 4, k % 4)}: {broken.what}")
+                            f"{spot(text_at + k // 4, k % 4)}: {broken.what}", (section.name, i, "descriptor"),
+                            f"byte {broken.at} of the descriptor: {broken.what}")
 
 
 def number(section, i):

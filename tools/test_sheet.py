@@ -117,7 +117,7 @@ class RoundTrips(unittest.TestCase):
         return sheetform.render(made)
 
     def test_examples(self):
-        texts = [path for path in glob.glob(os.path.join(HERE, "..", "examples", "*", "*.txt")) if not path.endswith("listing.txt")]
+        texts = [path for path in glob.glob(os.path.join(HERE, "..", "examples", "*", "*.txt")) if not path.endswith(("listing.txt", "linked.txt"))]
         self.assertTrue(texts)
         for path in texts:
             with open(path, encoding="utf-8") as file:
@@ -151,7 +151,7 @@ class RoundTrips(unittest.TestCase):
         self.assertGreater(raw, 40)
 
     def test_card(self):
-        """The example of document 01."""
+        """The example of docs/SPECIFICATION.md."""
         with open(os.path.join(HERE, "..", "examples", "card", "classes.txt"), encoding="utf-8") as file:
             card = form(file.read())
         self.assertEqual(card.counts(), [2, 4, 0, 0, 0, 27])
@@ -172,7 +172,7 @@ class Blocks(unittest.TestCase):
         self.assertEqual(data[512:516] + data[1020:], bytes([5, 0, 0, 0, 7, 0, 0, 0]))
 
     def test_sizes(self):
-        """The limits of document 01 fill 92 and 51 blocks."""
+        """The limits of docs/SPECIFICATION.md fill 92 and 51 blocks."""
         for layout, words in ((CLASS_SHEET, 11590), (ABI_SHEET, 6404)):
             counts = [s.limit for s in layout.sections] + [layout.text_limit]
             self.assertEqual(sheetlib.content_size(layout, counts), words)
@@ -210,7 +210,7 @@ class Descriptors(unittest.TestCase):
             self.agree(bs)
 
     def test_argument_words(self):
-        """The examples of document 01, and any bytes and flags."""
+        """The examples of docs/SPECIFICATION.md, and any bytes and flags."""
         for text, flags, want in (("(IJ)V", 1, (0, 4)), ("(IJ)V", 9, (0, 3)), ("(V)V", 1, (5, 0)), ("", 0, (5, 0)),
                                   ("()V", 0xFFFFFFF7, (0, 1)), ("()V", TOP, (0, 0)), ("([J[[DLa;D)J", 0, (0, 6)),
                                   ("(" + "J" * 200 + ")V", 8, (0, 400)), ("(" + "[" * 3000 + "I)V", 8, (0, 1))):
@@ -219,7 +219,7 @@ class Descriptors(unittest.TestCase):
 
 
 class OpenPoints(unittest.TestCase):
-    """The judge on the inputs that tell the readings of document 01 apart."""
+    """The judge on the inputs that tell the readings of docs/SPECIFICATION.md apart."""
 
     def one(self, **words):
         return sheetvectors.but(form("class A\n"), "class", 1, **words)
@@ -376,14 +376,6 @@ class Vectors(unittest.TestCase):
         self.assertNotEqual(vectors.weighed([1, 2]), vectors.weighed([2, 1]))
         self.assertEqual(vectors.weighed([TOP, TOP]), WORD - 3)
 
-    def test_front_page(self):
-        """What README.md says that `./list examples/card` prints."""
-        root = os.path.join(HERE, "..")
-        with open(os.path.join(root, "examples", "card", "listing.txt"), encoding="utf-8") as file:
-            listing = "".join("    " + line for line in file)
-        with open(os.path.join(root, "README.md"), encoding="utf-8") as file:
-            self.assertIn("\n\n" + listing + "\n", file.read())
-
 
 class Commands(unittest.TestCase):
     def setUp(self):
@@ -397,7 +389,7 @@ class Commands(unittest.TestCase):
         return path
 
     def test_help(self):
-        for args in (["--help"], ["make", "--help"], ["show", "--help"], ["check", "--help"], ["explain", "--help"]):
+        for args in (["--help"], ["make", "--help"], ["show", "--help"], ["check", "--help"], ["explain", "--help"], ["why", "--help"]):
             status, out, _ = sheet(*args)
             self.assertEqual(status, 0)
             self.assertIn("usage: sheet", out)
@@ -410,7 +402,7 @@ class Commands(unittest.TestCase):
         self.assertEqual((status, out), (0, "sheet classes\n\nclass A\n  method m ()V 1\n"))
         status, out, _ = sheet("check", made)
         self.assertEqual(status, 0)
-        self.assertIn("accepted: class sheet, blocks 1, words 127; classes 1, methods 1,", out)
+        self.assertIn("accepted by rows 1 to 5: class sheet, blocks 1, words 127; classes 1, methods 1,", out)
         self.assertEqual(sheet("make", "--check", text)[0], 0)
         self.file("classes.bin", b"")
         self.assertEqual(sheet("make", "--check", text)[0], 1)
@@ -425,7 +417,7 @@ class Commands(unittest.TestCase):
         text = self.file("classes.txt", "class A\n  method m (V)V 1\n")
         status, _, err = sheet("make", text)
         self.assertEqual(status, 1)
-        self.assertIn("refused 5: method 0 `m` `(V)V`: byte 1 of its descriptor", err)
+        self.assertIn("classes.txt line 2: method m (V)V of A: byte 1 of the descriptor: V (void) stands only as a method's result (row 5)", err)
         self.assertFalse(os.path.exists(text[:-4] + ".bin"))
         self.assertEqual(sheet("make", "--anyway", text)[0], 0)
         self.assertTrue(os.path.exists(text[:-4] + ".bin"))
@@ -441,6 +433,117 @@ class Commands(unittest.TestCase):
             self.assertEqual(status, 1, text)
             self.assertIn(f"line {line}: ", err)
             self.assertIn(told, err)
+
+    def test_every_fault_by_its_line(self):
+        """All faults of a text, each with its line, the class and the one clause that applies."""
+        text = self.file("classes.txt", "\n".join((
+            "class A flags", "  method m (V)V 1   # a comment", "  metod x", "class CardReader extends Device generated  # another",
+            "  flags 70000", "  field x Q 0", "class CardReader", "  implements A Gone", "class Device extends Nothing",
+            "  method z ()V 1 flags 0x200", "class E extends E", "  words 65536", "  state 65536", "  field f I 0 flags 65536",
+            "  compiler " + "1 " * 1025, "class " + "n" * 256)) + "\n")
+        status, _, err = sheet("make", text)
+        self.assertEqual(status, 1)
+        self.assertEqual(err.replace(text, "classes.txt").replace("n" * 256, "N"), """\
+classes.txt line 1: 'flags' is not expected here
+classes.txt line 2: method m (V)V of A: byte 1 of the descriptor: V (void) stands only as a method's result (row 5)
+classes.txt line 3: 'metod' is none of class, method, field, flags, state, words, implements, compiler
+classes.txt line 4: CardReader extends Device, which comes later, line 9 (row 4)
+classes.txt line 5: class CardReader: access flags 0x11170, above 65535 (row 4)
+classes.txt line 6: field x Q of CardReader: byte 0 of the descriptor: no type starts with Q (row 5)
+classes.txt line 7: the name CardReader is taken by class 2, line 4 (row 4)
+classes.txt line 8: no class is named Gone
+classes.txt line 9: no class is named Nothing
+classes.txt line 10: method z ()V of Device: flags 0x200, with the bits 0x200 outside 0x1dff (row 4)
+classes.txt line 11: E extends itself (row 4)
+classes.txt line 12: class E: instance words 65536, above 65535 (row 4)
+classes.txt line 13: class E: link state 65536, above 65535 (row 4)
+classes.txt line 14: field f I of E: flags 0x10000, above 65535 (row 4)
+classes.txt line 15: class E: compiler slots 1025, above 1024 (row 4)
+classes.txt line 16: class N: its name has 256 bytes, above 255 (row 4)
+classes.txt: 16 faults, nothing was written
+""")
+        text = self.file("abi.txt", "abi class A size 1025 words 4097\n slot m ()V 1024\n field f I 4096\n field g () 0\n")
+        self.assertEqual(sheet("make", text)[2].replace(text, "abi.txt"), """\
+abi.txt line 1: class A: table size 1025, above 1024 (row 4)
+abi.txt line 1: class A: instance words 4097, above 4096 (row 4)
+abi.txt line 2: slot m ()V of A: index 1024, above 1023 (row 4)
+abi.txt line 3: field f I of A: index 4096, above 4095 (row 4)
+abi.txt line 4: field g () of A: byte 0 of the descriptor: no type starts with ( (row 5)
+abi.txt: 5 faults, nothing was written (--anyway writes it)
+""")
+
+    def test_counts_by_their_line(self):
+        """A count above its limit is told at the first line past it."""
+        for text, told in (("".join(f"class C{i}\n" for i in range(66)), "line 65: 66 classes, above 64 (row 3)"),
+                           ("class A\n" + "".join(f" method m{i} ()V 1\n" for i in range(513)), "line 514: 513 methods, above 512 (row 3)"),
+                           ("class A\n" + "".join(f" field {i:0>200} I 1\n" for i in range(50)), "line 42: 10002 text bytes, above 8192 (row 3)")):
+            self.assertIn("classes.txt " + told, sheet("make", self.file("classes.txt", text))[2])
+        raw = self.file("classes.txt", "sheet classes raw\ntext A\nclass 0 1 0 1 3 0 0 0 0 0 0 0 0 0 0 0 0\n")
+        self.assertIn("classes.txt line 3: class 1 `A`: kind at byte 40 of the file (block 1) is 3, above 2 (row 4)", sheet("make", raw)[2])
+
+    def test_other_files(self):
+        """A sheet, a listing, another sheet's text and a folder, given to make."""
+        made = self.file("classes.bin", sheetvectors.CARD.blocks())
+        self.assertEqual(sheet("make", made)[::2], (2, f"sheet make: {made} is a sheet and not its text form, which `tools/sheet show {made}` prints\n"))
+        status, _, err = sheet("make", self.file("listing.txt", "class 1 Card words 0 slots 2\n0 open ()V 4096\n"))
+        self.assertEqual(status, 2)
+        self.assertIn("listing.txt is a listing", err)
+        text = self.file("classes.txt", "abi class A\n")
+        status, _, err = sheet("make", text)
+        self.assertEqual(status, 1)
+        self.assertIn("this is the text of an ABI sheet, and by its name", err)
+        with open(made, "rb") as file:
+            self.assertEqual(file.read(), sheetvectors.CARD.blocks())
+        self.assertEqual(sheet("make", "--abi", text), (0, "", ""))
+        self.file("abi.txt", "sheet abi\n")
+        self.file("classes.txt", "class A\n")
+        self.assertEqual(sheet("make", self.folder.name), (0, "", ""))
+        self.assertEqual(sheet("check", self.folder.name + "/abi.bin", self.folder.name + "/classes.bin")[0], 0)
+
+    def test_warning(self):
+        """A table's method of target 0: its slot stays unknown. One that is in no table is not warned of."""
+        text = self.file("classes.txt", "class I\n flags 0x200\n method a ()V 0 flags 0x401\n method b ()V 0 flags 9\n"
+                         " method c ()V 0 flags 2\n method <d> ()V 0\n method e ()V 4\n")
+        status, _, err = sheet("make", text)
+        self.assertEqual((status, err.count("warning")), (0, 1))
+        self.assertIn("classes.txt line 3: warning: method a ()V of I has target 0, so its slot stays unknown", err)
+        self.assertIn("no interface table is refused by 16 for want of it", err)
+
+    def test_comments_and_flags(self):
+        """Comments follow on a line where no name can stand; show prints flags in hexadecimal."""
+        text = ("class #A # one\n flags 0x201 # two\n\nclass B extends #A # three\n implements #A #four\n implements #A\n compiler 1 2 #5\n"
+                " method #m ()V 7 flags 0x401 # six\n field f I 0#7\n")
+        self.assertEqual(sheet("make", self.file("classes.txt", text))[2].split(": ", 1)[1][:30], "the word index is a number, as"[:30])
+        path = self.file("classes.txt", text.replace("0#7", "0 #7"))
+        self.assertEqual(sheet("make", path), (0, "", ""))
+        self.assertEqual(sheet("show", path[:-4] + ".bin")[1], "sheet classes\n\nclass #A\n  flags 0x201\n\nclass B extends #A\n"
+                         "  implements #A\n  implements #A\n  compiler 1 2\n  method #m ()V 7 flags 0x401\n  field f I 0\n")
+
+    def test_version(self):
+        """One version: the file VERSION, which the tools, the header and the bindings show."""
+        root = os.path.join(HERE, "..")
+        def read(*path):
+            with open(os.path.join(root, *path), encoding="utf-8") as file:
+                return file.read()
+        version = read("VERSION").strip()
+        self.assertRegex(version, r"^0\.\d+\.\d+$")
+        self.assertEqual(sheet("--version"), (0, f"sheet {version}\n", ""))
+        for script in ("list", "judge"):
+            done = subprocess.run([os.path.join(root, script), "--version"], capture_output=True, text=True, check=False)
+            self.assertEqual((done.returncode, done.stdout), (0, f"{script} {version}\n"))
+        self.assertIn(f'#define LGT_LINKER_VERSION "{version}"\n', read("include", "lgt_linker.h"))
+        self.assertEqual(re.search(r'^version = "(.*)"$', read("bindings", "rust", "Cargo.toml"), re.M)[1], version)
+        self.assertEqual(re.search(r'^version = "(.*)"$', read("oracle", "Cargo.toml"), re.M)[1], version)
+        self.assertIn(f"## {version}", read("CHANGELOG.md"))
+
+    def test_unwritable(self):
+        """Output that cannot be written is told, with a status of its own."""
+        made = self.file("classes.bin", sheetvectors.CARD.blocks())
+        for args in (("show", made), ("check", made), ("explain", "11")):
+            with open("/dev/full", "w", encoding="utf-8") as full:
+                done = subprocess.run([sys.executable, os.path.join(HERE, "sheet"), *args], stdout=full, stderr=subprocess.PIPE,
+                                      text=True, check=False)
+            self.assertEqual((done.returncode, "could not be written" in done.stderr), (4, True), args)
 
     def test_missing_file(self):
         status, _, err = sheet("check", os.path.join(self.folder.name, "none.bin"))
@@ -465,11 +568,19 @@ class Commands(unittest.TestCase):
         for number, sentence in table.items():
             self.assertEqual(sheet("explain", number), (0, f"refused {number}\n  To mend: {sentence}\n", ""))
         listing = "class 1 A words 0 slots 1\n0 refused ()V 11\nclass 2 refused 11\nabi refused 3\n"
-        told = f"class 2 refused 11\n  To mend: {table['11']}\nabi refused 3\n  To mend: {table['3']}\n"
+        told = (f"class 2 refused 11\n  To mend: {table['11']}\nabi refused 3\n  To mend: {table['3']}\n"
+                "Which method, field or slot each of these is about: ./why FOLDER\n")
         self.assertEqual(sheet("explain", given=listing), (0, told, ""))
         status, out, err = sheet("explain", "17")
         self.assertEqual((status, out), (2, ""))
         self.assertIn("no refusal has the number 17", err)
+        status, out, err = sheet("explain", given="class 1 A words 0 slots 0\n")
+        self.assertEqual((status, out), (0, ""))
+        self.assertIn("nothing is refused", err)
+        for given in ("", "hello\n"):
+            status, out, err = sheet("explain", given=given)
+            self.assertEqual((status, out), (2, ""))
+            self.assertIn("no line of the input is of a listing", err)
 
     def test_messages(self):
         """Each row of both sheets: the number, the place and the sentence of docs/REFUSALS.md."""
@@ -499,6 +610,71 @@ class Commands(unittest.TestCase):
         path = self.file("class-x.bin", vectors.vectors["class-r4-before-5.bin"])
         self.assertIn("also 5: method 0", sheet("check", "--all", path)[1])
         self.assertNotIn("also", sheet("check", path)[1])
+
+
+class Corpus(unittest.TestCase):
+    """Rows 1 to 5 of the stored corpus (oracle/README.md has its format): each refusal by the row that is stored, with its record or place."""
+
+    def setUp(self):
+        with open(os.path.join(HERE, "..", "crates", "corpus", "data", "rust.bin"), "rb") as file:
+            data = file.read()
+        self.words = iter([int.from_bytes(data[i:i + 4], "little") for i in range(0, len(data), 4)])
+
+    def take(self, count):
+        return list(itertools.islice(self.words, count))
+
+    def list(self):
+        out, size = [], next(self.words)
+        while len(out) < size:
+            count, rising = divmod(next(self.words), 2)
+            if rising:
+                first, step = self.take(2)
+                out += [(first + i * step) % WORD for i in range(count)]
+            else:
+                out += self.take(count)
+        return out
+
+    def bytes(self):
+        size = next(self.words)
+        return b"".join(word.to_bytes(4, "little") for word in self.list())[:size]
+
+    def change(self, words):
+        for _ in range(next(self.words)):
+            at, word = self.take(2)
+            words[at] = word
+
+    def told(self, row, found):
+        """The first fault is of that row, and is told."""
+        self.assertEqual((found.row, bool(found.where)), (row, True))
+
+    def case(self):
+        words, abi, area = self.list(), self.list(), self.list()
+        for _ in range(next(self.words)):
+            self.list()
+        refused = 0
+        for _ in range(next(self.words)):
+            *_, row, _, _ = self.take(7)
+            if 3 <= row <= 5:
+                refused += 1
+                found = [*sheetlib.word_faults(CLASS_SHEET, words), *sheetlib.word_faults(ABI_SHEET, abi)]
+                self.told(row, min(found, key=lambda fault: fault.row))
+            self.change(words)
+            self.change(area)
+        return refused
+
+    def test_every_refusal(self):
+        _, _, _, _, cases, readings, _ = self.take(7)
+        self.take(7)
+        self.bytes()
+        refused = sum(self.case() for _ in range(cases))
+        for _ in range(readings):
+            abi, lent = self.take(2)
+            data = self.bytes()
+            row, _ = self.take(2)
+            if row:
+                refused += 1
+                self.told(row, next(sheetlib.faults(ABI_SHEET if abi else CLASS_SHEET, data, lent)))
+        self.assertGreater(refused, 200)
 
 
 if __name__ == "__main__":

@@ -5,11 +5,13 @@
 
 #include "lgt_linker.h"
 
+#define AREA_WORDS 4096
+
 /* A byte more than the longest sheet, so that a longer file is refused and not cut. */
-static uint8_t bytes[92 * 512 + 1];
+static uint8_t bytes[LGT_MOST_CLASS_BLOCKS * LGT_BLOCK_BYTES + 1];
 static uint32_t set[LGT_CLASS_WORDS];
 static uint32_t abi[LGT_ABI_WORDS];
-static uint32_t area[4096] = {1};
+static uint32_t area[AREA_WORDS] = {1};
 static uint32_t stubs[LGT_MOST_SLOTS];
 
 /* Reads a file into `bytes`; answers its length, 0 if it cannot be read. */
@@ -29,12 +31,30 @@ static size_t read_file(const char *folder, const char *name)
     return length;
 }
 
-/* Says by which number something is refused; answers the number. */
+/* Says by which number something is refused, and what to mend; answers the number. */
 static uint32_t told(const char *what, uint32_t refusal)
 {
-    if (refusal != 0)
-        printf("%s refused %" PRIu32 "\n", what, refusal);
+    if (refusal != LGT_ACCEPTED)
+        printf("%s refused %" PRIu32 "\n  To mend: %s\n", what, refusal, lgt_refusal_text(refusal));
     return refusal;
+}
+
+/* The record of a class, counted from 1. */
+static const uint32_t *class_record(uint32_t number)
+{
+    return set + LGT_SET_COUNTS + LGT_CLASS_RECORD * (number - 1);
+}
+
+/* Prints a class's name, a part of the text, which has four bytes a word, lowest first. */
+static void print_name(const uint32_t *record)
+{
+    const uint32_t *text = set + LGT_SET_COUNTS + LGT_CLASS_RECORD * set[LGT_SET_CLASSES]
+                           + LGT_METHOD_RECORD * set[LGT_SET_METHODS] + LGT_FIELD_RECORD * set[LGT_SET_FIELDS]
+                           + set[LGT_SET_INTERFACE_WORDS] + set[LGT_SET_COMPILER_WORDS];
+    uint32_t at = record[LGT_CLASS_NAME_START], end = at + record[LGT_CLASS_NAME_LENGTH];
+
+    for (; at < end; at++)
+        putchar((int)(text[at / 4] >> 8 * (at % 4) & 0xFF));
 }
 
 static void print_slots(uint32_t first, uint32_t slots)
@@ -50,8 +70,8 @@ static uint32_t ask(uint32_t slots)
 {
     uint32_t answer[2];
 
-    if (told("ask", lgt_interface_dispatch_table(set, LGT_CLASS_WORDS, abi, LGT_ABI_WORDS, 2, 1, area, 4096, stubs,
-                                                 LGT_MOST_SLOTS, answer)) != 0)
+    if (told("ask", lgt_interface_dispatch_table(set, LGT_CLASS_WORDS, abi, LGT_ABI_WORDS, 2, 1, area, AREA_WORDS, stubs,
+                                                 LGT_MOST_SLOTS, answer)) != LGT_ACCEPTED)
         return 1;
     printf("class 2 as class 1: place %" PRIu32 " nodes read %" PRIu32 "\n", answer[0], answer[1]);
     print_slots(answer[0] + 1, slots);
@@ -80,11 +100,14 @@ int main(int argc, char **argv)
         return 1;
     printf("classes words %" PRIu32 "\n", answer[0]);
 
-    for (number = 1; number <= set[0]; number++) {
-        if (told("class", lgt_link(set, LGT_CLASS_WORDS, abi, LGT_ABI_WORDS, number, area, 4096, stubs, LGT_MOST_SLOTS,
+    for (number = 1; number <= set[LGT_SET_CLASSES]; number++) {
+        if (told("class", lgt_link(set, LGT_CLASS_WORDS, abi, LGT_ABI_WORDS, number, area, AREA_WORDS, stubs, LGT_MOST_SLOTS,
                                    answer)) != 0)
             return 1;
-        printf("class %" PRIu32 " place %" PRIu32 " slots %" PRIu32 "\n", number, answer[0], answer[1]);
+        printf("class %" PRIu32 " ", number);
+        print_name(class_record(number));
+        printf(" words %" PRIu32 " place %" PRIu32 " slots %" PRIu32 "\n", class_record(number)[LGT_CLASS_INSTANCE_WORDS],
+               answer[0], answer[1]);
         print_slots(answer[0] + 1, answer[1]);
         if (number == 1)
             slots = answer[1];
@@ -93,8 +116,11 @@ int main(int argc, char **argv)
         return 1;
 
     /* A class is linked once; an empty slice may be NULL. */
-    number = lgt_link(set, LGT_CLASS_WORDS, abi, LGT_ABI_WORDS, 1, area, 4096, NULL, 0, answer);
+    number = lgt_link(set, LGT_CLASS_WORDS, abi, LGT_ABI_WORDS, 1, area, AREA_WORDS, NULL, 0, answer);
+    if (number != LGT_REFUSED_CLASS)
+        return 1;
     printf("class 1 again: refused %" PRIu32 ", answer %" PRIu32 " %" PRIu32 "\n", number, answer[0], answer[1]);
+    printf("  To mend: %s\n", lgt_refusal_text(number));
 
     number = lgt_argument_words((const uint8_t *)descriptor, strlen(descriptor), 0, words);
     if (told(descriptor, number) != 0)

@@ -1,4 +1,4 @@
-//! The desk's Card set, an interface set, and refusals, through the safe functions.
+//! The desk's Card set and refusals, through the safe functions.
 
 use lgt_linker::*;
 
@@ -38,16 +38,6 @@ fn asks_find_or_build() {
 }
 
 #[test]
-fn every_refusal_has_a_number_and_a_sentence() {
-    for number in 1..=16 {
-        let refusal = Refusal::of(number).unwrap();
-        assert_eq!(refusal.number(), number);
-        assert!(refusal.to_string().starts_with(&format!("refusal {number}: ")));
-    }
-    assert_eq!(Refusal::of(17), None);
-}
-
-#[test]
 fn a_damaged_sheet_is_refused() {
     let mut bytes = CLASSES.to_vec();
     bytes[8] ^= 1;
@@ -58,6 +48,37 @@ fn a_damaged_sheet_is_refused() {
 #[test]
 fn no_slice_is_too_small() {
     assert_eq!(link(&mut [], &[], 0, &mut [], &[]), Err(Refusal::SheetCounts));
-    assert_eq!(interface_dispatch_table(&mut [0; 6], &[0; 4], 1, 1, &mut [], &[]), Err(Refusal::Class));
+    assert_eq!(interface_dispatch_table(&[0; 6], &[0; 4], 1, 1, &mut [], &[]), Err(Refusal::Class));
     assert_eq!(argument_words(b"", 0), Err(Refusal::Descriptor));
+}
+
+#[test]
+fn words_come_back_linked_or_not() {
+    let (mut set, abi, mut area) = card();
+    set.link(&abi, 1, &mut area, &[7; 1024]).unwrap();
+    let mut again = ClassSet::from_words(set.words()).unwrap();
+    assert_eq!(again, set);
+    // As many words as the content takes are enough.
+    let content = 6 + 2 * 17 + 4 * 6 + "CardopenVipCard()Vclosemark".len().div_ceil(4);
+    assert_eq!(ClassSet::from_words(&set.words()[..content]).unwrap(), set);
+    assert_eq!(ClassSet::from_words(&set.words()[..content - 1]), Err(Refusal::SheetCounts));
+    let mut longer = set.words().to_vec();
+    longer.resize(CLASS_WORDS + 100, 5);
+    assert_eq!(ClassSet::from_words(&longer).unwrap().words(), &longer[..CLASS_WORDS]);
+    assert_eq!(again.link(&abi, 2, &mut area, &[7; 1024]), Ok(Linked { place: 5, slots: 3 }));
+    // A set that breaks a rule is refused as a link would.
+    let mut wrong = set.words().to_vec();
+    wrong[layout::class::record(2) + layout::class::PARENT] = 2;
+    assert_eq!(ClassSet::from_words(&wrong), Err(Refusal::Record));
+    assert_eq!(AbiSheet::from_words(&[1, 0, 0, 0]), Err(Refusal::SheetCounts));
+    assert_eq!(AbiSheet::from_words(&[0; 4]).unwrap(), abi);
+}
+
+#[test]
+fn another_area_gives_no_slots() {
+    let (mut set, abi, mut area) = card();
+    set.link_all(&abi, &mut area, &[7; 1024]);
+    assert_eq!(set.slots(&abi, &Area::fresh(3), 2), []);
+    assert_eq!(set.slots(&abi, &area, 3), []);
+    assert_eq!(set.interface_slots(&abi, &area, 1, Asked { place: u32::MAX, nodes: 0 }), []);
 }

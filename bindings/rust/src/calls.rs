@@ -1,0 +1,174 @@
+//! The library's functions over lent slices. They allocate nothing.
+
+use crate::layout::{ABI_BLOCKS, BLOCK_WORDS, CLASS_BLOCKS};
+use crate::refusal::{Refusal, accepted};
+use crate::sys;
+
+/// Words that hold every class sheet, and every set after any links.
+pub const CLASS_WORDS: usize = CLASS_BLOCKS * BLOCK_WORDS;
+
+/// Words that hold every ABI sheet.
+pub const ABI_WORDS: usize = ABI_BLOCKS * BLOCK_WORDS;
+
+/// Where a link has put a class's table: the class number stands at `place`, `slots` slot words follow, then the head of the class's list
+/// of interface tables.
+#[derive(Clone, Copy, Debug, PartialEq, Eq)]
+pub struct Linked {
+    /// The place of the table in the area.
+    pub place: u32,
+    /// How many slots it has.
+    pub slots: u32,
+}
+
+/// Where an interface table is: the interface's number stands at `place`, its slot words follow, as many as the interface's table has.
+#[derive(Clone, Copy, Debug, PartialEq, Eq)]
+pub struct Asked {
+    /// The place of the interface table in the area.
+    pub place: u32,
+    /// How many nodes of the class's list were read on the way.
+    pub nodes: u32,
+}
+
+/// Reads a class sheet into the lent words and answers how many were filled (127 a block).
+///
+/// # Errors
+///
+/// Refusals 1 to 5: the bytes are no class sheet, or fewer than 127 words a block are lent. The words are then as they were.
+///
+/// ```
+/// let bytes = std::fs::read("../../examples/card/classes.bin").unwrap();
+/// let mut words = [0; lgt_linker::CLASS_WORDS];
+/// assert_eq!(lgt_linker::read_class_sheet(&bytes, &mut words), Ok(127));
+/// assert_eq!(words[0], 2); // two classes
+/// ```
+pub fn read_class_sheet(bytes: &[u8], words: &mut [u32]) -> Result<u32, Refusal> {
+    let mut answer = [0];
+    // SAFETY: both slices are whole, the written one is lent exclusively, and the answer has its word.
+    let row = unsafe { sys::lgt_read_class_sheet(bytes.as_ptr(), bytes.len(), words.as_mut_ptr(), words.len(), &mut answer) };
+    accepted(row, answer[0])
+}
+
+/// Reads an ABI sheet likewise.
+///
+/// # Errors
+///
+/// Refusals 1 to 5, as of [`read_class_sheet`].
+///
+/// ```
+/// let bytes = std::fs::read("../../examples/abi/abi.bin").unwrap();
+/// let mut words = [0; lgt_linker::ABI_WORDS];
+/// assert_eq!(lgt_linker::read_abi_sheet(&bytes, &mut words), Ok(127));
+/// assert_eq!(lgt_linker::read_abi_sheet(&bytes[1..], &mut words), Err(lgt_linker::Refusal::SheetSize));
+/// ```
+pub fn read_abi_sheet(bytes: &[u8], words: &mut [u32]) -> Result<u32, Refusal> {
+    let mut answer = [0];
+    // SAFETY: as in `read_class_sheet`.
+    let row = unsafe { sys::lgt_read_abi_sheet(bytes.as_ptr(), bytes.len(), words.as_mut_ptr(), words.len(), &mut answer) };
+    accepted(row, answer[0])
+}
+
+/// Links a class of the set: its table goes to the area's next free word (word 0 of the area), its record and fields into the set.
+///
+/// # Errors
+///
+/// Refusals 3 to 15; set and area are then as they were.
+///
+/// ```
+/// # use lgt_linker::*;
+/// let mut set = [0; CLASS_WORDS];
+/// let mut abi = [0; ABI_WORDS];
+/// read_class_sheet(&std::fs::read("../../examples/card/classes.bin").unwrap(), &mut set).unwrap();
+/// read_abi_sheet(&std::fs::read("../../examples/card/abi.bin").unwrap(), &mut abi).unwrap();
+/// let mut area = [0; 64];
+/// area[0] = 1; // a fresh area
+/// assert_eq!(link(&mut set, &abi, 1, &mut area, &[9; 8]), Ok(Linked { place: 1, slots: 2 }));
+/// assert_eq!(area[1..5], [1, 4096, 4112, 0]);
+/// assert_eq!(link(&mut set, &abi, 1, &mut area, &[9; 8]), Err(Refusal::Class)); // it is linked
+/// ```
+pub fn link(set: &mut [u32], abi: &[u32], class: u32, area: &mut [u32], stubs: &[u32]) -> Result<Linked, Refusal> {
+    let mut answer = [0; 2];
+    // SAFETY: the slices are whole; the two that are written are lent exclusively, and the answer has its words.
+    let row = unsafe {
+        sys::lgt_link(
+            set.as_mut_ptr(),
+            set.len(),
+            abi.as_ptr(),
+            abi.len(),
+            class,
+            area.as_mut_ptr(),
+            area.len(),
+            stubs.as_ptr(),
+            stubs.len(),
+            &mut answer,
+        )
+    };
+    accepted(row, Linked { place: answer[0], slots: answer[1] })
+}
+
+/// The class's table for an interface: found in the class's list, or built and put in front of it. The set is only read.
+///
+/// # Errors
+///
+/// Refusals 3 to 7, 16 and 15; the area is then as it was.
+///
+/// ```
+/// # use lgt_linker::*;
+/// # let mut set = [0; CLASS_WORDS];
+/// # let mut abi = [0; ABI_WORDS];
+/// # read_class_sheet(&std::fs::read("../../examples/interface/classes.bin").unwrap(), &mut set).unwrap();
+/// # read_abi_sheet(&std::fs::read("../../examples/interface/abi.bin").unwrap(), &mut abi).unwrap();
+/// # let mut area = [0; 64];
+/// # area[0] = 1;
+/// // Classes 1, Openable, and 2, Door, are linked; Door's table as an Openable is asked for.
+/// # link(&mut set, &abi, 1, &mut area, &[9; 8]).unwrap();
+/// # link(&mut set, &abi, 2, &mut area, &[9; 8]).unwrap();
+/// let asked = interface_dispatch_table(&set, &abi, 2, 1, &mut area, &[9; 8]).unwrap();
+/// assert_eq!(asked, Asked { place: 10, nodes: 0 });
+/// assert_eq!(area[10..13], [1, 8192, 9]); // the interface's number, Door's open, a stub
+/// ```
+pub fn interface_dispatch_table(
+    set: &[u32],
+    abi: &[u32],
+    class: u32,
+    interface: u32,
+    area: &mut [u32],
+    stubs: &[u32],
+) -> Result<Asked, Refusal> {
+    let mut answer = [0; 2];
+    // SAFETY: the slices are whole; the one that is written is lent exclusively, and the answer has its words.
+    let row = unsafe {
+        sys::lgt_interface_dispatch_table(
+            set.as_ptr(),
+            set.len(),
+            abi.as_ptr(),
+            abi.len(),
+            class,
+            interface,
+            area.as_mut_ptr(),
+            area.len(),
+            stubs.as_ptr(),
+            stubs.len(),
+            &mut answer,
+        )
+    };
+    accepted(row, Asked { place: answer[0], nodes: answer[1] })
+}
+
+/// The words that a call's arguments take by a method's descriptor and flags: a receiver unless static (0x0008), then the parameters.
+///
+/// # Errors
+///
+/// Refusal 5: the descriptor is no method descriptor.
+///
+/// ```
+/// use lgt_linker::{Refusal, argument_words};
+/// assert_eq!(argument_words(b"(IJ)V", 0), Ok(4));
+/// assert_eq!(argument_words(b"(IJ)V", 8), Ok(3));
+/// assert_eq!(argument_words(b"(V)V", 0), Err(Refusal::Descriptor));
+/// ```
+pub fn argument_words(descriptor: &[u8], flags: u32) -> Result<u64, Refusal> {
+    let mut answer = [0];
+    // SAFETY: the slice is whole, and the answer has its word.
+    let row = unsafe { sys::lgt_argument_words(descriptor.as_ptr(), descriptor.len(), flags, &mut answer) };
+    accepted(row, answer[0])
+}

@@ -1,0 +1,224 @@
+//! Why a call was refused.
+
+use core::fmt;
+
+/// Why a call was refused: a row of the specification's table (`docs/REFUSALS.md`).
+///
+/// `Display` says what is wrong, [`mend`](Refusal::mend) what to do about it. Later versions have further refusals: match with a last
+/// arm, or by [`number`](Refusal::number), which stays.
+///
+/// ```
+/// use lgt_linker::{ClassSet, Refusal};
+///
+/// let refusal = ClassSet::read(b"not a sheet").unwrap_err();
+/// assert_eq!(refusal, Refusal::SheetSize);
+/// assert_eq!(refusal.number(), 1);
+/// println!("{refusal}. {}", refusal.mend());
+/// ```
+#[derive(Clone, Copy, Debug, PartialEq, Eq, Hash)]
+#[non_exhaustive]
+pub enum Refusal {
+    /// 1: the file's size, or too few words lent
+    SheetSize,
+    /// 2: a block's check differs
+    BlockCheck,
+    /// 3: counts, blocks or the words after the content
+    SheetCounts,
+    /// 4: a record breaks a rule
+    Record,
+    /// 5: a descriptor
+    Descriptor,
+    /// 6: the class
+    Class,
+    /// 7: the table area
+    Area,
+    /// 8: a generated class's own words exceed its total
+    GeneratedWords,
+    /// 9: a generated class's indices are neither all relative nor all absolute
+    GeneratedIndices,
+    /// 10: too many instance or runtime words
+    InstanceWords,
+    /// 11: a fixed index differs from the inherited one
+    MovedSlot,
+    /// 12: the fixed slot holds another signature
+    TakenSlot,
+    /// 13: more than 1,024 slots
+    SlotCount,
+    /// 14: a grown section exceeds its limit
+    SectionFull,
+    /// 15: stubs, area or class words too few
+    NoRoom,
+    /// 16: an interface method has no implementation
+    NoImplementation,
+    /// A number that this version of the crate has no name for, as an archive of a later version may answer; [`Refusal::of`] makes it.
+    Unknown(u32),
+}
+
+/// The refusals that have a name, in the order of their numbers, each with what is wrong and what to mend.
+const REFUSALS: [(Refusal, &str, &str); 16] = [
+    (
+        Refusal::SheetSize,
+        "the sheet's size is not that of 1 to 92 (ABI: 51) whole blocks of 512 bytes, or fewer than 127 words a block were lent",
+        "Fetch the file again whole: a sheet is at least one block of 512 bytes, has no part of a block, and at most 92 blocks (class \
+         sheet) or 51 (ABI sheet). A caller lends at least 127 words for each block.",
+    ),
+    (
+        Refusal::BlockCheck,
+        "a block's check word does not fit its content: the file was damaged or changed",
+        "The file was damaged or changed by hand, as a block's check word does not fit its content: fetch it again, or make it again \
+         from its text form.",
+    ),
+    (
+        Refusal::SheetCounts,
+        "a count is above its limit, the content does not fit, or something follows it that should be zero",
+        "Keep the counts within their limits and the file as short as its content allows, with zeros after the content, and store \
+         only an unlinked set: every table place and slot count 0. A link or an interface table asks, of each sheet, only that its \
+         counts keep their limits and that the lent words hold all of its content: lend as many words as the counts and their \
+         sections take.",
+    ),
+    (
+        Refusal::Record,
+        "a record breaks a rule: a list or name outside its section, a name used twice, a parent after its child, or a number above \
+         its limit",
+        "Mend the record named: lists and text parts lie inside their sections, two classes share no method or field record, names \
+         and descriptors have 1 to 255 bytes from 0x21 to 0x7E, a parent comes before its child, an interface is a class of the \
+         sheet, no two classes have one name, and each flag, kind, size and index keeps its limit.",
+    ),
+    (
+        Refusal::Descriptor,
+        "a descriptor is not one of the JVM Specification's",
+        "Write the descriptor as the JVM Specification has it: a field's is one type such as `I`, `[J` or `Ljava/lang/String;`; a \
+         method's is its parameters in parentheses and then its result, such as `(IJ)V`.",
+    ),
+    (
+        Refusal::Class,
+        "no such class, already linked, its parent not linked yet, or an array class with members or another parent than \
+         java/lang/Object; for an interface table, one of the two is not linked",
+        "Ask for a class that is in the set, from 1 to the number of classes, and not yet linked; link its parent first. An array \
+         class has no methods or fields and the parent `java/lang/Object`. For an interface table, link both classes first.",
+    ),
+    (
+        Refusal::Area,
+        "the area is not as a call left it: word 0, a linked table's end or a list of nodes does not fit",
+        "Lend the area as the last call left it, or a fresh one: word 0 holds the next free place (1 in a fresh area), which is at \
+         most the area's length; no linked table and no node of the class's list reaches past it, and the list has at most 64 nodes.",
+    ),
+    (
+        Refusal::GeneratedWords,
+        "a generated class's own instance words exceed its total",
+        "A generated class says too few instance words: raise its total to at least the words that its own instance fields take.",
+    ),
+    (
+        Refusal::GeneratedIndices,
+        "a generated class's field indices are neither all relative nor all absolute",
+        "A generated class's instance fields must all count from 0 (relative) or all from the end of the inherited words (absolute): \
+         mend the field indices that do not fit the others.",
+    ),
+    (
+        Refusal::InstanceWords,
+        "the class would have more than 65,535 instance words, or its chain more than 65,535 runtime words",
+        "The class would have more than 65,535 instance words, or its chain more than 65,535 runtime words: take fields out of the \
+         class or its ancestors.",
+    ),
+    (
+        Refusal::MovedSlot,
+        "the ABI fixes another index for a method than the one that the class inherits",
+        "The ABI sheet fixes another index for this method than the one that the class inherits: give both the same index, or drop \
+         the ABI entry.",
+    ),
+    (
+        Refusal::TakenSlot,
+        "the ABI fixes a slot for a method that another method holds",
+        "The ABI sheet fixes for this method a slot that another method already holds: give one of the two another index.",
+    ),
+    (
+        Refusal::SlotCount,
+        "the table would have more than 1,024 slots",
+        "The table would have more than 1,024 slots: take methods out of the class or its ancestors, or lower the ABI's indices or \
+         table size.",
+    ),
+    (
+        Refusal::SectionFull,
+        "what linking adds exceeds 512 methods, 512 fields or 8,192 text bytes",
+        "The methods, fields or names that linking adds do not fit: a set holds at most 512 methods, 512 fields and 8,192 text bytes. \
+         Take some out of the set or of the ABI sheet.",
+    ),
+    (
+        Refusal::NoRoom,
+        "too few stubs, free area words or class words were lent",
+        "Lend more memory: a stub word for each slot of the table, free words in the area for the table and two more, and class words \
+         for the sections that grow.",
+    ),
+    (
+        Refusal::NoImplementation,
+        "the class has no method that implements one of the interface's",
+        "The class has no method that implements one of the interface's methods: declare it, not static and not private, in the class \
+         or an ancestor.",
+    ),
+];
+
+impl Refusal {
+    /// The refusal of a number that a call answered; none for 0, which accepts.
+    ///
+    /// ```
+    /// use lgt_linker::Refusal;
+    /// assert_eq!(Refusal::of(0), None);
+    /// assert_eq!(Refusal::of(11), Some(Refusal::MovedSlot));
+    /// assert_eq!(Refusal::of(4711), Some(Refusal::Unknown(4711)));
+    /// ```
+    #[must_use]
+    pub fn of(number: u32) -> Option<Refusal> {
+        let place = (number as usize).checked_sub(1)?;
+        Some(REFUSALS.get(place).map_or(Refusal::Unknown(number), |row| row.0))
+    }
+
+    /// The row's number in the table.
+    ///
+    /// ```
+    /// assert_eq!(lgt_linker::Refusal::NoImplementation.number(), 16);
+    /// ```
+    #[must_use]
+    pub fn number(self) -> u32 {
+        match self {
+            Refusal::Unknown(number) => number,
+            _ => REFUSALS.iter().zip(1..).find(|(row, _)| row.0 == self).map_or(0, |(_, number)| number),
+        }
+    }
+
+    /// What is wrong, in a sentence.
+    ///
+    /// ```
+    /// assert_eq!(lgt_linker::Refusal::SlotCount.sentence(), "the table would have more than 1,024 slots");
+    /// ```
+    #[must_use]
+    pub fn sentence(self) -> &'static str {
+        self.row().map_or("a refusal that this version of lgt-linker does not know", |row| row.1)
+    }
+
+    /// What to mend: the sentence that `docs/REFUSALS.md` has for the number.
+    ///
+    /// ```
+    /// assert!(lgt_linker::Refusal::NoRoom.mend().starts_with("Lend more memory"));
+    /// ```
+    #[must_use]
+    pub fn mend(self) -> &'static str {
+        self.row().map_or("See docs/REFUSALS.md of the library's version.", |row| row.2)
+    }
+
+    fn row(self) -> Option<&'static (Refusal, &'static str, &'static str)> {
+        REFUSALS.iter().find(|row| row.0 == self)
+    }
+}
+
+impl fmt::Display for Refusal {
+    fn fmt(&self, f: &mut fmt::Formatter<'_>) -> fmt::Result {
+        write!(f, "refusal {}: {}", self.number(), self.sentence())
+    }
+}
+
+impl core::error::Error for Refusal {}
+
+/// The answer of an accepted call, or why it was refused.
+pub(crate) fn accepted<T>(row: u32, answer: T) -> Result<T, Refusal> {
+    Refusal::of(row).map_or(Ok(answer), Err)
+}

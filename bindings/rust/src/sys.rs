@@ -1,0 +1,36 @@
+//! The exported functions, as `include/lgt_linker.h` declares them.
+
+unsafe extern "C" {
+    pub fn lgt_read_class_sheet(bytes: *const u8, bytes_len: usize, words: *mut u32, words_len: usize, answer: *mut [u32; 1]) -> u32;
+
+    pub fn lgt_read_abi_sheet(bytes: *const u8, bytes_len: usize, words: *mut u32, words_len: usize, answer: *mut [u32; 1]) -> u32;
+
+    pub fn lgt_link(
+        set: *mut u32,
+        set_len: usize,
+        abi: *const u32,
+        abi_len: usize,
+        class: u32,
+        area: *mut u32,
+        area_len: usize,
+        stubs: *const u32,
+        stubs_len: usize,
+        answer: *mut [u32; 2],
+    ) -> u32;
+
+    pub fn lgt_interface_dispatch_table(
+        set: *const u32,
+        set_len: usize,
+        abi: *const u32,
+        abi_len: usize,
+        class: u32,
+        interface: u32,
+        area: *mut u32,
+        area_len: usize,
+        stubs: *const u32,
+        stubs_len: usize,
+        answer: *mut [u32; 2],
+    ) -> u32;
+
+    pub fn lgt_argument_words(descriptor: *const u8, descriptor_len: usize, flags: u32, answer: *mut [u64; 1]) -> u32;
+}
