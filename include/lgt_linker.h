@@ -71,6 +71,10 @@
 #define LGT_REFUSED_SECTION_FULL 14u
 /* too few stub words, free words of the area, or class words */
 #define LGT_REFUSED_NO_ROOM 15u
+/* a set that cannot be stored: a table place or slot count that is not 0, or a byte that is not 0 after the text in its last word */
+#define LGT_REFUSED_NOT_STORABLE 17u
+/* fewer bytes lent than the blocks of the sheet take */
+#define LGT_REFUSED_SHEET_ROOM 18u
 
 /*
  * ---- Memory to lend
@@ -78,6 +82,9 @@
 
 /* Words that hold the blocks of every class sheet, and every set after any links. */
 #define LGT_CLASS_WORDS 11684
+
+/* Bytes that hold every class sheet: 92 blocks. */
+#define LGT_CLASS_BYTES 47104
 
 /* Words that hold the blocks of every ABI sheet. */
 #define LGT_ABI_WORDS 6477
@@ -228,9 +235,9 @@ static inline const char *lgt_refusal_text(uint32_t refusal)
                "again, or make it again from its text form.";
     case LGT_REFUSED_SHEET_COUNTS:
         return "Keep the counts within their limits and the file as short as its content allows, with zeros after the "
-               "content, and store only an unlinked set: every table place and slot count 0. A link or an interface "
-               "table asks, of each sheet, only that its counts keep their limits and that the lent words hold all of "
-               "its content: lend as many words as the counts and their sections take.";
+               "content, and store only an unlinked set: every table place and slot count 0. A link, an interface table "
+               "or a write asks, of each sheet, only that its counts keep their limits and that the lent words hold all "
+               "of its content: lend as many words as the counts and their sections take.";
     case LGT_REFUSED_RECORD:
         return "Mend the record named: lists and text parts lie inside their sections, two classes share no method or "
                "field record, names and descriptors have 1 to 255 bytes from 0x21 to 0x7E, a parent comes before its "
@@ -274,6 +281,12 @@ static inline const char *lgt_refusal_text(uint32_t refusal)
     case LGT_REFUSED_NO_IMPLEMENTATION:
         return "The class has no method that implements one of the interface's methods: declare it, not static and not "
                "private, in the class or an ancestor.";
+    case LGT_REFUSED_NOT_STORABLE:
+        return "Store the set as it was before its first link, with every table place and slot count 0, and with zeros "
+               "in the bytes that follow the text in its last word.";
+    case LGT_REFUSED_SHEET_ROOM:
+        return "Lend 512 bytes for each block that the sheet takes, 127 words of content a block: 47,104 bytes are "
+               "enough for every set.";
     default:
         return "This number is not known to the header's version, " LGT_LINKER_VERSION ": see docs/REFUSALS.md of the library's.";
     }
@@ -295,6 +308,17 @@ uint32_t lgt_read_class_sheet(const uint8_t *bytes, size_t bytes_len, uint32_t *
 LGT_MUST_USE
 uint32_t lgt_read_abi_sheet(const uint8_t *bytes, size_t bytes_len, uint32_t *words, size_t words_len,
                             uint32_t answer[1]);
+
+/*
+ * Writes an unlinked set, as read or as the caller has corrected it, as the blocks of a class sheet: what lgt_read_class_sheet
+ * reads back as the same content, the counts and their sections. Of a set as read from a sheet it writes that sheet's bytes.
+ * Answers: answer[0], the number of blocks, as few as hold the content: 1 to LGT_MOST_CLASS_BLOCKS.
+ * Leaves: all LGT_BLOCK_BYTES bytes of each of those blocks written, from the front of `bytes`, every byte after them as it
+ * was. Words after the set's content are not looked at.
+ * Refuses by 3 to 5, 17, 18. LGT_CLASS_BYTES bytes are never refused by 18.
+ */
+LGT_MUST_USE
+uint32_t lgt_write_class_sheet(const uint32_t *set, size_t set_len, uint8_t *bytes, size_t bytes_len, uint32_t answer[1]);
 
 /*
  * Links a class. `set` is the class words as read, or as earlier links left them; `abi` the ABI words. `area` is as the last

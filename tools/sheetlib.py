@@ -1,4 +1,4 @@
-"""Sheets: the two layouts as data, the block form, and a judge of rows 1 to 5.
+"""Sheets: the two layouts as data, the block form, and a judge of rows 1 to 5 and of the writer's rows.
 
 The judge is written from docs/SPECIFICATION.md ("What a call answers", "Sheets") and the
 readings in docs/DECISIONS.md, not from the Rattle code, so that each can show the
@@ -329,6 +329,13 @@ def judge_set(words, abi):
     return min((row for row in rows if row), default=0)
 
 
+def judge_writing(words, room):
+    """Of the writer with `room` bytes lent: (0, blocks), or (row, 0)."""
+    for fault in writing_faults(words, room):
+        return fault.row, 0
+    return 0, len(blocks(content_words(CLASS_SHEET, words))) // BLOCK_BYTES
+
+
 def faults(layout, data, lent):
     """Every fault, row by row: of each row as far as the rows before let it be looked at."""
     yield from row_1(layout, data, lent)
@@ -355,6 +362,32 @@ def word_faults(layout, words):
         yield Fault(3, "content: fits the words", f"the content takes {content_size(layout, counts)} words, and there are {len(words)}")
     else:
         yield from content_faults(sheet)
+
+
+def writing_faults(words, room):
+    """Every fault of class words that are to be written into `room` bytes: "3 to 5 as for a link; 17, after them, if any class has a nonzero
+    table place or slot count or a nonzero byte follows the text in its last word; 18, last, if the lent bytes are too few"."""
+    yield from word_faults(CLASS_SHEET, words)
+    sheet = sheet_of(CLASS_SHEET, words)
+    if sheet is None:
+        return
+    for word in ("table place", "slot count"):
+        for i in range(len(sheet.records["class"])):
+            if sheet.get("class", i, word):
+                yield Fault(17, f"{word}: zero", f"{said(sheet, 'class', i, word)}, and only an unlinked set is written", ("class", i, word))
+    content = content_words(CLASS_SHEET, words)
+    text = b"".join(word.to_bytes(4, "little") for word in content)[4 * section_start(CLASS_SHEET, sheet.counts(), "text"):]
+    for i in range(len(sheet.text), len(text)):
+        if text[i]:
+            yield Fault(17, "bytes after the text: zero", f"byte {i - len(sheet.text)} after the text in its last word is {text[i]}, not 0")
+    need = len(blocks(content))
+    if room < need:
+        yield Fault(18, "lent bytes: enough", f"{room} bytes are lent, and {need // BLOCK_BYTES} blocks take {need}")
+
+
+def content_words(layout, words):
+    """The counts and the sections that they ask for, without what follows them."""
+    return words[:content_size(layout, words[:len(layout.sections) + 1])]
 
 
 def content_faults(sheet):
@@ -576,6 +609,11 @@ def link_clauses(layout):
     if layout is CLASS_SHEET:
         out.append((4, "class linked slot count: at most 1024"))
     return out
+
+
+def writing_clauses():
+    """Each clause that the writer alone can answer."""
+    return [(17, "table place: zero"), (17, "slot count: zero"), (17, "bytes after the text: zero"), (18, "lent bytes: enough")]
 
 
 def count_clauses(layout):

@@ -26,8 +26,13 @@ cover = {}  # (layout name, row, clause) -> ([refused], [accepted])
 
 def lent_words(name):
     """How many words the program lends for a file of this name."""
+    return lent_number(name, layout_of(name).most_words())
+
+
+def lent_number(name, otherwise):
+    """The number after `-lent-` in a file's name."""
     told = re.search(r"-lent-(\d+)\.bin$", name)
-    return int(told.group(1)) if told else layout_of(name).most_words()
+    return int(told.group(1)) if told else otherwise
 
 
 def record(name, data):

@@ -66,12 +66,14 @@ class Header(unittest.TestCase):
             self.assertEqual(numbers[f"LGT_{abi}SET_COUNTS"], len(layout.sections) + 1)
             self.assertEqual(numbers[f"LGT_MOST_{kind}_BLOCKS"], layout.most_blocks)
             self.assertEqual(numbers[f"LGT_{kind}_WORDS"], layout.most_words())
+            if layout is CLASS_SHEET:
+                self.assertEqual(numbers["LGT_CLASS_BYTES"], layout.most_blocks * BLOCK_BYTES)
             self.assertEqual(numbers["LGT_MOST_TEXT_BYTES"], layout.text_limit)
 
     def record(self, prefix, section):
         words = [self.SHORTER.get(word, word).upper().replace(" ", "_") for word in section.words]
         expected = {f"LGT_{prefix}_{word}": at for at, word in enumerate(words)} | {f"LGT_{prefix}_RECORD": len(words)}
-        found = {name: value for name, value in self.numbers.items() if re.match(rf"LGT_{prefix}_(?!WORDS$)", name)}
+        found = {name: value for name, value in self.numbers.items() if re.match(rf"LGT_{prefix}_(?!(WORDS|BYTES)$)", name)}
         self.assertEqual(found, expected)
 
     def test_limits(self):
@@ -191,6 +193,18 @@ class Bindings(unittest.TestCase):
     def cargo(self, *words, archive=None, **more):
         environment = dict(os.environ, LGT_LINKER_ARCHIVE=archive or self.archive, **more)
         return run("cargo", *words, cwd=CRATE, env=environment)
+
+    def test_functions(self):
+        """The archive has the functions that the header declares, the crate declares the same, and each has a safe function of its name."""
+        declared = sorted(re.findall(r"^uint32_t (lgt_\w+)\(", contents("include", "lgt_linker.h"), re.M))
+        self.assertGreaterEqual(len(declared), 6)
+        self.assertEqual(sorted(re.findall(r"pub fn (lgt_\w+)\(", contents(CRATE, "src", "sys.rs"))), declared)
+        safe = re.findall(r"^pub fn (\w+)\(", contents(CRATE, "src", "calls.rs"), re.M)
+        self.assertEqual(sorted("lgt_" + name for name in safe), declared)
+        if shutil.which("nm"):
+            status, out, err = run("nm", "-g", "--defined-only", self.archive)
+            self.assertEqual(status, 0, err)
+            self.assertEqual(sorted(re.findall(r" T (lgt_\w+)$", out, re.M)), declared)
 
     def test_emulator(self):
         """The emulator example, whose own assertions hold each call to the method that it must run, prints what is stored."""

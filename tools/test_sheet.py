@@ -244,6 +244,24 @@ class OpenPoints(unittest.TestCase):
                                        (self.one(kind=3).words(), abi[:-1], 3), ([], row_4, 3), ([], [], 3)):
             self.assertEqual(judge_set(words, abi_words), want)
 
+    def test_writing(self):
+        """The writer's rows come after those of a link: 3, 4, 5, 17, 18."""
+        rows = sheetlib.judge_writing
+        one = self.one().words()
+        self.assertEqual(one, [1, 0, 0, 0, 0, 1, 0, 1, 0, 1] + [0] * 13 + [65])
+        self.assertEqual(rows(one, 512), (0, 1))
+        self.assertEqual(blocks(one)[508:], (70).to_bytes(4, "little"))
+        self.assertEqual(rows(one + [7, 7], 512), (0, 1))
+        self.assertEqual(rows([0] * 5, 512), (3, 0))
+        for words, room, want in ((dict(table_place=1, kind=3), 512, 4), (dict(table_place=1, slot_count=1025), 512, 4),
+                                  (dict(table_place=1), 0, 17), (dict(slot_count=1), 512, 17), ({}, 511, 18)):
+            self.assertEqual(rows(self.one(**words).words(), room), (want, 0))
+        self.assertEqual(rows(one[:-1] + [0x0141], 512), (17, 0))
+        self.assertEqual(rows([0] * 6, 511), (18, 0))
+        self.assertEqual(rows([0] * 6, 512), (0, 1))
+        for size, room, want in ((127, 512, (0, 1)), (128, 1023, (18, 0)), (128, 1024, (0, 2))):
+            self.assertEqual(rows(sheetvectors.text_only(CLASS_SHEET, 4 * (size - 6)).words(), room), want)
+
     def test_linked_slot_count(self):
         """At most 1,024 where the class is linked; any number where it is not."""
         for place, slots, want in ((0, 1025, 0), (1, 1024, 0), (1, 1025, 4), (0, TOP, 0)):
@@ -253,7 +271,7 @@ class OpenPoints(unittest.TestCase):
     def test_what_is_written(self):
         """127 words a block are written, and the rest of the lent words stays."""
         self.assertEqual(judge(CLASS_SHEET, Sheet(CLASS_SHEET).blocks(), 128), (0, 127))
-        self.assertEqual(vectors.answer("class-x-lent-128.bin", Sheet(CLASS_SHEET).blocks()), "class-x-lent-128.bin accepted 127 896")
+        self.assertEqual(vectors.answer("class-x-lent-128.bin", Sheet(CLASS_SHEET).blocks()), "class-x-lent-128.bin accepted 127 896 written 1 same")
         self.assertEqual(vectors.answer("abi-x-lent-126.bin", Sheet(ABI_SHEET).blocks()), f"abi-x-lent-126.bin refused 1 {7 * 126 * 127 // 2}")
 
     def test_after_the_content(self):
@@ -365,10 +383,17 @@ class Vectors(unittest.TestCase):
         """The lines of the three kinds of files; a path's last part tells the kind."""
         words, abi = sheetvectors.CLASSES.words(), sheetvectors.ABI.words()
         self.assertEqual(setvectors.parted(setvectors.joined(words, abi)), (words, abi))
-        for path, data, want in (("x/set-1", setvectors.joined(words, abi), "set 0"), ("set-1", setvectors.joined(words, []), "set 3"),
+        for path, data, want in (("x/set-1-lent-3.bin", setvectors.joined(words, abi), "set 0 unwritten 18 42"),
+                                 ("set-1-lent-513.bin", setvectors.joined([0] * 6, []), f"set 3 written 1 {509 + 7 * 513}"),
                                  ("x/args-1", b"\x08\0\0\0(IJ)V", "words 3"), ("args-1", b"\x01\0\0\0(IJ)V", "words 4"),
                                  ("args-1", b"\0\0\0\0(V)V", "refused 5"), ("args-1", b"", "refused 5")):
             self.assertEqual(vectors.answer(path, data), f"{path} {want}")
+
+    def test_weighed_rest(self):
+        """Lent memory after the words given holds 7s."""
+        self.assertEqual(vectors.weighed([5], 3), vectors.weighed([5, 7, 7]))
+        self.assertEqual(vectors.weighed([], 3), vectors.weighed([7, 7, 7]))
+        self.assertEqual(vectors.weighed([1, 2, 3], 2), vectors.weighed([1, 2, 3]))
 
     def test_weighed(self):
         """The check of lent memory tells the words' order."""
@@ -571,9 +596,10 @@ abi.txt: 5 faults, nothing was written (--anyway writes it)
         told = (f"class 2 refused 11\n  To mend: {table['11']}\nabi refused 3\n  To mend: {table['3']}\n"
                 "Which method, field or slot each of these is about: ./why FOLDER\n")
         self.assertEqual(sheet("explain", given=listing), (0, told, ""))
-        status, out, err = sheet("explain", "17")
-        self.assertEqual((status, out), (2, ""))
-        self.assertIn("no refusal has the number 17", err)
+        for number in ("0", str(max(map(int, table)) + 1)):
+            status, out, err = sheet("explain", number)
+            self.assertEqual((status, out), (2, ""))
+            self.assertIn(f"no refusal has the number {number}", err)
         status, out, err = sheet("explain", given="class 1 A words 0 slots 0\n")
         self.assertEqual((status, out), (0, ""))
         self.assertIn("nothing is refused", err)
@@ -585,7 +611,7 @@ abi.txt: 5 faults, nothing was written (--anyway writes it)
     def test_messages(self):
         """Each row of both sheets: the number, the place and the sentence of docs/REFUSALS.md."""
         table = self.table()
-        self.assertEqual(sorted(map(int, table)), list(range(1, 17)))
+        self.assertEqual(sorted(map(int, table)), list(range(1, 19)))
         for name, place in (
                 ("class-r1-513-bytes", "the file has 513 bytes"), ("abi-r1-no-bytes", "the file is empty"),
                 ("class-r2-check-of-block-2", "block 2: the check word at byte 1020 of the file"),

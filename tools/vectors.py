@@ -1,9 +1,9 @@
 #!/usr/bin/env python3
 """Makes the vectors of the program `judge` and the answers that it must print.
 
-The vectors are those of sheetvectors.py (sheets to read) and setvectors.py (words already
-read, and descriptors whose argument words are counted). The judge of sheetlib.py, written from
-docs/SPECIFICATION.md, gives the answers.
+The vectors are those of sheetvectors.py (sheets to read), setvectors.py (words already
+read, and descriptors whose argument words are counted) and writevectors.py (sets to write).
+The judge of sheetlib.py, written from docs/SPECIFICATION.md, gives the answers.
 """
 
 import argparse
@@ -16,11 +16,13 @@ sys.path.insert(0, os.path.dirname(os.path.realpath(__file__)))
 
 import setvectors  # noqa: E402
 import sheetvectors  # noqa: E402
+import writevectors  # noqa: E402
 from sheetlib import (  # noqa: E402
-    ABI_SHEET, CLASS_SHEET, WORD, argument_words, block_words, clauses, judge, judge_set, layout_of, link_clauses)
+    ABI_SHEET, BLOCK_BYTES, CLASS_SHEET, WORD, argument_words, block_words, blocks, clauses, content_words, judge, judge_set, judge_writing,
+    layout_of, link_clauses, writing_clauses)
 
 CRATE = os.path.join(os.path.dirname(os.path.realpath(__file__)), "..", "crates", "judge")
-FILL = 7  # what every lent word holds before the call
+FILL = 7  # what every lent word or byte holds before the call
 
 vectors = {}  # file name -> bytes
 
@@ -28,30 +30,48 @@ vectors = {}  # file name -> bytes
 def make_all():
     sheetvectors.make()
     setvectors.make()
-    vectors.update(sheetvectors.vectors)
-    vectors.update(setvectors.vectors)
+    writevectors.make()
+    for module in (sheetvectors, setvectors):
+        vectors.update(module.vectors)
 
 
 # ---- what the program prints
 
-def weighed(words):
-    """The program's check of lent memory: each word times its place from 1, summed modulo 2^32."""
-    return sum(place * word for place, word in enumerate(words, 1)) % WORD
+def weighed(words, lent=0):
+    """The program's check of lent memory: each word times its place from 1, summed modulo 2^32. After the words 7s, up to those lent."""
+    n, more = len(words), max(len(words), lent)
+    return (sum(place * word for place, word in enumerate(words, 1)) + FILL * (more * (more + 1) - n * (n + 1)) // 2) % WORD
 
 
 def answer(path, data):
     """The line that the program prints for a file."""
     name = path.split("/")[-1]
     if name.startswith("set"):
-        return f"{path} set {judge_set(*setvectors.parted(data))}"
+        words, abi = setvectors.parted(data)
+        return f"{path} set {judge_set(words, abi)} {writing(words, writevectors.lent_bytes(name))}"
     if name.startswith("args"):
         row, words = argument_words(data[4:], int.from_bytes(data[:4], "little"))
         return f"{path} refused {row}" if row else f"{path} words {words}"
     lent = sheetvectors.lent_words(name)
     row, words = judge(layout_of(name), data, lent)
     if row:
-        return f"{path} refused {row} {weighed([FILL] * lent)}"
-    return f"{path} accepted {words} {weighed(block_words(data) + [FILL] * (lent - words))}"
+        return f"{path} refused {row} {weighed([], lent)}"
+    line = f"{path} accepted {words} {weighed(block_words(data), lent)}"
+    return f"{line} {back(data)}" if layout_of(name) is CLASS_SHEET else line
+
+
+def writing(words, lent):
+    """What the writer answers to class words with bytes lent, and its check of these."""
+    row, count = judge_writing(words, lent)
+    if row:
+        return f"unwritten {row} {weighed([], lent)}"
+    return f"written {count} {weighed(blocks(content_words(CLASS_SHEET, words)), lent)}"
+
+
+def back(data):
+    """What the program says of an accepted class sheet that it writes back: the blocks, and whether they are the same."""
+    made = blocks(content_words(CLASS_SHEET, block_words(data)))
+    return f"written {len(made) // BLOCK_BYTES} {'same' if made == data else 'other'}"
 
 
 # ---- the stored files
@@ -96,12 +116,14 @@ def store(made):
 # ---- which vectors show each clause
 
 def covered():
-    """Each clause, of a reading and of a link, with its refused vectors and their accepted neighbours."""
+    """Each clause, of a reading, of a link and of the writer, with its refused vectors and their accepted neighbours."""
     for title, listed, cover in (("reading", clauses, sheetvectors.cover), ("link", link_clauses, setvectors.cover)):
         for layout in (CLASS_SHEET, ABI_SHEET):
             for row, clause in listed(layout):
                 bad, good = cover.get((layout.name, row, clause), ([], []))
                 yield f"{title}, {layout.name} row {row}: {clause}", bad, good
+    for row, clause in writing_clauses():
+        yield f"writing, row {row}: {clause}", *writevectors.cover.get(("class", row, clause), ([], []))
 
 
 def table():

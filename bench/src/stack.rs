@@ -19,8 +19,14 @@ const SIZE: usize = 1 << 20;
 const PAINT: u8 = 0xA5;
 
 /// The exported functions, in the order of `Painted`'s stacks.
-const FUNCTIONS: [&str; 5] =
-    ["lgt_read_class_sheet", "lgt_read_abi_sheet", "lgt_link", "lgt_interface_dispatch_table", "lgt_argument_words"];
+const FUNCTIONS: [&str; 6] = [
+    "lgt_read_class_sheet",
+    "lgt_read_abi_sheet",
+    "lgt_link",
+    "lgt_interface_dispatch_table",
+    "lgt_argument_words",
+    "lgt_write_class_sheet",
+];
 
 /// A stack whose touched bytes show.
 struct Stack(Pages);
@@ -100,6 +106,10 @@ impl Linker for Painted {
 
     fn argument_words(&mut self, descriptor: &[u8], flags: u32) -> Answer {
         self.stacks[4].run(|| self.library.argument_words(descriptor, flags))
+    }
+
+    fn write_class_sheet(&mut self, set: &[u32], bytes: &mut [u8]) -> Answer {
+        self.stacks[5].run(|| self.library.write_class_sheet(set, bytes))
     }
 }
 

@@ -1,11 +1,14 @@
 //! The library's functions over lent slices. They allocate nothing.
 
-use crate::layout::{ABI_BLOCKS, BLOCK_WORDS, CLASS_BLOCKS};
+use crate::layout::{ABI_BLOCKS, BLOCK_BYTES, BLOCK_WORDS, CLASS_BLOCKS};
 use crate::refusal::{Refusal, accepted};
 use crate::sys;
 
 /// Words that hold every class sheet, and every set after any links.
 pub const CLASS_WORDS: usize = CLASS_BLOCKS * BLOCK_WORDS;
+
+/// Bytes that hold every class sheet.
+pub const CLASS_BYTES: usize = CLASS_BLOCKS * BLOCK_BYTES;
 
 /// Words that hold every ABI sheet.
 pub const ABI_WORDS: usize = ABI_BLOCKS * BLOCK_WORDS;
@@ -64,6 +67,33 @@ pub fn read_abi_sheet(bytes: &[u8], words: &mut [u32]) -> Result<u32, Refusal> {
     let mut answer = [0];
     // SAFETY: as in `read_class_sheet`.
     let row = unsafe { sys::lgt_read_abi_sheet(bytes.as_ptr(), bytes.len(), words.as_mut_ptr(), words.len(), &mut answer) };
+    accepted(row, answer[0])
+}
+
+/// Writes an unlinked set as the blocks of a class sheet, as few as hold its content, and answers how many they are, 512 bytes each. The
+/// bytes after them stay as they were; [`read_class_sheet`] gives the same content back.
+///
+/// # Errors
+///
+/// Refusals 3 to 5 as of a link, 17 where a class is linked or a byte behind the text is not 0, then 18: too few bytes are lent, which
+/// [`CLASS_BYTES`] never are. The bytes are then as they were.
+///
+/// ```
+/// # use lgt_linker::*;
+/// let stored = std::fs::read("../../examples/card/classes.bin").unwrap();
+/// let mut set = [0; CLASS_WORDS];
+/// read_class_sheet(&stored, &mut set)?;
+/// let mut bytes = [7; CLASS_BYTES];
+/// assert_eq!(write_class_sheet(&set, &mut bytes), Ok(1));
+/// assert_eq!(bytes[..512], stored);
+/// assert_eq!(bytes[512..], [7; CLASS_BYTES - 512]);
+/// assert_eq!(write_class_sheet(&set, &mut bytes[..511]), Err(Refusal::SheetRoom));
+/// # Ok::<(), Refusal>(())
+/// ```
+pub fn write_class_sheet(set: &[u32], bytes: &mut [u8]) -> Result<u32, Refusal> {
+    let mut answer = [0];
+    // SAFETY: both slices are whole, the written one is lent exclusively, and the answer has its word.
+    let row = unsafe { sys::lgt_write_class_sheet(set.as_ptr(), set.len(), bytes.as_mut_ptr(), bytes.len(), &mut answer) };
     accepted(row, answer[0])
 }
 

@@ -46,6 +46,19 @@ pub mod set {
     pub const WIDTHS: [usize; COUNTS - 1] = [super::class::WIDTH, super::member::WIDTH, super::member::WIDTH, 1, 1];
     /// The most elements of each section.
     pub const LIMITS: [usize; COUNTS] = [64, 512, 512, 256, 2048, 8192];
+
+    /// Where the text begins in a set's words, whose counts are all there: it is the last section, four bytes a word, lowest first.
+    ///
+    /// ```
+    /// use lgt_linker::{ClassSet, layout::set};
+    /// let set = ClassSet::read(&std::fs::read("../../examples/card/classes.bin").unwrap())?;
+    /// assert_eq!(set.words()[set::text(set.words())].to_le_bytes(), *b"Card");
+    /// # Ok::<(), lgt_linker::Refusal>(())
+    /// ```
+    #[must_use]
+    pub fn text(words: &[u32]) -> usize {
+        COUNTS + WIDTHS.iter().zip(words).map(|(width, &count)| width * count as usize).sum::<usize>()
+    }
 }
 
 /// The words of a class record.

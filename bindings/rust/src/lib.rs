@@ -1,8 +1,8 @@
 //! The proved class linker of Dautzeki, for Rust programs.
 //!
-//! Two ways to use it. Lend memory yourself: [`read_class_sheet`], [`read_abi_sheet`], [`link`], [`interface_dispatch_table`] and
-//! [`argument_words`] take slices and allocate nothing; [`layout`] names their words. Or let [`ClassSet`], [`AbiSheet`] and [`Area`] own
-//! it, read from sheets or made of Rust values by [`SetBuilder`] and [`AbiBuilder`]:
+//! Two ways to use it. Lend memory yourself: [`read_class_sheet`], [`read_abi_sheet`], [`write_class_sheet`], [`link`],
+//! [`interface_dispatch_table`] and [`argument_words`] take slices and allocate nothing; [`layout`] names their words. Or let
+//! [`ClassSet`], [`AbiSheet`] and [`Area`] own it, read from sheets or made of Rust values by [`SetBuilder`] and [`AbiBuilder`]:
 //!
 //! ```
 //! use lgt_linker::{AbiBuilder, Area, ClassBuilder, SetBuilder};
@@ -49,7 +49,10 @@ mod sys;
 mod view;
 
 pub use build::{AbiBuilder, AbiClassBuilder, BuildError, ClassBuilder, SetBuilder};
-pub use calls::{ABI_WORDS, Asked, CLASS_WORDS, Linked, argument_words, interface_dispatch_table, link, read_abi_sheet, read_class_sheet};
+pub use calls::{
+    ABI_WORDS, Asked, CLASS_BYTES, CLASS_WORDS, Linked, argument_words, interface_dispatch_table, link, read_abi_sheet, read_class_sheet,
+    write_class_sheet,
+};
 pub use refusal::Refusal;
 pub use set::{AbiSheet, Area, ClassSet};
 pub use view::{AbiClass, AbiRow, Class, Field, Kind, Method, Slot};

@@ -50,111 +50,152 @@ pub enum Refusal {
     NoRoom,
     /// 16: an interface method has no implementation
     NoImplementation,
+    /// 17: a set that cannot be stored: linked, or with something behind its text
+    NotStorable,
+    /// 18: too few bytes lent for the sheet
+    SheetRoom,
     /// A number that this version of the crate has no name for, as an archive of a later version may answer; [`Refusal::of`] makes it.
     Unknown(u32),
 }
 
-/// The refusals that have a name, in the order of their numbers, each with what is wrong and what to mend.
-const REFUSALS: [(Refusal, &str, &str); 16] = [
-    (
-        Refusal::SheetSize,
-        "the sheet's size is not that of 1 to 92 (ABI: 51) whole blocks of 512 bytes, or fewer than 127 words a block were lent",
-        "Fetch the file again whole: a sheet is at least one block of 512 bytes, has no part of a block, and at most 92 blocks (class \
+/// A refusal that has a name: its number, what is wrong and what to mend.
+struct Row {
+    number: u32,
+    refusal: Refusal,
+    wrong: &'static str,
+    mend: &'static str,
+}
+
+/// The refusals that have a name. Numbers may be left out: `of` and `number` look for them.
+const REFUSALS: &[Row] = &[
+    Row {
+        number: 1,
+        refusal: Refusal::SheetSize,
+        wrong: "the sheet's size is not that of 1 to 92 (ABI: 51) whole blocks of 512 bytes, or fewer than 127 words a block were lent",
+        mend: "Fetch the file again whole: a sheet is at least one block of 512 bytes, has no part of a block, and at most 92 blocks (class \
          sheet) or 51 (ABI sheet). A caller lends at least 127 words for each block.",
-    ),
-    (
-        Refusal::BlockCheck,
-        "a block's check word does not fit its content: the file was damaged or changed",
-        "The file was damaged or changed by hand, as a block's check word does not fit its content: fetch it again, or make it again \
+    },
+    Row {
+        number: 2,
+        refusal: Refusal::BlockCheck,
+        wrong: "a block's check word does not fit its content: the file was damaged or changed",
+        mend: "The file was damaged or changed by hand, as a block's check word does not fit its content: fetch it again, or make it again \
          from its text form.",
-    ),
-    (
-        Refusal::SheetCounts,
-        "a count is above its limit, the content does not fit, or something follows it that should be zero",
-        "Keep the counts within their limits and the file as short as its content allows, with zeros after the content, and store \
-         only an unlinked set: every table place and slot count 0. A link or an interface table asks, of each sheet, only that its \
-         counts keep their limits and that the lent words hold all of its content: lend as many words as the counts and their \
-         sections take.",
-    ),
-    (
-        Refusal::Record,
-        "a record breaks a rule: a list or name outside its section, a name used twice, a parent after its child, or a number above \
+    },
+    Row {
+        number: 3,
+        refusal: Refusal::SheetCounts,
+        wrong: "a count is above its limit, the content does not fit, or something follows it that should be zero",
+        mend: "Keep the counts within their limits and the file as short as its content allows, with zeros after the content, and store \
+         only an unlinked set: every table place and slot count 0. A link, an interface table or a write asks, of each sheet, only \
+         that its counts keep their limits and that the lent words hold all of its content: lend as many words as the counts and \
+         their sections take.",
+    },
+    Row {
+        number: 4,
+        refusal: Refusal::Record,
+        wrong: "a record breaks a rule: a list or name outside its section, a name used twice, a parent after its child, or a number above \
          its limit",
-        "Mend the record named: lists and text parts lie inside their sections, two classes share no method or field record, names \
+        mend: "Mend the record named: lists and text parts lie inside their sections, two classes share no method or field record, names \
          and descriptors have 1 to 255 bytes from 0x21 to 0x7E, a parent comes before its child, an interface is a class of the \
          sheet, no two classes have one name, and each flag, kind, size and index keeps its limit.",
-    ),
-    (
-        Refusal::Descriptor,
-        "a descriptor is not one of the JVM Specification's",
-        "Write the descriptor as the JVM Specification has it: a field's is one type such as `I`, `[J` or `Ljava/lang/String;`; a \
+    },
+    Row {
+        number: 5,
+        refusal: Refusal::Descriptor,
+        wrong: "a descriptor is not one of the JVM Specification's",
+        mend: "Write the descriptor as the JVM Specification has it: a field's is one type such as `I`, `[J` or `Ljava/lang/String;`; a \
          method's is its parameters in parentheses and then its result, such as `(IJ)V`.",
-    ),
-    (
-        Refusal::Class,
-        "no such class, already linked, its parent not linked yet, or an array class with members or another parent than \
+    },
+    Row {
+        number: 6,
+        refusal: Refusal::Class,
+        wrong: "no such class, already linked, its parent not linked yet, or an array class with members or another parent than \
          java/lang/Object; for an interface table, one of the two is not linked",
-        "Ask for a class that is in the set, from 1 to the number of classes, and not yet linked; link its parent first. An array \
+        mend: "Ask for a class that is in the set, from 1 to the number of classes, and not yet linked; link its parent first. An array \
          class has no methods or fields and the parent `java/lang/Object`. For an interface table, link both classes first.",
-    ),
-    (
-        Refusal::Area,
-        "the area is not as a call left it: word 0, a linked table's end or a list of nodes does not fit",
-        "Lend the area as the last call left it, or a fresh one: word 0 holds the next free place (1 in a fresh area), which is at \
+    },
+    Row {
+        number: 7,
+        refusal: Refusal::Area,
+        wrong: "the area is not as a call left it: word 0, a linked table's end or a list of nodes does not fit",
+        mend: "Lend the area as the last call left it, or a fresh one: word 0 holds the next free place (1 in a fresh area), which is at \
          most the area's length; no linked table and no node of the class's list reaches past it, and the list has at most 64 nodes.",
-    ),
-    (
-        Refusal::GeneratedWords,
-        "a generated class's own instance words exceed its total",
-        "A generated class says too few instance words: raise its total to at least the words that its own instance fields take.",
-    ),
-    (
-        Refusal::GeneratedIndices,
-        "a generated class's field indices are neither all relative nor all absolute",
-        "A generated class's instance fields must all count from 0 (relative) or all from the end of the inherited words (absolute): \
+    },
+    Row {
+        number: 8,
+        refusal: Refusal::GeneratedWords,
+        wrong: "a generated class's own instance words exceed its total",
+        mend: "A generated class says too few instance words: raise its total to at least the words that its own instance fields take.",
+    },
+    Row {
+        number: 9,
+        refusal: Refusal::GeneratedIndices,
+        wrong: "a generated class's field indices are neither all relative nor all absolute",
+        mend: "A generated class's instance fields must all count from 0 (relative) or all from the end of the inherited words (absolute): \
          mend the field indices that do not fit the others.",
-    ),
-    (
-        Refusal::InstanceWords,
-        "the class would have more than 65,535 instance words, or its chain more than 65,535 runtime words",
-        "The class would have more than 65,535 instance words, or its chain more than 65,535 runtime words: take fields out of the \
+    },
+    Row {
+        number: 10,
+        refusal: Refusal::InstanceWords,
+        wrong: "the class would have more than 65,535 instance words, or its chain more than 65,535 runtime words",
+        mend: "The class would have more than 65,535 instance words, or its chain more than 65,535 runtime words: take fields out of the \
          class or its ancestors.",
-    ),
-    (
-        Refusal::MovedSlot,
-        "the ABI fixes another index for a method than the one that the class inherits",
-        "The ABI sheet fixes another index for this method than the one that the class inherits: give both the same index, or drop \
+    },
+    Row {
+        number: 11,
+        refusal: Refusal::MovedSlot,
+        wrong: "the ABI fixes another index for a method than the one that the class inherits",
+        mend: "The ABI sheet fixes another index for this method than the one that the class inherits: give both the same index, or drop \
          the ABI entry.",
-    ),
-    (
-        Refusal::TakenSlot,
-        "the ABI fixes a slot for a method that another method holds",
-        "The ABI sheet fixes for this method a slot that another method already holds: give one of the two another index.",
-    ),
-    (
-        Refusal::SlotCount,
-        "the table would have more than 1,024 slots",
-        "The table would have more than 1,024 slots: take methods out of the class or its ancestors, or lower the ABI's indices or \
+    },
+    Row {
+        number: 12,
+        refusal: Refusal::TakenSlot,
+        wrong: "the ABI fixes a slot for a method that another method holds",
+        mend: "The ABI sheet fixes for this method a slot that another method already holds: give one of the two another index.",
+    },
+    Row {
+        number: 13,
+        refusal: Refusal::SlotCount,
+        wrong: "the table would have more than 1,024 slots",
+        mend: "The table would have more than 1,024 slots: take methods out of the class or its ancestors, or lower the ABI's indices or \
          table size.",
-    ),
-    (
-        Refusal::SectionFull,
-        "what linking adds exceeds 512 methods, 512 fields or 8,192 text bytes",
-        "The methods, fields or names that linking adds do not fit: a set holds at most 512 methods, 512 fields and 8,192 text bytes. \
+    },
+    Row {
+        number: 14,
+        refusal: Refusal::SectionFull,
+        wrong: "what linking adds exceeds 512 methods, 512 fields or 8,192 text bytes",
+        mend: "The methods, fields or names that linking adds do not fit: a set holds at most 512 methods, 512 fields and 8,192 text bytes. \
          Take some out of the set or of the ABI sheet.",
-    ),
-    (
-        Refusal::NoRoom,
-        "too few stubs, free area words or class words were lent",
-        "Lend more memory: a stub word for each slot of the table, free words in the area for the table and two more, and class words \
+    },
+    Row {
+        number: 15,
+        refusal: Refusal::NoRoom,
+        wrong: "too few stubs, free area words or class words were lent",
+        mend: "Lend more memory: a stub word for each slot of the table, free words in the area for the table and two more, and class words \
          for the sections that grow.",
-    ),
-    (
-        Refusal::NoImplementation,
-        "the class has no method that implements one of the interface's",
-        "The class has no method that implements one of the interface's methods: declare it, not static and not private, in the class \
+    },
+    Row {
+        number: 16,
+        refusal: Refusal::NoImplementation,
+        wrong: "the class has no method that implements one of the interface's",
+        mend: "The class has no method that implements one of the interface's methods: declare it, not static and not private, in the class \
          or an ancestor.",
-    ),
+    },
+    Row {
+        number: 17,
+        refusal: Refusal::NotStorable,
+        wrong: "a class of the set is linked, or a byte after the text in its last word is not 0",
+        mend: "Store the set as it was before its first link, with every table place and slot count 0, and with zeros in the bytes that \
+         follow the text in its last word.",
+    },
+    Row {
+        number: 18,
+        refusal: Refusal::SheetRoom,
+        wrong: "fewer bytes were lent than the sheet's blocks take",
+        mend: "Lend 512 bytes for each block that the sheet takes, 127 words of content a block: 47,104 bytes are enough for every set.",
+    },
 ];
 
 impl Refusal {
@@ -168,8 +209,10 @@ impl Refusal {
     /// ```
     #[must_use]
     pub fn of(number: u32) -> Option<Refusal> {
-        let place = (number as usize).checked_sub(1)?;
-        Some(REFUSALS.get(place).map_or(Refusal::Unknown(number), |row| row.0))
+        match number {
+            0 => None,
+            _ => Some(REFUSALS.iter().find(|row| row.number == number).map_or(Refusal::Unknown(number), |row| row.refusal)),
+        }
     }
 
     /// The row's number in the table.
@@ -181,7 +224,7 @@ impl Refusal {
     pub fn number(self) -> u32 {
         match self {
             Refusal::Unknown(number) => number,
-            _ => REFUSALS.iter().zip(1..).find(|(row, _)| row.0 == self).map_or(0, |(_, number)| number),
+            _ => self.row().map_or(0, |row| row.number),
         }
     }
 
@@ -192,7 +235,7 @@ impl Refusal {
     /// ```
     #[must_use]
     pub fn sentence(self) -> &'static str {
-        self.row().map_or("a refusal that this version of lgt-linker does not know", |row| row.1)
+        self.row().map_or("a refusal that this version of lgt-linker does not know", |row| row.wrong)
     }
 
     /// What to mend: the sentence that `docs/REFUSALS.md` has for the number.
@@ -202,11 +245,11 @@ impl Refusal {
     /// ```
     #[must_use]
     pub fn mend(self) -> &'static str {
-        self.row().map_or("See docs/REFUSALS.md of the library's version.", |row| row.2)
+        self.row().map_or("See docs/REFUSALS.md of the library's version.", |row| row.mend)
     }
 
-    fn row(self) -> Option<&'static (Refusal, &'static str, &'static str)> {
-        REFUSALS.iter().find(|row| row.0 == self)
+    fn row(self) -> Option<&'static Row> {
+        REFUSALS.iter().find(|row| row.refusal == self)
     }
 }
 

@@ -4,8 +4,10 @@ use alloc::vec;
 use alloc::vec::Vec;
 use core::fmt;
 
-use crate::calls::{ABI_WORDS, Asked, CLASS_WORDS, Linked, interface_dispatch_table, link, read_abi_sheet, read_class_sheet};
-use crate::layout::{abi, set};
+use crate::calls::{
+    ABI_WORDS, Asked, CLASS_BYTES, CLASS_WORDS, Linked, interface_dispatch_table, link, read_abi_sheet, read_class_sheet, write_class_sheet,
+};
+use crate::layout::{BLOCK_BYTES, abi, set};
 use crate::refusal::Refusal;
 use crate::view::{AbiClass, Class, Method, Slot};
 
@@ -79,6 +81,52 @@ impl ClassSet {
     pub fn from_words(words: &[u32]) -> Result<ClassSet, Refusal> {
         judged(&mut words.to_vec(), &[0; abi::COUNTS])?;
         Ok(ClassSet { words: owned(words, CLASS_WORDS) })
+    }
+
+    /// The class sheet of a set that no link has changed: the bytes that [`read`](ClassSet::read) gives back as the same set, and of a set
+    /// that was read the very bytes that it was read from.
+    ///
+    /// # Errors
+    ///
+    /// Refusal 17: a class is linked, or the words that the set was [made of](ClassSet::from_words) have something behind their text.
+    ///
+    /// ```
+    /// # use lgt_linker::*;
+    /// let bytes = std::fs::read("../../examples/card/classes.bin").unwrap();
+    /// let mut set = ClassSet::read(&bytes)?;
+    /// assert_eq!(set.write()?, bytes);
+    /// set.link(&AbiBuilder::new().build().unwrap(), 1, &mut Area::fresh(64), &[9; 8])?;
+    /// assert_eq!(set.write(), Err(Refusal::NotStorable));
+    /// # Ok::<(), Refusal>(())
+    /// ```
+    ///
+    /// A name is corrected in the words, whose text comes last: the new name goes to its end, and the class's record says where it is.
+    ///
+    /// ```
+    /// # use lgt_linker::*;
+    /// use lgt_linker::layout::{class, set};
+    ///
+    /// fn rename(words: &mut [u32], number: u32, name: &[u8]) {
+    ///     let (text, end) = (set::text(words), words[set::TEXT] as usize);
+    ///     for (&byte, at) in name.iter().zip(end..) {
+    ///         words[text + at / 4] |= u32::from(byte) << (8 * (at % 4));
+    ///     }
+    ///     words[class::record(number) + class::NAME_START] = end as u32;
+    ///     words[class::record(number) + class::NAME_LENGTH] = name.len() as u32;
+    ///     words[set::TEXT] += name.len() as u32;
+    /// }
+    ///
+    /// let mut words = ClassSet::read(&std::fs::read("../../examples/card/classes.bin").unwrap())?.words().to_vec();
+    /// rename(&mut words, 2, b"GoldCard");
+    /// let stored = ClassSet::from_words(&words)?.write()?;
+    /// assert_eq!(ClassSet::read(&stored)?.class(2).unwrap().name(), "GoldCard");
+    /// # Ok::<(), Refusal>(())
+    /// ```
+    pub fn write(&self) -> Result<Vec<u8>, Refusal> {
+        let mut bytes = vec![0; CLASS_BYTES];
+        let blocks = write_class_sheet(&self.words, &mut bytes)?;
+        bytes.truncate(blocks as usize * BLOCK_BYTES);
+        Ok(bytes)
     }
 
     /// The class words, in the sheet's layout ([`layout`](crate::layout)).

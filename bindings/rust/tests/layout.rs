@@ -46,6 +46,7 @@ fn counts_and_limits() {
     let blocks = ["BLOCK_BYTES", "BLOCK_WORDS", "MOST_CLASS_BLOCKS", "MOST_ABI_BLOCKS", "MOST_SLOTS"].map(defined);
     assert_eq!(blocks, [BLOCK_BYTES, BLOCK_WORDS, CLASS_BLOCKS, ABI_BLOCKS, MOST_SLOTS]);
     assert_eq!([defined("CLASS_WORDS"), defined("ABI_WORDS")], [lgt_linker::CLASS_WORDS, lgt_linker::ABI_WORDS]);
+    assert_eq!(defined("CLASS_BYTES"), lgt_linker::CLASS_BYTES);
     assert!(HEADER.contains(&format!("#define LGT_TABLE_WORDS(slots) ((slots) + {TABLE_EXTRA})")));
     assert!(HEADER.contains(&format!("#define LGT_LINKER_VERSION \"{}\"", lgt_linker::VERSION)));
 }

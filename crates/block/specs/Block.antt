@@ -1,13 +1,20 @@
 -- The block form of a sheet, on lists of bytes and words. Assumes nothing.
 -- "The house form: blocks of 512 bytes, 128 little-endian u32 words. The last word is the sum of the other 127 and the block's
 -- number from 1, modulo 2^32. The 127s run on as one word list."
-use Prim.Native.Nat.{ℕ, zero, suc, _+_, _*_, _/_, _%_, _^_}
+use Prim.Native.Nat.{ℕ, zero, suc, _+_, _*_, _/_, _%_, _^_, _<_}
 use mathlib.Core.Bool.{Bool, cond, _&&_, not}
 use mathlib.Core.List.{List, [], _++_}
-use lib.ListN.{take, drop, length}
+use lib.ListN.{getD, take, drop, length}
 use lib.Dec.{eqb, leb, ltb}
-use Rattle.words.specs.Words.{leWord}
+use Rattle.words.specs.Words.{leWord, byteOf}
 use Rattle.words.specs.Folds.{sumOf, table}
+
+-- words of 32 bits and bytes of 8, as slices have them
+abbrev pub AreWords : List ℕ → Type 0
+AreWords ws = (i : ℕ) → getD ws i 0 < 2 ^ 32
+
+abbrev pub AreBytes : List ℕ → Type 0
+AreBytes bs = (i : ℕ) → getD bs i 0 < 256
 
 -- word j of a block
 unfoldable pub wordOf : List ℕ → ℕ → ℕ
@@ -45,3 +52,32 @@ shapeOk len room limit = not (eqb len 0) && eqb (len % 512) 0 && leb (len / 512)
 -- row 3: "a block count not the least that fits" does not hold: n words, 127 a block, hold the content, and a block less would not
 unfoldable pub leastFit : ℕ → ℕ → Bool
 leastFit end n = leb end n && ltb n (end + 127)
+
+-- ---- writing: blocks made of a word list
+
+-- how many blocks the content takes: the least that fits
+unfoldable pub blocksFor : ℕ → ℕ
+blocksFor end = (end + 126) / 127
+
+-- word j of block k's 127; 0 past the end of the words
+abbrev pub wordIn : List ℕ → ℕ → ℕ → ℕ
+wordIn ws k j = getD ws (127 * k + j) 0
+
+-- "The last word is the sum of the other 127 and the block's number from 1, modulo 2^32."
+unfoldable pub checkWord : List ℕ → ℕ → ℕ
+checkWord ws k = (sumOf 127 (wordIn ws k) + (k + 1)) % 2 ^ 32
+
+unfoldable pub packedWord : List ℕ → ℕ → ℕ → ℕ
+packedWord ws k j = cond (ltb j 127) (wordIn ws k j) (checkWord ws k)
+
+-- the 512 bytes of block k, and those of n blocks one after the other
+unfoldable pub blockByte : List ℕ → ℕ → ℕ → ℕ
+blockByte ws k i = byteOf (packedWord ws k (i / 4)) (i % 4)
+
+unfoldable pub sheetBytes : List ℕ → ℕ → List ℕ
+sheetBytes ws zero = []
+sheetBytes ws (suc n) = sheetBytes ws n ++ table 512 (blockByte ws n)
+
+-- bytes with n blocks in front and the rest as it was, where there is room
+unfoldable pub packedBlocks : List ℕ → ℕ → List ℕ → List ℕ
+packedBlocks ws n bs = cond (ltb (length bs) (512 * n)) bs (sheetBytes ws n ++ drop (512 * n) bs)

@@ -1,9 +1,9 @@
 // The block form of a sheet, rows 1 and 2: blocks of 512 bytes, 128 little-endian words, the last of which checks the other 127.
 ghost use mathlib.Core.Path.{_≡_};
-ghost use Prim.Native.Nat.{_%_, _^_};
+ghost use Prim.Native.Nat.{_%_, _^_, _<_};
 ghost use lib.ListN.{length};
 ghost use Rattle.words.specs.Folds.{sumOf, allOf, stores};
-ghost use Rattle.block.specs.Block.{wordOf, blockCount, checkOk, unpacked, shapeOk};
+ghost use Rattle.block.specs.Block.{wordOf, blockCount, checkOk, unpacked, shapeOk, blocksFor, wordIn, checkWord, packedWord, blockByte, packedBlocks};
 
 // How many whole blocks the bytes are, modulo 2^32.
 pub fn block_count(bytes: &[u8]) -> u32
@@ -89,4 +89,66 @@ pub fn shape_ok(bytes: &[u8], room: usize, limit: u32) -> bool
     let n = len / 512;
     let most = limit as usize;
     (len != 0) & (len % 512 == 0) & (n <= most) & (127 * n <= room)
+}
+
+// How many blocks hold `end` words, modulo 2^32.
+pub fn blocks_for(end: usize) -> u32
+    ensures { λ r. ⌜ r ≡ blocksFor end % 2 ^ 32 ⌝ }
+{
+    ((end / 127 + (end % 127 + 126) / 127) % 4294967296) as u32
+}
+
+// The check word of block k of these words.
+fn check_word(ws: &[u32], k: u32) -> u32
+    ensures { λ r. ⌜ r ≡ checkWord (now (ws .entry)) k ⌝ }
+{
+    let from = 127 * (k as usize);
+    let mut sum: u32 = 0;
+    let mut j: usize = 0;
+    while j < 127 {
+        sum = std::num::wrapping_add_u32(sum, words::word_at(ws, from + j));
+        j += 1;
+    }
+    let number = (((k as u64) + 1) % 4294967296) as u32;
+    std::num::wrapping_add_u32(sum, number)
+}
+
+// Word j of block k of these words, whose check word is this.
+fn packed_word(ws: &[u32], k: u32, check: u32, j: usize) -> u32
+    requires { ⌜ (j < 128) × (check ≡ checkWord (now ws) k) ⌝ }
+    ensures { λ r. ⌜ r ≡ packedWord (now (ws .entry)) k j ⌝ }
+{
+    if j < 127 {
+        return words::word_at(ws, 127 * (k as usize) + j);
+    }
+    check
+}
+
+// Block k of these words.
+fn pack_block(ws: &[u32], k: u32, out: &mut [u8])
+    ensures { λ _. ⌜ now (out .exit) ≡ stores 512 (blockByte (now (ws .entry)) k) (now (out .entry)) ⌝ }
+{
+    let check = check_word(ws, k);
+    let mut i: usize = 0;
+    while i < 512 {
+        let w = packed_word(ws, k, check, i / 4);
+        words::put_byte(out, i, words::byte_of(w, i));
+        i += 1;
+    }
+}
+
+// The first n blocks of these words, one after the other, where there is room for them, and else nothing.
+pub fn pack(ws: &[u32], n: u32, out: &mut [u8])
+    ensures { λ _. ⌜ now (out .exit) ≡ packedBlocks (now (ws .entry)) n (now (out .entry)) ⌝ }
+{
+    if out.len() / 512 < (n as usize) {
+        return;
+    }
+    let mut k: u32 = 0;
+    while k < n {
+        let from = 512 * (k as usize);
+        let end = from + 512;
+        pack_block(ws, k, &mut out[from..end]);
+        k += 1;
+    }
 }

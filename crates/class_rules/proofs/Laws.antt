@@ -15,7 +15,7 @@ use Rattle.text.specs.Text.{numberWord, zeroRest, printable, signatureClean, me
 use Rattle.text.proofs.Laws.{signature-is, member-is}
 use Rattle.class_sheet.specs.ClassSheet.{memberWidth, classLimit, methodLimit, fieldLimit, interfaceLimit, compilerLimit, textLimit, classCount, methodCount, fieldCount, interfaceCount, compilerCount, textLength, methodsAt, fieldsAt, textAt, contentEnd, methodWord, fieldWord}
 use Rattle.class_sheet.proofs.Laws.{Within}
-use Rattle.class_rules.specs.ClassRules.{classLimits, classFits, unlinked, classForm, methodFlagsOk, methodRecord, fieldRecord}
+use Rattle.class_rules.specs.ClassRules.{classLimits, classFits, allUnlinked, classForm, methodFlagsOk, methodRecord, fieldRecord}
 
 module _ (ws : List ℕ) {l : Bool} (limits : l ≡ classLimits ws) where
   pub form-limits : l ≡ false → false ≡ classForm ws
@@ -28,7 +28,7 @@ module _ (ws : List ℕ) {l : Bool} (limits : l ≡ classLimits ws) where
     form-short h = simp (← end, lt-leb e (length ws) h, and-false)
 
     pub form-rest : l ≡ true → e ≤ length ws → {x : ℕ} {z u : Bool} → x ≡ 4 * textAt ws + textLength ws → z ≡ zeroRest ws x
-        → u ≡ allOf (classCount ws) (λ i. unlinked ws (i + 1)) → (ltb (length ws) (e + 127) && z && u) ≡ classForm ws
+        → u ≡ allUnlinked ws → (ltb (length ws) (e + 127) && z && u) ≡ classForm ws
     unfolding classForm leastFit
     form-rest h k f g i = rw (g, i, f) (simp (← limits, h, ← end, le-leb e (length ws) k))
 
@@ -56,8 +56,7 @@ pub formed : (ws : List ℕ) → classForm ws ≡ true → Within ws
 unfolding classForm
 formed ws h =
     limits ws
-    (and-4 (classLimits ws) (leastFit (contentEnd ws) (length ws)) (zeroRest ws (4 * textAt ws + textLength ws))
-    (allOf (classCount ws) (λ i. unlinked ws (i + 1))) h .0)
+    (and-4 (classLimits ws) (leastFit (contentEnd ws) (length ws)) (zeroRest ws (4 * textAt ws + textLength ws)) (allUnlinked ws) h .0)
 
 -- ---- row 4's records, as the code reads them: from their section's beginning on, told whether the text is printable
 

@@ -31,6 +31,10 @@ classFits ws = classLimits ws && leb (contentEnd ws) (length ws)
 unfoldable pub unlinked : List ℕ → ℕ → Bool
 unlinked ws c = eqb (classTablePlace ws c) 0 && eqb (classSlotCount ws c) 0
 
+-- the same of each class
+abbrev pub allUnlinked : List ℕ → Bool
+allUnlinked ws = allOf (classCount ws) (λ i. unlinked ws (i + 1))
+
 -- in a reading, of the words of whole blocks: "a count above its limit, a block count not the least that fits, a nonzero word or byte after the content, or a
 -- nonzero table place or slot count" does not hold
 unfoldable pub classForm : List ℕ → Bool
@@ -38,7 +42,7 @@ classForm ws =
     classLimits ws
     && leastFit (contentEnd ws) (length ws)
     && zeroRest ws (4 * textAt ws + textLength ws)
-    && allOf (classCount ws) (λ i. unlinked ws (i + 1))
+    && allUnlinked ws
 
 -- ---- row 4
 

@@ -4,7 +4,7 @@ ghost use Prim.Native.Nat.{_+_, _<_, _^_};
 ghost use Rattle.words.specs.Folds.{allOf};
 ghost use Rattle.text.specs.Text.{printable};
 ghost use Rattle.class_sheet.specs.ClassSheet.{classCount, methodCount, fieldCount, interfaceCount, methodsAt};
-ghost use Rattle.class_rules.specs.ClassRules.{classLimits, classFits, unlinked, classForm, compilerOk, classNumbers, classLists, classRecord, methodFlagsOk, methodRecord, fieldRecord, interfaceNames, classRecords};
+ghost use Rattle.class_rules.specs.ClassRules.{classLimits, classFits, unlinked, allUnlinked, classForm, compilerOk, classNumbers, classLists, classRecord, methodFlagsOk, methodRecord, fieldRecord, interfaceNames, classRecords};
 
 // The words of a method record, and of a field record.
 const MEMBER_WIDTH: u32 = class_sheet::MEMBER_WIDTH as u32;
@@ -36,8 +36,8 @@ fn is_unlinked(ws: &[u32], c: u32) -> bool
 }
 
 // Whether each class has table place and slot count 0.
-fn all_unlinked(ws: &[u32]) -> bool
-    ensures { λ r. ⌜ r ≡ allOf (classCount (now (ws .entry))) (λ i. unlinked (now (ws .entry)) (i + 1)) ⌝ }
+pub fn all_unlinked(ws: &[u32]) -> bool
+    ensures { λ r. ⌜ r ≡ allUnlinked (now (ws .entry)) ⌝ }
 {
     let n = class_sheet::class_count(ws);
     let mut i: u32 = 0;

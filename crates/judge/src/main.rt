@@ -1,11 +1,14 @@
 // Judges the files that its arguments name, and writes a line for each, by what the file's name starts with:
 // - `set`: words already read, as a link takes them. The file's words are the number of class words, these, then the ABI
-//   words. Written: its name, `set`, and the row of 3 to 5 that refuses or 0.
+//   words. Written: its name, `set`, and the row of 3 to 5 that refuses or 0; then, of the class words written as a sheet,
+//   `written` and the blocks or `unwritten` and the row, and the weighed sum of all lent bytes after the call, each of which
+//   was 7 before it. `-lent-N` before `.bin` in a name has N bytes lent.
 // - `args`: a word of flags, then the bytes of a method descriptor. Written: its name, `words` and the argument words, or
 //   `refused 5`.
 // - `abi`, an ABI sheet, or anything else, a class sheet. Written: its name, `accepted` and the words answered or `refused`
 //   and the row, then the weighed sum of all lent words after the call, each of which was 7 before it. `-lent-N` before
-//   `.bin` in a name has N words lent.
+//   `.bin` in a name has N words lent. An accepted class sheet is then written back into bytes that are 7: `written` and the
+//   blocks or `unwritten` and the row, and `same` where the lent bytes are then the sheet's own and after them 7, else `other`.
 // Of a file its first 131,072 bytes count, more than any sheet has.
 ghost use mathlib.Core.Path.{_≡_};
 ghost use lib.ListN.{length};
@@ -25,6 +28,9 @@ const ABI_WORDS: u32 = abi_sheet::SHEET_WORDS as u32;
 
 // The most that a name can have lent: two blocks of 127 words more than the largest sheet has.
 const MOST_WORDS: u32 = 127 * (class_sheet::BLOCK_LIMIT + 2);
+
+// Lent to the writer where the name says nothing: one block of 512 bytes more than the largest sheet has.
+const MOST_BYTES: u32 = 512 * (class_sheet::BLOCK_LIMIT + 1);
 
 // The place after a path's last slash, or 0 where it has none.
 fn name_place(path: &[u8]) -> usize {
@@ -105,6 +111,16 @@ fn lent_words(name: &[u8]) -> u32 {
     if is_abi(name) { ABI_WORDS } else { CLASS_WORDS }
 }
 
+// How many bytes to lend to the writer for a file of this name.
+fn lent_bytes(name: &[u8]) -> u32 {
+    let place = lent_place(name);
+    if place > 0 {
+        number(part(name, place, name.len()))
+    } else {
+        MOST_BYTES
+    }
+}
+
 // The product modulo 2^32.
 fn product(a: usize, b: u32) -> u32 {
     ((a as u64 % 4294967296) * (b as u64) % 4294967296) as u32
@@ -121,19 +137,44 @@ fn weighed_sum(words: &[u32]) -> u32 {
     total
 }
 
-// Writes ` accepted W ` or ` refused R `.
-fn print_answer(answer: sheet::Read) {
-    match answer {
+// The same sum of bytes.
+fn byte_sum(bytes: &[u8]) -> u32 {
+    let mut total: u32 = 0;
+    let mut i: usize = 0;
+    while i < bytes.len() {
+        total = std::num::wrapping_add_u32(total, product(i + 1, byte_at(bytes, i) as u32));
+        i += 1;
+    }
+    total
+}
+
+// Whether each byte is 7.
+fn is_fresh(bytes: &[u8]) -> bool {
+    let mut fresh = true;
+    let mut i: usize = 0;
+    while i < bytes.len() {
+        fresh = fresh & (byte_at(bytes, i) == 7);
+        i += 1;
+    }
+    fresh
+}
+
+// Writes ` accepted W ` or ` refused R `; answers whether it is accepted.
+fn print_answer(answer: sheet::Read) -> bool {
+    let accepted = match answer {
         sheet::Read::Words(n) => {
             io::write_all(STDOUT_FILENO, b" accepted ");
             io::print_decimal(STDOUT_FILENO, n as u64);
+            true
         }
         sheet::Read::Refused(row) => {
             io::write_all(STDOUT_FILENO, b" refused ");
             io::print_decimal(STDOUT_FILENO, row as u64);
+            false
         }
-    }
+    };
     io::write_all(STDOUT_FILENO, b" ");
+    accepted
 }
 
 // Reads the sheet into the lent words, by the form that its name tells.
@@ -160,14 +201,66 @@ fn read_lent(name: &[u8], bytes: &[u8], words: &mut [u32], n: usize) -> sheet::R
     read_sheet(name, bytes, words)
 }
 
+// The bytes to lend, as they are before the call.
+fn fresh_bytes() -> [u8; 47616]
+    ensures { λ r. ⌜ 47616 ≡ length r ⌝ }
+{
+    [7; 47616]
+}
+
+// Writes ` written N` or ` unwritten R`.
+fn print_written(answer: writer::Written) {
+    match answer {
+        writer::Written::Blocks(n) => {
+            io::write_all(STDOUT_FILENO, b" written ");
+            io::print_decimal(STDOUT_FILENO, n as u64);
+        }
+        writer::Written::Refused(row) => {
+            io::write_all(STDOUT_FILENO, b" unwritten ");
+            io::print_decimal(STDOUT_FILENO, row as u64);
+        }
+    }
+}
+
+// Writes the class words with the first n bytes lent, or all where there are fewer.
+fn write_lent(set: &[u32], out: &mut [u8], n: usize) -> writer::Written {
+    if n < out.len() {
+        return writer::write_class_sheet(set, &mut out[..n]);
+    }
+    writer::write_class_sheet(set, out)
+}
+
+// Writes the class words with n bytes lent, and says what they are then.
+fn print_writing(set: &[u32], n: usize, out: &mut [u8]) {
+    let answer = write_lent(set, out, n);
+    print_written(answer);
+    io::write_all(STDOUT_FILENO, b" ");
+    io::print_decimal(STDOUT_FILENO, byte_sum(part(out, 0, n)) as u64);
+}
+
+// Writes back the class words that were read from the bytes, and says whether all of them came back.
+fn print_back(bytes: &[u8], set: &[u32], out: &mut [u8]) {
+    let n = bytes.len();
+    print_written(writer::write_class_sheet(set, out));
+    if text::same(part(out, 0, n), bytes) & is_fresh(part(out, n, out.len())) {
+        io::write_all(STDOUT_FILENO, b" same");
+    } else {
+        io::write_all(STDOUT_FILENO, b" other");
+    }
+}
+
 // Reads the sheet in bytes, and writes its line.
 fn print_sheet(path: &[u8], name: &[u8], bytes: &[u8], words: &mut [u32]) {
     let n = lent_words(name) as usize;
     let answer = read_lent(name, bytes, words, n);
     let total = weighed_sum(word_part(words, 0, n));
     io::write_all(STDOUT_FILENO, path);
-    print_answer(answer);
+    let accepted = print_answer(answer);
     io::print_decimal(STDOUT_FILENO, total as u64);
+    if accepted & !is_abi(name) {
+        let mut out = fresh_bytes();
+        print_back(bytes, word_part(words, 0, n), &mut out);
+    }
     io::write_all(STDOUT_FILENO, b"\n");
 }
 
@@ -187,20 +280,27 @@ fn load_words(bytes: &[u8], words: &mut [u32]) {
     }
 }
 
-// Judges the class words and the ABI words that stand, after the number of class words, in a file's words.
-fn set_row(words: &[u32]) -> u32 {
-    let n = wide(word_at(words, 0));
-    set_rules::set_refusal(word_part(words, 1, n), word_part(words, 1 + n, words.len()))
-}
-
-// Judges the set in bytes, and writes its line.
-fn print_set(path: &[u8], bytes: &[u8], words: &mut [u32]) {
-    load_words(bytes, words);
-    let row = set_row(word_part(words, 0, bytes.len() / 4));
+// Judges a set, writes it, and writes its line.
+fn print_words_of_set(path: &[u8], name: &[u8], set: &[u32], abi: &[u32]) {
     io::write_all(STDOUT_FILENO, path);
     io::write_all(STDOUT_FILENO, b" set ");
-    io::print_decimal(STDOUT_FILENO, row as u64);
+    io::print_decimal(STDOUT_FILENO, set_rules::set_refusal(set, abi) as u64);
+    let mut out = fresh_bytes();
+    print_writing(set, wide(lent_bytes(name)), &mut out);
     io::write_all(STDOUT_FILENO, b"\n");
+}
+
+// Judges the set in bytes: the class words and the ABI words that stand after the number of class words.
+fn print_set(path: &[u8], name: &[u8], bytes: &[u8], words: &mut [u32]) {
+    load_words(bytes, words);
+    let all = word_part(words, 0, bytes.len() / 4);
+    let n = wide(word_at(all, 0));
+    print_words_of_set(
+        path,
+        name,
+        word_part(all, 1, n),
+        word_part(all, 1 + n, all.len()),
+    );
 }
 
 // Writes ` words N` or ` refused 5`.
@@ -226,7 +326,7 @@ fn print_line(path: &[u8], bytes: &[u8]) {
     let name = part(path, name_place(path), path.len());
     if is_set(name) {
         let mut words = file_words();
-        print_set(path, bytes, &mut words);
+        print_set(path, name, bytes, &mut words);
     } else if is_arguments(name) {
         print_arguments(path, bytes);
     } else {

@@ -4,6 +4,7 @@ use mathlib.Core.List.{List}
 use lib.ListN.{getD}
 use Rattle.linking.specs.Link.{Outcome}
 use Rattle.sheet.specs.Sheet as sheet
+use Rattle.writer.specs.Writer as writer
 use Rattle.descriptor.specs.Words as descriptor
 
 -- "An accepted call gives 0 and its result; a refused one gives its number, zero in every other answer word": a link or an ask that
@@ -15,6 +16,10 @@ called row answer ws area =
 -- a reading that returns `row` and leaves the answer word and the lent words
 abbrev pub readBy : ℕ → List ℕ → List ℕ → sheet.Outcome
 readBy row answer ws = record { refusal = row; words = getD answer 0 0; memory = ws }
+
+-- a writing that returns `row` and leaves the answer word and the lent bytes
+abbrev pub writtenBy : ℕ → List ℕ → List ℕ → writer.Outcome
+writtenBy row answer bs = record { refusal = row; blocks = getD answer 0 0; memory = bs }
 
 -- argument words
 abbrev pub argumentsBy : ℕ → List ℕ → descriptor.Answer

@@ -4,6 +4,7 @@
 use area::Answer;
 use descriptor::DescriptorWords;
 use sheet::Read;
+use writer::Written;
 ghost use mathlib.Core.Path.{_≡_};
 ghost use mathlib.Core.List.{List};
 ghost use Prim.Native.Nat.{ℕ};
@@ -12,8 +13,10 @@ ghost use Rattle.linking.specs.Ask.{askDef};
 ghost use Rattle.area.specs.Area.{outcome};
 ghost use Rattle.sheet.specs.Sheet.{readClassSheet, readAbiSheet};
 ghost use Rattle.sheet.specs.Sheet as readings;
+ghost use Rattle.writer.specs.Writer.{writeClassSheet};
+ghost use Rattle.writer.specs.Writer as writings;
 ghost use Rattle.descriptor.specs.Words.{argumentAnswer};
-ghost use Rattle.lgt_linker.specs.Exported.{called, readBy, argumentsBy};
+ghost use Rattle.lgt_linker.specs.Exported.{called, readBy, writtenBy, argumentsBy};
 
 // Hands out a link's or an ask's answer.
 fn give_call(a: Answer, answer: &mut [u32; 2]) -> u32
@@ -47,6 +50,22 @@ fn give_read(a: Read, answer: &mut [u32; 1]) -> u32
     }
 }
 
+// Hands out a writing's answer.
+fn give_written(a: Written, answer: &mut [u32; 1]) -> u32
+    ensures { λ r. ⌜ ((bs : List ℕ) → writtenBy r (now (answer .exit)) bs ≡ writings.outcome a bs) ⌝ }
+{
+    match a {
+        Written::Blocks(n) => {
+            *answer = [n];
+            0
+        }
+        Written::Refused(row) => {
+            *answer = [0];
+            row
+        }
+    }
+}
+
 // `sheet::read_class_sheet`: the answer word is the number of words filled.
 #[no_mangle]
 pub extern "C" fn lgt_read_class_sheet(
@@ -65,6 +84,14 @@ pub extern "C" fn lgt_read_abi_sheet(bytes: &[u8], words: &mut [u32], answer: &m
     ensures { λ r. ⌜ readBy r (now (answer .exit)) (now (words .exit)) ≡ readAbiSheet (now (bytes .entry)) (now (words .entry)) ⌝ }
 {
     give_read(sheet::read_abi_sheet(bytes, words), answer)
+}
+
+// `writer::write_class_sheet`: the answer word is the number of blocks written; the set is only read.
+#[no_mangle]
+pub extern "C" fn lgt_write_class_sheet(set: &[u32], bytes: &mut [u8], answer: &mut [u32; 1]) -> u32
+    ensures { λ r. ⌜ writtenBy r (now (answer .exit)) (now (bytes .exit)) ≡ writeClassSheet (now (set .entry)) (now (bytes .entry)) ⌝ }
+{
+    give_written(writer::write_class_sheet(set, bytes), answer)
 }
 
 // `link::link`: the answer words are the table's place and its slots.

@@ -14,7 +14,7 @@ use Rattle.block.specs.Block.{blockCount, sheetWords, leastFit}
 use Rattle.text.specs.Text.{zeroRest}
 use Rattle.class_sheet.specs.ClassSheet.{blockLimit, classCount, textLength, textAt, contentEnd, textOf, classTablePlace, classSlotCount}
 use Rattle.abi_sheet.specs.AbiSheet.{abiBlockLimit, abiTextLength, abiTextAt, abiContentEnd, abiTextOf}
-use Rattle.class_rules.specs.ClassRules.{classLimits, classFits, unlinked, classForm, classRecords}
+use Rattle.class_rules.specs.ClassRules.{classLimits, classFits, unlinked, allUnlinked, classForm, classRecords}
 use Rattle.abi_rules.specs.AbiRules.{abiLimits, abiFits, abiForm, abiRecords}
 use Rattle.set_rules.specs.SetRules.{classDescriptors, classRefusal, abiDescriptors, abiRefusal, setRefusal}
 use Rattle.set_rules.specs.Valid.{IsClass, Valid, ValidAbi}
@@ -42,11 +42,10 @@ module _ (bs : List ℕ) (room : ℕ) (e : classSheetRefusal bs room ≡ 0) wher
       let p = passed (not (classForm ws)) 3 _ (omega arith) (rows-passed blockLimit classRows bs room e) in (not-false _ (p .0), p .1)
 
   formed : (classLimits ws ≡ true) × (leastFit (contentEnd ws) (length ws) ≡ true) × (zeroRest ws (4 * textAt ws + textLength ws) ≡ true)
-      × (allOf (classCount ws) (λ i. unlinked ws (i + 1)) ≡ true)
+      × (allUnlinked ws ≡ true)
   unfolding classForm
   formed =
-      and-4 (classLimits ws) (leastFit (contentEnd ws) (length ws)) (zeroRest ws (4 * textAt ws + textLength ws))
-      (allOf (classCount ws) (λ i. unlinked ws (i + 1))) (class-passed .0)
+      and-4 (classLimits ws) (leastFit (contentEnd ws) (length ws)) (zeroRest ws (4 * textAt ws + textLength ws)) (allUnlinked ws) (class-passed .0)
 
   class-tests : (classFits ws ≡ true) × (classRecords ws (textOf ws) ≡ true) × (classDescriptors ws (textOf ws) ≡ true)
   unfolding classRefusal classFits

@@ -1,4 +1,5 @@
 pub mod Bools
+pub mod Bytes
 pub mod Ext
 pub mod FoldLaws
 pub mod Laws

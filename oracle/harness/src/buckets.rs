@@ -17,11 +17,14 @@ use crate::model::parts::{AbiSheet, ClassSheet, text_of_abi_words, text_of_class
 
 pub use names::{BUCKETS, Bucket};
 
+/// One more than the largest number that refuses any call.
+pub const ROWS: usize = 26;
+
 /// Counts over a run.
 pub struct Counts {
     pub calls: u64,
     /// By call (link, ask) and answer.
-    pub rows: [[u64; 17]; 2],
+    pub rows: [[u64; ROWS]; 2],
     buckets: Vec<u64>,
     spoils: BTreeMap<&'static str, u64>,
 }
@@ -29,7 +32,7 @@ pub struct Counts {
 impl Default for Counts {
     fn default() -> Self {
         let spoils = spoil_names().map(|name| (name, 0)).collect();
-        Self { calls: 0, rows: [[0; 17]; 2], buckets: vec![0; BUCKETS.len()], spoils }
+        Self { calls: 0, rows: [[0; ROWS]; 2], buckets: vec![0; BUCKETS.len()], spoils }
     }
 }
 

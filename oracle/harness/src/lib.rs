@@ -14,6 +14,7 @@ pub mod readings;
 pub mod sheet;
 pub mod shrink;
 pub mod telling;
+pub mod writings;
 
 pub use model;
 pub use model::side;

@@ -134,6 +134,10 @@ impl Linker for Oracle {
         rows::read_abi_sheet(bytes, words).map_or_else(Answer::refused, |count| Answer::accepted(count, 0))
     }
 
+    fn write_class_sheet(&mut self, set: &[u32], bytes: &mut [u8]) -> Answer {
+        rows::write_class_sheet(set, bytes).map_or_else(Answer::refused, |count| Answer::accepted(count, 0))
+    }
+
     fn link(&mut self, set: &mut [u32], abi: &[u32], class: u32, area: &mut [u32], stubs: &[u32]) -> Answer {
         self.try_link(set, abi, class, area, stubs).unwrap_or_else(Answer::refused)
     }

@@ -8,9 +8,10 @@ use crate::oracle::Oracle;
 use crate::random::Random;
 use crate::sheet::{Abi, Set, blocks, class_word};
 use crate::side::{Answer, Linker};
+use crate::writings;
 
 /// What a reading or a descriptor is about; a run must reach each.
-const BUCKETS: [&str; 25] = [
+const BUCKETS: [&str; 36] = [
     "class sheet read",
     "class sheet refused by row 1",
     "class sheet refused by row 2",
@@ -36,6 +37,17 @@ const BUCKETS: [&str; 25] = [
     "damage: none",
     "argument words given",
     "argument words refused by row 5",
+    "class set written",
+    "class set not written, by row 3",
+    "class set not written, by row 4",
+    "class set not written, by row 5",
+    "class set not written, by row 17",
+    "class set not written, by row 18",
+    "writing: a table place alone",
+    "writing: a slot count alone",
+    "writing: a nonzero byte after the text",
+    "writing: words after the content",
+    "writing: bytes after the blocks",
 ];
 
 /// Counts of readings and descriptors.
@@ -48,7 +60,7 @@ impl Default for ReadingCounts {
 }
 
 impl ReadingCounts {
-    fn hit(&mut self, bucket: &str) {
+    pub(crate) fn hit(&mut self, bucket: &str) {
         *self.0.get_mut(bucket).expect("every bucket is listed") += 1;
     }
 
@@ -63,7 +75,7 @@ impl ReadingCounts {
     }
 }
 
-/// Reads the case's sheets, damaged or not, on both sides, and asks for argument words.
+/// Reads the case's sheets, damaged or not, on both sides, writes its set back, and asks for argument words.
 /// Answers the first disagreement.
 pub fn compare(
     oracle: &mut Oracle,
@@ -98,11 +110,11 @@ pub fn compare(
         let text = descriptor.escape_ascii();
         return Err(format!("argument words of {text:?} with flags {flags:#x}: oracle {oracle_answer:?}, other {other_answer:?}"));
     }
-    Ok(())
+    writings::compare(oracle, other, &writings::random(random, case), counts)
 }
 
 /// The content of class words, as if no class were linked.
-fn unlinked(words: &[u32]) -> Option<Vec<u32>> {
+pub(crate) fn unlinked(words: &[u32]) -> Option<Vec<u32>> {
     let mut set = Set::decode(words)?;
     for class in &mut set.classes {
         class.0[class_word::PLACE] = 0;

@@ -1,5 +1,6 @@
 //! Words of any kind: both sides finish, agree, and leave refused memory alone.
 
+use harness::buckets::ROWS;
 use harness::case::{Call, Case};
 use harness::compare::compare;
 use harness::model::Model;
@@ -29,7 +30,7 @@ fn garbage(random: &mut Random, counts: usize, most: u32) -> Vec<u32> {
 fn garbage_is_judged_alike() {
     let (mut oracle, mut model) = (Oracle::default(), Model);
     let mut random = Random::new(77);
-    let mut rows = [0; 17];
+    let mut rows = [0; ROWS];
     for number in 0..150_000 {
         let call = |random: &mut Random| {
             let (class, interface) = (random.below(4), random.below(4));

@@ -39,6 +39,10 @@ impl Linker for Explained {
         Model.read_abi_sheet(bytes, words)
     }
 
+    fn write_class_sheet(&mut self, set: &[u32], bytes: &mut [u8]) -> Answer {
+        Model.write_class_sheet(set, bytes)
+    }
+
     fn link(&mut self, set: &mut [u32], abi: &[u32], class: u32, area: &mut [u32], stubs: &[u32]) -> Answer {
         match model::link(set, abi, class, area, stubs) {
             Ok((place, slots)) => Answer::accepted(place, slots),

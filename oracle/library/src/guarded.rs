@@ -118,6 +118,8 @@ impl Default for Guarded {
 
 type Sides<'a> = &'a mut dyn FnMut(&mut Library, &mut [u32], &[u32], &mut [u32], &[u32]) -> Answer;
 
+type Reads<'a, R, W> = &'a mut dyn FnMut(&mut Library, &[R], &mut [W]) -> Answer;
+
 impl Guarded {
     /// A call on two slices that may be written, `set` and `area`, and two that may not.
     fn call(&mut self, set: &mut [u32], abi: &[u32], area: &mut [u32], stubs: &[u32], make: Sides) -> Answer {
@@ -137,17 +139,18 @@ impl Guarded {
         after.0
     }
 
-    fn read(&mut self, bytes: &[u8], words: &mut [u32], make: &mut dyn FnMut(&mut Library, &[u8], &mut [u32]) -> Answer) -> Answer {
+    /// A call on a slice that may not be written and one that may.
+    fn read<R: Copy + 'static, W: Copy + PartialEq + 'static>(&mut self, read: &[R], written: &mut [W], make: Reads<R, W>) -> Answer {
         let mut once = |guard| {
             self.library.null_where_empty = guard == Guard::Before;
-            let (lent_bytes, lent_words) = (self.fixed.put_fixed(bytes, guard), self.first.put(words, guard));
-            let answer = make(&mut self.library, lent_bytes, lent_words);
+            let (lent_read, lent_written) = (self.fixed.put_fixed(read, guard), self.first.put(written, guard));
+            let answer = make(&mut self.library, lent_read, lent_written);
             self.fixed.release();
-            (answer, lent_words.to_vec())
+            (answer, lent_written.to_vec())
         };
         let (before, after) = (once(Guard::Before), once(Guard::After));
         assert!(before == after, "the two placements differ: {:?} and {:?}", before.0, after.0);
-        words.copy_from_slice(&after.1);
+        written.copy_from_slice(&after.1);
         after.0
     }
 }
@@ -161,6 +164,10 @@ impl Linker for Guarded {
         self.read(bytes, words, &mut |library, bytes, words| library.read_abi_sheet(bytes, words))
     }
 
+    fn write_class_sheet(&mut self, set: &[u32], bytes: &mut [u8]) -> Answer {
+        self.read(set, bytes, &mut |library, set, bytes| library.write_class_sheet(set, bytes))
+    }
+
     fn link(&mut self, set: &mut [u32], abi: &[u32], class: u32, area: &mut [u32], stubs: &[u32]) -> Answer {
         self.call(set, abi, area, stubs, &mut |library, set, abi, area, stubs| library.link(set, abi, class, area, stubs))
     }
@@ -170,7 +177,7 @@ impl Linker for Guarded {
     }
 
     fn argument_words(&mut self, descriptor: &[u8], flags: u32) -> Answer {
-        self.read(descriptor, &mut [], &mut |library, descriptor, _| library.argument_words(descriptor, flags))
+        self.read(descriptor, &mut [0u32; 0], &mut |library, descriptor, _| library.argument_words(descriptor, flags))
     }
 }
 

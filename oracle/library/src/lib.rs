@@ -13,6 +13,8 @@ unsafe extern "C" {
 
     fn lgt_read_abi_sheet(bytes: *const u8, bytes_len: usize, words: *mut u32, words_len: usize, answer: *mut u32) -> u32;
 
+    fn lgt_write_class_sheet(set: *const u32, set_len: usize, bytes: *mut u8, bytes_len: usize, answer: *mut u32) -> u32;
+
     fn lgt_link(
         set: *mut u32,
         set_len: usize,
@@ -79,6 +81,10 @@ impl Linker for Library {
 
     fn read_abi_sheet(&mut self, bytes: &[u8], words: &mut [u32]) -> Answer {
         answered(1, |answer| unsafe { lgt_read_abi_sheet(self.read_only(bytes), bytes.len(), self.lent(words), words.len(), answer) })
+    }
+
+    fn write_class_sheet(&mut self, set: &[u32], bytes: &mut [u8]) -> Answer {
+        answered(1, |answer| unsafe { lgt_write_class_sheet(self.read_only(set), set.len(), self.lent(bytes), bytes.len(), answer) })
     }
 
     fn link(&mut self, set: &mut [u32], abi: &[u32], class: u32, area: &mut [u32], stubs: &[u32]) -> Answer {

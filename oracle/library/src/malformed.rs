@@ -5,6 +5,7 @@ use harness::generate;
 use harness::random::Random;
 use harness::readings::{self, Reading};
 use harness::sheet::blocks;
+use harness::writings::{self, Writing};
 
 /// A word that a record or a count is likely to be tripped by.
 fn odd_word(random: &mut Random, length: usize) -> u32 {
@@ -106,4 +107,18 @@ pub fn reading(random: &mut Random, case: &Case) -> Reading {
         reading.lent = random.below(300) as usize;
     }
     reading
+}
+
+/// Class words of any kind to write, into any number of bytes.
+pub fn writing(random: &mut Random, case: &Case) -> Writing {
+    let mut writing = writings::random(random, case);
+    if random.chance(50) {
+        damage(random, &mut writing.set, 4);
+    }
+    match random.below(5) {
+        0 => writing.lent = random.below(1600) as usize,
+        1 => writing.lent = 0,
+        _ => {}
+    }
+    writing
 }

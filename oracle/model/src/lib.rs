@@ -12,6 +12,7 @@ mod sheets;
 pub mod side;
 mod tables;
 pub mod why;
+mod writing;
 
 use crate::side::{Answer, Linker};
 use crate::why::{Refused, Why};
@@ -20,6 +21,7 @@ pub use ask::ask;
 pub use descriptors::argument_words;
 pub use link::link;
 pub use reading::{read_abi_sheet, read_class_sheet};
+pub use writing::write_class_sheet;
 
 /// The parts that other modules look at to tell which branches a case reaches.
 pub mod parts {
@@ -39,6 +41,10 @@ impl Linker for Model {
 
     fn read_abi_sheet(&mut self, bytes: &[u8], words: &mut [u32]) -> Answer {
         answer(read_abi_sheet(bytes, words).map(|words| (words, 0)))
+    }
+
+    fn write_class_sheet(&mut self, set: &[u32], bytes: &mut [u8]) -> Answer {
+        answer(write_class_sheet(set, bytes).map(|blocks| (blocks, 0)))
     }
 
     fn link(&mut self, set: &mut [u32], abi: &[u32], class: u32, area: &mut [u32], stubs: &[u32]) -> Answer {

@@ -6,9 +6,9 @@ use super::sheets::{AbiSheet, ClassSheet, abi_content, class_content, text_of_ab
 use super::why::Refused;
 
 /// "blocks of 512 bytes, 128 little-endian u32 words"
-const BLOCK_BYTES: usize = 512;
+pub const BLOCK_BYTES: usize = 512;
 /// "The 127s run on as one word list."
-const BLOCK_CONTENT: usize = 127;
+pub const BLOCK_CONTENT: usize = 127;
 
 /// Reads a class sheet into `words`; answers the words filled, 127 a block.
 pub fn read_class_sheet(bytes: &[u8], words: &mut [u32]) -> Result<u32, Refused> {

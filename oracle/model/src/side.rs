@@ -4,7 +4,7 @@
 #[derive(Clone, Copy, Debug, Default, PartialEq, Eq)]
 pub struct Answer {
     pub refusal: u32,
-    /// Link: the table's place. Ask: the interface table's place. Reading: words filled.
+    /// Link: the table's place. Ask: the interface table's place. Reading: words filled. Writing: blocks.
     /// Argument words: their number.
     pub first: u32,
     /// Link: slots. Ask: nodes read. Else 0.
@@ -27,6 +27,8 @@ pub trait Linker {
     fn read_class_sheet(&mut self, bytes: &[u8], words: &mut [u32]) -> Answer;
 
     fn read_abi_sheet(&mut self, bytes: &[u8], words: &mut [u32]) -> Answer;
+
+    fn write_class_sheet(&mut self, set: &[u32], bytes: &mut [u8]) -> Answer;
 
     fn link(&mut self, set: &mut [u32], abi: &[u32], class: u32, area: &mut [u32], stubs: &[u32]) -> Answer;
 

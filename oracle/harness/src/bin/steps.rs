@@ -1,7 +1,10 @@
 //! `steps SEED FILE`: for each bucket the smallest calls that reach it, each with all that it is
 //! lent and the Rust's answer. The file is little-endian u32 words. A call: kind (0 link, 1 ask),
 //! class, interface; refusal and the two answer words; the lengths of class words, ABI words, area
-//! and stubs; these four; then class words and area after the call.
+//! and stubs; these four; then class words and area after the call. Then small calls of the other
+//! functions, in the same form: what they read stands for the ABI words, what they write for the
+//! area, bytes one to a word, and a number that they take for the class (kinds 2 reference words,
+//! 3 reference count, 4 writing, whose class words are the class words).
 
 use std::collections::BTreeMap;
 use std::process::ExitCode;
@@ -11,6 +14,9 @@ use harness::case::Call;
 use harness::compare::{State, Step, perform};
 use harness::generate;
 use harness::oracle::Oracle;
+use harness::random::Random;
+use harness::side::{Answer, Linker};
+use harness::{references, writings};
 
 /// How many cases are looked at, and the most words of a slice.
 const LOOKED_AT: u64 = 30_000;
@@ -19,6 +25,9 @@ const MOST_WORDS: usize = 12_000;
 const KEPT: usize = 3;
 const KEPT_SMALL: usize = 16;
 const FEW_WORDS: usize = 800;
+/// How many calls of each other function are kept, and their most words.
+const OTHERS: usize = 200;
+const OTHERS_WORDS: usize = 3_000;
 
 fn main() -> ExitCode {
     let arguments: Vec<String> = std::env::args().skip(1).collect();
@@ -39,12 +48,56 @@ fn main() -> ExitCode {
             }
         }
     }
-    let mut chosen: Vec<&Vec<u32>> = kept.values().flatten().collect();
+    let others = others(&mut oracle, seed.parse().unwrap_or(1));
+    let mut chosen: Vec<&Vec<u32>> = kept.values().flatten().chain(&others).collect();
     chosen.sort();
     chosen.dedup();
     let bytes: Vec<u8> = chosen.iter().flat_map(|words| words.iter()).flat_map(|word| word.to_le_bytes()).collect();
     println!("{} buckets, {} calls, {} bytes", kept.len(), chosen.len(), bytes.len());
     if std::fs::write(file, bytes).is_ok() { ExitCode::SUCCESS } else { ExitCode::FAILURE }
+}
+
+/// Calls of the other functions.
+fn others(oracle: &mut Oracle, seed: u64) -> Vec<Vec<u32>> {
+    let mut random = Random::new(seed);
+    let mut kept = Vec::new();
+    kept.extend((0..).flat_map(|_| bitmap_calls(oracle, &references::random(&mut random))).filter(is_small).take(OTHERS));
+    let writing = |number| writings::random(&mut random, &generate::case(seed, number));
+    kept.extend((0..).map(writing).map(|writing| writing_call(oracle, &writing)).filter(is_small).take(OTHERS));
+    kept
+}
+
+#[expect(clippy::ptr_arg, reason = "a filter")]
+fn is_small(words: &Vec<u32>) -> bool {
+    words.len() <= OTHERS_WORDS
+}
+
+/// A call in the file's form: class words, what is read, what is written before and after.
+fn call(kind: u32, number: u32, answer: Answer, set: &[u32], read: &[u32], before: &[u32], after: &[u32]) -> Vec<u32> {
+    let head = [kind, number, 0, answer.refusal, answer.first, answer.second];
+    let lengths = [set.len(), read.len(), before.len(), 0].map(|length| length as u32);
+    [&head[..], &lengths, set, read, before, set, after].concat()
+}
+
+fn wide(bytes: &[u8]) -> Vec<u32> {
+    bytes.iter().map(|&byte| byte.into()).collect()
+}
+
+/// The list and the count of a bitmap.
+fn bitmap_calls(oracle: &mut Oracle, bitmap: &references::Bitmap) -> [Vec<u32>; 2] {
+    let before = vec![7; bitmap.lent];
+    let mut after = before.clone();
+    let listed = oracle.reference_words(&bitmap.bytes, bitmap.words, &mut after);
+    let counted = oracle.reference_count(&bitmap.bytes, bitmap.words);
+    let bytes = wide(&bitmap.bytes);
+    [call(2, bitmap.words, listed, &[], &bytes, &before, &after), call(3, bitmap.words, counted, &[], &bytes, &[], &[])]
+}
+
+fn writing_call(oracle: &mut Oracle, writing: &writings::Writing) -> Vec<u32> {
+    let before = vec![7; writing.lent];
+    let mut after = before.clone();
+    let answer = oracle.write_class_sheet(&writing.set, &mut after);
+    call(4, 0, answer, &writing.set, &[], &wide(&before), &wide(&after))
 }
 
 /// The calls of a case, with the buckets that each reaches.

@@ -57,6 +57,25 @@ pub fn read_abi_sheet(bytes: &[u8], words: &mut [u32]) -> Result<u32, u32> {
     Ok(content.len() as u32)
 }
 
+/// Writes a class sheet's blocks: rows 3 to 5 of the class words, then 17 and 18. What a sheet cannot say is what its sections,
+/// decoded and encoded again, lose.
+pub fn write_class_sheet(words: &[u32], bytes: &mut [u8]) -> Result<u32, u32> {
+    let set = Set::decode(words).ok_or(3u32)?;
+    if !set_follows_row_4(&set) {
+        return Err(4);
+    }
+    if !set_follows_row_5(&set) {
+        return Err(5);
+    }
+    let content = set.encode();
+    if !words.starts_with(&content) || set.classes.iter().any(|class| class.span(class_word::PLACE) != (0, 0)) {
+        return Err(17);
+    }
+    let written = blocks(&content);
+    bytes.get_mut(..written.len()).ok_or(18u32)?.copy_from_slice(&written);
+    Ok(written.len() as u32 / 512)
+}
+
 /// Rows 1 and 2: the words of all blocks, less their checks.
 fn block_words(bytes: &[u8], most: usize, lent: usize) -> Result<Vec<u32>, u32> {
     let fits = !bytes.is_empty() && bytes.len().is_multiple_of(512) && bytes.len() / 512 <= most;

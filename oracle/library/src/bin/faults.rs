@@ -15,6 +15,7 @@ use harness::random::Random;
 use harness::readings::{descriptor, lent_words, read};
 use harness::shrink::shrink;
 use harness::side::{Answer, Linker};
+use harness::writings;
 use library::guarded::Guarded;
 use library::malformed;
 
@@ -87,7 +88,7 @@ fn main() -> ExitCode {
     ExitCode::SUCCESS
 }
 
-/// A case's calls, a reading and a descriptor.
+/// A case's calls, a reading, a writing and a descriptor.
 fn one(seed: u64, number: u64, oracle: &mut Oracle, guarded: &mut Guarded, counts: &mut Counts) -> Result<(), String> {
     let case = malformed::case(seed, number);
     let result = compare::compare(oracle, guarded, &case, &mut |step| {
@@ -112,6 +113,7 @@ fn one(seed: u64, number: u64, oracle: &mut Oracle, guarded: &mut Guarded, count
         return Err(format!("{:?} with flags {flags:#x}: oracle {judged:?}, library {given:?}", descriptor.escape_ascii()));
     }
     counts.count("argument words", given);
+    counts.count("writing", writings::judge(oracle, guarded, &malformed::writing(&mut random, &case))?);
     Ok(())
 }
 

@@ -1,0 +1,235 @@
+-- The content of a set, alone or with zeros after it, is judged as the set is: rows 4 and 5 and the test of links do not look past the content,
+-- and zeros after it are what row 3 of a reading asks for. Assumes nothing.
+use mathlib.Core.Path.{_≡_, sym, ap, _∙_}
+use mathlib.Core.Bool.{true, not}
+use mathlib.Core.List.{List, _++_}
+use Prim.Native.Nat.{ℕ, _+_, _*_, _-_, _/_, _%_, _^_, _≤_, _<_}
+use native.Mathlib.Nat.{zero-div}
+use native.Mathlib.Omega.{arith}
+use lib.ListN.{length, getD, take, drop, replicate, length-append, length-replicate, getD-replicate, take-append-drop, List·getD-append, List·getD-eq-default}
+use lib.Seq.{take-at, getD-take, length-take-le}
+use lib.Dec.{leb, ltb}
+use borrow.Author.Tests.{le-leb, ltb-true, ltb-false, eq-eqb, eqb-true, not-false}
+use Rattle.words.specs.Words.{byteOf}
+use Rattle.words.proofs.Bools.{by, and-both, and-4, passed}
+use Rattle.words.proofs.FoldLaws.{all-each, all-if, all-ext}
+use Rattle.words.proofs.Lists.{skip}
+use Rattle.block.specs.Block.{leastFit}
+use Rattle.block.proofs.Laws.{blocks-least, least-blocks}
+use Rattle.text.specs.Text.{textByte, zeroAt, zeroRest}
+use Rattle.class_sheet.specs.ClassSheet.{classCount, textLength, countAt, methodsAt, fieldsAt, interfacesAt, compilersAt, textAt, contentEnd, textOf}
+use Rattle.class_sheet.proofs.Kept as kept
+use Rattle.class_rules.specs.ClassRules.{classLimits, classFits, unlinked, allUnlinked, classForm}
+use Rattle.class_rules.proofs.Laws as class
+use Rattle.set_rules.specs.SetRules.{classRefusal}
+use Rattle.set_rules.proofs.Kept.{class-fits-kept, class-records-kept, class-descriptors-kept}
+use Rattle.sheet.specs.Sheet.{classRows}
+use Rattle.writer.specs.Writer.{contentOf, blocksOf, storable}
+use Rattle.writer.specs.RoundTrip.{paddedContent}
+use Rattle.writer.proofs.Laws.{content-some}
+
+-- ---- zeros to the end of the words: past it there are only zeros
+
+past-byte : (ws : List ℕ) (b : ℕ) → length ws ≤ b / 4 → textByte ws b ≡ 0
+unfolding textByte byteOf
+past-byte ws b h = rw (List·getD-eq-default ws 0 h, zero-div (256 ^ (b % 4)))
+
+module _ (ws : List ℕ) (start : ℕ) where
+  pub zero-each : zeroRest ws start ≡ true → (b : ℕ) → start ≤ b → textByte ws b ≡ 0
+  unfolding zeroRest zeroAt
+  zero-each h b l =
+      by (ltb b (4 * length ws))
+      (λ t.
+      let inside = ltb-true b (4 * length ws) t in
+      let e : start + (b - start) ≡ b = omega arith in
+      eqb-true _ _ (rw e at (all-each (4 * length ws - start) (zeroAt ws start) h (b - start) (omega arith))))
+      (λ t. let outside = ltb-false b (4 * length ws) t in past-byte ws b (omega arith))
+
+  zero-all : ((b : ℕ) → start ≤ b → textByte ws b ≡ 0) → zeroRest ws start ≡ true
+  unfolding zeroRest zeroAt
+  zero-all h = all-if (4 * length ws - start) (zeroAt ws start) (λ i l. eq-eqb _ _ (h (start + i) (omega arith)))
+
+-- words that are the same with zeros past their end have zeros from the same byte on
+pub zero-same : (a b : List ℕ) (start : ℕ) → ((i : ℕ) → getD a i 0 ≡ getD b i 0) → zeroRest a start ≡ true → zeroRest b start ≡ true
+unfolding textByte
+zero-same a b start same h = zero-all b start (λ k l. rw (same (k / 4)) at (zero-each a start h k l))
+
+-- ---- zeros after words
+
+zeros : (n i : ℕ) → _≡_ {A = ℕ} (getD (replicate n 0) i 0) 0
+zeros n i =
+    by (ltb i n) (λ t. getD-replicate n i 0 0 (ltb-true i n t))
+    (λ t.
+    let none : List ℕ = replicate n 0 in
+    let past : length none ≤ i = omega (arith, length-replicate {A = ℕ} n 0, ltb-false i n t) in
+    List·getD-eq-default none 0 past)
+
+pub padded-at : (c : List ℕ) (n i : ℕ) → getD (c ++ replicate n 0) i 0 ≡ getD c i 0
+padded-at c n i =
+    by (ltb i (length c)) (λ t. List·getD-append c (replicate n 0) 0 i (ltb-true i (length c) t))
+    (λ t.
+    let l = ltb-false i (length c) t in
+    skip c (replicate n 0) i (i - length c) 0 (omega arith) ∙ zeros n (i - length c) ∙ sym (List·getD-eq-default c 0 l))
+
+-- ---- what follows the content
+
+module _ (ws rest : List ℕ) (fits : classFits ws ≡ true) where
+  end : contentEnd ws ≤ length ws
+  end = class.fits ws fits .1
+
+  pub refusal-longer : classRefusal (ws ++ rest) (textOf (ws ++ rest)) ≡ classRefusal ws (textOf ws)
+  unfolding classRefusal
+  refusal-longer =
+      rw (kept.text-kept ws rest end, class-records-kept ws rest fits (textOf ws), class-descriptors-kept ws rest fits (textOf ws))
+
+  unlinked-longer-at : (c : ℕ) → 1 ≤ c → c ≤ classCount ws → unlinked (ws ++ rest) c ≡ unlinked ws c
+  unfolding unlinked
+  unlinked-longer-at c l h = rw (kept.class-kept ws rest end c 15 l h (omega arith), kept.class-kept ws rest end c 16 l h (omega arith))
+
+  pub unlinked-longer : allUnlinked (ws ++ rest) ≡ allUnlinked ws
+  unlinked-longer =
+      rw (kept.count-kept ws rest end 0 (omega arith))
+      (all-ext (classCount ws) (λ i. unlinked (ws ++ rest) (i + 1)) (λ i. unlinked ws (i + 1))
+      (λ i k. unlinked-longer-at (i + 1) (omega arith) (omega arith)))
+
+  pub end-longer : contentEnd (ws ++ rest) ≡ contentEnd ws
+  end-longer = kept.end-kept ws rest end
+
+  pub text-end-longer : 4 * textAt (ws ++ rest) + textLength (ws ++ rest) ≡ 4 * textAt ws + textLength ws
+  unfolding textAt compilersAt interfacesAt fieldsAt methodsAt
+  text-end-longer =
+      rw (
+        kept.count-kept ws rest end 0 (omega arith),
+        kept.count-kept ws rest end 1 (omega arith),
+        kept.count-kept ws rest end 2 (omega arith),
+        kept.count-kept ws rest end 3 (omega arith),
+        kept.count-kept ws rest end 4 (omega arith),
+        kept.count-kept ws rest end 5 (omega arith),
+      )
+
+-- ---- the content alone
+
+module _ (ws : List ℕ) (e : ℕ) (counts : 6 ≤ e) where
+  count-cut : (k : ℕ) → k < 6 → countAt (take e ws) k ≡ countAt ws k
+  unfolding countAt
+  count-cut k h = getD-take e ws k 0 (omega arith)
+
+  end-cut : contentEnd (take e ws) ≡ contentEnd ws
+  unfolding contentEnd textAt compilersAt interfacesAt fieldsAt methodsAt
+  end-cut =
+      rw (
+        count-cut 0 (omega arith),
+        count-cut 1 (omega arith),
+        count-cut 2 (omega arith),
+        count-cut 3 (omega arith),
+        count-cut 4 (omega arith),
+        count-cut 5 (omega arith),
+      )
+
+  limits-cut : classLimits (take e ws) ≡ classLimits ws
+  unfolding classLimits
+  limits-cut =
+      rw (
+        count-cut 0 (omega arith),
+        count-cut 1 (omega arith),
+        count-cut 2 (omega arith),
+        count-cut 3 (omega arith),
+        count-cut 4 (omega arith),
+        count-cut 5 (omega arith),
+      )
+
+module _ (ws : List ℕ) (fits : classFits ws ≡ true) where
+  here : contentEnd ws ≤ length ws
+  here = class.fits ws fits .1
+
+  pub content-length : length (contentOf ws) ≡ contentEnd ws
+  content-length = length-take-le (contentEnd ws) ws here
+
+  whole : contentOf ws ++ drop (contentEnd ws) ws ≡ ws
+  whole = take-append-drop (contentEnd ws) ws
+
+  content-fits : classFits (contentOf ws) ≡ true
+  unfolding classFits
+  content-fits =
+      rw (
+        limits-cut ws (contentEnd ws) (content-some ws),
+        end-cut ws (contentEnd ws) (content-some ws),
+        and-both (classLimits ws) (leb (contentEnd ws) (length ws)) fits .0,
+        le-leb (contentEnd ws) (length (contentOf ws)) (omega (arith, content-length)),
+      )
+
+  -- ---- the content with zeros after it is judged as the set
+
+  abbrev content : List ℕ
+  content = contentOf ws
+
+  abbrev padding : List ℕ
+  padding = replicate (127 * blocksOf ws - contentEnd ws) 0
+
+  end-content : contentEnd content ≡ contentEnd ws
+  end-content = end-cut ws (contentEnd ws) (content-some ws)
+
+  pub content-longer : (rest : List ℕ) → contentOf (content ++ rest) ≡ content
+  content-longer rest =
+      rw (end-longer content rest content-fits, end-content) (take-at content rest (contentEnd ws) content-length)
+
+  padded-end : contentEnd (paddedContent ws) ≡ contentEnd ws
+  padded-end = end-longer content padding content-fits ∙ end-content
+
+  pub length-padded : length (paddedContent ws) ≡ 127 * blocksOf ws
+  length-padded =
+      let b = least-blocks (contentEnd ws) (blocksOf ws) (blocks-least (contentEnd ws)) in
+      omega (arith, length-append content padding, content-length, length-replicate {A = ℕ} (127 * blocksOf ws - contentEnd ws) 0, b .0)
+
+  padded-refusal : classRefusal (paddedContent ws) (textOf (paddedContent ws)) ≡ classRefusal ws (textOf ws)
+  padded-refusal =
+      refusal-longer content padding content-fits
+      ∙ sym (refusal-longer content (drop (contentEnd ws) ws) content-fits)
+      ∙ ap (λ (x : List ℕ). classRefusal x (textOf x)) whole
+
+  padded-unlinked : allUnlinked (paddedContent ws) ≡ allUnlinked ws
+  padded-unlinked =
+      unlinked-longer content padding content-fits
+      ∙ sym (unlinked-longer content (drop (contentEnd ws) ws) content-fits)
+      ∙ ap (λ (x : List ℕ). allUnlinked x) whole
+
+  padded-text-end : 4 * textAt (paddedContent ws) + textLength (paddedContent ws) ≡ 4 * textAt ws + textLength ws
+  padded-text-end =
+      text-end-longer content padding content-fits
+      ∙ sym (text-end-longer content (drop (contentEnd ws) ws) content-fits)
+      ∙ ap (λ (x : List ℕ). 4 * textAt x + textLength x) whole
+
+  padded-limits : classLimits (paddedContent ws) ≡ true
+  unfolding classFits
+  padded-limits = and-both (classLimits (paddedContent ws)) _ (class-fits-kept content padding content-fits) .0
+
+  padded-least : leastFit (contentEnd (paddedContent ws)) (length (paddedContent ws)) ≡ true
+  padded-least = rw (padded-end, length-padded) (blocks-least (contentEnd ws))
+
+  -- row 3 of a reading says what row 17 of a writing does
+  pub padded-form : storable ws ≡ true → classForm (paddedContent ws) ≡ true
+  unfolding storable classForm
+  padded-form h =
+      let p = and-both (allUnlinked ws) (zeroRest content (4 * textAt ws + textLength ws)) h in
+      let z : zeroRest (paddedContent ws) (4 * textAt ws + textLength ws) ≡ true =
+      zero-same content (paddedContent ws) _ (λ i. sym (padded-at content (127 * blocksOf ws - contentEnd ws) i)) (p .1) in
+      rw (padded-limits, padded-least, padded-text-end, z, padded-unlinked) (p .0)
+
+  pub form-padded : classForm (paddedContent ws) ≡ true → storable ws ≡ true
+  unfolding storable classForm
+  form-padded h =
+      let p = and-4 (classLimits (paddedContent ws)) (leastFit (contentEnd (paddedContent ws)) (length (paddedContent ws)))
+      (zeroRest (paddedContent ws) (4 * textAt (paddedContent ws) + textLength (paddedContent ws))) (allUnlinked (paddedContent ws)) h in
+      let z : zeroRest content (4 * textAt ws + textLength ws) ≡ true =
+      zero-same (paddedContent ws) content _ (λ i. padded-at content (127 * blocksOf ws - contentEnd ws) i) (rw padded-text-end at (p .2)) in
+      rw (sym padded-unlinked ∙ p .3, z)
+
+  pub padded-rows : storable ws ≡ true → classRefusal ws (textOf ws) ≡ 0 → classRows (paddedContent ws) ≡ 0
+  unfolding classRows
+  padded-rows s r = rw (padded-form s) (padded-refusal ∙ r)
+
+  pub rows-padded : classRows (paddedContent ws) ≡ 0 → (storable ws ≡ true) × (classRefusal ws (textOf ws) ≡ 0)
+  unfolding classRows
+  rows-padded e =
+      let p = passed (not (classForm (paddedContent ws))) 3 _ (omega arith) e in
+      (form-padded (not-false _ (p .0)), sym padded-refusal ∙ p .1)

@@ -1,0 +1,5 @@
+pub mod Answers
+pub mod Content
+pub mod Examples
+pub mod Laws
+pub mod RoundTrip
