@@ -14,7 +14,7 @@ from collections import defaultdict
 SIDES = ("ours", "original")
 COLOURS = {"ours": "#0b62a4", "original": "#c1440e"}
 NAMES = {"ours": "this linker", "original": "the Rust"}
-SETS = ("Card", "middle", "chains of 8", "chain of 64")
+SETS = ("Card", "middle", "chains of 8", "chain of 64", "long names")
 BEGIN, END = "<!-- made by bench/report.py: begin -->", "<!-- made by bench/report.py: end -->"
 
 

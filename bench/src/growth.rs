@@ -5,8 +5,18 @@ use crate::sides::{self, Job, Original, Ours};
 use crate::times::{self, Repetitions};
 
 /// What stays while another number grows: built classes in chains of 8.
-const FIXED: Size =
-    Size { classes: 32, chain: 8, interfaces: 0, arrays: 0, methods: 256, fields: 256, abi_slots: 256, table_size: 0, is_mixed: false };
+const FIXED: Size = Size {
+    classes: 32,
+    chain: 8,
+    interfaces: 0,
+    arrays: 0,
+    methods: 256,
+    fields: 256,
+    abi_slots: 256,
+    table_size: 0,
+    is_mixed: false,
+    package: "app/",
+};
 
 /// One measurement: the name of the number that grows, and its value.
 pub struct Point {

@@ -46,16 +46,31 @@ pub struct Size {
     pub table_size: u32,
     /// Whether some classes are generated.
     pub is_mixed: bool,
+    /// What the names of classes begin with.
+    pub package: &'static str,
 }
 
-const LARGEST: Size =
-    Size { classes: 64, chain: 8, interfaces: 3, arrays: 4, methods: 512, fields: 512, abi_slots: 512, table_size: 0, is_mixed: true };
+const LARGEST: Size = Size {
+    classes: 64,
+    chain: 8,
+    interfaces: 3,
+    arrays: 4,
+    methods: 512,
+    fields: 512,
+    abi_slots: 512,
+    table_size: 0,
+    is_mixed: true,
+    package: "app/",
+};
 const LARGEST_CHAIN: Size = Size { chain: 64, interfaces: 0, arrays: 0, ..LARGEST };
 const MIDDLE: Size = Size { classes: 16, chain: 5, interfaces: 2, arrays: 1, methods: 128, fields: 128, abi_slots: 128, ..LARGEST };
+/// As many classes and ABI classes as there may be, of whose names only the last two bytes differ.
+const LONG_NAMES: Size =
+    Size { interfaces: 0, arrays: 0, methods: 128, fields: 128, abi_slots: 128, package: "com/example/phone/games/card/ui/", ..LARGEST };
 
 /// The sets by their names.
 pub fn all() -> Vec<ClassSet> {
-    vec![card(), made("middle", MIDDLE), made("chains of 8", LARGEST), made("chain of 64", LARGEST_CHAIN)]
+    vec![card(), made("middle", MIDDLE), made("chains of 8", LARGEST), made("chain of 64", LARGEST_CHAIN), made("long names", LONG_NAMES)]
 }
 
 /// The example of the specification; VipCard is asked for Card's table.
@@ -161,9 +176,9 @@ impl Size {
     fn name(&self, number: u32) -> String {
         match self.role(number) {
             _ if number == 1 => OBJECT.to_owned(),
-            Role::Array => format!("[Lapp/Class{number:02};"),
-            Role::Interface => format!("app/Face{number:02}"),
-            _ => format!("app/Class{number:02}"),
+            Role::Array => format!("[L{}Class{number:02};", self.package),
+            Role::Interface => format!("{}Face{number:02}", self.package),
+            _ => format!("{}Class{number:02}", self.package),
         }
     }
 

@@ -19,13 +19,16 @@ const SIZE: usize = 1 << 20;
 const PAINT: u8 = 0xA5;
 
 /// The exported functions, in the order of `Painted`'s stacks.
-const FUNCTIONS: [&str; 6] = [
+const FUNCTIONS: [&str; 11] = [
     "lgt_read_class_sheet",
     "lgt_read_abi_sheet",
     "lgt_link",
     "lgt_interface_dispatch_table",
     "lgt_argument_words",
     "lgt_write_class_sheet",
+    "lgt_read_unordered_sheet",
+    "lgt_renumber_classes",
+    "lgt_compare_names",
 ];
 
 /// A stack whose touched bytes show.
@@ -110,6 +113,10 @@ impl Linker for Painted {
 
     fn write_class_sheet(&mut self, set: &[u32], bytes: &mut [u8]) -> Answer {
         self.stacks[5].run(|| self.library.write_class_sheet(set, bytes))
+    }
+
+    fn compare_names(&mut self, a: &[u8], b: &[u8]) -> Answer {
+        self.stacks[10].run(|| self.library.compare_names(a, b))
     }
 }
 

@@ -32,6 +32,15 @@ pub struct Asked {
     pub nodes: u32,
 }
 
+/// What a comparison of two names found.
+#[derive(Clone, Copy, Debug, PartialEq, Eq)]
+pub struct Compared {
+    /// Whether they are the same bytes.
+    pub same: bool,
+    /// How many pairs of bytes were read to see it.
+    pub pairs: usize,
+}
+
 /// Reads a class sheet into the lent words and answers how many were filled (127 a block).
 ///
 /// # Errors
@@ -201,4 +210,23 @@ pub fn argument_words(descriptor: &[u8], flags: u32) -> Result<u64, Refusal> {
     // SAFETY: the slice is whole, and the answer has its word.
     let row = unsafe { sys::lgt_argument_words(descriptor.as_ptr(), descriptor.len(), flags, &mut answer) };
     accepted(row, answer[0])
+}
+
+/// Compares two names, or any bytes, as the library compares all names: lengths first, then names of one length from the last byte back, up
+/// to the first pair of bytes that differs. It refuses nothing.
+///
+/// ```
+/// use lgt_linker::{Compared, compare_names};
+/// assert_eq!(compare_names(b"Card", b"VipCard"), Compared { same: false, pairs: 0 }); // unequal lengths
+/// assert_eq!(compare_names(b"Card", b"Card"), Compared { same: true, pairs: 4 });
+/// assert_eq!(compare_names(b"java/lang/Objecu", b"java/lang/Object"), Compared { same: false, pairs: 1 });
+/// assert_eq!(compare_names(b"Card", b"Cord"), Compared { same: false, pairs: 3 }); // 4 minus place 1
+/// ```
+#[must_use]
+pub fn compare_names(a: &[u8], b: &[u8]) -> Compared {
+    let mut answer = [0; 2];
+    // SAFETY: both slices are whole, and the answer has its words.
+    let row = unsafe { sys::lgt_compare_names(a.as_ptr(), a.len(), b.as_ptr(), b.len(), &mut answer) };
+    debug_assert_eq!(row, 0);
+    Compared { same: answer[0] != 0, pairs: answer[1] as usize }
 }

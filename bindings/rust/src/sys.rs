@@ -35,4 +35,6 @@ unsafe extern "C" {
     ) -> u32;
 
     pub fn lgt_argument_words(descriptor: *const u8, descriptor_len: usize, flags: u32, answer: *mut [u64; 1]) -> u32;
+
+    pub fn lgt_compare_names(a: *const u8, a_len: usize, b: *const u8, b_len: usize, answer: *mut [u64; 2]) -> u32;
 }

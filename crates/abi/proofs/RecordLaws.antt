@@ -1,5 +1,5 @@
 -- Laws of ABI records that are read from the part of the words that begins with the first of them. Assumes nothing.
-use mathlib.Core.Path.{_≡_, sym, _∙_}
+use mathlib.Core.Path.{_≡_, _∙_}
 use mathlib.Core.Bool.{Bool, true, false}
 use mathlib.Core.List.{List}
 use Prim.Native.Nat.{ℕ, _+_, _*_, _≤_, _<_, min}
@@ -7,11 +7,8 @@ use native.Mathlib.Omega.{arith}
 use lib.ListN.{length, getD, take, drop}
 use lib.Seq.{getD-drop}
 use lib.Dec.{eqb}
-use Rattle.text.specs.Text.{sameBytes}
-use Rattle.text.proofs.Laws.{same-is}
 use Rattle.words.specs.declared.Found.{Found}
 use Rattle.words.specs.declared.Found.the-variants.{At, Nothing}
-use Rattle.words.proofs.Bools.{by}
 use Rattle.words.proofs.ListLaws.{findFrom, find-hit, find-miss, find-end}
 use Rattle.words.proofs.Laws.{part-rest}
 use Rattle.abi_sheet.specs.AbiSheet.{abiSlotsAt, abiFieldsAt, abiSlotWord, abiFieldWord}
@@ -77,11 +74,3 @@ module _ (p : ℕ → Bool) (m n i : ℕ) {b x : Bool} {F : Found} where
 
 pub turn-end : (p : ℕ → Bool) (m n i : ℕ) {F : Found} → n ≤ i → findFrom p m n i ≡ F → Nothing ≡ F
 turn-end p m n i h g = find-end p m n i h ∙ g
-
--- ---- names
-
--- names of which one byte differs
-pub name-other : (own name : List ℕ) (i : ℕ) {n : List ℕ} {x y : ℕ} → own ≡ n → x ≡ getD own i 0 → y ≡ getD name i 0 → (x ≡ y → ⊥)
-    → false ≡ sameBytes n name
-name-other own name i {n = n} e f g h =
-    by (sameBytes n name) (λ t. let q : own ≡ name = e ∙ same-is n name t in absurd (h (f ∙ rw q (sym g)))) (λ t. sym t)

@@ -33,21 +33,11 @@ pub fn larger(a: u32, b: u32) -> u32
     if a < b { b } else { a }
 }
 
-// The place of a name's last byte, 0 where it has none.
-fn last_place(name: &[u8]) -> usize {
-    if name.len() == 0 { 0 } else { name.len() - 1 }
-}
-
-// Whether ABI class a has this name. Class names begin alike, with their package, so the last byte is looked at first.
+// Whether ABI class a has this name.
 fn name_is(abi: &[u32], labels: &[u8], a: u32, name: &[u8]) -> bool
     ensures { λ r. ⌜ r ≡ sameBytes (abiClassName (now (abi .entry)) (now (labels .entry)) a) (now (name .entry)) ⌝ }
 {
-    let own = abi_sheet::class_name(abi, labels, a);
-    let last = last_place(name);
-    if words::byte_at(own, last) != words::byte_at(name, last) {
-        return false;
-    }
-    text::same(own, name)
+    text::same(abi_sheet::class_name(abi, labels, a), name)
 }
 
 // The first ABI class of this name.

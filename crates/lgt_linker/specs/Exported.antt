@@ -1,7 +1,9 @@
 -- What an exported call answers: the number that it returns, then the words of the small array that it is lent. Assumes nothing.
 use Prim.Native.Nat.{ℕ}
+use mathlib.Core.Bool.{cond}
 use mathlib.Core.List.{List}
 use lib.ListN.{getD}
+use Rattle.text.specs.Text.{sameBytes, pairsRead}
 use Rattle.linking.specs.Link.{Outcome}
 use Rattle.sheet.specs.Sheet as sheet
 use Rattle.writer.specs.Writer as writer
@@ -24,3 +26,15 @@ writtenBy row answer bs = record { refusal = row; blocks = getD answer 0 0; memo
 -- argument words
 abbrev pub argumentsBy : ℕ → List ℕ → descriptor.Answer
 argumentsBy row answer = record { refusal = row; words = getD answer 0 0 }
+
+-- "The comparison also counts the byte pairs it read": 0, as nothing is refused, 1 for the same names and 0 for others, and the count
+pub record Comparison : Type 0 where
+  pub refusal : ℕ
+  pub same : ℕ
+  pub pairs : ℕ
+
+unfoldable pub compareNames : List ℕ → List ℕ → Comparison
+compareNames a b = record { refusal = 0; same = cond (sameBytes a b) 1 0; pairs = pairsRead a b }
+
+abbrev pub comparedBy : ℕ → List ℕ → Comparison
+comparedBy row answer = record { refusal = row; same = getD answer 0 0; pairs = getD answer 1 0 }

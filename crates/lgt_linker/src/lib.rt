@@ -16,7 +16,7 @@ ghost use Rattle.sheet.specs.Sheet as readings;
 ghost use Rattle.writer.specs.Writer.{writeClassSheet};
 ghost use Rattle.writer.specs.Writer as writings;
 ghost use Rattle.descriptor.specs.Words.{argumentAnswer};
-ghost use Rattle.lgt_linker.specs.Exported.{called, readBy, writtenBy, argumentsBy};
+ghost use Rattle.lgt_linker.specs.Exported.{called, readBy, writtenBy, argumentsBy, comparedBy, compareNames};
 
 // Hands out a link's or an ask's answer.
 fn give_call(a: Answer, answer: &mut [u32; 2]) -> u32
@@ -143,4 +143,14 @@ pub extern "C" fn lgt_argument_words(descriptor: &[u8], flags: u32, answer: &mut
             5
         }
     }
+}
+
+// `text::compare`: the answer words are 1 for the same names and 0 for others, and the pairs of bytes read. Nothing is refused.
+#[no_mangle]
+pub extern "C" fn lgt_compare_names(a: &[u8], b: &[u8], answer: &mut [u64; 2]) -> u32
+    ensures { λ r. ⌜ comparedBy r (now (answer .exit)) ≡ compareNames (now (a .entry)) (now (b .entry)) ⌝ }
+{
+    let c = text::compare(a, b);
+    *answer = [if c.same { 1 } else { 0 }, c.pairs as u64];
+    0
 }

@@ -95,29 +95,7 @@ text-part ws n d {t = t} h p =
     let q : t ≡ table n (textByte ws) ++ drop n d = p ∙ simp (le-ltb (length d) n h) in
     rw q (take-at (table n (textByte ws)) (drop n d) n (length-table n (textByte ws)))
 
--- ---- sameBytes, at the rest from i on
-
--- a name of its own, so that antt finds the lists and i in it
-unfoldable pub sameFrom : List ℕ → List ℕ → ℕ → Bool
-sameFrom a b i = sameBytes (drop i a) (drop i b)
-
-pub same-start : (a b : List ℕ) → sameBytes a b ≡ sameFrom a b 0
-unfolding sameFrom
-same-start a b = refl
-
-module _ (a b : List ℕ) (i : ℕ) where
-  pub same-turn : i < length a → i < length b → getD a i 0 ≡ getD b i 0
-      → sameFrom a b i ≡ sameFrom a b (i + 1)
-  unfolding sameFrom sameBytes
-  same-turn h k e = let t = eq-eqb (getD a i 0) (getD b i 0) e in rw (add-one, drop-cons a i 0 h, drop-cons b i 0 k, t)
-
-  pub same-stop : i < length a → i < length b → (getD a i 0 ≡ getD b i 0 → ⊥) → sameFrom a b i ≡ false
-  unfolding sameFrom sameBytes
-  same-stop h k e = let t = ne-eqb (getD a i 0) (getD b i 0) e in rw (drop-cons a i 0 h, drop-cons b i 0 k, t)
-
-  pub same-end : length a ≤ i → length b ≤ i → sameFrom a b i ≡ true
-  unfolding sameFrom sameBytes
-  same-end h k = rw (drop-of-length-le a h, drop-of-length-le b k)
+-- ---- sameBytes
 
 pub same-lengths : (a b : List ℕ) → (length a ≡ length b → ⊥) → sameBytes a b ≡ false
 unfolding sameBytes

@@ -6,6 +6,8 @@ use lib.ListN.{getD, set, take, drop, length}
 use lib.Dec.{eqb, leb, ltb}
 use Rattle.words.specs.Folds.{allOf, table}
 use Rattle.words.specs.Words.{byteOf}
+use Rattle.words.specs.declared.Found.{Found}
+use Rattle.words.specs.declared.Found.the-variants.{At, Nothing}
 
 -- byte k of the text in the words: "text is four bytes a word, lowest byte first"
 unfoldable pub textByte : List ℕ → ℕ → ℕ
@@ -42,6 +44,27 @@ sameBytes [] [] = true
 sameBytes [] (y ∷ ys) = false
 sameBytes (x ∷ xs) [] = false
 sameBytes (x ∷ xs) (y ∷ ys) = eqb x y && sameBytes xs ys
+
+-- ---- how many pairs of bytes a comparison reads: "names of equal length compared last byte first. [..] The comparison also counts the byte
+-- pairs it read: 0 for unequal lengths, all for equal names, else the length minus the last differing place (from 0)."
+
+-- the place after this one, or this one where nothing is found later and the bytes here differ
+abbrev pub laterOr : Found → Bool → Found
+laterOr (At p) same = At (p + 1)
+laterOr Nothing same = cond same Nothing (At 0)
+
+-- the last place where two names differ
+unfoldable pub lastDiffering : List ℕ → List ℕ → Found
+lastDiffering [] ys = Nothing
+lastDiffering (x ∷ xs) [] = Nothing
+lastDiffering (x ∷ xs) (y ∷ ys) = laterOr (lastDiffering xs ys) (eqb x y)
+
+abbrev pub pairsFrom : ℕ → Found → ℕ
+pairsFrom n (At p) = n - p
+pairsFrom n Nothing = n
+
+unfoldable pub pairsRead : List ℕ → List ℕ → ℕ
+pairsRead a b = cond (eqb (length a) (length b)) (pairsFrom (length a) (lastDiffering a b)) 0
 
 -- "each 0x21 to 0x7E"
 unfoldable pub printable : List ℕ → Bool

@@ -3,7 +3,7 @@ ghost use mathlib.Core.Path.{_≡_};
 ghost use Prim.Native.Nat.{_*_, _-_, _≤_};
 ghost use lib.ListN.{length};
 ghost use Rattle.words.specs.Folds.{allOf, stores};
-ghost use Rattle.text.specs.Text.{textByte, textStores, unpackedText, zeroRest, nameAt, sameBytes, printable, partClean, signatureClean, memberClean};
+ghost use Rattle.text.specs.Text.{textByte, textStores, unpackedText, zeroRest, nameAt, sameBytes, pairsRead, printable, partClean, signatureClean, memberClean};
 
 // The words of a record of a name, a descriptor and a number, after the name's start: the name's length, the descriptor's start and length,
 // and the number.
@@ -88,21 +88,41 @@ pub fn name_at(text: &[u8], start: u32, len: u32) -> &[u8]
     words::part(text, words::wide(start), words::wide(len))
 }
 
-// Whether two names are the same bytes: the one comparison of names.
+// Whether two names are the same bytes, and how many pairs of bytes were read to see it.
+pub struct Compared {
+    pub same: bool,
+    pub pairs: usize,
+}
+
+// Compares two names: the one comparison of names. Names of one length are read from the far end, as many share long starts.
+pub fn compare(a: &[u8], b: &[u8]) -> Compared
+    ensures same { λ r. ⌜ r .same ≡ sameBytes (now (a .entry)) (now (b .entry)) ⌝ }
+    ensures pairs { λ r. ⌜ r .pairs ≡ pairsRead (now (a .entry)) (now (b .entry)) ⌝ }
+{
+    if a.len() != b.len() {
+        return Compared {
+            same: false,
+            pairs: 0,
+        };
+    }
+    let mut i: usize = a.len();
+    let mut pairs: usize = 0;
+    while 0 < i {
+        i -= 1;
+        pairs += 1;
+        if a[i] != b[i] {
+            return Compared { same: false, pairs };
+        }
+    }
+    Compared { same: true, pairs }
+}
+
+// Whether two names are the same bytes.
 pub fn same(a: &[u8], b: &[u8]) -> bool
     ensures { λ r. ⌜ r ≡ sameBytes (now (a .entry)) (now (b .entry)) ⌝ }
 {
-    if a.len() != b.len() {
-        return false;
-    }
-    let mut i: usize = 0;
-    while i < a.len() {
-        if a[i] != b[i] {
-            return false;
-        }
-        i += 1;
-    }
-    true
+    let c = compare(a, b);
+    c.same
 }
 
 // Whether each byte is from 0x21 to 0x7E.

@@ -1,9 +1,10 @@
-//! Comparison of what the Rust cannot judge: reading sheets (rows 1 to 5) and argument
-//! words. Here the harness's own rows stand against the other side.
+//! Comparison of what the Rust cannot judge: reading sheets (rows 1 to 5), argument words and
+//! names. Here the harness's own rows stand against the other side.
 
 use std::collections::BTreeMap;
 
 use crate::case::Case;
+use crate::names;
 use crate::oracle::Oracle;
 use crate::random::Random;
 use crate::sheet::{Abi, Set, blocks, class_word};
@@ -11,7 +12,7 @@ use crate::side::{Answer, Linker};
 use crate::writings;
 
 /// What a reading or a descriptor is about; a run must reach each.
-const BUCKETS: [&str; 36] = [
+const BUCKETS: [&str; 67] = [
     "class sheet read",
     "class sheet refused by row 1",
     "class sheet refused by row 2",
@@ -48,6 +49,22 @@ const BUCKETS: [&str; 36] = [
     "writing: a nonzero byte after the text",
     "writing: words after the content",
     "writing: bytes after the blocks",
+    "reference words listed",
+    "reference words refused by row 24",
+    "reference words refused by row 25",
+    "bitmap: none marked",
+    "bitmap: all marked",
+    "bitmap: bits beyond the words",
+    "bitmap: bytes beyond the words",
+    "bitmap: more than 8,192 words",
+    "names: of unequal lengths",
+    "names: one the start of the other",
+    "names: both empty",
+    "names: the same",
+    "names: the first byte alone differs",
+    "names: the last byte alone differs",
+    "names: several bytes differ",
+    "names: of more than 255 bytes",
 ];
 
 /// Counts of readings and descriptors.
@@ -75,7 +92,8 @@ impl ReadingCounts {
     }
 }
 
-/// Reads the case's sheets, damaged or not, on both sides, writes its set back, and asks for argument words.
+/// Reads the case's sheets, damaged or not, on both sides, writes its set back, renumbers it shuffled, asks for argument words and of a reference
+/// bitmap, and compares two names.
 /// Answers the first disagreement.
 pub fn compare(
     oracle: &mut Oracle,
@@ -110,7 +128,35 @@ pub fn compare(
         let text = descriptor.escape_ascii();
         return Err(format!("argument words of {text:?} with flags {flags:#x}: oracle {oracle_answer:?}, other {other_answer:?}"));
     }
-    writings::compare(oracle, other, &writings::random(random, case), counts)
+    references::compare(oracle, other, &references::random(random), counts)?;
+    writings::compare(oracle, other, &writings::random(random, case), counts)?;
+    orders::compare(oracle, other, random, case, counts)?;
+    names::compare(oracle, other, &names::random(random), counts)
+}
+
+/// Reads a class sheet by rows 1 to 3 alone, on both sides; `strictly` is what a reading by rows 1 to 5 answered.
+fn loosely(
+    oracle: &mut Oracle,
+    other: &mut dyn Linker,
+    reading: &Reading,
+    strictly: Answer,
+    counts: &mut ReadingCounts,
+) -> Result<(), String> {
+    let before = lent_words(reading.lent);
+    let (mut expected, mut found) = (before.clone(), before);
+    let answers = [oracle.read_unordered_sheet(&reading.bytes, &mut expected), other.read_unordered_sheet(&reading.bytes, &mut found)];
+    counts.hit(&match answers[0].refusal {
+        0 if matches!(strictly.refusal, 4 | 5) => "class sheet read loosely alone".to_owned(),
+        0 => "class sheet read loosely".to_owned(),
+        row => format!("class sheet refused loosely by row {row}"),
+    });
+    if answers[0] != answers[1] || expected != found || (strictly.refusal < 4 && answers[0] != strictly) {
+        return Err(format!(
+            "reading loosely, {}: oracle {:?}, other {:?}\nbytes {:?}",
+            reading.damage, answers[0], answers[1], reading.bytes
+        ));
+    }
+    Ok(())
 }
 
 /// The content of class words, as if no class were linked.

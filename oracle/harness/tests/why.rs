@@ -60,6 +60,18 @@ impl Linker for Explained {
     fn argument_words(&mut self, descriptor: &[u8], flags: u32) -> Answer {
         Model.argument_words(descriptor, flags)
     }
+
+    fn reference_words(&mut self, bitmap: &[u8], words: u32, list: &mut [u32]) -> Answer {
+        Model.reference_words(bitmap, words, list)
+    }
+
+    fn reference_count(&mut self, bitmap: &[u8], words: u32) -> Answer {
+        Model.reference_count(bitmap, words)
+    }
+
+    fn compare_names(&mut self, a: &[u8], b: &[u8]) -> Answer {
+        Model.compare_names(a, b)
+    }
 }
 
 /// `replay` holds each row to the stored one.

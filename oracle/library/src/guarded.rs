@@ -120,6 +120,8 @@ type Sides<'a> = &'a mut dyn FnMut(&mut Library, &mut [u32], &[u32], &mut [u32],
 
 type Reads<'a, R, W> = &'a mut dyn FnMut(&mut Library, &[R], &mut [W]) -> Answer;
 
+type ReadsBoth<'a, R> = &'a mut dyn FnMut(&mut Library, &[R], &[R]) -> Answer;
+
 impl Guarded {
     /// A call on two slices that may be written, `set` and `area`, and two that may not.
     fn call(&mut self, set: &mut [u32], abi: &[u32], area: &mut [u32], stubs: &[u32], make: Sides) -> Answer {
@@ -153,6 +155,20 @@ impl Guarded {
         written.copy_from_slice(&after.1);
         after.0
     }
+
+    /// A call on two slices that may not be written.
+    fn read_both<R: Copy + 'static>(&mut self, a: &[R], b: &[R], make: ReadsBoth<R>) -> Answer {
+        let mut once = |guard| {
+            self.library.null_where_empty = guard == Guard::Before;
+            let answer = make(&mut self.library, self.fixed.put_fixed(a, guard), self.also_fixed.put_fixed(b, guard));
+            self.fixed.release();
+            self.also_fixed.release();
+            answer
+        };
+        let (before, after) = (once(Guard::Before), once(Guard::After));
+        assert!(before == after, "the two placements differ: {before:?} and {after:?}");
+        after
+    }
 }
 
 impl Linker for Guarded {
@@ -178,6 +194,18 @@ impl Linker for Guarded {
 
     fn argument_words(&mut self, descriptor: &[u8], flags: u32) -> Answer {
         self.read(descriptor, &mut [0u32; 0], &mut |library, descriptor, _| library.argument_words(descriptor, flags))
+    }
+
+    fn reference_words(&mut self, bitmap: &[u8], words: u32, list: &mut [u32]) -> Answer {
+        self.read(bitmap, list, &mut |library, bitmap, list| library.reference_words(bitmap, words, list))
+    }
+
+    fn reference_count(&mut self, bitmap: &[u8], words: u32) -> Answer {
+        self.read(bitmap, &mut [0u32; 0], &mut |library, bitmap, _| library.reference_count(bitmap, words))
+    }
+
+    fn compare_names(&mut self, a: &[u8], b: &[u8]) -> Answer {
+        self.read_both(a, b, &mut |library, a, b| library.compare_names(a, b))
     }
 }
 

@@ -43,6 +43,12 @@ unsafe extern "C" {
     ) -> u32;
 
     fn lgt_argument_words(descriptor: *const u8, descriptor_len: usize, flags: u32, answer: *mut u64) -> u32;
+
+    fn lgt_reference_words(bitmap: *const u8, bitmap_len: usize, words: u32, list: *mut u32, list_len: usize, answer: *mut u32) -> u32;
+
+    fn lgt_reference_count(bitmap: *const u8, bitmap_len: usize, words: u32, answer: *mut u32) -> u32;
+
+    fn lgt_compare_names(a: *const u8, a_len: usize, b: *const u8, b_len: usize, answer: *mut u64) -> u32;
 }
 
 /// What an answer array holds before a call, so that a word that is not written shows.
@@ -120,5 +126,23 @@ impl Linker for Library {
         let refusal = unsafe { lgt_argument_words(self.read_only(descriptor), descriptor.len(), flags, answer.as_mut_ptr()) };
         assert_eq!(answer[1], u64::from(UNWRITTEN), "a word after the answer is written");
         Answer { refusal, first: answer[0].try_into().unwrap_or(u32::MAX), second: 0 }
+    }
+
+    fn reference_words(&mut self, bitmap: &[u8], words: u32, list: &mut [u32]) -> Answer {
+        answered(1, |answer| unsafe {
+            lgt_reference_words(self.read_only(bitmap), bitmap.len(), words, self.lent(list), list.len(), answer)
+        })
+    }
+
+    fn reference_count(&mut self, bitmap: &[u8], words: u32) -> Answer {
+        answered(1, |answer| unsafe { lgt_reference_count(self.read_only(bitmap), bitmap.len(), words, answer) })
+    }
+
+    fn compare_names(&mut self, a: &[u8], b: &[u8]) -> Answer {
+        let mut answer = [u64::from(UNWRITTEN); 3];
+        let refusal = unsafe { lgt_compare_names(self.read_only(a), a.len(), self.read_only(b), b.len(), answer.as_mut_ptr()) };
+        assert_eq!(answer[2], u64::from(UNWRITTEN), "a word after the answer is written");
+        let [first, second, _] = answer.map(|word| word.try_into().unwrap_or(u32::MAX));
+        Answer { refusal, first, second }
     }
 }

@@ -2,6 +2,8 @@
 
 use harness::case::{Call, Case};
 use harness::generate;
+use harness::names::{self, Names};
+use harness::orders::{self, Order};
 use harness::random::Random;
 use harness::readings::{self, Reading};
 use harness::sheet::blocks;
@@ -121,4 +123,49 @@ pub fn writing(random: &mut Random, case: &Case) -> Writing {
         _ => {}
     }
     writing
+}
+
+/// Class words of any kind to renumber, with any number of list words.
+pub fn order(random: &mut Random, case: &Case) -> Order {
+    let mut order = orders::random(random, case);
+    if random.chance(50) {
+        damage(random, &mut order.set, 4);
+    }
+    match random.below(5) {
+        0 => order.lent = random.below(70) as usize,
+        1 => order.lent = 0,
+        _ => {}
+    }
+    order
+}
+
+/// A bitmap of any length with any number of words: too few bytes, exactly those that are needed, more words than a class has.
+pub fn bitmap(random: &mut Random) -> Bitmap {
+    let mut bitmap = references::random(random);
+    match random.below(6) {
+        0 => bitmap.words = odd_word(random, 8 * bitmap.bytes.len()),
+        1 => bitmap.bytes.clear(),
+        2 => bitmap.lent = 0,
+        3 if random.chance(3) => {
+            bitmap.words = 65_534 + random.below(20);
+            bitmap.bytes.resize(bitmap.words.div_ceil(8) as usize, 0xA1);
+        }
+        _ => {}
+    }
+    bitmap
+}
+
+/// Two names of any length: one or both of no bytes, both longer than a page.
+pub fn names(random: &mut Random) -> Names {
+    let mut names = names::random(random);
+    match random.below(6) {
+        0 => names.a.clear(),
+        1 => names.b.clear(),
+        2 if random.chance(10) => {
+            let start = vec![random.word() as u8; random.between(4_000, 9_000) as usize];
+            names = Names { a: [&start[..], &names.a].concat(), b: [&start[..], &names.b].concat() };
+        }
+        _ => {}
+    }
+    names
 }

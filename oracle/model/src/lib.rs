@@ -6,6 +6,8 @@ mod ask;
 mod descriptors;
 mod fields;
 mod link;
+mod names;
+mod order;
 mod reading;
 mod rules;
 mod sheets;
@@ -20,6 +22,8 @@ use crate::why::{Refused, Why};
 pub use ask::ask;
 pub use descriptors::argument_words;
 pub use link::link;
+pub use names::compare_names;
+pub use order::{read_unordered_sheet, renumber_classes};
 pub use reading::{read_abi_sheet, read_class_sheet};
 pub use writing::write_class_sheet;
 
@@ -57,6 +61,18 @@ impl Linker for Model {
 
     fn argument_words(&mut self, descriptor: &[u8], flags: u32) -> Answer {
         answer(argument_words(descriptor, flags).map(|words| (words, 0)).map_err(Refused::from))
+    }
+
+    fn reference_words(&mut self, bitmap: &[u8], words: u32, list: &mut [u32]) -> Answer {
+        answer(reference_words(bitmap, words, list).map(|count| (count, 0)))
+    }
+
+    fn reference_count(&mut self, bitmap: &[u8], words: u32) -> Answer {
+        answer(reference_count(bitmap, words).map(|count| (count, 0)))
+    }
+
+    fn compare_names(&mut self, a: &[u8], b: &[u8]) -> Answer {
+        answer(Ok(compare_names(a, b)))
     }
 }
 

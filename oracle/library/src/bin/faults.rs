@@ -10,6 +10,7 @@ use std::time::Instant;
 
 use harness::case::{Call, Case};
 use harness::compare;
+use harness::names;
 use harness::oracle::Oracle;
 use harness::random::Random;
 use harness::readings::{descriptor, lent_words, read};
@@ -88,7 +89,7 @@ fn main() -> ExitCode {
     ExitCode::SUCCESS
 }
 
-/// A case's calls, a reading, a writing and a descriptor.
+/// A case's calls, a reading, of a class sheet loosely too, a writing, an order, a descriptor, a reference bitmap and two names.
 fn one(seed: u64, number: u64, oracle: &mut Oracle, guarded: &mut Guarded, counts: &mut Counts) -> Result<(), String> {
     let case = malformed::case(seed, number);
     let result = compare::compare(oracle, guarded, &case, &mut |step| {
@@ -114,6 +115,7 @@ fn one(seed: u64, number: u64, oracle: &mut Oracle, guarded: &mut Guarded, count
     }
     counts.count("argument words", given);
     counts.count("writing", writings::judge(oracle, guarded, &malformed::writing(&mut random, &case))?);
+    counts.count("names", names::judge(oracle, guarded, &malformed::names(&mut random))?);
     Ok(())
 }
 
