@@ -75,6 +75,10 @@
 #define LGT_REFUSED_NOT_STORABLE 17u
 /* fewer bytes lent than the blocks of the sheet take */
 #define LGT_REFUSED_SHEET_ROOM 18u
+/* fewer bytes of a reference bitmap than its instance words take */
+#define LGT_REFUSED_BITMAP_BYTES 24u
+/* a list lent for reference words that is shorter than their count */
+#define LGT_REFUSED_REFERENCE_LIST 25u
 
 /*
  * ---- Memory to lend
@@ -287,6 +291,10 @@ static inline const char *lgt_refusal_text(uint32_t refusal)
     case LGT_REFUSED_SHEET_ROOM:
         return "Lend 512 bytes for each block that the sheet takes, 127 words of content a block: 47,104 bytes are "
                "enough for every set.";
+    case LGT_REFUSED_BITMAP_BYTES:
+        return "Lend the whole bitmap, a byte for each 8 instance words.";
+    case LGT_REFUSED_REFERENCE_LIST:
+        return "Lend a list as long as the count, which `lgt_reference_count` tells.";
     default:
         return "This number is not known to the header's version, " LGT_LINKER_VERSION ": see docs/REFUSALS.md of the library's.";
     }
@@ -366,6 +374,25 @@ uint32_t lgt_argument_words(const uint8_t *descriptor, size_t descriptor_len, ui
  * Refuses nothing: it returns 0.
  */
 uint32_t lgt_compare_names(const uint8_t *a, size_t a_len, const uint8_t *b, size_t b_len, uint64_t answer[2]);
+
+/*
+ * Lists the instance words that hold references, by a class's instance reference bitmap: word i, of `words` instance words
+ * counted from 0, is marked if byte i / 8 has the bit 0x80 shifted right by i modulo 8. Bits beyond the words are ignored.
+ * Answers: answer[0], how many words are marked. Leaves: their numbers at the front of `list`, in rising order, the rest of it
+ * as it was.
+ * Refuses by 24, 25. A list of `words` words is never refused by 25.
+ */
+LGT_MUST_USE
+uint32_t lgt_reference_words(const uint8_t *bitmap, size_t bitmap_len, uint32_t words, uint32_t *list, size_t list_len,
+                             uint32_t answer[1]);
+
+/*
+ * Counts the same words without a list: as many words hold every list of them.
+ * Answers: answer[0], how many words are marked. Leaves nothing else written.
+ * Refuses by 24.
+ */
+LGT_MUST_USE
+uint32_t lgt_reference_count(const uint8_t *bitmap, size_t bitmap_len, uint32_t words, uint32_t answer[1]);
 
 #ifdef __cplusplus
 }

@@ -213,6 +213,20 @@ class Bindings(unittest.TestCase):
         quoted = re.search(r"prints, among the rest,\n\n((?:    .*\n)+)", contents("docs", "INTEGRATION.md"))[1]
         self.assertIn(re.sub(r"^    ", "", quoted, flags=re.M), stored)
 
+    def test_references(self):
+        """The example names reference words as the original does, and says what to mend after a refusal."""
+        named = ("run", "--offline", "--quiet", "--example", "references", "--")
+        self.assertEqual(self.cargo(*named, "8", "A1"), (0, "".join(f"<reference-word-{word}>\n" for word in (0, 2, 7)), ""))
+        self.assertEqual(self.cargo(*named, "7", "a1ff"), (0, "<reference-word-0>\n<reference-word-2>\n", ""))
+        self.assertEqual(self.cargo(*named, "0", ""), (0, "", ""))
+        self.assertIn('format!("<reference-word-{}>", self.word_index)', contents(
+            "oracle", "original", "wie-lgt", "src", "runtime", "java", "jvm_support", "field.rs"))
+        status, out, err = self.cargo(*named, "9", "A1")
+        self.assertEqual((status, out), (1, ""))
+        self.assertIn("refusal 24", err)
+        for words in ((), ("8",), ("8", "A"), ("8", "G1"), ("-1", "A1"), ("8", "A1", "A1")):
+            self.assertEqual(self.cargo(*named, *words)[:2], (2, ""))
+
     def test_archive(self):
         """LGT_LINKER_ARCHIVE links the very file that it names; without one documentation is made, and a build says what to do."""
         with tempfile.TemporaryDirectory() as folder:

@@ -376,17 +376,20 @@ class Vectors(unittest.TestCase):
         for name, data in vectors.vectors.items():
             kind, row = vectors.told(name)
             line = vectors.answer(name, data)[len(name):]
-            good = {"set": " set 0", "args": " words "}.get(kind, " accepted ")
+            good = {"set": " set 0", "args": " words ", "refs": " marked "}.get(kind, " accepted ")
             self.assertTrue(line.startswith((f" set {row}" if kind == "set" else f" refused {row}") if row else good), name)
 
     def test_answers(self):
-        """The lines of the three kinds of files; a path's last part tells the kind."""
+        """The lines of the kinds of files; a path's last part tells the kind."""
         words, abi = sheetvectors.CLASSES.words(), sheetvectors.ABI.words()
         self.assertEqual(setvectors.parted(setvectors.joined(words, abi)), (words, abi))
         for path, data, want in (("x/set-1-lent-3.bin", setvectors.joined(words, abi), "set 0 unwritten 18 42"),
                                  ("set-1-lent-513.bin", setvectors.joined([0] * 6, []), f"set 3 written 1 {509 + 7 * 513}"),
                                  ("x/args-1", b"\x08\0\0\0(IJ)V", "words 3"), ("args-1", b"\x01\0\0\0(IJ)V", "words 4"),
-                                 ("args-1", b"\0\0\0\0(V)V", "refused 5"), ("args-1", b"", "refused 5")):
+                                 ("args-1", b"\0\0\0\0(V)V", "refused 5"), ("args-1", b"", "refused 5"),
+                                 ("x/refs-1", b"\x08\0\0\0\4\0\0\0\xA1", f"marked 3 {4 + 21 + 28} counted 3"),
+                                 ("refs-1", b"\x08\0\0\0\2\0\0\0\xA1", "refused 25 21 counted 3"),
+                                 ("refs-1", b"\x09\0\0\0\1\0\0\0\xA1", "refused 24 7 refused 24"), ("refs-1", b"", "marked 0 0 counted 0")):
             self.assertEqual(vectors.answer(path, data), f"{path} {want}")
 
     def test_weighed_rest(self):
@@ -611,7 +614,7 @@ abi.txt: 5 faults, nothing was written (--anyway writes it)
     def test_messages(self):
         """Each row of both sheets: the number, the place and the sentence of docs/REFUSALS.md."""
         table = self.table()
-        self.assertEqual(sorted(map(int, table)), list(range(1, 19)))
+        self.assertEqual(sorted(map(int, table)), [*range(1, 19), 24, 25])
         for name, place in (
                 ("class-r1-513-bytes", "the file has 513 bytes"), ("abi-r1-no-bytes", "the file is empty"),
                 ("class-r2-check-of-block-2", "block 2: the check word at byte 1020 of the file"),

@@ -2,8 +2,10 @@
 """Makes the vectors of the program `judge` and the answers that it must print.
 
 The vectors are those of sheetvectors.py (sheets to read), setvectors.py (words already
-read, and descriptors whose argument words are counted) and writevectors.py (sets to write).
-The judge of sheetlib.py, written from docs/SPECIFICATION.md, gives the answers.
+read, and descriptors whose argument words are counted), writevectors.py (sets to write) and
+refvectors.py (reference bitmaps).
+The judge of sheetlib.py, written from docs/SPECIFICATION.md, gives the answers; of a bitmap
+refvectors.py does.
 """
 
 import argparse
@@ -14,6 +16,7 @@ import sys
 sys.dont_write_bytecode = True
 sys.path.insert(0, os.path.dirname(os.path.realpath(__file__)))
 
+import refvectors  # noqa: E402
 import setvectors  # noqa: E402
 import sheetvectors  # noqa: E402
 import writevectors  # noqa: E402
@@ -31,7 +34,8 @@ def make_all():
     sheetvectors.make()
     setvectors.make()
     writevectors.make()
-    for module in (sheetvectors, setvectors):
+    refvectors.make()
+    for module in (sheetvectors, setvectors, refvectors):
         vectors.update(module.vectors)
 
 
@@ -52,6 +56,8 @@ def answer(path, data):
     if name.startswith("args"):
         row, words = argument_words(data[4:], int.from_bytes(data[:4], "little"))
         return f"{path} refused {row}" if row else f"{path} words {words}"
+    if name.startswith("refs"):
+        return f"{path} {references(data)}"
     lent = sheetvectors.lent_words(name)
     row, words = judge(layout_of(name), data, lent)
     if row:
@@ -72,6 +78,14 @@ def back(data):
     """What the program says of an accepted class sheet that it writes back: the blocks, and whether they are the same."""
     made = blocks(content_words(CLASS_SHEET, block_words(data)))
     return f"written {len(made) // BLOCK_BYTES} {'same' if made == data else 'other'}"
+
+
+def references(data):
+    """Both answers about a bitmap: the list's with its words after the call, and the count's."""
+    words, room, bitmap = refvectors.parted(data)
+    (row, marked), (no_count, count) = refvectors.judge_list(bitmap, words, room), refvectors.judge_count(bitmap, words)
+    answers = f"refused {row}" if row else f"marked {len(marked)}", f"refused {no_count}" if no_count else f"counted {count}"
+    return f"{answers[0]} {weighed(marked, room)} {answers[1]}"
 
 
 # ---- the stored files
@@ -142,7 +156,7 @@ def uncovered():
 
 def told(name):
     """What a file's name tells: its kind, and the row that refuses it or 0."""
-    kind, row = re.match(r"(abi|class|set|args)-(?:ok|r(\d))-", name).groups()
+    kind, row = re.match(r"(abi|class|set|args|refs)-(?:ok|r(\d+))-", name).groups()
     return kind, int(row or 0)
 
 
@@ -150,7 +164,7 @@ def summary():
     rows = {}
     for name in vectors:
         rows[told(name)] = rows.get(told(name), 0) + 1
-    for kind in ("class", "abi", "set", "args"):
+    for kind in ("class", "abi", "set", "args", "refs"):
         print(f"{kind}: " + ", ".join(f"row {row} {n}" if row else f"accepted {n}" for (k, row), n in sorted(rows.items()) if k == kind))
 
 

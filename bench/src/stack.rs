@@ -19,12 +19,14 @@ const SIZE: usize = 1 << 20;
 const PAINT: u8 = 0xA5;
 
 /// The exported functions, in the order of `Painted`'s stacks.
-const FUNCTIONS: [&str; 11] = [
+const FUNCTIONS: [&str; 8] = [
     "lgt_read_class_sheet",
     "lgt_read_abi_sheet",
     "lgt_link",
     "lgt_interface_dispatch_table",
     "lgt_argument_words",
+    "lgt_reference_words",
+    "lgt_reference_count",
     "lgt_write_class_sheet",
     "lgt_read_unordered_sheet",
     "lgt_renumber_classes",
@@ -77,7 +79,7 @@ extern "C" fn enter(body: *mut &mut dyn FnMut()) {
 /// The library on painted stacks.
 struct Painted {
     library: Library,
-    stacks: [Stack; 5],
+    stacks: [Stack; FUNCTIONS.len()],
 }
 
 impl Painted {
@@ -85,7 +87,7 @@ impl Painted {
         Self { library: Library::default(), stacks: std::array::from_fn(|_| Stack::new()) }
     }
 
-    fn depths(&mut self) -> [usize; 5] {
+    fn depths(&mut self) -> [usize; FUNCTIONS.len()] {
         self.stacks.each_mut().map(Stack::depth)
     }
 }
@@ -111,8 +113,16 @@ impl Linker for Painted {
         self.stacks[4].run(|| self.library.argument_words(descriptor, flags))
     }
 
+    fn reference_words(&mut self, bitmap: &[u8], words: u32, list: &mut [u32]) -> Answer {
+        self.stacks[5].run(|| self.library.reference_words(bitmap, words, list))
+    }
+
+    fn reference_count(&mut self, bitmap: &[u8], words: u32) -> Answer {
+        self.stacks[6].run(|| self.library.reference_count(bitmap, words))
+    }
+
     fn write_class_sheet(&mut self, set: &[u32], bytes: &mut [u8]) -> Answer {
-        self.stacks[5].run(|| self.library.write_class_sheet(set, bytes))
+        self.stacks[7].run(|| self.library.write_class_sheet(set, bytes))
     }
 
     fn compare_names(&mut self, a: &[u8], b: &[u8]) -> Answer {

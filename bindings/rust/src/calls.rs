@@ -1,4 +1,7 @@
-//! The library's functions over lent slices. They allocate nothing.
+//! The library's functions over lent slices. But for [`reference_words`], which makes its list, they allocate nothing.
+
+use alloc::vec;
+use alloc::vec::Vec;
 
 use crate::layout::{ABI_BLOCKS, BLOCK_BYTES, BLOCK_WORDS, CLASS_BLOCKS};
 use crate::refusal::{Refusal, accepted};
@@ -229,4 +232,45 @@ pub fn compare_names(a: &[u8], b: &[u8]) -> Compared {
     let row = unsafe { sys::lgt_compare_names(a.as_ptr(), a.len(), b.as_ptr(), b.len(), &mut answer) };
     debug_assert_eq!(row, 0);
     Compared { same: answer[0] != 0, pairs: answer[1] as usize }
+}
+
+/// The instance words that hold references, by a class's instance reference bitmap, in rising order: word i of `words` is marked if byte
+/// i / 8 has the bit 0x80 shifted right by i modulo 8. Bits beyond the words are ignored. The list is made as long as [`reference_count`]
+/// tells.
+///
+/// # Errors
+///
+/// Refusal 24: the bitmap has fewer bytes than the words take, one for each 8.
+///
+/// ```
+/// use lgt_linker::{Refusal, reference_words};
+/// assert_eq!(reference_words(&[0xA1], 8), Ok(vec![0, 2, 7]));
+/// assert_eq!(reference_words(&[0xA1], 7), Ok(vec![0, 2]));
+/// assert_eq!(reference_words(&[0xA1], 9), Err(Refusal::BitmapBytes));
+/// ```
+pub fn reference_words(bitmap: &[u8], words: u32) -> Result<Vec<u32>, Refusal> {
+    let mut list = vec![0; reference_count(bitmap, words)? as usize];
+    let mut answer = [0];
+    // SAFETY: both slices are whole, the written one is lent exclusively, and the answer has its word.
+    let row = unsafe { sys::lgt_reference_words(bitmap.as_ptr(), bitmap.len(), words, list.as_mut_ptr(), list.len(), &mut answer) };
+    accepted(row, list)
+}
+
+/// How many instance words hold references, by the same bitmap.
+///
+/// # Errors
+///
+/// Refusal 24, as of [`reference_words`].
+///
+/// ```
+/// use lgt_linker::{Refusal, reference_count};
+/// assert_eq!(reference_count(&[0xA1], 8), Ok(3));
+/// assert_eq!(reference_count(&[0xFF], 0), Ok(0));
+/// assert_eq!(reference_count(&[], 1), Err(Refusal::BitmapBytes));
+/// ```
+pub fn reference_count(bitmap: &[u8], words: u32) -> Result<u32, Refusal> {
+    let mut answer = [0];
+    // SAFETY: the slice is whole, and the answer has its word.
+    let row = unsafe { sys::lgt_reference_count(bitmap.as_ptr(), bitmap.len(), words, &mut answer) };
+    accepted(row, answer[0])
 }

@@ -54,6 +54,10 @@ pub enum Refusal {
     NotStorable,
     /// 18: too few bytes lent for the sheet
     SheetRoom,
+    /// 24: a reference bitmap has too few bytes for its words
+    BitmapBytes,
+    /// 25: the lent list is shorter than the count of reference words
+    ReferenceList,
     /// A number that this version of the crate has no name for, as an archive of a later version may answer; [`Refusal::of`] makes it.
     Unknown(u32),
 }
@@ -195,6 +199,18 @@ const REFUSALS: &[Row] = &[
         refusal: Refusal::SheetRoom,
         wrong: "fewer bytes were lent than the sheet's blocks take",
         mend: "Lend 512 bytes for each block that the sheet takes, 127 words of content a block: 47,104 bytes are enough for every set.",
+    },
+    Row {
+        number: 24,
+        refusal: Refusal::BitmapBytes,
+        wrong: "the reference bitmap has fewer bytes than its instance words take",
+        mend: "Lend the whole bitmap, a byte for each 8 instance words.",
+    },
+    Row {
+        number: 25,
+        refusal: Refusal::ReferenceList,
+        wrong: "the list that was lent is shorter than the count of reference words",
+        mend: "Lend a list as long as the count, which `lgt_reference_count` tells.",
     },
 ];
 

@@ -5,7 +5,8 @@ use alloc::vec::Vec;
 use core::fmt;
 
 use crate::calls::{
-    ABI_WORDS, Asked, CLASS_BYTES, CLASS_WORDS, Linked, interface_dispatch_table, link, read_abi_sheet, read_class_sheet, write_class_sheet,
+    ABI_WORDS, Asked, CLASS_BYTES, CLASS_WORDS, Linked, interface_dispatch_table, link, read_abi_sheet, read_class_sheet, reference_words,
+    write_class_sheet,
 };
 use crate::layout::{BLOCK_BYTES, abi, set};
 use crate::refusal::Refusal;
@@ -349,6 +350,27 @@ impl ClassSet {
         let mut fields = self.class(class)?.chain().flat_map(Class::fields);
         let found = fields.find(|field| field.name == name && field.descriptor == descriptor && field.is_static() == is_static);
         found.map(|field| field.word_index)
+    }
+
+    /// The instance words of a linked class that hold references, by its instance reference bitmap: [`reference_words`] with as many words
+    /// as the class's record says. The bitmap is the caller's, as a set holds none.
+    ///
+    /// # Errors
+    ///
+    /// Refusal 6: there is no class of that number. Refusal 24: the bitmap has fewer bytes than the words take.
+    ///
+    /// ```
+    /// # use lgt_linker::*;
+    /// let class = ClassBuilder::new("Made").kind(Kind::Generated).instance_words(9);
+    /// let mut set = SetBuilder::new().class(class).build()?;
+    /// set.link(&AbiBuilder::new().build()?, 1, &mut Area::fresh(64), &[9; 8])?;
+    /// assert_eq!(set.reference_words(1, &[0xA1, 0xFF]), Ok(vec![0, 2, 7, 8])); // 7 of the last byte's bits are beyond the words
+    /// assert_eq!(set.reference_words(1, &[0xA1]), Err(Refusal::BitmapBytes));
+    /// assert_eq!(set.reference_words(2, &[0xA1]), Err(Refusal::Class));
+    /// # Ok::<(), BuildError>(())
+    /// ```
+    pub fn reference_words(&self, class: u32, bitmap: &[u8]) -> Result<Vec<u32>, Refusal> {
+        reference_words(bitmap, self.class(class).ok_or(Refusal::Class)?.instance_words())
     }
 }
 

@@ -37,4 +37,15 @@ unsafe extern "C" {
     pub fn lgt_argument_words(descriptor: *const u8, descriptor_len: usize, flags: u32, answer: *mut [u64; 1]) -> u32;
 
     pub fn lgt_compare_names(a: *const u8, a_len: usize, b: *const u8, b_len: usize, answer: *mut [u64; 2]) -> u32;
+
+    pub fn lgt_reference_words(
+        bitmap: *const u8,
+        bitmap_len: usize,
+        words: u32,
+        list: *mut u32,
+        list_len: usize,
+        answer: *mut [u32; 1],
+    ) -> u32;
+
+    pub fn lgt_reference_count(bitmap: *const u8, bitmap_len: usize, words: u32, answer: *mut [u32; 1]) -> u32;
 }

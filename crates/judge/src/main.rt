@@ -5,6 +5,9 @@
 //   was 7 before it. `-lent-N` before `.bin` in a name has N bytes lent.
 // - `args`: a word of flags, then the bytes of a method descriptor. Written: its name, `words` and the argument words, or
 //   `refused 5`.
+// - `refs`: the number of instance words, the number of list words lent, then the bytes of a reference bitmap. Written: its
+//   name, `marked` and the count or `refused` and the row, the weighed sum of the list after the call, each word of which
+//   was 7 before it, then `counted` and the count or `refused` and the row, of the count alone.
 // - `abi`, an ABI sheet, or anything else, a class sheet. Written: its name, `accepted` and the words answered or `refused`
 //   and the row, then the weighed sum of all lent words after the call, each of which was 7 before it. `-lent-N` before
 //   `.bin` in a name has N words lent. An accepted class sheet is then written back into bytes that are 7: `written` and the
@@ -58,6 +61,11 @@ fn is_set(name: &[u8]) -> bool {
 // Whether a file of this name holds flags and a method descriptor.
 fn is_arguments(name: &[u8]) -> bool {
     text::same(part(name, 0, 4), b"args")
+}
+
+// Whether a file of this name holds a reference bitmap.
+fn is_references(name: &[u8]) -> bool {
+    text::same(part(name, 0, 4), b"refs")
 }
 
 // Whether the bytes are `-lent-`.
@@ -321,6 +329,42 @@ fn print_arguments(path: &[u8], bytes: &[u8]) {
     io::write_all(STDOUT_FILENO, b"\n");
 }
 
+// Writes the word, then the count, or ` refused ` and the row.
+fn print_count(word: &[u8], answer: references::References) {
+    match answer {
+        references::References::Count(n) => {
+            io::write_all(STDOUT_FILENO, word);
+            io::print_decimal(STDOUT_FILENO, n as u64);
+        }
+        references::References::Refused(row) => {
+            io::write_all(STDOUT_FILENO, b" refused ");
+            io::print_decimal(STDOUT_FILENO, row as u64);
+        }
+    }
+}
+
+// Lists the marked words with the first n words lent, or all where there are fewer.
+fn list_lent(bitmap: &[u8], count: u32, list: &mut [u32], n: usize) -> references::References {
+    if n < list.len() {
+        return references::reference_words(bitmap, count, &mut list[..n]);
+    }
+    references::reference_words(bitmap, count, list)
+}
+
+// Lists and counts the words that the bitmap in bytes marks, and writes their line.
+fn print_references(path: &[u8], bytes: &[u8], list: &mut [u32]) {
+    let count = le_word(bytes, 0);
+    let n = wide(le_word(bytes, 4));
+    let bitmap = part(bytes, 8, bytes.len());
+    let answer = list_lent(bitmap, count, list, n);
+    io::write_all(STDOUT_FILENO, path);
+    print_count(b" marked ", answer);
+    io::write_all(STDOUT_FILENO, b" ");
+    io::print_decimal(STDOUT_FILENO, weighed_sum(word_part(list, 0, n)) as u64);
+    print_count(b" counted ", references::reference_count(bitmap, count));
+    io::write_all(STDOUT_FILENO, b"\n");
+}
+
 // Judges the bytes of a file by what its name tells.
 fn print_line(path: &[u8], bytes: &[u8]) {
     let name = part(path, name_place(path), path.len());
@@ -329,6 +373,9 @@ fn print_line(path: &[u8], bytes: &[u8]) {
         print_set(path, name, bytes, &mut words);
     } else if is_arguments(name) {
         print_arguments(path, bytes);
+    } else if is_references(name) {
+        let mut list = fresh_words();
+        print_references(path, bytes, &mut list);
     } else {
         let mut words = fresh_words();
         print_sheet(path, name, bytes, &mut words);

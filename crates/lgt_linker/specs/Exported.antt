@@ -8,6 +8,7 @@ use Rattle.linking.specs.Link.{Outcome}
 use Rattle.sheet.specs.Sheet as sheet
 use Rattle.writer.specs.Writer as writer
 use Rattle.descriptor.specs.Words as descriptor
+use Rattle.references.specs.References as references
 
 -- "An accepted call gives 0 and its result; a refused one gives its number, zero in every other answer word": a link or an ask that
 -- returns `row` and leaves the answer words, the set and the area
@@ -38,3 +39,7 @@ compareNames a b = record { refusal = 0; same = cond (sameBytes a b) 1 0; pairs 
 
 abbrev pub comparedBy : ℕ → List ℕ → Comparison
 comparedBy row answer = record { refusal = row; same = getD answer 0 0; pairs = getD answer 1 0 }
+
+-- a reading of a bitmap that returns `row` and leaves the answer word and the lent list
+abbrev pub referencesBy : ℕ → List ℕ → List ℕ → references.Outcome
+referencesBy row answer list = record { refusal = row; count = getD answer 0 0; memory = list }

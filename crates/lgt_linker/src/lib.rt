@@ -3,10 +3,11 @@
 // go into a small lent array, which is always written: zeros if the call is refused.
 use area::Answer;
 use descriptor::DescriptorWords;
+use references::References;
 use sheet::Read;
 use writer::Written;
 ghost use mathlib.Core.Path.{_≡_};
-ghost use mathlib.Core.List.{List};
+ghost use mathlib.Core.List.{List, []};
 ghost use Prim.Native.Nat.{ℕ};
 ghost use Rattle.linking.specs.Link.{linkDef};
 ghost use Rattle.linking.specs.Ask.{askDef};
@@ -16,7 +17,9 @@ ghost use Rattle.sheet.specs.Sheet as readings;
 ghost use Rattle.writer.specs.Writer.{writeClassSheet};
 ghost use Rattle.writer.specs.Writer as writings;
 ghost use Rattle.descriptor.specs.Words.{argumentAnswer};
-ghost use Rattle.lgt_linker.specs.Exported.{called, readBy, writtenBy, argumentsBy, comparedBy, compareNames};
+ghost use Rattle.references.specs.References.{readReferences, countReferences};
+ghost use Rattle.references.specs.References as bitmaps;
+ghost use Rattle.lgt_linker.specs.Exported.{called, readBy, writtenBy, argumentsBy, comparedBy, compareNames, referencesBy};
 
 // Hands out a link's or an ask's answer.
 fn give_call(a: Answer, answer: &mut [u32; 2]) -> u32
@@ -60,6 +63,22 @@ fn give_written(a: Written, answer: &mut [u32; 1]) -> u32
             0
         }
         Written::Refused(row) => {
+            *answer = [0];
+            row
+        }
+    }
+}
+
+// Hands out the answer of a bitmap's reader.
+fn give_references(a: References, answer: &mut [u32; 1]) -> u32
+    ensures { λ r. ⌜ ((list : List ℕ) → referencesBy r (now (answer .exit)) list ≡ bitmaps.outcome a list) ⌝ }
+{
+    match a {
+        References::Count(n) => {
+            *answer = [n];
+            0
+        }
+        References::Refused(row) => {
             *answer = [0];
             row
         }
@@ -153,4 +172,25 @@ pub extern "C" fn lgt_compare_names(a: &[u8], b: &[u8], answer: &mut [u64; 2]) -
     let c = text::compare(a, b);
     *answer = [if c.same { 1 } else { 0 }, c.pairs as u64];
     0
+}
+
+// `references::reference_words`: the answer word is the count, the list's front holds the marked words.
+#[no_mangle]
+pub extern "C" fn lgt_reference_words(
+    bitmap: &[u8],
+    words: u32,
+    list: &mut [u32],
+    answer: &mut [u32; 1],
+) -> u32
+    ensures { λ r. ⌜ referencesBy r (now (answer .exit)) (now (list .exit)) ≡ readReferences (now (bitmap .entry)) words (now (list .entry)) ⌝ }
+{
+    give_references(references::reference_words(bitmap, words, list), answer)
+}
+
+// `references::reference_count`: the answer word is the count.
+#[no_mangle]
+pub extern "C" fn lgt_reference_count(bitmap: &[u8], words: u32, answer: &mut [u32; 1]) -> u32
+    ensures { λ r. ⌜ referencesBy r (now (answer .exit)) [] ≡ countReferences (now (bitmap .entry)) words ⌝ }
+{
+    give_references(references::reference_count(bitmap, words), answer)
 }

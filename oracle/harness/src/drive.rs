@@ -10,6 +10,7 @@ use crate::generate;
 use crate::oracle::Oracle;
 use crate::random::Random;
 use crate::readings::{self, ReadingCounts};
+use crate::references;
 use crate::shrink::shrink;
 use crate::side::Linker;
 
@@ -21,6 +22,10 @@ pub fn run(seed: u64, count: u64, other: &mut dyn Linker) -> bool {
     let mut counts = Counts::default();
     let mut reading_counts = ReadingCounts::default();
     let mut demand3_counts = Demand3Counts::default();
+    if let Err(message) = references::every_byte(&mut oracle, other, &mut reading_counts) {
+        println!("seed {seed}, case 0 fails: {message}");
+        return false;
+    }
     let mut number = 0;
     while counts.calls < count {
         let case = generate::case(seed, number);

@@ -12,6 +12,7 @@ pub mod names;
 pub mod oracle;
 pub mod random;
 pub mod readings;
+pub mod references;
 pub mod sheet;
 pub mod shrink;
 pub mod telling;

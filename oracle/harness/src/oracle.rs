@@ -4,12 +4,14 @@
 mod descriptors;
 mod layout;
 mod machine;
+mod references;
 mod rows;
 
 use crate::sheet::{Abi, MemberRecord, Set, class_word};
 use crate::side::{Answer, Linker};
 
 use machine::{Linked, Machine, Member};
+use references::Bitmaps;
 
 /// Makes a call into the original that it is handed: whoever measures gives its own.
 pub type Watch = fn(&mut dyn FnMut());
@@ -18,6 +20,7 @@ pub type Watch = fn(&mut dyn FnMut());
 #[derive(Default)]
 pub struct Oracle {
     machine: Machine,
+    bitmaps: Bitmaps,
     rebuilds: bool,
 }
 
@@ -159,15 +162,6 @@ impl Linker for Oracle {
 
     fn reference_count(&mut self, bitmap: &[u8], words: u32) -> Answer {
         self.bitmaps.marked(bitmap, words).map_or(Answer::refused(24), |marked| Answer::accepted(marked.len() as u32, 0))
-    }
-
-    /// Pair by pair from the far end; the first that differs is read, too.
-    fn compare_names(&mut self, a: &[u8], b: &[u8]) -> Answer {
-        if a.len() != b.len() {
-            return Answer::accepted(0, 0);
-        }
-        let alike = a.iter().rev().zip(b.iter().rev()).take_while(|(x, y)| x == y).count() as u32;
-        if a == b { Answer::accepted(1, alike) } else { Answer::accepted(0, alike + 1) }
     }
 }
 

@@ -7,12 +7,13 @@ use crate::case::Case;
 use crate::names;
 use crate::oracle::Oracle;
 use crate::random::Random;
+use crate::references;
 use crate::sheet::{Abi, Set, blocks, class_word};
 use crate::side::{Answer, Linker};
 use crate::writings;
 
 /// What a reading or a descriptor is about; a run must reach each.
-const BUCKETS: [&str; 67] = [
+const BUCKETS: [&str; 44] = [
     "class sheet read",
     "class sheet refused by row 1",
     "class sheet refused by row 2",
@@ -57,14 +58,6 @@ const BUCKETS: [&str; 67] = [
     "bitmap: bits beyond the words",
     "bitmap: bytes beyond the words",
     "bitmap: more than 8,192 words",
-    "names: of unequal lengths",
-    "names: one the start of the other",
-    "names: both empty",
-    "names: the same",
-    "names: the first byte alone differs",
-    "names: the last byte alone differs",
-    "names: several bytes differ",
-    "names: of more than 255 bytes",
 ];
 
 /// Counts of readings and descriptors.
@@ -92,8 +85,7 @@ impl ReadingCounts {
     }
 }
 
-/// Reads the case's sheets, damaged or not, on both sides, writes its set back, renumbers it shuffled, asks for argument words and of a reference
-/// bitmap, and compares two names.
+/// Reads the case's sheets, damaged or not, on both sides, writes its set back, and asks for argument words and of a reference bitmap.
 /// Answers the first disagreement.
 pub fn compare(
     oracle: &mut Oracle,
@@ -129,34 +121,7 @@ pub fn compare(
         return Err(format!("argument words of {text:?} with flags {flags:#x}: oracle {oracle_answer:?}, other {other_answer:?}"));
     }
     references::compare(oracle, other, &references::random(random), counts)?;
-    writings::compare(oracle, other, &writings::random(random, case), counts)?;
-    orders::compare(oracle, other, random, case, counts)?;
-    names::compare(oracle, other, &names::random(random), counts)
-}
-
-/// Reads a class sheet by rows 1 to 3 alone, on both sides; `strictly` is what a reading by rows 1 to 5 answered.
-fn loosely(
-    oracle: &mut Oracle,
-    other: &mut dyn Linker,
-    reading: &Reading,
-    strictly: Answer,
-    counts: &mut ReadingCounts,
-) -> Result<(), String> {
-    let before = lent_words(reading.lent);
-    let (mut expected, mut found) = (before.clone(), before);
-    let answers = [oracle.read_unordered_sheet(&reading.bytes, &mut expected), other.read_unordered_sheet(&reading.bytes, &mut found)];
-    counts.hit(&match answers[0].refusal {
-        0 if matches!(strictly.refusal, 4 | 5) => "class sheet read loosely alone".to_owned(),
-        0 => "class sheet read loosely".to_owned(),
-        row => format!("class sheet refused loosely by row {row}"),
-    });
-    if answers[0] != answers[1] || expected != found || (strictly.refusal < 4 && answers[0] != strictly) {
-        return Err(format!(
-            "reading loosely, {}: oracle {:?}, other {:?}\nbytes {:?}",
-            reading.damage, answers[0], answers[1], reading.bytes
-        ));
-    }
-    Ok(())
+    writings::compare(oracle, other, &writings::random(random, case), counts)
 }
 
 /// The content of class words, as if no class were linked.

@@ -6,6 +6,7 @@ use harness::names::{self, Names};
 use harness::orders::{self, Order};
 use harness::random::Random;
 use harness::readings::{self, Reading};
+use harness::references::{self, Bitmap};
 use harness::sheet::blocks;
 use harness::writings::{self, Writing};
 
@@ -125,20 +126,6 @@ pub fn writing(random: &mut Random, case: &Case) -> Writing {
     writing
 }
 
-/// Class words of any kind to renumber, with any number of list words.
-pub fn order(random: &mut Random, case: &Case) -> Order {
-    let mut order = orders::random(random, case);
-    if random.chance(50) {
-        damage(random, &mut order.set, 4);
-    }
-    match random.below(5) {
-        0 => order.lent = random.below(70) as usize,
-        1 => order.lent = 0,
-        _ => {}
-    }
-    order
-}
-
 /// A bitmap of any length with any number of words: too few bytes, exactly those that are needed, more words than a class has.
 pub fn bitmap(random: &mut Random) -> Bitmap {
     let mut bitmap = references::random(random);
@@ -153,19 +140,4 @@ pub fn bitmap(random: &mut Random) -> Bitmap {
         _ => {}
     }
     bitmap
-}
-
-/// Two names of any length: one or both of no bytes, both longer than a page.
-pub fn names(random: &mut Random) -> Names {
-    let mut names = names::random(random);
-    match random.below(6) {
-        0 => names.a.clear(),
-        1 => names.b.clear(),
-        2 if random.chance(10) => {
-            let start = vec![random.word() as u8; random.between(4_000, 9_000) as usize];
-            names = Names { a: [&start[..], &names.a].concat(), b: [&start[..], &names.b].concat() };
-        }
-        _ => {}
-    }
-    names
 }

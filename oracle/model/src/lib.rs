@@ -9,6 +9,7 @@ mod link;
 mod names;
 mod order;
 mod reading;
+mod references;
 mod rules;
 mod sheets;
 pub mod side;
@@ -25,6 +26,7 @@ pub use link::link;
 pub use names::compare_names;
 pub use order::{read_unordered_sheet, renumber_classes};
 pub use reading::{read_abi_sheet, read_class_sheet};
+pub use references::{reference_count, reference_words};
 pub use writing::write_class_sheet;
 
 /// The parts that other modules look at to tell which branches a case reaches.
@@ -69,10 +71,6 @@ impl Linker for Model {
 
     fn reference_count(&mut self, bitmap: &[u8], words: u32) -> Answer {
         answer(reference_count(bitmap, words).map(|count| (count, 0)))
-    }
-
-    fn compare_names(&mut self, a: &[u8], b: &[u8]) -> Answer {
-        answer(Ok(compare_names(a, b)))
     }
 }
 

@@ -4,8 +4,8 @@
 #[derive(Clone, Copy, Debug, Default, PartialEq, Eq)]
 pub struct Answer {
     pub refusal: u32,
-    /// Link: the table's place. Ask: the interface table's place. Reading: words filled. Writing: blocks. Renumbering: classes.
-    /// Argument words: their number. Reference words: their number. Names: 1 if they are the same, else 0.
+    /// Link: the table's place. Ask: the interface table's place. Reading: words filled. Writing: blocks.
+    /// Argument words: their number. Reference words: their number.
     pub first: u32,
     /// Link: slots. Ask: nodes read. Names: pairs of bytes read. Else 0.
     pub second: u32,
@@ -39,6 +39,4 @@ pub trait Linker {
     fn reference_words(&mut self, bitmap: &[u8], words: u32, list: &mut [u32]) -> Answer;
 
     fn reference_count(&mut self, bitmap: &[u8], words: u32) -> Answer;
-
-    fn compare_names(&mut self, a: &[u8], b: &[u8]) -> Answer;
 }

@@ -14,6 +14,7 @@ use harness::names;
 use harness::oracle::Oracle;
 use harness::random::Random;
 use harness::readings::{descriptor, lent_words, read};
+use harness::references;
 use harness::shrink::shrink;
 use harness::side::{Answer, Linker};
 use harness::writings;
@@ -89,7 +90,7 @@ fn main() -> ExitCode {
     ExitCode::SUCCESS
 }
 
-/// A case's calls, a reading, of a class sheet loosely too, a writing, an order, a descriptor, a reference bitmap and two names.
+/// A case's calls, a reading, a writing, a descriptor and a reference bitmap.
 fn one(seed: u64, number: u64, oracle: &mut Oracle, guarded: &mut Guarded, counts: &mut Counts) -> Result<(), String> {
     let case = malformed::case(seed, number);
     let result = compare::compare(oracle, guarded, &case, &mut |step| {
@@ -114,6 +115,7 @@ fn one(seed: u64, number: u64, oracle: &mut Oracle, guarded: &mut Guarded, count
         return Err(format!("{:?} with flags {flags:#x}: oracle {judged:?}, library {given:?}", descriptor.escape_ascii()));
     }
     counts.count("argument words", given);
+    counts.count("reference words", references::judge(oracle, guarded, &malformed::bitmap(&mut random))?);
     counts.count("writing", writings::judge(oracle, guarded, &malformed::writing(&mut random, &case))?);
     counts.count("names", names::judge(oracle, guarded, &malformed::names(&mut random))?);
     Ok(())
