@@ -69,12 +69,14 @@
 #define LGT_REFUSED_NO_IMPLEMENTATION 16u
 /* more than LGT_MOST_METHODS methods, LGT_MOST_FIELDS fields or LGT_MOST_TEXT_BYTES text bytes */
 #define LGT_REFUSED_SECTION_FULL 14u
-/* too few stub words, free words of the area, or class words */
+/* too few stub words, free words of the area, class words, or words of a renumbering's list */
 #define LGT_REFUSED_NO_ROOM 15u
 /* a set that cannot be stored: a table place or slot count that is not 0, or a byte that is not 0 after the text in its last word */
 #define LGT_REFUSED_NOT_STORABLE 17u
 /* fewer bytes lent than the blocks of the sheet take */
 #define LGT_REFUSED_SHEET_ROOM 18u
+/* a class that is its own ancestor; it is judged between 4 and 15 */
+#define LGT_REFUSED_RING 19u
 /* fewer bytes of a reference bitmap than its instance words take */
 #define LGT_REFUSED_BITMAP_BYTES 24u
 /* a list lent for reference words that is shorter than their count */
@@ -241,12 +243,14 @@ static inline const char *lgt_refusal_text(uint32_t refusal)
         return "Keep the counts within their limits and the file as short as its content allows, with zeros after the "
                "content, and store only an unlinked set: every table place and slot count 0. A link, an interface table "
                "or a write asks, of each sheet, only that its counts keep their limits and that the lent words hold all "
-               "of its content: lend as many words as the counts and their sections take.";
+               "of its content: lend as many words as the counts and their sections take. A renumbering asks the same of "
+               "the class sheet, and every table place and slot count 0.";
     case LGT_REFUSED_RECORD:
         return "Mend the record named: lists and text parts lie inside their sections, two classes share no method or "
                "field record, names and descriptors have 1 to 255 bytes from 0x21 to 0x7E, a parent comes before its "
-               "child, an interface is a class of the sheet, no two classes have one name, and each flag, kind, size "
-               "and index keeps its limit.";
+               "child (`tools/sheet order` puts parents first), an interface is a class of the sheet, no two classes "
+               "have one name, and each flag, kind, size and index keeps its limit. A renumbering asks of all this only "
+               "that each parent number and each interface word is that of a class of the sheet (a parent may be 0).";
     case LGT_REFUSED_DESCRIPTOR:
         return "Write the descriptor as the JVM Specification has it: a field's is one type such as `I`, `[J` or "
                "`Ljava/lang/String;`; a method's is its parameters in parentheses and then its result, such as `(IJ)V`.";
@@ -281,7 +285,7 @@ static inline const char *lgt_refusal_text(uint32_t refusal)
                "and 8,192 text bytes. Take some out of the set or of the ABI sheet.";
     case LGT_REFUSED_NO_ROOM:
         return "Lend more memory: a stub word for each slot of the table, free words in the area for the table and two "
-               "more, and class words for the sections that grow.";
+               "more, and class words for the sections that grow; for a renumbering, a list word for each class.";
     case LGT_REFUSED_NO_IMPLEMENTATION:
         return "The class has no method that implements one of the interface's methods: declare it, not static and not "
                "private, in the class or an ancestor.";
@@ -291,6 +295,9 @@ static inline const char *lgt_refusal_text(uint32_t refusal)
     case LGT_REFUSED_SHEET_ROOM:
         return "Lend 512 bytes for each block that the sheet takes, 127 words of content a block: 47,104 bytes are "
                "enough for every set.";
+    case LGT_REFUSED_RING:
+        return "A class is its own ancestor: mend the parent numbers of the classes in the ring, which `tools/sheet "
+               "order` names, so that each chain of parents ends at a class without one.";
     case LGT_REFUSED_BITMAP_BYTES:
         return "Lend the whole bitmap, a byte for each 8 instance words.";
     case LGT_REFUSED_REFERENCE_LIST:
@@ -327,6 +334,29 @@ uint32_t lgt_read_abi_sheet(const uint8_t *bytes, size_t bytes_len, uint32_t *wo
  */
 LGT_MUST_USE
 uint32_t lgt_write_class_sheet(const uint32_t *set, size_t set_len, uint8_t *bytes, size_t bytes_len, uint32_t answer[1]);
+
+/*
+ * Reads a class sheet whose classes come in any order, a child before its parent, as lgt_read_class_sheet does, but judges
+ * neither records nor descriptors. Renumber the classes before the first link, which judges both.
+ * Answers and leaves as lgt_read_class_sheet.
+ * Refuses by 1 to 3.
+ */
+LGT_MUST_USE
+uint32_t lgt_read_unordered_sheet(const uint8_t *bytes, size_t bytes_len, uint32_t *words, size_t words_len,
+                                  uint32_t answer[1]);
+
+/*
+ * Renumbers the classes of an unlinked set so that parents come first: of the classes without a parent, or whose parent is
+ * placed, the one of the smallest old number goes next. A set in that order stays as it is.
+ * Answers: answer[0], the number of classes.
+ * Leaves in `order`: the old number of each class, in new order; the words after them as they were. LGT_MOST_CLASSES words are
+ * enough for every set.
+ * Leaves in the set: the class records in new order, each parent number and each interface word the new one; every other word
+ * as it was. A link judges records and descriptors (4 and 5) afterwards.
+ * Refuses by 3, 4, 19, 15.
+ */
+LGT_MUST_USE
+uint32_t lgt_renumber_classes(uint32_t *set, size_t set_len, uint32_t *order, size_t order_len, uint32_t answer[1]);
 
 /*
  * Links a class. `set` is the class words as read, or as earlier links left them; `abi` the ABI words. `area` is as the last

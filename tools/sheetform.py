@@ -7,6 +7,7 @@ lists each section record by record, so that it can tell every sheet exactly.
 import re
 
 from sheetlib import ABI_SHEET, CLASS_SHEET, WORD, Sheet, content_faults, count_faults, label, shown
+from sheetorder import parents_of, rings
 
 KINDS = ("built", "generated", "array")
 HEADS = {"classes": CLASS_SHEET, "abi": ABI_SHEET}
@@ -146,13 +147,28 @@ def render(sheet):
 
 # ---- what is wrong, by the lines of the text
 
-def form_faults(form):
-    """Each fault as (line, sentence): lines that say nothing, and what rows 3 to 5 refuse, in the order of the lines."""
+def form_faults(form, any_order=False):
+    """Each fault as (line, sentence): lines that say nothing, and what rows 3 to 5 refuse, in the order of the lines. In any order a class
+    may come before its parent, and rings are told."""
     out = [(fault.line, fault.what) for fault in form.faults]
     sheet = form.sheet
     for fault in [*count_faults(sheet.layout, sheet.counts()), *content_faults(sheet)]:
-        out.append(told(form, fault))
+        if not (any_order and comes_later(sheet, fault)):
+            out.append(told(form, fault))
+    if any_order and sheet.layout is CLASS_SHEET:
+        out += [ring_told(form, ring) for ring in rings(parents_of(sheet))]
     return sorted(dict.fromkeys(out), key=lambda one: one[0])
+
+
+def comes_later(sheet, fault):
+    """Whether it is a parent, a class of the sheet, that does not come before its child."""
+    return fault.at[::2] == ("class", "parent") and sheet.get(*fault.at) <= len(sheet.records["class"])
+
+
+def ring_told(form, ring):
+    first, *rest = [class_name(form.sheet, number - 1) for number in ring + ring[:1]]
+    told_of = "itself" if len(ring) == 1 else ", which extends ".join(rest)
+    return form.line("class", ring[0] - 1), f"{first} extends {told_of} (row 19)"
 
 
 def told(form, fault):

@@ -1,4 +1,5 @@
-"""Sheets: the two layouts as data, the block form, and a judge of rows 1 to 5 and of the writer's rows.
+"""Sheets: the two layouts as data, the block form, and a judge of rows 1 to 5, of the
+writer's rows and of the order of classes.
 
 The judge is written from docs/SPECIFICATION.md ("What a call answers", "Sheets") and the
 readings in docs/DECISIONS.md, not from the Rattle code, so that each can show the
@@ -8,6 +9,8 @@ Records are counted as the sheets count them: classes from 1, as parent numbers 
 all other records from 0, as the "first" words do.
 """
 
+import heapq
+import itertools
 from dataclasses import dataclass
 
 BLOCK_BYTES = 512
@@ -336,6 +339,21 @@ def judge_writing(words, room):
     return 0, len(blocks(content_words(CLASS_SHEET, words))) // BLOCK_BYTES
 
 
+def judge_loosely(data, lent):
+    """Of a class sheet whose classes may come in any order, rows 1 to 3 alone: (0, words written), or (row, 0)."""
+    for fault in faults(CLASS_SHEET, data, lent):
+        if fault.row <= 3:
+            return fault.row, 0
+    return 0, len(data) // BLOCK_BYTES * BLOCK_WORDS
+
+
+def judge_order(words, room):
+    """Of the step that renumbers class words, with `room` list words lent: (0, the old numbers in new order), or (row, [])."""
+    for fault in order_faults(words, room):
+        return fault.row, []
+    return 0, smallest_order(parents_of(words))
+
+
 def faults(layout, data, lent):
     """Every fault, row by row: of each row as far as the rows before let it be looked at."""
     yield from row_1(layout, data, lent)
@@ -383,6 +401,84 @@ def writing_faults(words, room):
     need = len(blocks(content))
     if room < need:
         yield Fault(18, "lent bytes: enough", f"{room} bytes are lent, and {need // BLOCK_BYTES} blocks take {need}")
+
+
+def order_faults(words, room):
+    """Every fault of class words that are to be renumbered with `room` list words: "3, first, as for a link or if a table place or slot
+    count is not 0; 4, if a parent number exceeds the count or an interface word names no class; 19, after that, if following parents from
+    some class returns to a class already passed; 15, last, if the list is too short"."""
+    yield from (fault for fault in word_faults(CLASS_SHEET, words) if fault.row == 3)
+    sheet = sheet_of(CLASS_SHEET, words)
+    if sheet is None:
+        return
+    classes = range(len(sheet.records["class"]))
+    for word in ("table place", "slot count"):
+        for i in classes:
+            if sheet.get("class", i, word):
+                yield Fault(3, f"{word}: zero", f"{said(sheet, 'class', i, word)}, and only an unlinked set is renumbered", ("class", i, word))
+    parents = parents_of(words)
+    for i in classes:
+        if parents[i] > len(parents):
+            yield Fault(4, "class parent: at most the class count", f"{said(sheet, 'class', i, 'parent')}, and the classes are 1 to {len(parents)}",
+                        ("class", i, "parent"))
+    yield from (fault for fault in class_faults(sheet) if fault.clause.startswith("interface word"))
+    for i in classes:
+        if returns(parents, i + 1):
+            yield Fault(19, "parents: none returns", f"{label(sheet, 'class', i)}: its chain of parents returns to a class already passed",
+                        ("class", i, "parent"))
+    if room < len(parents):
+        yield Fault(15, "list words: enough", f"{room} list words are lent, and there are {len(parents)} classes")
+
+
+def parents_of(words):
+    """The parent number of each class."""
+    sheet = sheet_of(CLASS_SHEET, words)
+    return [sheet.get("class", i, "parent") for i in range(len(sheet.records["class"]))]
+
+
+def returns(parents, number):
+    """Whether following parents from a class returns to a class already passed; a parent that is no class ends the way."""
+    passed = set()
+    while 1 <= number <= len(parents):
+        if number in passed:
+            return True
+        passed.add(number)
+        number = parents[number - 1]
+    return False
+
+
+def smallest_order(parents):
+    """Of all orders that put parents first the smallest, read from the front: for up to 6 classes by trying them all, for more by a heap of
+    those whose parent is placed. No way up returns."""
+    numbers = range(1, len(parents) + 1)
+    if len(parents) <= 6:
+        return next(list(order) for order in itertools.permutations(numbers) if puts_parents_first(parents, order))
+    ready, order = [number for number in numbers if not parents[number - 1]], []
+    while ready:
+        order.append(heapq.heappop(ready))
+        for number in numbers:
+            if parents[number - 1] == order[-1]:
+                heapq.heappush(ready, number)
+    return order
+
+
+def puts_parents_first(parents, order):
+    return all(not parents[number - 1] or parents[number - 1] in order[:place] for place, number in enumerate(order))
+
+
+def renumbered(words, order):
+    """The class words with their records in this order of old numbers, and parents and interface words by new numbers."""
+    sheet, after = sheet_of(CLASS_SHEET, words), words[len(content_words(CLASS_SHEET, words)):]
+    new = {old: place for place, old in enumerate(order, 1)} | {0: 0}
+    sheet.records["class"] = [sheet.records["class"][old - 1] for old in order]
+    for i in range(len(order)):
+        sheet.put("class", i, "parent", new[sheet.get("class", i, "parent")])
+    for record in sheet.records["interface word"]:
+        record[0] = new[record[0]]
+    content = sheet.words()
+    if content:
+        content[-1] = words[len(content) - 1] if sheet.text else content[-1]  # what follows the text in its last word stays
+    return content + after
 
 
 def content_words(layout, words):
@@ -614,6 +710,12 @@ def link_clauses(layout):
 def writing_clauses():
     """Each clause that the writer alone can answer."""
     return [(17, "table place: zero"), (17, "slot count: zero"), (17, "bytes after the text: zero"), (18, "lent bytes: enough")]
+
+
+def order_clauses():
+    """Each clause that the step which renumbers classes can answer, but for counts and the content's fit."""
+    return [(3, "table place: zero"), (3, "slot count: zero"), (4, "class parent: at most the class count"), (4, "interface word: not 0"),
+            (4, "interface word: at most the class count"), (19, "parents: none returns"), (15, "list words: enough")]
 
 
 def count_clauses(layout):

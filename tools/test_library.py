@@ -2,7 +2,10 @@
 """Tests of the library as others meet it: the header's numbers and sentences; an installed library, used outside the tree; the Rust crate's
 build, its documentation and its emulator example. Run after the proofs, or with LGT_LINKER_FOLDER."""
 
+import contextlib
+import io
 import os
+import random
 import re
 import shlex
 import shutil
@@ -10,12 +13,15 @@ import subprocess
 import sys
 import tempfile
 import unittest
+from importlib import machinery, util
+from unittest import mock
 
 sys.dont_write_bytecode = True
 HERE = os.path.dirname(os.path.realpath(__file__))
 ROOT = os.path.dirname(HERE)
 sys.path.insert(0, HERE)
 
+import sheetform  # noqa: E402
 from sheetlib import ABI_SHEET, BLOCK_BYTES, BLOCK_WORDS, CLASS_SHEET  # noqa: E402
 
 STRING = r'"((?:[^"\\]|\\.)*)"'
@@ -180,15 +186,80 @@ class Install(unittest.TestCase):
 CRATE = os.path.join(ROOT, "bindings", "rust")
 
 
+def archive():
+    """The proved library."""
+    folder = os.environ.get("LGT_LINKER_FOLDER")
+    if not folder:
+        subprocess.run([os.path.join(HERE, "library")], check=True)
+        folder = os.path.join(ROOT, "target", "staticlib")
+    return os.path.join(folder, "liblgt_linker.a")
+
+
+def tool():
+    """The command tools/sheet as a function of its words: status, standard output and standard error, without a process of its own."""
+    loader = machinery.SourceFileLoader("sheet", os.path.join(HERE, "sheet"))
+    module = util.module_from_spec(util.spec_from_loader("sheet", loader))
+    loader.exec_module(module)
+
+    def call(*words):
+        out, err = io.StringIO(), io.StringIO()
+        with mock.patch.object(sys, "argv", ["sheet", *words]), contextlib.redirect_stdout(out), contextlib.redirect_stderr(err):
+            status = module.main()
+        return status, out.getvalue(), err.getvalue()
+    return call
+
+
+class Ordered(unittest.TestCase):
+    def sheet(self, pick):
+        """A class sheet of up to eight classes, each under any other, none or itself, now and then with a word changed."""
+        names = "ABCDEFGH"[:pick.randrange(9)]
+        lines = ["sheet classes"]
+        for i, name in enumerate(names):
+            parents = names[:i] if pick.random() < 0.8 else names
+            lines.append(f"class {name}" + (f" extends {pick.choice(parents)}" if parents and pick.random() < 0.7 else ""))
+            lines += [f"implements {pick.choice(names)}"] * pick.randrange(2) + [f"method m{name} ()V {i}"] * pick.randrange(2)
+        sheet = sheetform.parse("\n".join(lines))
+        pick.shuffle(numbers := list(range(1, len(names) + 1)))
+        for record in sheet.records["class"]:
+            record[2] = numbers[record[2] - 1] if record[2] else 0
+        sheet.records["class"] = [sheet.records["class"][numbers.index(i + 1)] for i in range(len(names))]
+        words = [(section, record) for section in ("class", "method", "interface word") for record in sheet.records[section]]
+        if words and pick.random() < 0.3:
+            section, record = pick.choice(words)
+            record[pick.randrange(len(record))] = pick.choice((0, 1, len(names), len(names) + 1, 70000))
+        return sheet.blocks()
+
+    def test_tool(self):
+        """`tools/sheet order`, by rules of its own, does what the library does: the same bytes and old numbers, or the same refusal."""
+        pick, rows, sheet = random.Random(1905), {}, tool()
+        with tempfile.TemporaryDirectory() as folder:
+            program, given, made, other = (os.path.join(folder, name) for name in ("order", "given.bin", "made.bin", "other.bin"))
+            command = ["cc", "-std=c99", "-I" + os.path.join(ROOT, "include"), "-o", program, os.path.join(ROOT, "examples", "c", "order.c"), archive()]
+            self.assertEqual(run(*command), (0, "", ""))
+            for _ in range(300):
+                for path in (made, other):
+                    with open(path, "wb"):
+                        pass
+                with open(given, "wb") as file:
+                    file.write(self.sheet(pick))
+                by_tool, by_library = sheet("order", given, "-o", made), run(program, given, other)
+                if by_library[0] == 0:
+                    self.assertEqual(by_tool, by_library)
+                found = [re.search(r"refused (\d+)", out) for _, out, _ in (by_tool, by_library)]
+                row, also = (int(one[1]) if one else 0 for one in found)
+                self.assertEqual((by_tool[0], row), (by_library[0], also))
+                with open(made, "rb") as one, open(other, "rb") as two:
+                    self.assertEqual(one.read(), two.read())
+                rows[row] = rows.get(row, 0) + 1
+        self.assertEqual(sorted(rows), [0, 3, 4, 5, 19])
+        self.assertGreater(rows[0], 100)
+
+
 @unittest.skipUnless(shutil.which("cargo"), "no cargo here")
 class Bindings(unittest.TestCase):
     @classmethod
     def setUpClass(cls):
-        folder = os.environ.get("LGT_LINKER_FOLDER")
-        if not folder:
-            subprocess.run([os.path.join(HERE, "library")], check=True)
-            folder = os.path.join(ROOT, "target", "staticlib")
-        cls.archive = os.path.join(folder, "liblgt_linker.a")
+        cls.archive = archive()
 
     def cargo(self, *words, archive=None, **more):
         environment = dict(os.environ, LGT_LINKER_ARCHIVE=archive or self.archive, **more)
@@ -197,7 +268,7 @@ class Bindings(unittest.TestCase):
     def test_functions(self):
         """The archive has the functions that the header declares, the crate declares the same, and each has a safe function of its name."""
         declared = sorted(re.findall(r"^uint32_t (lgt_\w+)\(", contents("include", "lgt_linker.h"), re.M))
-        self.assertGreaterEqual(len(declared), 6)
+        self.assertGreaterEqual(len(declared), 8)
         self.assertEqual(sorted(re.findall(r"pub fn (lgt_\w+)\(", contents(CRATE, "src", "sys.rs"))), declared)
         safe = re.findall(r"^pub fn (\w+)\(", contents(CRATE, "src", "calls.rs"), re.M)
         self.assertEqual(sorted("lgt_" + name for name in safe), declared)

@@ -17,6 +17,7 @@ ROOT = os.path.dirname(HERE)
 sys.path.insert(0, HERE)
 
 import sheetform  # noqa: E402
+import sheetorder  # noqa: E402
 from sheetlib import ABI_SHEET, CLASS_SHEET, Sheet  # noqa: E402
 
 EXAMPLES = os.path.join(ROOT, "examples")
@@ -121,6 +122,54 @@ class Listings(unittest.TestCase):
                 self.assertEqual(run(model, "list", folder)[1:], proved[1:])
                 rows |= {line.split()[-1] for line in proved[1].splitlines() if " refused " in line}
         self.assertTrue({"6", "9", "11", "12"} <= rows, rows)
+
+
+class Orders(unittest.TestCase):
+    """Classes in any order."""
+
+    def test_alphabetical(self):
+        """As they are unpacked row 4 refuses them; `tools/sheet order` puts parents first, and they are listed."""
+        example = os.path.join(EXAMPLES, "alphabetical")
+        with tempfile.TemporaryDirectory() as folder:
+            shutil.copy(os.path.join(example, "abi.bin"), folder)
+            classes = shutil.copy(os.path.join(example, "unordered.bin"), os.path.join(folder, "classes.bin"))
+            self.assertEqual(script("list", folder)[:2], (1, "classes refused 4\n"))
+            self.assertEqual(run(os.path.join(HERE, "sheet"), "order", classes, "-o", classes)[0], 0)
+            self.assertEqual(script("list", folder)[:2], (0, contents(example, "listing.txt")))
+
+    def test_shuffled(self):
+        """Shuffled and put in order, each class is listed with the words and slots, or refused by the row, of the set as it was."""
+        pick, model = random.Random(64), os.path.join(ROOT, "oracle", "target", "release", "folder")
+        moved, rows = 0, set()
+        with tempfile.TemporaryDirectory() as folder:
+            for _ in range(150):
+                classes, abi = random_sheets(pick)
+                numbers = list(range(1, len(classes.records["class"]) + 1))
+                pick.shuffle(numbers)
+                shuffled = sheetorder.renumbered(classes, numbers)
+                ordered = sheetorder.in_order(shuffled)
+                listed = []
+                for one in (classes, ordered):
+                    write(folder, one, abi)
+                    listed.append(by_name(one, run(model, "list", folder)[1]))
+                self.assertEqual(*listed)
+                moved += ordered.words() != classes.words()
+                rows |= {lines[0] for lines in listed[0].values() if lines[0].startswith("refused")}
+        self.assertGreater(moved, 50)
+        self.assertGreater(len(rows), 2)
+
+
+def by_name(sheet, listing):
+    """What a listing says of each class, by the class's name."""
+    out = {}
+    for line in listing.splitlines():
+        if line.startswith("class "):
+            _, number, *words = line.split()
+            name = sheet.part("class", int(number) - 1, "name").decode()
+            out[name] = [" ".join(words)]
+        else:
+            out[name].append(line)
+    return out
 
 
 def random_sheets(pick):

@@ -15,9 +15,11 @@ sys.dont_write_bytecode = True
 HERE = os.path.dirname(os.path.realpath(__file__))
 sys.path.insert(0, HERE)
 
+import ordervectors  # noqa: E402
 import setvectors  # noqa: E402
 import sheetform  # noqa: E402
 import sheetlib  # noqa: E402
+import sheetorder  # noqa: E402
 import sheetvectors  # noqa: E402
 import vectors  # noqa: E402
 from sheetlib import ABI_SHEET, CLASS_SHEET, WORD, Sheet, blocks, judge, judge_set, judge_words, layout_of  # noqa: E402
@@ -122,7 +124,10 @@ class RoundTrips(unittest.TestCase):
         for path in texts:
             with open(path, encoding="utf-8") as file:
                 data = form(file.read()).blocks()
-            with open(path[:-4] + ".bin", "rb") as file:
+            # examples/alphabetical is in another order: its classes.bin is put in order.
+            unordered = os.path.join(os.path.dirname(path), "unordered.bin")
+            late = path.endswith("classes.txt") and os.path.exists(unordered)
+            with open(unordered if late else path[:-4] + ".bin", "rb") as file:
                 self.assertEqual(file.read(), data, path)
             shown = self.remade(layout_of(path), data)
             self.assertNotIn("raw", shown.split("\n")[0])
@@ -160,6 +165,90 @@ class RoundTrips(unittest.TestCase):
         self.assertEqual([card.get("method", i, "target") for i in range(4)], [4096, 4112, 8192, 8208])
         self.assertEqual([card.part("method", i, "name") for i in range(4)], [b"open", b"close", b"close", b"mark"])
         self.assertEqual(card.blocks(), vectors.vectors["class-ok-card.bin"])
+
+
+def with_parents(parents):
+    """Classes without members, of these parents."""
+    text = bytes(range(0x41, 0x41 + len(parents)))
+    records = {s.name: [] for s in CLASS_SHEET.sections}
+    records["class"] = [[i, 1, parent, 1] + [0] * 13 for i, parent in enumerate(parents)]
+    return Sheet(CLASS_SHEET, records, text)
+
+
+class Orders(unittest.TestCase):
+    """Classes in any order: which goes where, and what moves with it."""
+
+    def test_smallest(self):
+        """Of all orders that put parents first, each class once, the smallest read from the front; there is none exactly where a class
+        is its own ancestor."""
+        rings = 0
+        for count in range(6):
+            for parents in itertools.product(range(count + 1), repeat=count):
+                good = (one for one in itertools.permutations(range(1, count + 1))
+                        if all(parents[c - 1] in (0, *one[:i]) for i, c in enumerate(one)))
+                smallest = next(good, None)  # permutations come in rising order
+                order = sheetorder.order_of(parents)
+                self.assertEqual(tuple(order) if len(order) == count else None, smallest, parents)
+                self.assertEqual(bool(sheetorder.rings(parents)), smallest is None, parents)
+                rings += smallest is None
+        self.assertGreater(rings, 6000)
+
+    def test_telling(self):
+        for parents, order in (((3, 0, 0), [2, 3, 1]), ((2, 0, 0), [2, 1, 3]), ((2, 3, 0), [3, 2, 1]), ((), []),
+                               (tuple(range(2, 65)) + (0,), list(range(64, 0, -1)))):
+            self.assertEqual(sheetorder.order_of(parents), order)
+        for parents, rings in (((1,), [[1]]), ((2, 1), [[1, 2]]), ((0, 3, 4, 3), [[3, 4]]), ((1, 4, 0, 2), [[1], [2, 4]]), ((9, 0), [])):
+            self.assertEqual(sheetorder.rings(parents), rings)
+
+    def test_what_moves(self):
+        """Records with their parents, and interface words in a list or not; nothing else."""
+        made = with_parents((2, 0))
+        made.records["interface word"] = [[2], [1], [2]]
+        made.put("class", 0, "first interface word", 1)
+        made.put("class", 0, "interface count", 2)
+        moved = sheetorder.in_order(made)
+        self.assertEqual([moved.part("class", i, "name") for i in (0, 1)], [b"B", b"A"])
+        self.assertEqual([moved.get("class", i, "parent") for i in (0, 1)], [0, 1])
+        self.assertEqual([moved.get("class", 1, word) for word in ("first interface word", "interface count")], [1, 2])
+        self.assertEqual(moved.records["interface word"], [[1], [2], [1]])
+        self.assertEqual(moved.text, made.text)
+        self.assertEqual(sheetorder.in_order(moved).words(), moved.words())
+
+    def test_refused(self):
+        """Stray numbers come before rings, and nothing else of row 4 is asked."""
+        for parents, rows in (((5,), [4]), ((1, 3), [4, 19]), ((1,), [19]), ((2, 1), [19]), ((0, 0), [])):
+            self.assertEqual([fault.row for fault in sheetorder.step_faults(with_parents(parents))], rows)
+        for number in (0, 3):
+            made = with_parents((2, 0))
+            made.records["interface word"] = [[number]]
+            self.assertEqual([fault.row for fault in sheetorder.step_faults(made)], [4])
+        made = with_parents((2, 0))
+        made.put("class", 0, "kind", 9)
+        made.put("class", 0, "name start", 1)  # both are B
+        self.assertEqual(list(sheetorder.step_faults(made)), [])
+        self.assertEqual([fault.row for fault in sheetorder.loose_faults(made.blocks(), 127)], [])
+        self.assertEqual([fault.row for fault in sheetorder.loose_faults(made.blocks(), 126)], [1])
+
+    def test_links_refuse_no_order(self):
+        """Random sheets: what the step leaves is refused by rows 4 and 5 exactly as before, but for the order of parents."""
+        pick = random.Random(3)
+        moved = refused = 0
+        for _ in range(400):
+            made = odd(pick, form(random_form(pick, CLASS_SHEET)))
+            classes = len(made.records["class"])
+            numbers = list(range(1, classes + 1))
+            pick.shuffle(numbers)
+            if next(sheetorder.step_faults(made), None):
+                continue
+            made = sheetorder.renumbered(made, numbers)
+            ordered = sheetorder.in_order(made)
+            before = [f.clause for f in sheetlib.content_faults(made) if f.clause != "class parent: below the class"]
+            after = [f.clause for f in sheetlib.content_faults(ordered)]
+            self.assertEqual(sorted(set(before)), sorted(set(after)))
+            moved += ordered.words() != made.words()
+            refused += bool(after)
+        self.assertGreater(moved, 100)
+        self.assertGreater(refused, 20)
 
 
 class Blocks(unittest.TestCase):
@@ -262,6 +351,47 @@ class OpenPoints(unittest.TestCase):
         for size, room, want in ((127, 512, (0, 1)), (128, 1023, (18, 0)), (128, 1024, (0, 2))):
             self.assertEqual(rows(sheetvectors.text_only(CLASS_SHEET, 4 * (size - 6)).words(), room), want)
 
+    def test_order(self):
+        """Of all orders that put parents first the smallest; 3, 4, 19, 15."""
+        def of(*parents, room=9):
+            return sheetlib.judge_order(ordervectors.parents(*parents).words(), room)
+        for parents, order in (((3, 0, 0), [2, 3, 1]), ((2, 0, 0), [2, 1, 3]), ((2, 3, 0), [3, 2, 1]), ((), [])):
+            self.assertEqual(of(*parents), (0, order))
+        for parents, room, row in (((1,), 0, 19), ((2, 1), 9, 19), ((0, 3, 4, 3), 9, 19), ((1, 3), 9, 4), ((5,), 0, 4), ((0,), 0, 15)):
+            self.assertEqual(of(*parents, room=room), (row, []))
+        self.assertEqual(sheetlib.judge_order(self.one(slot_count=1, parent=9).words(), 9), (3, []))
+
+    def test_orders(self):
+        """Trying all orders, the heap, and taking the smallest that is ready agree; a set in order stays as it is."""
+        numbers = random.Random(3)
+        for _ in range(3000):
+            count = numbers.randint(0, 8)
+            parents = [numbers.randint(0, count) for _ in range(count)]
+            words, order = ordervectors.parents(*parents).words(), []
+            while (ready := [c for c in range(1, count + 1) if c not in order and (not parents[c - 1] or parents[c - 1] in order)]):
+                order.append(ready[0])
+            row, found = sheetlib.judge_order(words, count)
+            self.assertEqual((row, found), (0, order) if len(order) == count else (19, []))
+            if not row:
+                after = sheetlib.renumbered(words, found)
+                self.assertTrue(all(parent < number for number, parent in enumerate(sheetlib.parents_of(after), 1)))
+                self.assertEqual(sheetlib.judge_order(after, count), (0, list(range(1, count + 1))))
+                self.assertEqual(sheetlib.renumbered(after, list(range(1, count + 1))), after)
+
+    def test_orders_of_the_tool(self):
+        """`tools/sheet order` goes by rules of its own: on every stored set that row 3 does not refuse they say the same."""
+        for name, data in vectors.vectors.items():
+            words = setvectors.parted(data)[0] if name.startswith("set") else []
+            row, order = sheetlib.judge_order(words, 64)
+            if row == 3:
+                continue
+            made = sheetlib.sheet_of(CLASS_SHEET, words)
+            self.assertEqual(next((fault.row for fault in sheetorder.step_faults(made)), 0), row, name)
+            if not row:
+                self.assertEqual(sheetorder.order_of(sheetorder.parents_of(made)), order, name)
+                after = sheetlib.sheet_of(CLASS_SHEET, sheetlib.renumbered(words, order))
+                self.assertEqual(sheetorder.renumbered(made, order).words(), after.words(), name)
+
     def test_linked_slot_count(self):
         """At most 1,024 where the class is linked; any number where it is not."""
         for place, slots, want in ((0, 1025, 0), (1, 1024, 0), (1, 1025, 4), (0, TOP, 0)):
@@ -271,7 +401,7 @@ class OpenPoints(unittest.TestCase):
     def test_what_is_written(self):
         """127 words a block are written, and the rest of the lent words stays."""
         self.assertEqual(judge(CLASS_SHEET, Sheet(CLASS_SHEET).blocks(), 128), (0, 127))
-        self.assertEqual(vectors.answer("class-x-lent-128.bin", Sheet(CLASS_SHEET).blocks()), "class-x-lent-128.bin accepted 127 896 written 1 same")
+        self.assertEqual(vectors.answer("class-x-lent-128.bin", Sheet(CLASS_SHEET).blocks()), "class-x-lent-128.bin accepted 127 896 written 1 same loosely accepted 127 896")
         self.assertEqual(vectors.answer("abi-x-lent-126.bin", Sheet(ABI_SHEET).blocks()), f"abi-x-lent-126.bin refused 1 {7 * 126 * 127 // 2}")
 
     def test_after_the_content(self):
@@ -383,8 +513,8 @@ class Vectors(unittest.TestCase):
         """The lines of the kinds of files; a path's last part tells the kind."""
         words, abi = sheetvectors.CLASSES.words(), sheetvectors.ABI.words()
         self.assertEqual(setvectors.parted(setvectors.joined(words, abi)), (words, abi))
-        for path, data, want in (("x/set-1-lent-3.bin", setvectors.joined(words, abi), "set 0 unwritten 18 42"),
-                                 ("set-1-lent-513.bin", setvectors.joined([0] * 6, []), f"set 3 written 1 {509 + 7 * 513}"),
+        for path, data, want in (("x/set-1-lent-3.bin", setvectors.joined(words, abi), f"set 0 unwritten 18 42 ordered 2 {vectors.weighed(words)} {1 + 4 + 21}"),
+                                 ("set-1-lent-513.bin", setvectors.joined([0] * 6, []), f"set 3 written 1 {509 + 7 * 513} ordered 0 0 {7 * 513 * 514 // 2}"),
                                  ("x/args-1", b"\x08\0\0\0(IJ)V", "words 3"), ("args-1", b"\x01\0\0\0(IJ)V", "words 4"),
                                  ("args-1", b"\0\0\0\0(V)V", "refused 5"), ("args-1", b"", "refused 5"),
                                  ("x/refs-1", b"\x08\0\0\0\4\0\0\0\xA1", f"marked 3 {4 + 21 + 28} counted 3"),
@@ -498,6 +628,50 @@ abi.txt line 2: slot m ()V of A: index 1024, above 1023 (row 4)
 abi.txt line 3: field f I of A: index 4096, above 4095 (row 4)
 abi.txt line 4: field g () of A: byte 0 of the descriptor: no type starts with ( (row 5)
 abi.txt: 5 faults, nothing was written (--anyway writes it)
+""")
+
+    def test_order(self):
+        """`order` puts parents first, and names the classes of every ring; nothing is written where a row refuses."""
+        late = self.file("classes.bin", form("class B extends A\n method m ()V 1\nclass A\n implements B\n").blocks())
+        out = os.path.join(self.folder.name, "ordered.bin")
+        self.assertEqual(sheet("order", late, "-o", out), (0, "class 1 A was 2\nclass 2 B was 1\n", ""))
+        self.assertEqual(sheet("check", out)[0], 0)
+        self.assertEqual(sheet("order", out, "-o", out), (0, "class 1 A was 1\nclass 2 B was 2\n", ""))
+        table, other = self.table(), os.path.join(self.folder.name, "none.bin")
+        ring = self.file("ring.bin", form("class A extends C\nclass B extends D\nclass C extends B\nclass D extends B\nclass E extends E\n").blocks())
+        self.assertEqual(sheet("order", ring, "-o", other), (1, f"{ring}: refused 19: class 2 `B` extends class 4 `D`, which extends class 2 `B`\n"
+                                                              f"  class 5 `E` is its own parent\n  To mend: {table['19']}\n", ""))
+        for name, made, row, place in (("stray", with_parents((3, 1)), 4, "class 1 `A`: parent at byte 32 of the file (block 1) is 3, and the classes are 1 to 2"),
+                                       ("kind", form("class B extends A\n state 65536\nclass A\n"), 4, "class 2 `B`: link state at byte"),
+                                       ("void", form("class B extends A\n field f V 1\nclass A\n"), 5, "(after the classes were put in order; --anyway")):
+            status, said, _ = sheet("order", self.file(name + ".bin", made.blocks()), "-o", other)
+            self.assertEqual((status, said.split(": ", 1)[1][:10]), (1, f"refused {row}:"))
+            self.assertIn(place, said)
+            self.assertFalse(os.path.exists(other))
+        self.assertEqual(sheet("order", self.file("void.bin", made.blocks()), "--anyway", "-o", other)[0], 0)
+        self.assertTrue(os.path.exists(other))
+        self.assertIn("refused 1: the file has 511 bytes", sheet("order", self.file("short.bin", bytes(511)), "-o", other)[1])
+        self.assertEqual(sheet("order", self.file("abi.bin", bytes(512)), "-o", other)[0], 2)
+
+    def test_make_in_any_order(self):
+        """`make --order` is `make --anyway` and then `order`; without it a child before its parent is a fault, with a ring it is one, too."""
+        text = self.file("classes.txt", "class B extends A\nclass A\n")
+        status, _, err = sheet("make", text)
+        self.assertEqual((status, err.replace(text, "classes.txt")), (
+            1, "classes.txt line 1: B extends A, which comes later, line 2 (row 4)\nclasses.txt: 1 fault, nothing was written (--order puts parents first)\n"))
+        made, loose, ordered = text[:-4] + ".bin", *(os.path.join(self.folder.name, name) for name in ("loose.bin", "ordered.bin"))
+        self.assertEqual(sheet("make", "--order", text), (0, "", ""))
+        self.assertEqual(sheet("make", "--order", "--check", text), (0, "", ""))
+        self.assertEqual(sheet("make", "--anyway", text, "-o", loose), (0, "", ""))
+        self.assertEqual(sheet("order", loose, "-o", ordered)[0], 0)
+        with open(made, "rb") as one, open(ordered, "rb") as other:
+            self.assertEqual(one.read(), other.read())
+        text = self.file("classes.txt", "class B extends A\n words 65536\nclass A extends C\nclass C extends A\nclass D extends D\n")
+        self.assertEqual(sheet("make", "--order", text)[2].replace(text, "classes.txt"), """\
+classes.txt line 2: class B: instance words 65536, above 65535 (row 4)
+classes.txt line 3: A extends C, which extends A (row 19)
+classes.txt line 5: D extends itself (row 19)
+classes.txt: 3 faults, nothing was written (--anyway writes it)
 """)
 
     def test_counts_by_their_line(self):
@@ -614,7 +788,7 @@ abi.txt: 5 faults, nothing was written (--anyway writes it)
     def test_messages(self):
         """Each row of both sheets: the number, the place and the sentence of docs/REFUSALS.md."""
         table = self.table()
-        self.assertEqual(sorted(map(int, table)), [*range(1, 19), 24, 25])
+        self.assertEqual(sorted(map(int, table)), [*range(1, 20), 24, 25])
         for name, place in (
                 ("class-r1-513-bytes", "the file has 513 bytes"), ("abi-r1-no-bytes", "the file is empty"),
                 ("class-r2-check-of-block-2", "block 2: the check word at byte 1020 of the file"),

@@ -2,8 +2,8 @@
 """Makes the vectors of the program `judge` and the answers that it must print.
 
 The vectors are those of sheetvectors.py (sheets to read), setvectors.py (words already
-read, and descriptors whose argument words are counted), writevectors.py (sets to write) and
-refvectors.py (reference bitmaps).
+read, and descriptors whose argument words are counted), writevectors.py (sets to write),
+ordervectors.py (sets to renumber) and refvectors.py (reference bitmaps).
 The judge of sheetlib.py, written from docs/SPECIFICATION.md, gives the answers; of a bitmap
 refvectors.py does.
 """
@@ -16,13 +16,14 @@ import sys
 sys.dont_write_bytecode = True
 sys.path.insert(0, os.path.dirname(os.path.realpath(__file__)))
 
+import ordervectors  # noqa: E402
 import refvectors  # noqa: E402
 import setvectors  # noqa: E402
 import sheetvectors  # noqa: E402
 import writevectors  # noqa: E402
 from sheetlib import (  # noqa: E402
-    ABI_SHEET, BLOCK_BYTES, CLASS_SHEET, WORD, argument_words, block_words, blocks, clauses, content_words, judge, judge_set, judge_writing,
-    layout_of, link_clauses, writing_clauses)
+    ABI_SHEET, BLOCK_BYTES, CLASS_SHEET, WORD, argument_words, block_words, blocks, clauses, content_words, judge, judge_loosely, judge_order,
+    judge_set, judge_writing, layout_of, link_clauses, order_clauses, renumbered, writing_clauses)
 
 CRATE = os.path.join(os.path.dirname(os.path.realpath(__file__)), "..", "crates", "judge")
 FILL = 7  # what every lent word or byte holds before the call
@@ -34,6 +35,7 @@ def make_all():
     sheetvectors.make()
     setvectors.make()
     writevectors.make()
+    ordervectors.make()
     refvectors.make()
     for module in (sheetvectors, setvectors, refvectors):
         vectors.update(module.vectors)
@@ -52,7 +54,7 @@ def answer(path, data):
     name = path.split("/")[-1]
     if name.startswith("set"):
         words, abi = setvectors.parted(data)
-        return f"{path} set {judge_set(words, abi)} {writing(words, writevectors.lent_bytes(name))}"
+        return f"{path} set {judge_set(words, abi)} {writing(words, writevectors.lent_bytes(name, data))} {order(words, ordervectors.lent_list(name))}"
     if name.startswith("args"):
         row, words = argument_words(data[4:], int.from_bytes(data[:4], "little"))
         return f"{path} refused {row}" if row else f"{path} words {words}"
@@ -60,10 +62,23 @@ def answer(path, data):
         return f"{path} {references(data)}"
     lent = sheetvectors.lent_words(name)
     row, words = judge(layout_of(name), data, lent)
+    line = f"{path} {read(row, words, data, lent)}"
+    if layout_of(name) is ABI_SHEET:
+        return line
+    return " ".join([line] + ([] if row else [back(data)]) + ["loosely", read(*judge_loosely(data, lent), data, lent)])
+
+
+def read(row, words, data, lent):
+    """What a reading answers, and its check of the lent words."""
+    return f"refused {row} {weighed([], lent)}" if row else f"accepted {words} {weighed(block_words(data), lent)}"
+
+
+def order(words, lent):
+    """What the step that renumbers classes answers with list words lent, and its check of the class words and of these."""
+    row, numbers = judge_order(words, lent)
     if row:
-        return f"{path} refused {row} {weighed([], lent)}"
-    line = f"{path} accepted {words} {weighed(block_words(data), lent)}"
-    return f"{line} {back(data)}" if layout_of(name) is CLASS_SHEET else line
+        return f"unordered {row} {weighed(words)} {weighed([], lent)}"
+    return f"ordered {len(numbers)} {weighed(renumbered(words, numbers))} {weighed(numbers, lent)}"
 
 
 def writing(words, lent):
@@ -130,7 +145,7 @@ def store(made):
 # ---- which vectors show each clause
 
 def covered():
-    """Each clause, of a reading, of a link and of the writer, with its refused vectors and their accepted neighbours."""
+    """Each clause, of a reading, of a link, of the writer and of the order, with its refused vectors and their accepted neighbours."""
     for title, listed, cover in (("reading", clauses, sheetvectors.cover), ("link", link_clauses, setvectors.cover)):
         for layout in (CLASS_SHEET, ABI_SHEET):
             for row, clause in listed(layout):
@@ -138,6 +153,8 @@ def covered():
                 yield f"{title}, {layout.name} row {row}: {clause}", bad, good
     for row, clause in writing_clauses():
         yield f"writing, row {row}: {clause}", *writevectors.cover.get(("class", row, clause), ([], []))
+    for row, clause in order_clauses():
+        yield f"order, row {row}: {clause}", *ordervectors.cover.get(("class", row, clause), ([], []))
 
 
 def table():

@@ -2,7 +2,7 @@
 
 The files are `set-` files of setvectors.py: rows 3 to 5 of both sheets are judged of them too, and then the class words are
 written. A name tells the row of a link, then `write` and the row of the writer or `ok`, and, after `-lent-`, how many bytes are
-lent where it is not 93 blocks, one more than any sheet takes.
+lent where it is not 1,024 more than the file has, 93 blocks at the most.
 """
 
 from sheetlib import BLOCK_BYTES, BLOCK_WORDS, CLASS_SHEET, WORD, Sheet, judge_set, writing_faults
@@ -16,9 +16,9 @@ MOST_BYTES = 93 * BLOCK_BYTES
 cover = {}  # (layout name, row, clause) -> ([refused], [accepted])
 
 
-def lent_bytes(name):
+def lent_bytes(name, data):
     """How many bytes the program lends to the writer for a file of this name."""
-    return lent_number(name, MOST_BYTES)
+    return lent_number(name, min(len(data) + 1024, MOST_BYTES))
 
 
 # ---- recording a set
@@ -28,8 +28,9 @@ def vector(row, name, made, lent):
     words, told = words_of(made), "" if lent is None else f"-lent-{lent}"
     link = judge_set(words, ABI.words())
     name = f"set-{f'r{link}' if link else 'ok'}-write-{row or 'ok'}-{name}{told}.bin"
-    record(name, joined(words, ABI.words()))
-    return name, {(f.row, f.clause) for f in writing_faults(words, lent_bytes(name))}
+    data = joined(words, ABI.words())
+    record(name, data)
+    return name, {(f.row, f.clause) for f in writing_faults(words, lent_bytes(name, data))}
 
 
 def refused(row, name, clause, made, lent=None, also=()):

@@ -19,7 +19,7 @@ const SIZE: usize = 1 << 20;
 const PAINT: u8 = 0xA5;
 
 /// The exported functions, in the order of `Painted`'s stacks.
-const FUNCTIONS: [&str; 8] = [
+const FUNCTIONS: [&str; 10] = [
     "lgt_read_class_sheet",
     "lgt_read_abi_sheet",
     "lgt_link",
@@ -30,7 +30,6 @@ const FUNCTIONS: [&str; 8] = [
     "lgt_write_class_sheet",
     "lgt_read_unordered_sheet",
     "lgt_renumber_classes",
-    "lgt_compare_names",
 ];
 
 /// A stack whose touched bytes show.
@@ -125,8 +124,12 @@ impl Linker for Painted {
         self.stacks[7].run(|| self.library.write_class_sheet(set, bytes))
     }
 
-    fn compare_names(&mut self, a: &[u8], b: &[u8]) -> Answer {
-        self.stacks[10].run(|| self.library.compare_names(a, b))
+    fn read_unordered_sheet(&mut self, bytes: &[u8], words: &mut [u32]) -> Answer {
+        self.stacks[8].run(|| self.library.read_unordered_sheet(bytes, words))
+    }
+
+    fn renumber_classes(&mut self, set: &mut [u32], order: &mut [u32]) -> Answer {
+        self.stacks[9].run(|| self.library.renumber_classes(set, order))
     }
 }
 

@@ -166,7 +166,7 @@ impl ClassBuilder {
         }
     }
 
-    /// Its parent, which comes before it in the set.
+    /// Its parent, which comes before it in the set; where it does not, [`ClassSet::read_unordered`] puts it there.
     ///
     /// ```
     /// # use lgt_linker::*;

@@ -109,6 +109,52 @@ pub fn write_class_sheet(set: &[u32], bytes: &mut [u8]) -> Result<u32, Refusal> 
     accepted(row, answer[0])
 }
 
+/// Reads a class sheet whose classes come in any order, a child before its parent, and answers how many words were filled. It judges
+/// neither records nor descriptors: [`renumber_classes`] puts parents first, and a link judges the rest.
+///
+/// # Errors
+///
+/// Refusals 1 to 3; the words are then as they were.
+///
+/// ```
+/// # use lgt_linker::*;
+/// let bytes = std::fs::read("../../examples/alphabetical/unordered.bin").unwrap();
+/// let mut words = [0; CLASS_WORDS];
+/// assert_eq!(read_class_sheet(&bytes, &mut words), Err(Refusal::Record)); // AccessCard comes before its parent Card
+/// assert_eq!(read_unordered_sheet(&bytes, &mut words), Ok(254));
+/// ```
+pub fn read_unordered_sheet(bytes: &[u8], words: &mut [u32]) -> Result<u32, Refusal> {
+    let mut answer = [0];
+    // SAFETY: as in `read_class_sheet`.
+    let row = unsafe { sys::lgt_read_unordered_sheet(bytes.as_ptr(), bytes.len(), words.as_mut_ptr(), words.len(), &mut answer) };
+    accepted(row, answer[0])
+}
+
+/// Renumbers the classes of an unlinked set so that parents come first; among those ready the smallest old number goes next. Parent
+/// numbers and interface words follow. Fills the list with each class's old number, in new order, and answers how many classes there are.
+///
+/// # Errors
+///
+/// Refusals 3, 4 (a parent number or an interface word that names no class), 19 (a class is its own ancestor) and 15: the list has fewer
+/// words than there are classes, at most 64. Set and list are then as they were.
+///
+/// ```
+/// # use lgt_linker::*;
+/// let mut set = [0; CLASS_WORDS];
+/// read_unordered_sheet(&std::fs::read("../../examples/alphabetical/unordered.bin").unwrap(), &mut set)?;
+/// let mut order = [0; 64];
+/// assert_eq!(renumber_classes(&mut set, &mut order), Ok(5));
+/// assert_eq!(order[..6], [2, 1, 3, 5, 4, 0]); // class 1 is now the one that was 2
+/// assert_eq!(renumber_classes(&mut set, &mut order[..4]), Err(Refusal::NoRoom));
+/// # Ok::<(), Refusal>(())
+/// ```
+pub fn renumber_classes(set: &mut [u32], order: &mut [u32]) -> Result<u32, Refusal> {
+    let mut answer = [0];
+    // SAFETY: both slices are whole and lent exclusively, and the answer has its word.
+    let row = unsafe { sys::lgt_renumber_classes(set.as_mut_ptr(), set.len(), order.as_mut_ptr(), order.len(), &mut answer) };
+    accepted(row, answer[0])
+}
+
 /// Links a class of the set: its table goes to the area's next free word (word 0 of the area), its record and fields into the set.
 ///
 /// # Errors

@@ -1,9 +1,9 @@
 //! The proved class linker of Dautzeki, for Rust programs.
 //!
-//! Two ways to use it. Lend memory yourself: [`read_class_sheet`], [`read_abi_sheet`], [`write_class_sheet`], [`link`],
-//! [`interface_dispatch_table`], [`argument_words`], [`compare_names`] and [`reference_count`] take slices and allocate nothing;
-//! [`layout`] names their words. Or let [`ClassSet`], [`AbiSheet`] and [`Area`] own it, read from sheets or made of Rust values by
-//! [`SetBuilder`] and [`AbiBuilder`]:
+//! Two ways to use it. Lend memory yourself: [`read_class_sheet`], [`read_abi_sheet`], [`write_class_sheet`], [`read_unordered_sheet`],
+//! [`renumber_classes`], [`link`], [`interface_dispatch_table`], [`argument_words`], [`compare_names`] and [`reference_count`] take slices
+//! and allocate nothing; [`layout`] names their words. Or let [`ClassSet`], [`AbiSheet`] and [`Area`] own it, read from sheets or made of
+//! Rust values by [`SetBuilder`] and [`AbiBuilder`]:
 //!
 //! ```
 //! use lgt_linker::{AbiBuilder, Area, ClassBuilder, SetBuilder};
@@ -52,7 +52,7 @@ mod view;
 pub use build::{AbiBuilder, AbiClassBuilder, BuildError, ClassBuilder, SetBuilder};
 pub use calls::{
     ABI_WORDS, Asked, CLASS_BYTES, CLASS_WORDS, Compared, Linked, argument_words, compare_names, interface_dispatch_table, link,
-    read_abi_sheet, read_class_sheet, reference_count, reference_words, write_class_sheet,
+    read_abi_sheet, read_class_sheet, read_unordered_sheet, reference_count, reference_words, renumber_classes, write_class_sheet,
 };
 pub use refusal::Refusal;
 pub use set::{AbiSheet, Area, ClassSet};

@@ -46,7 +46,7 @@ pub enum Refusal {
     SlotCount,
     /// 14: a grown section exceeds its limit
     SectionFull,
-    /// 15: stubs, area or class words too few
+    /// 15: stubs, area, class or list words too few
     NoRoom,
     /// 16: an interface method has no implementation
     NoImplementation,
@@ -54,6 +54,8 @@ pub enum Refusal {
     NotStorable,
     /// 18: too few bytes lent for the sheet
     SheetRoom,
+    /// 19: a class is its own ancestor
+    Ring,
     /// 24: a reference bitmap has too few bytes for its words
     BitmapBytes,
     /// 25: the lent list is shorter than the count of reference words
@@ -93,16 +95,18 @@ const REFUSALS: &[Row] = &[
         mend: "Keep the counts within their limits and the file as short as its content allows, with zeros after the content, and store \
          only an unlinked set: every table place and slot count 0. A link, an interface table or a write asks, of each sheet, only \
          that its counts keep their limits and that the lent words hold all of its content: lend as many words as the counts and \
-         their sections take.",
+         their sections take. A renumbering asks the same of the class sheet, and every table place and slot count 0.",
     },
     Row {
         number: 4,
         refusal: Refusal::Record,
         wrong: "a record breaks a rule: a list or name outside its section, a name used twice, a parent after its child, or a number above \
          its limit",
-        mend: "Mend the record named: lists and text parts lie inside their sections, two classes share no method or field record, names \
-         and descriptors have 1 to 255 bytes from 0x21 to 0x7E, a parent comes before its child, an interface is a class of the \
-         sheet, no two classes have one name, and each flag, kind, size and index keeps its limit.",
+        mend: "Mend the record named: lists and text parts lie inside their sections, two classes share no method or field record, \
+         names and descriptors have 1 to 255 bytes from 0x21 to 0x7E, a parent comes before its child (`tools/sheet order` puts \
+         parents first), an interface is a class of the sheet, no two classes have one name, and each flag, kind, size and index \
+         keeps its limit. A renumbering asks of all this only that each parent number and each interface word is that of a class \
+         of the sheet (a parent may be 0).",
     },
     Row {
         number: 5,
@@ -176,9 +180,9 @@ const REFUSALS: &[Row] = &[
     Row {
         number: 15,
         refusal: Refusal::NoRoom,
-        wrong: "too few stubs, free area words or class words were lent",
+        wrong: "too few stubs, free area words, class words or list words were lent",
         mend: "Lend more memory: a stub word for each slot of the table, free words in the area for the table and two more, and class words \
-         for the sections that grow.",
+         for the sections that grow; for a renumbering, a list word for each class.",
     },
     Row {
         number: 16,
@@ -199,6 +203,13 @@ const REFUSALS: &[Row] = &[
         refusal: Refusal::SheetRoom,
         wrong: "fewer bytes were lent than the sheet's blocks take",
         mend: "Lend 512 bytes for each block that the sheet takes, 127 words of content a block: 47,104 bytes are enough for every set.",
+    },
+    Row {
+        number: 19,
+        refusal: Refusal::Ring,
+        wrong: "a class is its own ancestor",
+        mend: "A class is its own ancestor: mend the parent numbers of the classes in the ring, which `tools/sheet order` names, so that \
+         each chain of parents ends at a class without one.",
     },
     Row {
         number: 24,

@@ -5,8 +5,8 @@ use alloc::vec::Vec;
 use core::fmt;
 
 use crate::calls::{
-    ABI_WORDS, Asked, CLASS_BYTES, CLASS_WORDS, Linked, interface_dispatch_table, link, read_abi_sheet, read_class_sheet, reference_words,
-    write_class_sheet,
+    ABI_WORDS, Asked, CLASS_BYTES, CLASS_WORDS, Linked, interface_dispatch_table, link, read_abi_sheet, read_class_sheet,
+    read_unordered_sheet, reference_words, renumber_classes, write_class_sheet,
 };
 use crate::layout::{BLOCK_BYTES, abi, set};
 use crate::refusal::Refusal;
@@ -64,6 +64,43 @@ impl ClassSet {
         let mut words = vec![0; CLASS_WORDS];
         read_class_sheet(bytes, &mut words)?;
         Ok(ClassSet { words })
+    }
+
+    /// Reads a class sheet whose classes come in any order, a child before its parent, and renumbers them so that parents come first.
+    /// Answers the set, and in its new order the old number of each class; see [`renumber_classes`].
+    ///
+    /// # Errors
+    ///
+    /// Refusals 1 to 3 of the reading, 4 and 19 of the renumbering, then 4 and 5 as of [`read`](ClassSet::read).
+    ///
+    /// ```
+    /// # use lgt_linker::*;
+    /// let bytes = std::fs::read("../../examples/alphabetical/unordered.bin").unwrap();
+    /// let (set, order) = ClassSet::read_unordered(&bytes)?;
+    /// assert_eq!(set.classes().map(|class| class.name()).collect::<Vec<_>>(), ["Card", "AccessCard", "Renewable", "VipCard", "StaffCard"]);
+    /// assert_eq!(order, [2, 1, 3, 5, 4]);
+    /// assert_eq!(set.write()?, std::fs::read("../../examples/alphabetical/classes.bin").unwrap()); // which `./list` lists
+    /// # Ok::<(), Refusal>(())
+    /// ```
+    ///
+    /// A builder's classes may come in any order, too:
+    ///
+    /// ```
+    /// # use lgt_linker::*;
+    /// let sheet = SetBuilder::new().class(ClassBuilder::new("Access").extends("Card")).class(ClassBuilder::new("Card")).sheet()?;
+    /// assert_eq!(ClassSet::read_unordered(&sheet)?.1, [2, 1]);
+    /// let ring = SetBuilder::new().class(ClassBuilder::new("A").extends("B")).class(ClassBuilder::new("B").extends("A")).sheet()?;
+    /// assert_eq!(ClassSet::read_unordered(&ring), Err(Refusal::Ring));
+    /// # Ok::<(), BuildError>(())
+    /// ```
+    pub fn read_unordered(bytes: &[u8]) -> Result<(ClassSet, Vec<u32>), Refusal> {
+        let mut words = vec![0; CLASS_WORDS];
+        read_unordered_sheet(bytes, &mut words)?;
+        let mut order = vec![0; set::LIMITS[set::CLASSES]];
+        let classes = renumber_classes(&mut words, &mut order)?;
+        order.truncate(classes as usize);
+        judged(&mut words, &[0; abi::COUNTS])?;
+        Ok((ClassSet { words }, order))
     }
 
     /// A set of words in the sheet's layout, as [`words`](ClassSet::words) gives them: of a sheet, or as links left them.

@@ -73,7 +73,7 @@ fn random_names() {
     }
 }
 
-/// The ticket's own count: 64 names of 39 bytes that differ in their last two, each compared with each.
+/// The request's own count: 64 names of 39 bytes that differ in their last two, each compared with each.
 #[test]
 fn names_with_a_long_common_start() {
     let names: Vec<_> = (0..64).map(|number| format!("com/example/phone/application/Class{number:04}")).collect();

@@ -206,7 +206,7 @@ fn interface_ok(ws: &[u32], i: u32) -> bool
 }
 
 // Whether each interface word names a class.
-fn interfaces_ok(ws: &[u32]) -> bool
+pub fn interfaces_ok(ws: &[u32]) -> bool
     ensures { λ r. ⌜ r ≡ allOf (interfaceCount (now (ws .entry))) (interfaceNames (now (ws .entry))) ⌝ }
 {
     let n = class_sheet::interface_count(ws);

@@ -2,7 +2,9 @@
 // - `set`: words already read, as a link takes them. The file's words are the number of class words, these, then the ABI
 //   words. Written: its name, `set`, and the row of 3 to 5 that refuses or 0; then, of the class words written as a sheet,
 //   `written` and the blocks or `unwritten` and the row, and the weighed sum of all lent bytes after the call, each of which
-//   was 7 before it. `-lent-N` before `.bin` in a name has N bytes lent.
+//   was 7 before it. Then, of the class words renumbered, `ordered` and the classes or `unordered` and the row, the weighed
+//   sum of the class words after the call, and that of the lent list, each word of which was 7 before it. `-lent-N` before
+//   `.bin` in a name has N bytes lent to the writer, and N list words; else the file's bytes and 1,024 more, and 66 words.
 // - `args`: a word of flags, then the bytes of a method descriptor. Written: its name, `words` and the argument words, or
 //   `refused 5`.
 // - `refs`: the number of instance words, the number of list words lent, then the bytes of a reference bitmap. Written: its
@@ -12,6 +14,7 @@
 //   and the row, then the weighed sum of all lent words after the call, each of which was 7 before it. `-lent-N` before
 //   `.bin` in a name has N words lent. An accepted class sheet is then written back into bytes that are 7: `written` and the
 //   blocks or `unwritten` and the row, and `same` where the lent bytes are then the sheet's own and after them 7, else `other`.
+//   Each class sheet is read by rows 1 to 3 alone, too: `loosely`, and the same words as of the first reading.
 // Of a file its first 131,072 bytes count, more than any sheet has.
 ghost use mathlib.Core.Path.{_≡_};
 ghost use lib.ListN.{length};
@@ -25,15 +28,18 @@ use words::word_at;
 use words::word_part;
 
 // Lent where the name says nothing: the words of the largest sheet.
-const CLASS_WORDS: u32 = class_sheet::SHEET_WORDS as u32;
+const CLASS_WORDS: usize = class_sheet::SHEET_WORDS;
 
-const ABI_WORDS: u32 = abi_sheet::SHEET_WORDS as u32;
+const ABI_WORDS: usize = abi_sheet::SHEET_WORDS;
 
 // The most that a name can have lent: two blocks of 127 words more than the largest sheet has.
 const MOST_WORDS: u32 = 127 * (class_sheet::BLOCK_LIMIT + 2);
 
-// Lent to the writer where the name says nothing: one block of 512 bytes more than the largest sheet has.
-const MOST_BYTES: u32 = 512 * (class_sheet::BLOCK_LIMIT + 1);
+// The most bytes that are lent to the writer: one block of 512 bytes more than the largest sheet has.
+const MOST_BYTES: usize = 47616;
+
+// Lent to the list of old class numbers where the name says nothing: two words more than there can be classes.
+const MOST_LISTED: usize = 66;
 
 // The place after a path's last slash, or 0 where it has none.
 fn name_place(path: &[u8]) -> usize {
@@ -111,21 +117,17 @@ fn number(bytes: &[u8]) -> u32 {
 }
 
 // How many words to lend for a file of this name.
-fn lent_words(name: &[u8]) -> u32 {
-    let place = lent_place(name);
-    if place > 0 {
-        return number(part(name, place, name.len()));
-    }
-    if is_abi(name) { ABI_WORDS } else { CLASS_WORDS }
+fn lent_words(name: &[u8]) -> usize {
+    lent_number(name, if is_abi(name) { ABI_WORDS } else { CLASS_WORDS })
 }
 
-// How many bytes to lend to the writer for a file of this name.
-fn lent_bytes(name: &[u8]) -> u32 {
+// The number after `-lent-` in a name, or the one given where it has none.
+fn lent_number(name: &[u8], otherwise: usize) -> usize {
     let place = lent_place(name);
     if place > 0 {
-        number(part(name, place, name.len()))
+        wide(number(part(name, place, name.len())))
     } else {
-        MOST_BYTES
+        otherwise
     }
 }
 
@@ -209,11 +211,36 @@ fn read_lent(name: &[u8], bytes: &[u8], words: &mut [u32], n: usize) -> sheet::R
     read_sheet(name, bytes, words)
 }
 
+// Reads a class sheet by rows 1 to 3 alone, with the first n words lent, or all where there are fewer.
+fn read_loosely(bytes: &[u8], words: &mut [u32], n: usize) -> sheet::Read {
+    if n < words.len() {
+        return sheet::read_unordered_sheet(bytes, &mut words[..n]);
+    }
+    sheet::read_unordered_sheet(bytes, words)
+}
+
+// Reads a class sheet so, and says what came of it.
+fn print_loosely(bytes: &[u8], n: usize, words: &mut [u32]) {
+    let answer = read_loosely(bytes, words, n);
+    io::write_all(STDOUT_FILENO, b" loosely");
+    print_answer(answer);
+    io::print_decimal(STDOUT_FILENO, weighed_sum(word_part(words, 0, n)) as u64);
+}
+
 // The bytes to lend, as they are before the call.
 fn fresh_bytes() -> [u8; 47616]
     ensures { λ r. ⌜ 47616 ≡ length r ⌝ }
 {
     [7; 47616]
+}
+
+// Two blocks more than the bytes given, MOST_BYTES at the most: enough to write what a file of so many bytes holds.
+fn room_for(n: usize) -> usize {
+    if n < MOST_BYTES - 1024 {
+        n + 1024
+    } else {
+        MOST_BYTES
+    }
 }
 
 // Writes ` written N` or ` unwritten R`.
@@ -249,8 +276,9 @@ fn print_writing(set: &[u32], n: usize, out: &mut [u8]) {
 // Writes back the class words that were read from the bytes, and says whether all of them came back.
 fn print_back(bytes: &[u8], set: &[u32], out: &mut [u8]) {
     let n = bytes.len();
-    print_written(writer::write_class_sheet(set, out));
-    if text::same(part(out, 0, n), bytes) & is_fresh(part(out, n, out.len())) {
+    let answer = write_lent(set, out, room_for(n));
+    print_written(answer);
+    if text::same(part(out, 0, n), bytes) & is_fresh(part(out, n, 1024)) {
         io::write_all(STDOUT_FILENO, b" same");
     } else {
         io::write_all(STDOUT_FILENO, b" other");
@@ -259,7 +287,7 @@ fn print_back(bytes: &[u8], set: &[u32], out: &mut [u8]) {
 
 // Reads the sheet in bytes, and writes its line.
 fn print_sheet(path: &[u8], name: &[u8], bytes: &[u8], words: &mut [u32]) {
-    let n = lent_words(name) as usize;
+    let n = lent_words(name);
     let answer = read_lent(name, bytes, words, n);
     let total = weighed_sum(word_part(words, 0, n));
     io::write_all(STDOUT_FILENO, path);
@@ -268,6 +296,10 @@ fn print_sheet(path: &[u8], name: &[u8], bytes: &[u8], words: &mut [u32]) {
     if accepted & !is_abi(name) {
         let mut out = fresh_bytes();
         print_back(bytes, word_part(words, 0, n), &mut out);
+    }
+    if !is_abi(name) {
+        let mut again = fresh_words();
+        print_loosely(bytes, n, &mut again);
     }
     io::write_all(STDOUT_FILENO, b"\n");
 }
@@ -288,13 +320,58 @@ fn load_words(bytes: &[u8], words: &mut [u32]) {
     }
 }
 
-// Judges a set, writes it, and writes its line.
-fn print_words_of_set(path: &[u8], name: &[u8], set: &[u32], abi: &[u32]) {
+// Renumbers the class words with the first n words of the list lent, or all where there are fewer.
+fn renumber_lent(set: &mut [u32], list: &mut [u32], n: usize) -> renumber::Renumbered {
+    if n < list.len() {
+        return renumber::renumber_classes(set, &mut list[..n]);
+    }
+    renumber::renumber_classes(set, list)
+}
+
+// Renumbers the first k words, or all where there are fewer.
+fn renumber_first(words: &mut [u32], k: usize, list: &mut [u32], n: usize) -> renumber::Renumbered {
+    if k < words.len() {
+        return renumber_lent(&mut words[..k], list, n);
+    }
+    renumber_lent(words, list, n)
+}
+
+// Writes ` ordered N ` or ` unordered R `.
+fn print_renumbered(answer: renumber::Renumbered) {
+    match answer {
+        renumber::Renumbered::Classes(n) => {
+            io::write_all(STDOUT_FILENO, b" ordered ");
+            io::print_decimal(STDOUT_FILENO, n as u64);
+        }
+        renumber::Renumbered::Refused(row) => {
+            io::write_all(STDOUT_FILENO, b" unordered ");
+            io::print_decimal(STDOUT_FILENO, row as u64);
+        }
+    }
+    io::write_all(STDOUT_FILENO, b" ");
+}
+
+// Renumbers a copy of the class words with n list words lent, and says what both are then.
+fn print_order(set: &[u32], n: usize, copy: &mut [u32], list: &mut [u32]) {
+    let k = set.len();
+    words::copy_words(set, 0, k, copy, 0);
+    let answer = renumber_first(copy, k, list, n);
+    print_renumbered(answer);
+    io::print_decimal(STDOUT_FILENO, weighed_sum(word_part(copy, 0, k)) as u64);
+    io::write_all(STDOUT_FILENO, b" ");
+    io::print_decimal(STDOUT_FILENO, weighed_sum(word_part(list, 0, n)) as u64);
+}
+
+// Judges a set, writes it, renumbers it, and writes its line.
+fn print_words_of_set(path: &[u8], name: &[u8], set: &[u32], abi: &[u32], room: usize) {
     io::write_all(STDOUT_FILENO, path);
     io::write_all(STDOUT_FILENO, b" set ");
     io::print_decimal(STDOUT_FILENO, set_rules::set_refusal(set, abi) as u64);
     let mut out = fresh_bytes();
-    print_writing(set, wide(lent_bytes(name)), &mut out);
+    print_writing(set, lent_number(name, room), &mut out);
+    let mut copy = file_words();
+    let mut list = fresh_words();
+    print_order(set, lent_number(name, MOST_LISTED), &mut copy, &mut list);
     io::write_all(STDOUT_FILENO, b"\n");
 }
 
@@ -308,6 +385,7 @@ fn print_set(path: &[u8], name: &[u8], bytes: &[u8], words: &mut [u32]) {
         name,
         word_part(all, 1, n),
         word_part(all, 1 + n, all.len()),
+        room_for(bytes.len()),
     );
 }
 

@@ -7,6 +7,7 @@ use Rattle.text.specs.Text.{sameBytes, pairsRead}
 use Rattle.linking.specs.Link.{Outcome}
 use Rattle.sheet.specs.Sheet as sheet
 use Rattle.writer.specs.Writer as writer
+use Rattle.renumber.specs.Renumber as renumber
 use Rattle.descriptor.specs.Words as descriptor
 use Rattle.references.specs.References as references
 
@@ -23,6 +24,10 @@ readBy row answer ws = record { refusal = row; words = getD answer 0 0; memory =
 -- a writing that returns `row` and leaves the answer word and the lent bytes
 abbrev pub writtenBy : ℕ → List ℕ → List ℕ → writer.Outcome
 writtenBy row answer bs = record { refusal = row; blocks = getD answer 0 0; memory = bs }
+
+-- a renumbering that returns `row` and leaves the answer word, the set and the list
+abbrev pub renumberedBy : ℕ → List ℕ → List ℕ → List ℕ → renumber.Outcome
+renumberedBy row answer ws order = record { refusal = row; classes = getD answer 0 0; set = ws; list = order }
 
 -- argument words
 abbrev pub argumentsBy : ℕ → List ℕ → descriptor.Answer

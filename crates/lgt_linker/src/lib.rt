@@ -4,6 +4,7 @@
 use area::Answer;
 use descriptor::DescriptorWords;
 use references::References;
+use renumber::Renumbered;
 use sheet::Read;
 use writer::Written;
 ghost use mathlib.Core.Path.{_≡_};
@@ -12,14 +13,16 @@ ghost use Prim.Native.Nat.{ℕ};
 ghost use Rattle.linking.specs.Link.{linkDef};
 ghost use Rattle.linking.specs.Ask.{askDef};
 ghost use Rattle.area.specs.Area.{outcome};
-ghost use Rattle.sheet.specs.Sheet.{readClassSheet, readAbiSheet};
+ghost use Rattle.sheet.specs.Sheet.{readClassSheet, readAbiSheet, readUnorderedSheet};
 ghost use Rattle.sheet.specs.Sheet as readings;
+ghost use Rattle.renumber.specs.Renumber.{renumberDef};
+ghost use Rattle.renumber.specs.Renumber as renumberings;
 ghost use Rattle.writer.specs.Writer.{writeClassSheet};
 ghost use Rattle.writer.specs.Writer as writings;
 ghost use Rattle.descriptor.specs.Words.{argumentAnswer};
 ghost use Rattle.references.specs.References.{readReferences, countReferences};
 ghost use Rattle.references.specs.References as bitmaps;
-ghost use Rattle.lgt_linker.specs.Exported.{called, readBy, writtenBy, argumentsBy, comparedBy, compareNames, referencesBy};
+ghost use Rattle.lgt_linker.specs.Exported.{called, readBy, writtenBy, renumberedBy, argumentsBy, comparedBy, compareNames, referencesBy};
 
 // Hands out a link's or an ask's answer.
 fn give_call(a: Answer, answer: &mut [u32; 2]) -> u32
@@ -69,6 +72,22 @@ fn give_written(a: Written, answer: &mut [u32; 1]) -> u32
     }
 }
 
+// Hands out a renumbering's answer.
+fn give_renumbered(a: Renumbered, answer: &mut [u32; 1]) -> u32
+    ensures { λ r. ⌜ ((ws order : List ℕ) → renumberedBy r (now (answer .exit)) ws order ≡ renumberings.outcome a ws order) ⌝ }
+{
+    match a {
+        Renumbered::Classes(n) => {
+            *answer = [n];
+            0
+        }
+        Renumbered::Refused(row) => {
+            *answer = [0];
+            row
+        }
+    }
+}
+
 // Hands out the answer of a bitmap's reader.
 fn give_references(a: References, answer: &mut [u32; 1]) -> u32
     ensures { λ r. ⌜ ((list : List ℕ) → referencesBy r (now (answer .exit)) list ≡ bitmaps.outcome a list) ⌝ }
@@ -111,6 +130,30 @@ pub extern "C" fn lgt_write_class_sheet(set: &[u32], bytes: &mut [u8], answer: &
     ensures { λ r. ⌜ writtenBy r (now (answer .exit)) (now (bytes .exit)) ≡ writeClassSheet (now (set .entry)) (now (bytes .entry)) ⌝ }
 {
     give_written(writer::write_class_sheet(set, bytes), answer)
+}
+
+// `sheet::read_unordered_sheet`: the answer word is the number of words filled.
+#[no_mangle]
+pub extern "C" fn lgt_read_unordered_sheet(
+    bytes: &[u8],
+    words: &mut [u32],
+    answer: &mut [u32; 1],
+) -> u32
+    ensures { λ r. ⌜ readBy r (now (answer .exit)) (now (words .exit)) ≡ readUnorderedSheet (now (bytes .entry)) (now (words .entry)) ⌝ }
+{
+    give_read(sheet::read_unordered_sheet(bytes, words), answer)
+}
+
+// `renumber::renumber_classes`: the answer word is the number of classes.
+#[no_mangle]
+pub extern "C" fn lgt_renumber_classes(
+    set: &mut [u32],
+    order: &mut [u32],
+    answer: &mut [u32; 1],
+) -> u32
+    ensures { λ r. ⌜ renumberedBy r (now (answer .exit)) (now (set .exit)) (now (order .exit)) ≡ renumberDef (now (set .entry)) (now (order .entry)) ⌝ }
+{
+    give_renumbered(renumber::renumber_classes(set, order), answer)
 }
 
 // `link::link`: the answer words are the table's place and its slots.

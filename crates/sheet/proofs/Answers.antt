@@ -12,7 +12,7 @@ use borrow.Author.Tests.{not-true, not-false, eqb-true, eqb-false}
 use Rattle.words.specs.Folds.{allOf}
 use Rattle.words.proofs.Bools.{by, and-4, passed}
 use Rattle.block.specs.Block.{blockCount, sheetWords, checkOk, shapeOk}
-use Rattle.sheet.specs.Sheet.{Outcome, outcome, blockRefusal, sheetRefusal, readSheet, classRows, classSheetRefusal, readClassSheet, abiRows, abiSheetRefusal, readAbiSheet}
+use Rattle.sheet.specs.Sheet.{Outcome, outcome, blockRefusal, sheetRefusal, readSheet, classRows, classSheetRefusal, readClassSheet, looseRows, unorderedSheetRefusal, readUnorderedSheet, abiRows, abiSheetRefusal, readAbiSheet}
 use Rattle.sheet.specs.declared.Read.{Read}
 use Rattle.sheet.specs.declared.Read.the-variants.{Words, Refused}
 
@@ -51,6 +51,10 @@ sheet-tells limit rows bs ws =
 pub class-sheet-tells : (bs ws : List ℕ) → Tells (readClassSheet bs ws)
 unfolding readClassSheet classSheetRefusal
 class-sheet-tells bs ws = sheet-tells 92 classRows bs ws
+
+pub unordered-sheet-tells : (bs ws : List ℕ) → Tells (readUnorderedSheet bs ws)
+unfolding readUnorderedSheet unorderedSheetRefusal
+unordered-sheet-tells bs ws = sheet-tells 92 looseRows bs ws
 
 pub abi-sheet-tells : (bs ws : List ℕ) → Tells (readAbiSheet bs ws)
 unfolding readAbiSheet abiSheetRefusal

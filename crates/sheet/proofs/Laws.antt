@@ -17,7 +17,7 @@ use Rattle.abi_sheet.specs.AbiSheet.{abiTextOf}
 use Rattle.class_rules.specs.ClassRules.{classForm}
 use Rattle.abi_rules.specs.AbiRules.{abiForm}
 use Rattle.set_rules.specs.SetRules.{classRefusal, abiRefusal}
-use Rattle.sheet.specs.Sheet.{Outcome, blockRefusal, sheetRefusal, readSheet, classRows, abiRows}
+use Rattle.sheet.specs.Sheet.{Outcome, blockRefusal, sheetRefusal, readSheet, classRows, looseRows, abiRows}
 use Rattle.sheet.specs.Steps.{writtenBlocks, finished}
 
 -- ---- rows 3 to 5
@@ -30,6 +30,15 @@ module _ (ws : List ℕ) {f : Bool} (form : f ≡ classForm ws) where
   pub class-rest : not f ≡ false → {t : List ℕ} {r : ℕ} → t ≡ textOf ws → r ≡ classRefusal ws t → r ≡ classRows ws
   unfolding classRows
   class-rest h e g = g ∙ rw (← form, h, e)
+
+  -- row 3 alone
+  pub loose-3 : not f ≡ true → 3 ≡ looseRows ws
+  unfolding looseRows
+  loose-3 h = rw (← form, h)
+
+  pub loose-0 : not f ≡ false → 0 ≡ looseRows ws
+  unfolding looseRows
+  loose-0 h = rw (← form, h)
 
 module _ (ws : List ℕ) {f : Bool} (form : f ≡ abiForm ws) where
   pub abi-3 : not f ≡ true → 3 ≡ abiRows ws

@@ -1,4 +1,5 @@
--- Reading a class sheet and an ABI sheet: rows 1 to 5, in that order. Assumes nothing.
+-- Reading a class sheet and an ABI sheet: rows 1 to 5, in that order; a class sheet whose classes come in any order: rows 1 to 3. Assumes
+-- nothing.
 use Prim.Native.Nat.{ℕ, _*_, _/_}
 use mathlib.Core.Bool.{Bool, cond, not}
 use mathlib.Core.List.{List, _++_}
@@ -46,7 +47,7 @@ readSheet refusal bs ws =
     (record { refusal = 0; words = 127 * blockCount bs; memory = sheetWords bs ++ drop (127 * blockCount bs) ws })
     (record { refusal = refusal bs (length ws); words = 0; memory = ws })
 
--- ---- the two sheets
+-- ---- the sheets
 
 -- rows 3 to 5 for the words of a class sheet
 unfoldable pub classRows : List ℕ → ℕ
@@ -57,6 +58,16 @@ classSheetRefusal bs room = sheetRefusal blockLimit classRows bs room
 
 unfoldable pub readClassSheet : List ℕ → List ℕ → Outcome
 readClassSheet bs ws = readSheet classSheetRefusal bs ws
+
+-- "Add an entry that reads by rows 1 to 3 alone": row 3 for the words of a class sheet, whatever the order of its classes
+unfoldable pub looseRows : List ℕ → ℕ
+looseRows ws = cond (not (classForm ws)) 3 0
+
+unfoldable pub unorderedSheetRefusal : List ℕ → ℕ → ℕ
+unorderedSheetRefusal bs room = sheetRefusal blockLimit looseRows bs room
+
+unfoldable pub readUnorderedSheet : List ℕ → List ℕ → Outcome
+readUnorderedSheet bs ws = readSheet unorderedSheetRefusal bs ws
 
 -- rows 3 to 5 for the words of an ABI sheet
 unfoldable pub abiRows : List ℕ → ℕ

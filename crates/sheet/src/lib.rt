@@ -1,6 +1,7 @@
-// Reading a class sheet and an ABI sheet: bytes are judged by rows 1 to 5 before the first word is written.
+// Reading a class sheet and an ABI sheet: bytes are judged by rows 1 to 5, or by rows 1 to 3 where a class sheet's classes may come in any
+// order, before the first word is written.
 ghost use mathlib.Core.Path.{_≡_};
-ghost use Rattle.sheet.specs.Sheet.{outcome, blockRefusal, classRows, classSheetRefusal, readClassSheet, abiRows, abiSheetRefusal, readAbiSheet};
+ghost use Rattle.sheet.specs.Sheet.{outcome, blockRefusal, classRows, classSheetRefusal, readClassSheet, looseRows, unorderedSheetRefusal, readUnorderedSheet, abiRows, abiSheetRefusal, readAbiSheet};
 ghost use Rattle.sheet.specs.Steps.{writtenBlocks, finished};
 
 // What a reading answers: the number of words written, or the row that refuses.
@@ -46,6 +47,31 @@ fn class_sheet_refusal(bytes: &[u8], room: usize) -> u32
     let mut sheet = [0u32; class_sheet::SHEET_WORDS];
     block::unpack(bytes, n, &mut sheet);
     class_rows(words::word_part(&sheet, 0, 127 * words::wide(n)))
+}
+
+// Row 3 for the words of a class sheet: 3 where it refuses, or 0.
+fn loose_rows(ws: &[u32]) -> u32
+    ensures { λ r. ⌜ r ≡ looseRows (now (ws .entry)) ⌝ }
+{
+    let formed = class_rules::form_ok(ws);
+    if !formed {
+        return 3;
+    }
+    0
+}
+
+// Rows 1 to 3 for a class sheet and a lent slice of `room` words: the number that refuses, or 0.
+fn unordered_sheet_refusal(bytes: &[u8], room: usize) -> u32
+    ensures { λ r. ⌜ r ≡ unorderedSheetRefusal (now (bytes .entry)) room ⌝ }
+{
+    let row = block_refusal(bytes, room, class_sheet::BLOCK_LIMIT);
+    if row != 0 {
+        return row;
+    }
+    let n = block::block_count(bytes);
+    let mut sheet = [0u32; class_sheet::SHEET_WORDS];
+    block::unpack(bytes, n, &mut sheet);
+    loose_rows(words::word_part(&sheet, 0, 127 * words::wide(n)))
 }
 
 // Rows 3 to 5 for the words of an ABI sheet: the number that refuses, or 0.
@@ -103,6 +129,14 @@ pub fn read_class_sheet(bytes: &[u8], out: &mut [u32]) -> Read
     ensures { λ r. ⌜ outcome r (now (out .exit)) ≡ readClassSheet (now (bytes .entry)) (now (out .entry)) ⌝ }
 {
     let row = class_sheet_refusal(bytes, out.len());
+    finish(bytes, out, row)
+}
+
+// Reads a class sheet whose classes come in any order, as `read_class_sheet` does, but by rows 1 to 3 alone: a link judges rows 4 and 5.
+pub fn read_unordered_sheet(bytes: &[u8], out: &mut [u32]) -> Read
+    ensures { λ r. ⌜ outcome r (now (out .exit)) ≡ readUnorderedSheet (now (bytes .entry)) (now (out .entry)) ⌝ }
+{
+    let row = unordered_sheet_refusal(bytes, out.len());
     finish(bytes, out, row)
 }
 

@@ -10,6 +10,7 @@ pub mod drive;
 pub mod generate;
 pub mod names;
 pub mod oracle;
+pub mod orders;
 pub mod random;
 pub mod readings;
 pub mod references;

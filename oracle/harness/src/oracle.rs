@@ -141,6 +141,14 @@ impl Linker for Oracle {
         rows::write_class_sheet(set, bytes).map_or_else(Answer::refused, |count| Answer::accepted(count, 0))
     }
 
+    fn read_unordered_sheet(&mut self, bytes: &[u8], words: &mut [u32]) -> Answer {
+        rows::read_unordered_sheet(bytes, words).map_or_else(Answer::refused, |count| Answer::accepted(count, 0))
+    }
+
+    fn renumber_classes(&mut self, set: &mut [u32], order: &mut [u32]) -> Answer {
+        rows::renumber_classes(set, order).map_or_else(Answer::refused, |count| Answer::accepted(count, 0))
+    }
+
     fn link(&mut self, set: &mut [u32], abi: &[u32], class: u32, area: &mut [u32], stubs: &[u32]) -> Answer {
         self.try_link(set, abi, class, area, stubs).unwrap_or_else(Answer::refused)
     }

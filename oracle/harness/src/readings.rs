@@ -6,6 +6,7 @@ use std::collections::BTreeMap;
 use crate::case::Case;
 use crate::names;
 use crate::oracle::Oracle;
+use crate::orders;
 use crate::random::Random;
 use crate::references;
 use crate::sheet::{Abi, Set, blocks, class_word};
@@ -13,7 +14,7 @@ use crate::side::{Answer, Linker};
 use crate::writings;
 
 /// What a reading or a descriptor is about; a run must reach each.
-const BUCKETS: [&str; 44] = [
+const BUCKETS: [&str; 59] = [
     "class sheet read",
     "class sheet refused by row 1",
     "class sheet refused by row 2",
@@ -39,6 +40,21 @@ const BUCKETS: [&str; 44] = [
     "damage: none",
     "argument words given",
     "argument words refused by row 5",
+    "class sheet read loosely",
+    "class sheet read loosely alone",
+    "class sheet refused loosely by row 1",
+    "class sheet refused loosely by row 2",
+    "class sheet refused loosely by row 3",
+    "classes renumbered",
+    "classes not renumbered, by row 3",
+    "classes not renumbered, by row 4",
+    "classes not renumbered, by row 19",
+    "classes not renumbered, by row 15",
+    "order: kept",
+    "order: changed",
+    "order: linked alike",
+    "order: a class refused alike",
+    "order: a table in another order",
     "class set written",
     "class set not written, by row 3",
     "class set not written, by row 4",
@@ -85,7 +101,8 @@ impl ReadingCounts {
     }
 }
 
-/// Reads the case's sheets, damaged or not, on both sides, writes its set back, and asks for argument words and of a reference bitmap.
+/// Reads the case's sheets, damaged or not, on both sides, writes its set back, renumbers it shuffled, and asks for argument words and of a
+/// reference bitmap.
 /// Answers the first disagreement.
 pub fn compare(
     oracle: &mut Oracle,
@@ -113,6 +130,9 @@ pub fn compare(
             reading.bytes
         ));
     }
+    if reading.is_class_sheet {
+        loosely(oracle, other, &reading, oracle_answer, counts)?;
+    }
     let (descriptor, flags) = descriptor(random);
     let (oracle_answer, other_answer) = (oracle.argument_words(&descriptor, flags), other.argument_words(&descriptor, flags));
     counts.hit(if oracle_answer == Answer::refused(5) { "argument words refused by row 5" } else { "argument words given" });
@@ -121,7 +141,33 @@ pub fn compare(
         return Err(format!("argument words of {text:?} with flags {flags:#x}: oracle {oracle_answer:?}, other {other_answer:?}"));
     }
     references::compare(oracle, other, &references::random(random), counts)?;
-    writings::compare(oracle, other, &writings::random(random, case), counts)
+    writings::compare(oracle, other, &writings::random(random, case), counts)?;
+    orders::compare(oracle, other, random, case, counts)
+}
+
+/// Reads a class sheet by rows 1 to 3 alone, on both sides; `strictly` is what a reading by rows 1 to 5 answered.
+fn loosely(
+    oracle: &mut Oracle,
+    other: &mut dyn Linker,
+    reading: &Reading,
+    strictly: Answer,
+    counts: &mut ReadingCounts,
+) -> Result<(), String> {
+    let before = lent_words(reading.lent);
+    let (mut expected, mut found) = (before.clone(), before);
+    let answers = [oracle.read_unordered_sheet(&reading.bytes, &mut expected), other.read_unordered_sheet(&reading.bytes, &mut found)];
+    counts.hit(&match answers[0].refusal {
+        0 if matches!(strictly.refusal, 4 | 5) => "class sheet read loosely alone".to_owned(),
+        0 => "class sheet read loosely".to_owned(),
+        row => format!("class sheet refused loosely by row {row}"),
+    });
+    if answers[0] != answers[1] || expected != found || (strictly.refusal < 4 && answers[0] != strictly) {
+        return Err(format!(
+            "reading loosely, {}: oracle {:?}, other {:?}\nbytes {:?}",
+            reading.damage, answers[0], answers[1], reading.bytes
+        ));
+    }
+    Ok(())
 }
 
 /// The content of class words, as if no class were linked.

@@ -15,7 +15,7 @@ fn answers(bitmap: &[u8], words: u32, lent: usize) -> (Answer, Vec<u32>, Answer)
 }
 
 #[test]
-fn the_ticket() {
+fn the_request() {
     let (counted, none) = (|count| Answer::accepted(count, 0), Answer::refused(24));
     assert_eq!(answers(&[0xA1], 8, 4), (counted(3), vec![0, 2, 7, 7], counted(3)));
     assert_eq!(answers(&[0xA1], 7, 2), (counted(2), vec![0, 2], counted(2)));

@@ -43,6 +43,14 @@ impl Linker for Explained {
         Model.write_class_sheet(set, bytes)
     }
 
+    fn read_unordered_sheet(&mut self, bytes: &[u8], words: &mut [u32]) -> Answer {
+        Model.read_unordered_sheet(bytes, words)
+    }
+
+    fn renumber_classes(&mut self, set: &mut [u32], order: &mut [u32]) -> Answer {
+        Model.renumber_classes(set, order)
+    }
+
     fn link(&mut self, set: &mut [u32], abi: &[u32], class: u32, area: &mut [u32], stubs: &[u32]) -> Answer {
         match model::link(set, abi, class, area, stubs) {
             Ok((place, slots)) => Answer::accepted(place, slots),

@@ -184,6 +184,14 @@ impl Linker for Guarded {
         self.read(set, bytes, &mut |library, set, bytes| library.write_class_sheet(set, bytes))
     }
 
+    fn read_unordered_sheet(&mut self, bytes: &[u8], words: &mut [u32]) -> Answer {
+        self.read(bytes, words, &mut |library, bytes, words| library.read_unordered_sheet(bytes, words))
+    }
+
+    fn renumber_classes(&mut self, set: &mut [u32], order: &mut [u32]) -> Answer {
+        self.call(set, &[], order, &[], &mut |library, set, _, order, _| library.renumber_classes(set, order))
+    }
+
     fn link(&mut self, set: &mut [u32], abi: &[u32], class: u32, area: &mut [u32], stubs: &[u32]) -> Answer {
         self.call(set, abi, area, stubs, &mut |library, set, abi, area, stubs| library.link(set, abi, class, area, stubs))
     }

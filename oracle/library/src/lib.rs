@@ -15,6 +15,10 @@ unsafe extern "C" {
 
     fn lgt_write_class_sheet(set: *const u32, set_len: usize, bytes: *mut u8, bytes_len: usize, answer: *mut u32) -> u32;
 
+    fn lgt_read_unordered_sheet(bytes: *const u8, bytes_len: usize, words: *mut u32, words_len: usize, answer: *mut u32) -> u32;
+
+    fn lgt_renumber_classes(set: *mut u32, set_len: usize, order: *mut u32, order_len: usize, answer: *mut u32) -> u32;
+
     fn lgt_link(
         set: *mut u32,
         set_len: usize,
@@ -89,6 +93,15 @@ impl Linker for Library {
 
     fn write_class_sheet(&mut self, set: &[u32], bytes: &mut [u8]) -> Answer {
         answered(1, |answer| unsafe { lgt_write_class_sheet(self.read_only(set), set.len(), self.lent(bytes), bytes.len(), answer) })
+    }
+
+    fn read_unordered_sheet(&mut self, bytes: &[u8], words: &mut [u32]) -> Answer {
+        answered(1, |answer| unsafe { lgt_read_unordered_sheet(self.read_only(bytes), bytes.len(), self.lent(words), words.len(), answer) })
+    }
+
+    fn renumber_classes(&mut self, set: &mut [u32], order: &mut [u32]) -> Answer {
+        let (set_len, order_len) = (set.len(), order.len());
+        answered(1, |answer| unsafe { lgt_renumber_classes(self.lent(set), set_len, self.lent(order), order_len, answer) })
     }
 
     fn link(&mut self, set: &mut [u32], abi: &[u32], class: u32, area: &mut [u32], stubs: &[u32]) -> Answer {

@@ -2,7 +2,6 @@
 
 use harness::case::{Call, Case};
 use harness::generate;
-use harness::names::{self, Names};
 use harness::orders::{self, Order};
 use harness::random::Random;
 use harness::readings::{self, Reading};
@@ -124,6 +123,20 @@ pub fn writing(random: &mut Random, case: &Case) -> Writing {
         _ => {}
     }
     writing
+}
+
+/// Class words of any kind to renumber, with any number of list words.
+pub fn order(random: &mut Random, case: &Case) -> Order {
+    let mut order = orders::random(random, case);
+    if random.chance(50) {
+        damage(random, &mut order.set, 4);
+    }
+    match random.below(5) {
+        0 => order.lent = random.below(70) as usize,
+        1 => order.lent = 0,
+        _ => {}
+    }
+    order
 }
 
 /// A bitmap of any length with any number of words: too few bytes, exactly those that are needed, more words than a class has.

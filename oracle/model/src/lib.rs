@@ -6,7 +6,6 @@ mod ask;
 mod descriptors;
 mod fields;
 mod link;
-mod names;
 mod order;
 mod reading;
 mod references;
@@ -23,7 +22,6 @@ use crate::why::{Refused, Why};
 pub use ask::ask;
 pub use descriptors::argument_words;
 pub use link::link;
-pub use names::compare_names;
 pub use order::{read_unordered_sheet, renumber_classes};
 pub use reading::{read_abi_sheet, read_class_sheet};
 pub use references::{reference_count, reference_words};
@@ -51,6 +49,14 @@ impl Linker for Model {
 
     fn write_class_sheet(&mut self, set: &[u32], bytes: &mut [u8]) -> Answer {
         answer(write_class_sheet(set, bytes).map(|blocks| (blocks, 0)))
+    }
+
+    fn read_unordered_sheet(&mut self, bytes: &[u8], words: &mut [u32]) -> Answer {
+        answer(read_unordered_sheet(bytes, words).map(|words| (words, 0)))
+    }
+
+    fn renumber_classes(&mut self, set: &mut [u32], order: &mut [u32]) -> Answer {
+        answer(renumber_classes(set, order).map(|classes| (classes, 0)))
     }
 
     fn link(&mut self, set: &mut [u32], abi: &[u32], class: u32, area: &mut [u32], stubs: &[u32]) -> Answer {

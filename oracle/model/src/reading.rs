@@ -16,10 +16,15 @@ pub fn read_class_sheet(bytes: &[u8], words: &mut [u32]) -> Result<u32, Refused>
     row_3(&read, class_content(&read), |content| content - read[5].div_ceil(4) as usize, read[5])?;
     let text = text_of_class_words(&read);
     let sheet = ClassSheet { words: &read, text: &text };
-    refuse(3, sheet.classes().any(|class| class.place != 0 || class.slots != 0))?;
+    unlinked(&sheet)?;
     refuse(4, !class_records_keep_the_rules(&sheet))?;
     refuse(5, !class_descriptors_hold(&sheet))?;
     Ok(fill(&read, words))
+}
+
+/// Row 3: "a table place or slot count not 0".
+pub fn unlinked(sheet: &ClassSheet) -> Result<(), Refused> {
+    refuse(3, sheet.classes().any(|class| class.place != 0 || class.slots != 0))
 }
 
 /// Reads an ABI sheet into `words`; answers the words filled, 127 a block.
@@ -37,7 +42,7 @@ pub fn read_abi_sheet(bytes: &[u8], words: &mut [u32]) -> Result<u32, Refused> {
 /// (ABI sheet), or the lent word slice holds fewer than 127 words a block". Row 2: "a
 /// block's check differs", where "the last word is the sum of the other 127 and the block's
 /// number from 1, modulo 2^32".
-fn blocks(bytes: &[u8], most: usize, lent: usize) -> Result<Vec<u32>, Refused> {
+pub fn blocks(bytes: &[u8], most: usize, lent: usize) -> Result<Vec<u32>, Refused> {
     let count = bytes.len() / BLOCK_BYTES;
     refuse(1, bytes.is_empty() || !bytes.len().is_multiple_of(BLOCK_BYTES) || count > most || lent < BLOCK_CONTENT * count)?;
     let mut read = Vec::with_capacity(BLOCK_CONTENT * count);
@@ -52,14 +57,14 @@ fn blocks(bytes: &[u8], most: usize, lent: usize) -> Result<Vec<u32>, Refused> {
 
 /// Row 3, but for table places: "a count above its limit, a block count not the least that
 /// fits, a nonzero word or byte after the content".
-fn row_3(read: &[u32], content: Option<usize>, text_at: impl Fn(usize) -> usize, text_bytes: u32) -> Result<(), Refused> {
+pub fn row_3(read: &[u32], content: Option<usize>, text_at: impl Fn(usize) -> usize, text_bytes: u32) -> Result<(), Refused> {
     let content = content.ok_or(3u32)?;
     refuse(3, content.div_ceil(BLOCK_CONTENT) * BLOCK_CONTENT != read.len())?;
     let mut after_the_text = read[text_at(content)..].iter().flat_map(|word| word.to_le_bytes()).skip(text_bytes as usize);
     refuse(3, after_the_text.any(|byte| byte != 0))
 }
 
-fn fill(read: &[u32], words: &mut [u32]) -> u32 {
+pub fn fill(read: &[u32], words: &mut [u32]) -> u32 {
     words[..read.len()].copy_from_slice(read);
     read.len() as u32
 }

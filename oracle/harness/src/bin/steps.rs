@@ -4,8 +4,7 @@
 //! and stubs; these four; then class words and area after the call. Then small calls of the other
 //! functions, in the same form: what they read stands for the ABI words, what they write for the
 //! area, bytes one to a word, and a number that they take for the class (kinds 2 reference words,
-//! 3 reference count, 4 writing, 5 reading loosely, 6 renumbering, 7 and 8 reading a class and an
-//! ABI sheet, 9 argument words, 10 names, the second for the area; class words are class words).
+//! 3 reference count, 4 writing, 5 reading loosely, 6 renumbering; class words are class words).
 
 use std::collections::BTreeMap;
 use std::process::ExitCode;
@@ -17,7 +16,7 @@ use harness::generate;
 use harness::oracle::Oracle;
 use harness::random::Random;
 use harness::side::{Answer, Linker};
-use harness::{names, orders, readings, references, writings};
+use harness::{orders, readings, references, writings};
 
 /// How many cases are looked at, and the most words of a slice.
 const LOOKED_AT: u64 = 30_000;
@@ -66,17 +65,16 @@ fn others(oracle: &mut Oracle, seed: u64) -> Vec<Vec<u32>> {
     let writing = |number| writings::random(&mut random, &generate::case(seed, number));
     kept.extend((0..).map(writing).map(|writing| writing_call(oracle, &writing)).filter(is_small).take(OTHERS));
     let reading = |number| readings::reading(&mut random, &generate::case(seed, number));
-    kept.extend((0..).map(reading).flat_map(|reading| reading_calls(oracle, &reading)).filter(is_small).take(3 * OTHERS));
-    kept.extend((0..OTHERS).map(|_| readings::descriptor(&mut random)).map(|(descriptor, flags)| {
-        let answer = oracle.argument_words(&descriptor, flags);
-        call(9, flags, answer, &[], &wide(&descriptor), &[], &[])
-    }));
+    kept.extend(
+        (0..)
+            .map(reading)
+            .filter(|reading| reading.is_class_sheet)
+            .map(|reading| loose_call(oracle, &reading))
+            .filter(is_small)
+            .take(OTHERS),
+    );
     let order = |number| orders::random(&mut random, &generate::case(seed, number));
     kept.extend((0..).map(order).map(|order| order_call(oracle, &order)).filter(is_small).take(OTHERS));
-    kept.extend((0..OTHERS).map(|_| names::random(&mut random)).map(|names::Names { a, b }| {
-        let (answer, second) = (oracle.compare_names(&a, &b), wide(&b));
-        call(10, 0, answer, &[], &wide(&a), &second, &second)
-    }));
     kept
 }
 
@@ -90,6 +88,22 @@ fn call(kind: u32, number: u32, answer: Answer, set: &[u32], read: &[u32], befor
     let head = [kind, number, 0, answer.refusal, answer.first, answer.second];
     let lengths = [set.len(), read.len(), before.len(), 0].map(|length| length as u32);
     [&head[..], &lengths, set, read, before, set, after].concat()
+}
+
+fn loose_call(oracle: &mut Oracle, reading: &readings::Reading) -> Vec<u32> {
+    let before = readings::lent_words(reading.lent);
+    let mut after = before.clone();
+    let answer = oracle.read_unordered_sheet(&reading.bytes, &mut after);
+    call(5, 0, answer, &[], &wide(&reading.bytes), &before, &after)
+}
+
+fn order_call(oracle: &mut Oracle, order: &orders::Order) -> Vec<u32> {
+    let before = vec![7; order.lent];
+    let (mut set, mut after) = (order.set.clone(), before.clone());
+    let answer = oracle.renumber_classes(&mut set, &mut after);
+    let mut words = call(6, 0, answer, &order.set, &[], &before, &[]);
+    words.truncate(words.len() - order.set.len());
+    [words, set, after].concat()
 }
 
 fn wide(bytes: &[u8]) -> Vec<u32> {

@@ -1,6 +1,7 @@
 //! The rows that the harness adds before the Rust is asked: 1 to 7.
 
-use std::collections::HashSet;
+use std::cmp::Reverse;
+use std::collections::{BinaryHeap, HashSet};
 
 use crate::sheet::{Abi, AbiMember, ClassRecord, MemberRecord, Set, blocks, class_word};
 
@@ -22,14 +23,7 @@ pub fn sheets(set: &[u32], abi: &[u32]) -> Result<(Set, Abi), u32> {
 
 /// Reads a class sheet's blocks, rows 1 to 5.
 pub fn read_class_sheet(bytes: &[u8], words: &mut [u32]) -> Result<u32, u32> {
-    let content = block_words(bytes, 92, words.len())?;
-    let set = Set::decode(&content).ok_or(3u32)?;
-    if blocks(&set.encode()) != bytes {
-        return Err(3);
-    }
-    if set.classes.iter().any(|class| class.span(class_word::PLACE) != (0, 0)) {
-        return Err(3);
-    }
+    let (content, set) = unlinked_words(bytes, words.len())?;
     if !set_follows_row_4(&set) {
         return Err(4);
     }
@@ -38,6 +32,62 @@ pub fn read_class_sheet(bytes: &[u8], words: &mut [u32]) -> Result<u32, u32> {
     }
     words[..content.len()].copy_from_slice(&content);
     Ok(content.len() as u32)
+}
+
+/// Rows 1 to 3 of a class sheet's blocks.
+fn unlinked_words(bytes: &[u8], lent: usize) -> Result<(Vec<u32>, Set), u32> {
+    let content = block_words(bytes, 92, lent)?;
+    let set = Set::decode(&content).ok_or(3u32)?;
+    if blocks(&set.encode()) != bytes || is_linked(&set) {
+        return Err(3);
+    }
+    Ok((content, set))
+}
+
+fn is_linked(set: &Set) -> bool {
+    set.classes.iter().any(|class| class.span(class_word::PLACE) != (0, 0))
+}
+
+/// Reads a class sheet's blocks, rows 1 to 3.
+pub fn read_unordered_sheet(bytes: &[u8], words: &mut [u32]) -> Result<u32, u32> {
+    let (content, _) = unlinked_words(bytes, words.len())?;
+    words[..content.len()].copy_from_slice(&content);
+    Ok(content.len() as u32)
+}
+
+/// Renumbers the classes: a heap holds those whose parent is placed. Rows 3, 4, 19 (the heap runs empty too early) and 15.
+pub fn renumber_classes(words: &mut [u32], list: &mut [u32]) -> Result<u32, u32> {
+    let mut set = Set::decode(words).filter(|set| !is_linked(set)).ok_or(3u32)?;
+    let classes = set.classes.len() as u32;
+    let parents: Vec<u32> = set.classes.iter().map(|class| class.get(class_word::PARENT)).collect();
+    if parents.iter().any(|parent| !(0..=classes).contains(parent)) || set.interfaces.iter().any(|number| !(1..=classes).contains(number)) {
+        return Err(4);
+    }
+    let children = |of: u32| (1..).zip(&parents).filter(move |&(_, &parent)| parent == of).map(|(class, _)| Reverse(class));
+    let mut ready: BinaryHeap<Reverse<u32>> = children(0).collect();
+    let mut order = Vec::new();
+    let mut new_numbers = vec![0; classes as usize + 1];
+    while let Some(Reverse(class)) = ready.pop() {
+        order.push(class);
+        new_numbers[class as usize] = order.len() as u32;
+        ready.extend(children(class));
+    }
+    if order.len() < parents.len() {
+        return Err(19);
+    }
+    list.get_mut(..order.len()).ok_or(15u32)?.copy_from_slice(&order);
+    set.classes = order.iter().map(|&class| *set.class(class)).collect();
+    for class in &mut set.classes {
+        class.0[class_word::PARENT] = new_numbers[class.get(class_word::PARENT) as usize];
+    }
+    for number in &mut set.interfaces {
+        *number = new_numbers[*number as usize];
+    }
+    // The text and what follows it stay.
+    let moved = set.encode();
+    let text_at = moved.len() - set.text.len().div_ceil(4);
+    words[..text_at].copy_from_slice(&moved[..text_at]);
+    Ok(classes)
 }
 
 /// Reads an ABI sheet's blocks, rows 1 to 5.
@@ -68,7 +118,7 @@ pub fn write_class_sheet(words: &[u32], bytes: &mut [u8]) -> Result<u32, u32> {
         return Err(5);
     }
     let content = set.encode();
-    if !words.starts_with(&content) || set.classes.iter().any(|class| class.span(class_word::PLACE) != (0, 0)) {
+    if !words.starts_with(&content) || is_linked(&set) {
         return Err(17);
     }
     let written = blocks(&content);

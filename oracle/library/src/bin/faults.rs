@@ -12,6 +12,7 @@ use harness::case::{Call, Case};
 use harness::compare;
 use harness::names;
 use harness::oracle::Oracle;
+use harness::orders;
 use harness::random::Random;
 use harness::readings::{descriptor, lent_words, read};
 use harness::references;
@@ -90,7 +91,7 @@ fn main() -> ExitCode {
     ExitCode::SUCCESS
 }
 
-/// A case's calls, a reading, a writing, a descriptor and a reference bitmap.
+/// A case's calls, a reading, of a class sheet loosely too, a writing, an order, a descriptor and a reference bitmap.
 fn one(seed: u64, number: u64, oracle: &mut Oracle, guarded: &mut Guarded, counts: &mut Counts) -> Result<(), String> {
     let case = malformed::case(seed, number);
     let result = compare::compare(oracle, guarded, &case, &mut |step| {
@@ -109,6 +110,18 @@ fn one(seed: u64, number: u64, oracle: &mut Oracle, guarded: &mut Guarded, count
         return Err(format!("a reading: oracle {judged:?}, library {given:?}\n{} words lent, bytes {:?}", reading.lent, reading.bytes));
     }
     counts.count(if reading.is_class_sheet { "class sheet" } else { "ABI sheet" }, given);
+    if reading.is_class_sheet {
+        let (mut expected, mut found) = (before.clone(), before.clone());
+        let judged = oracle.read_unordered_sheet(&reading.bytes, &mut expected);
+        let given = guarded.read_unordered_sheet(&reading.bytes, &mut found);
+        if judged != given || expected != found || (judged.refusal != 0 && found != before) {
+            return Err(format!(
+                "a loose reading: oracle {judged:?}, library {given:?}\n{} words lent, bytes {:?}",
+                reading.lent, reading.bytes
+            ));
+        }
+        counts.count("class sheet loosely", given);
+    }
     let (descriptor, flags) = descriptor(&mut random);
     let (judged, given) = (oracle.argument_words(&descriptor, flags), guarded.argument_words(&descriptor, flags));
     if judged != given {
@@ -116,6 +129,7 @@ fn one(seed: u64, number: u64, oracle: &mut Oracle, guarded: &mut Guarded, count
     }
     counts.count("argument words", given);
     counts.count("reference words", references::judge(oracle, guarded, &malformed::bitmap(&mut random))?);
+    counts.count("order", orders::judge(oracle, guarded, &malformed::order(&mut random, &case))?.0);
     counts.count("writing", writings::judge(oracle, guarded, &malformed::writing(&mut random, &case))?);
     counts.count("names", names::judge(oracle, guarded, &malformed::names(&mut random))?);
     Ok(())

@@ -1,0 +1,1 @@
+// What holds of a renumbering of classes: this crate has no code, only specs/ and proofs/.

@@ -1,0 +1,10 @@
+pub mod Answers
+pub mod Distinct
+pub mod Examples
+pub mod Moved
+pub mod Named
+pub mod OrderLaws
+pub mod Placing
+pub mod Refusing
+pub mod Stop
+pub mod Writing

@@ -1,0 +1,3 @@
+pub mod Places
+pub mod Renumber
+pub mod Steps
