@@ -22,6 +22,8 @@ from sheetlib import ABI_SHEET, CLASS_SHEET, Sheet  # noqa: E402
 
 EXAMPLES = os.path.join(ROOT, "examples")
 DATA = os.path.join(ROOT, "crates", "list", "data")
+PROVED = os.path.join(ROOT, "target", "bin", "list")
+MODEL = os.path.join(ROOT, "oracle", "target", "release", "folder")
 
 
 def run(*command, **options):
@@ -84,7 +86,7 @@ def class_sheet():
 
 
 def listing():
-    slots = b"".join(b"%d %s %s %d\n" % (i, NAMES[i * STEP:i * STEP + LONGEST], DESCRIPTOR, 4096 + i) for i in range(METHODS))
+    slots = b"".join(b"%d %s %s %d 1\n" % (i, NAMES[i * STEP:i * STEP + LONGEST], DESCRIPTOR, 4096 + i) for i in range(METHODS))
     return b"".join(b"class %d %c words 0 slots %d\n" % (c + 1, 0x41 + c, METHODS) + slots for c in range(CLASSES)).decode()
 
 
@@ -113,15 +115,27 @@ class Listings(unittest.TestCase):
     def test_random_folders(self):
         """The model prints what the proved program prints, byte by byte."""
         pick = random.Random(20261)
-        program, model = os.path.join(ROOT, "target", "bin", "list"), os.path.join(ROOT, "oracle", "target", "release", "folder")
         rows = set()
         with tempfile.TemporaryDirectory() as folder:
             for _ in range(300):
                 write(folder, *random_sheets(pick))
-                proved = run(program, cwd=folder)
-                self.assertEqual(run(model, "list", folder)[1:], proved[1:])
+                proved = run(PROVED, cwd=folder)
+                self.assertEqual(run(MODEL, "list", folder)[1:], proved[1:])
                 rows |= {line.split()[-1] for line in proved[1].splitlines() if " refused " in line}
         self.assertTrue({"6", "9", "11", "12"} <= rows, rows)
+
+    @unittest.skipUnless(platform.machine() == "x86_64", "programs are for x86-64")
+    def test_original(self):
+        """Both print what the original Rust reads from its tables, declaring classes included, byte by byte; every bucket of the run is reached."""
+        with tempfile.TemporaryDirectory() as top:
+            status, said, err = script("oracle/listings", "1", "300", top)
+            self.assertEqual(status, 0, said + err)
+            self.assertEqual(len(os.listdir(top)), 300)
+            for name in sorted(os.listdir(top)):
+                folder = os.path.join(top, name)
+                listed = contents(folder, "listing.txt")
+                self.assertEqual(run(PROVED, cwd=folder)[1:], (listed, ""), name)
+                self.assertEqual(run(MODEL, "list", folder), (int(" refused " in listed), listed, ""), name)
 
 
 class Orders(unittest.TestCase):
@@ -139,7 +153,7 @@ class Orders(unittest.TestCase):
 
     def test_shuffled(self):
         """Shuffled and put in order, each class is listed with the words and slots, or refused by the row, of the set as it was."""
-        pick, model = random.Random(64), os.path.join(ROOT, "oracle", "target", "release", "folder")
+        pick = random.Random(64)
         moved, rows = 0, set()
         with tempfile.TemporaryDirectory() as folder:
             for _ in range(150):
@@ -151,7 +165,7 @@ class Orders(unittest.TestCase):
                 listed = []
                 for one in (classes, ordered):
                     write(folder, one, abi)
-                    listed.append(by_name(one, run(model, "list", folder)[1]))
+                    listed.append(by_name(one, run(MODEL, "list", folder)[1]))
                 self.assertEqual(*listed)
                 moved += ordered.words() != classes.words()
                 rows |= {lines[0] for lines in listed[0].values() if lines[0].startswith("refused")}
@@ -160,15 +174,18 @@ class Orders(unittest.TestCase):
 
 
 def by_name(sheet, listing):
-    """What a listing says of each class, by the class's name."""
+    """What a listing says of each class, by the class's name; a slot's declaring class by its name, too."""
+    def named(number):
+        return sheet.part("class", int(number) - 1, "name").decode() if int(number) else "-"
+
     out = {}
     for line in listing.splitlines():
+        *words, last = line.split()
         if line.startswith("class "):
-            _, number, *words = line.split()
-            name = sheet.part("class", int(number) - 1, "name").decode()
-            out[name] = [" ".join(words)]
+            name = named(words[1])
+            out[name] = [" ".join([*words[2:], last])]
         else:
-            out[name].append(line)
+            out[name].append(" ".join([*words, named(last)]))
     return out
 
 
@@ -223,7 +240,7 @@ class Scripts(unittest.TestCase):
         for folder in (self.root, self.bin, os.path.join(self.root, "crates"), os.path.join(self.root, "tools")):
             os.makedirs(folder)
         for name in ("list", "judge", "why", "VERSION", "tools/program.sh", "tools/folder", "tools/sheet", "tools/abitoml.py", "tools/sheetlib.py",
-                     "tools/sheetform.py"):
+                     "tools/sheetform.py", "tools/sheetorder.py"):
             shutil.copy(os.path.join(ROOT, name), os.path.join(self.root, name))
         for name in ("oracle", "docs"):
             os.symlink(os.path.join(ROOT, name), os.path.join(self.root, name))

@@ -31,6 +31,7 @@ INSTEAD = {
     "oracle/corpus replay FILE": "oracle/corpus replay crates/corpus/data/rust.bin",
     "oracle/corpus spoiled SEED FILE": "oracle/corpus spoiled 1 {folder}/spoiled.bin && cmp {folder}/spoiled.bin crates/corpus/data/spoiled.bin",
     "oracle/premises SEED": "oracle/premises 1",
+    "oracle/listings SEED COUNT FOLDER": "oracle/listings 1 300 {folder}",
     "rt staticlib lgt_linker": "./linked examples/card",  # which lets rt do it where that is not done
 }
 # Why they are not run here.

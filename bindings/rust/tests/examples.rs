@@ -31,6 +31,12 @@ fn named<'a>(abi: &'a AbiSheet, class: Class<'a>, slot: Slot<'a>) -> (&'a str, &
     slot.method.map(|method| (method.name, method.descriptor)).or_else(row).unwrap_or(("-", "-"))
 }
 
+/// The number of the class that declares a slot's method: the nearest on the chain whose list has it; 0 for an unknown slot.
+fn declaring(class: Class, slot: Slot) -> u32 {
+    let Some(method) = slot.method else { return 0 };
+    class.chain().find(|class| class.methods().any(|own| own == method)).map_or(0, Class::number)
+}
+
 /// The listing of a folder, by the accessors.
 fn listed(set: &[u8], abi: &[u8]) -> String {
     let abi = match AbiSheet::read(abi) {
@@ -52,7 +58,7 @@ fn listed(set: &[u8], abi: &[u8]) -> String {
                 text += &format!("class {number} {} words {} slots {}\n", class.name(), class.instance_words(), linked.slots);
                 for slot in set.slots(&abi, &area, number) {
                     let (name, descriptor) = named(&abi, class, slot);
-                    text += &format!("{} {name} {descriptor} {}\n", slot.index, slot.target);
+                    text += &format!("{} {name} {descriptor} {} {}\n", slot.index, slot.target, declaring(class, slot));
                     if let Some(method) = slot.method {
                         let index = set.virtual_method_index(&abi, &area, number, method.name, method.descriptor).unwrap();
                         assert!(index <= slot.index);

@@ -13,9 +13,14 @@ use Rattle.class_sheet.specs.ClassSheet.{methodName, methodDescriptor, methodFl
 use Rattle.linking.specs.Chain.{ownMethods, parentOf, chain, isVirtual, methodIs}
 use Rattle.linking.specs.Vtable.{Entry, Built, built, refused}
 use Rattle.linking.specs.Ask.{ownImplementation, implementation, consEntry, dispatchEntries}
-use Rattle.linking.proofs.ChainLaws.{along-none, along-hit, along-up, own-method-room}
+use Rattle.linking.specs.declared.Declared.{Declared}
+use Rattle.linking.specs.declared.Declared.the-variants.{By, Nobody}
+use Rattle.linking.specs.Whose.{orDeclared, declaredIn, declaredImplementation}
+use Rattle.linking.proofs.ChainLaws.{own-method-room}
+use Rattle.linking.proofs.Whose.{implementation-found}
 use Rattle.reading.specs.Arrays.{markOf, methodOf, entryAt, entriesOf}
 use Rattle.reading.proofs.ArrayLaws.{method-back, push-slot}
+use Rattle.reading.proofs.ClassLaws.{declared-none, declared-step}
 use Rattle.ask.specs.Dispatch.{slotBuilt, dispatched}
 use Rattle.ask.specs.declared.Slot.{Slot}
 
@@ -23,22 +28,24 @@ module _ (ws text : List ℕ) where
   -- ---- implementations
 
   module _ (c m : ℕ) where
-    pub implementation-none : c ≡ 0 → Nothing ≡ implementation ws text c m
-    unfolding implementation
-    implementation-none e = sym (along-none (ownImplementation ws text (methodName ws text m) (methodDescriptor ws text m)) ws c e)
+    pub implementation-none : c ≡ 0 → Nobody ≡ declaredImplementation ws text c m
+    unfolding declaredImplementation
+    implementation-none e = sym (declared-none (ownImplementation ws text (methodName ws text m) (methodDescriptor ws text m)) ws c e)
 
     module _ {name descriptor : List ℕ} {r : Found} (h : 0 < c) (named : name ≡ methodName ws text m)
         (described : descriptor ≡ methodDescriptor ws text m) (own : r ≡ ownImplementation ws text name descriptor c) where
       own-is : ownImplementation ws text (methodName ws text m) (methodDescriptor ws text m) c ≡ r
       own-is = rw (← named, ← described) (sym own)
 
-      pub implementation-hit : (k : ℕ) → r ≡ At k → At k ≡ implementation ws text c m
-      unfolding implementation
-      implementation-hit k e = sym (along-hit (ownImplementation ws text (methodName ws text m) (methodDescriptor ws text m)) ws c k h (own-is ∙ e))
+      step : orDeclared (declaredIn c r) (declaredImplementation ws text (parentOf ws c) m) ≡ declaredImplementation ws text c m
+      unfolding declaredImplementation
+      step = rw (← own-is) (declared-step (ownImplementation ws text (methodName ws text m) (methodDescriptor ws text m)) ws c h)
 
-      pub implementation-up : r ≡ Nothing → implementation ws text (parentOf ws c) m ≡ implementation ws text c m
-      unfolding implementation
-      implementation-up e = sym (along-up (ownImplementation ws text (methodName ws text m) (methodDescriptor ws text m)) ws c h (own-is ∙ e))
+      pub implementation-hit : (k : ℕ) → r ≡ At k → By c k ≡ declaredImplementation ws text c m
+      implementation-hit k e = rw e at step
+
+      pub implementation-up : r ≡ Nothing → declaredImplementation ws text (parentOf ws c) m ≡ declaredImplementation ws text c m
+      implementation-up e = rw e at step
 
   own-room : (name descriptor : List ℕ) (c k : ℕ) → ownImplementation ws text name descriptor c ≡ At k → k < methodLimit
   unfolding ownImplementation
@@ -60,17 +67,20 @@ module _ (ws text : List ℕ) where
     unfolding dispatched
     slot-kept h e = rw (← h, e)
 
-    module _ {o r : Found} (j : ℕ) (method : o ≡ methodOf k) (some : o ≡ At j) (found : r ≡ implementation ws text c j) where
-      pub slot-takes : (m t : ℕ) {q : ℕ} → r ≡ At m → t ≡ methodTarget ws m → q ≡ markOf (At m)
+    module _ {o : Found} {r : Declared} (j : ℕ) (method : o ≡ methodOf k) (some : o ≡ At j) (found : r ≡ declaredImplementation ws text c j) where
+      pub slot-takes : (d m t : ℕ) {q : ℕ} → r ≡ By d m → t ≡ methodTarget ws m → q ≡ markOf (At m)
           → built (record { word = t; method = methodOf q } ∷ []) ≡ dispatched ws text c (record { word = w; method = methodOf k })
       unfolding dispatched
-      slot-takes m t e f g =
-          let l = implementation-room c j m (sym found ∙ e) in
-          rw (g, method-back m (omega arith), f) (rw (← method, some) (rw (← found, e)))
+      slot-takes d m t e f g =
+          let i : implementation ws text c j ≡ At m = sym (implementation-found ws text c j) ∙ rw (← found, e) in
+          let l = implementation-room c j m i in
+          rw (g, method-back m (omega arith), f) (rw (← method, some) (rw i))
 
-      pub slot-missing : r ≡ Nothing → refused 16 ≡ dispatched ws text c (record { word = w; method = methodOf k })
+      pub slot-missing : r ≡ Nobody → refused 16 ≡ dispatched ws text c (record { word = w; method = methodOf k })
       unfolding dispatched
-      slot-missing e = rw (← method, some) (rw (← found, e))
+      slot-missing e =
+          let i : implementation ws text c j ≡ Nothing = sym (implementation-found ws text c j) ∙ rw (← found, e) in
+          rw (← method, some) (rw i)
 
   -- ---- the loop over the slots
 

@@ -1,6 +1,7 @@
 // `interface_dispatch_table` (class_definition.rs): a class's table for an interface, found in the class's list or built in front of it.
 use area::Answer;
 use area::Walked;
+use linking::Declared;
 use words::Found;
 ghost use mathlib.Core.Path.{_≡_};
 ghost use mathlib.Core.Bool.{_&&_, false};
@@ -13,7 +14,8 @@ ghost use Rattle.set_rules.specs.SetRules.{setRefusal};
 ghost use Rattle.linking.specs.Chain.{isVirtual, methodIs};
 ghost use Rattle.linking.specs.Vtable.{tableEntries};
 ghost use Rattle.linking.specs.Link.{badArea};
-ghost use Rattle.linking.specs.Ask.{headPlace, ownImplementation, implementation, dispatchEntries, buildNode, askDef};
+ghost use Rattle.linking.specs.Ask.{headPlace, ownImplementation, dispatchEntries, buildNode, askDef};
+ghost use Rattle.linking.specs.Whose.{declaredImplementation};
 ghost use Rattle.reading.specs.Arrays.{methodOf, entriesOf};
 ghost use Rattle.area.specs.Area.{outcome};
 ghost use Rattle.ask.specs.Dispatch.{slotBuilt, dispatched, tableBuilt, askRefusal, finishAsk};
@@ -42,17 +44,17 @@ fn own_implementation(ws: &[u32], text: &[u8], name: &[u8], descriptor: &[u8], c
     Found::Nothing
 }
 
-// The first such method of method m's signature: class c's, then its ancestors'.
-fn implementation(ws: &[u32], text: &[u8], c: u32, m: u32) -> Found
-    ensures { λ r. ⌜ r ≡ implementation (now (ws .entry)) (now (text .entry)) c m ⌝ }
+// The first such method of method m's signature, with its class: class c's, then its ancestors'.
+fn implementation(ws: &[u32], text: &[u8], c: u32, m: u32) -> Declared
+    ensures { λ r. ⌜ r ≡ declaredImplementation (now (ws .entry)) (now (text .entry)) c m ⌝ }
 {
     if c == 0 {
-        return Found::Nothing;
+        return Declared::Nobody;
     }
     let name = class_sheet::method_name(ws, text, m);
     let descriptor = class_sheet::method_descriptor(ws, text, m);
     match own_implementation(ws, text, name, descriptor, c) {
-        Found::At(k) => Found::At(k),
+        Found::At(k) => Declared::By(c, k),
         Found::Nothing => implementation(ws, text, chain::parent_of(ws, c), m),
     }
 }
@@ -76,12 +78,12 @@ fn dispatch_slot(ws: &[u32], text: &[u8], c: u32, w: u32, k: u32) -> Slot
         };
     };
     match implementation(ws, text, c, j) {
-        Found::At(m) => Slot {
+        Declared::By(_, m) => Slot {
             word: class_sheet::method_target(ws, m),
             mark: reading::mark_of(Found::At(m)),
             missing: false,
         },
-        Found::Nothing => Slot {
+        Declared::Nobody => Slot {
             word: 0,
             mark: k,
             missing: true,
@@ -144,7 +146,8 @@ fn dispatch_table(
     let labels = text::name_at(&abi_bytes, 0, abi_sheet::text_length(abi));
     let mut ts = [0u32; 1024];
     let mut ms = [0u32; 1024];
-    let n = reading::table_entries(ws, text, abi, labels, area, i, &mut ts, &mut ms);
+    let mut cs = [0u32; 1024];
+    let n = reading::table_entries(ws, text, abi, labels, area, i, &mut ts, &mut ms, &mut cs);
     let row = dispatch_slots(ws, text, c, &ts, &ms, n, us, ns);
     Dispatch { n, row }
 }

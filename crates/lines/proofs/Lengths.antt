@@ -1,4 +1,4 @@
--- How long the lines are: 293 bytes at most of a class, and 528 of a slot. Assumes nothing.
+-- How long the lines are: 293 bytes at most of a class, and 531 of a slot. Assumes nothing.
 use mathlib.Core.Path.{_≡_, refl}
 use mathlib.Core.List.{List, [], _∷_, _++_}
 use Prim.Native.Nat.{ℕ, zero, suc, _+_, _*_, _/_, _%_, min, _≤_, _<_}
@@ -16,8 +16,10 @@ use Rattle.descriptor.specs.Bytes.{text}
 use Rattle.class_sheet.specs.ClassSheet.{className, classNameStart, classNameLength, classInstanceWords, classSlotCount, classTablePlace, methodNameLength, methodDescriptorLength, textOf}
 use Rattle.abi_sheet.specs.AbiSheet.{abiSlotNameLength, abiSlotDescriptorLength, abiTextOf}
 use Rattle.linking.specs.Vtable.{Entry, readEntry, readSlot, tableEntries}
+use Rattle.linking.specs.Whose.{classOf, readDeclared}
+use Rattle.linking.proofs.Whose.{by-declared, read-class}
 use Rattle.lines.specs.Bytes.{digits, decimal}
-use Rattle.lines.specs.Lines.{numbered, classLine, shown, slotLine, classRefused, fixedSlot, slotName, slotDescriptor, slotText, slotTexts, linesOf, isUnlisted, classLines}
+use Rattle.lines.specs.Lines.{numbered, classLine, shown, column, slotLine, classRefused, fixedSlot, slotName, slotDescriptor, slotText, slotTexts, linesOf, isUnlisted, classLines}
 
 -- ---- numbers
 
@@ -57,12 +59,13 @@ class-line-few c name words slots h n w s =
     let f = decimal-few 3 slots s in
     simp length-append (omega arith)
 
-pub slot-line-few : (i : ℕ) (name descriptor : List ℕ) (target : ℕ) → i < limit 3 → length name ≤ 255 → length descriptor ≤ 255 → target < limit 9
-    → length (slotLine i name descriptor target) ≤ 528
-unfolding slotLine numbered
-slot-line-few i name descriptor target h n d t =
+pub slot-line-few : (i : ℕ) (name descriptor : List ℕ) (target class : ℕ) → i < limit 3 → length name ≤ 255 → length descriptor ≤ 255
+    → target < limit 9 → class < limit 1 → length (slotLine i name descriptor target class) ≤ 531
+unfolding slotLine numbered column
+slot-line-few i name descriptor target class h n d t k =
     let e = decimal-few 3 i h in
     let f = decimal-few 9 target t in
+    let g = decimal-few 1 class k in
     let p = shown-few name n in
     let q = shown-few descriptor d in
     simp length-append (omega arith)
@@ -96,15 +99,22 @@ module _ (ws text abi labels : List ℕ) (c : ℕ) where
         rw f (name-few labels _ (abiSlotNameLength abi s) (p .0), name-few labels _ (abiSlotDescriptorLength abi s) (p .1)))
         (λ f. rw f (omega arith, omega arith))
 
-    slot-few : (i w : ℕ) → i < limit 3 → w < limit 9 → length (slotText ws text abi labels c i (readEntry ws text abi labels c i w)) ≤ 528
-    unfolding slotText readEntry
-    slot-few i w h k =
-        let s = shows-few i w (readEntry ws text abi labels c i w .method) refl in
-        slot-line-few i _ _ w h (s .0) (s .1) k
+    -- the declaring class is on the chain of a class of at most two digits
+    class-few : (i w : ℕ) → c < limit 1 → classOf (readDeclared ws text abi labels c i w) < limit 1
+    class-few i w h =
+        by-declared (readDeclared ws text abi labels c i w)
+        (λ d m e. let l = read-class ws text abi labels c i w d m e in rw e (omega arith)) (λ e. rw e (omega arith))
 
-    module _ (area : List ℕ) (words : (i : ℕ) → getD area i 0 < limit 9) where
+    slot-few : (i w : ℕ) → i < limit 3 → w < limit 9 → c < limit 1
+        → length (slotText ws text abi labels c i (readEntry ws text abi labels c i w)) ≤ 531
+    unfolding slotText readEntry
+    slot-few i w h k l =
+        let s = shows-few i w (readEntry ws text abi labels c i w .method) refl in
+        slot-line-few i _ _ w _ h (s .0) (s .1) k (class-few i w l)
+
+    module _ (area : List ℕ) (words : (i : ℕ) → getD area i 0 < limit 9) (few : c < limit 1) where
       slots-few : (i n : ℕ) → i + n ≤ 1024
-          → length (slotTexts ws text abi labels c i (listFrom (readSlot ws text abi labels area c) i n)) ≤ 528 * n
+          → length (slotTexts ws text abi labels c i (listFrom (readSlot ws text abi labels area c) i n)) ≤ 531 * n
       unfolding slotTexts listFrom readSlot
       slots-few i zero h = omega arith
       slots-few i (suc n) h =
@@ -112,20 +122,20 @@ module _ (ws text abi labels : List ℕ) (c : ℕ) where
             arith,
             length-append (slotText ws text abi labels c i (readEntry ws text abi labels c i (getD area (classTablePlace ws c + 1 + i) 0)))
                 (slotTexts ws text abi labels c (i + 1) (listFrom (readSlot ws text abi labels area c) (i + 1) n)),
-            slot-few i (getD area (classTablePlace ws c + 1 + i) 0) (omega arith) (words (classTablePlace ws c + 1 + i)),
+            slot-few i (getD area (classTablePlace ws c + 1 + i) 0) (omega arith) (words (classTablePlace ws c + 1 + i)) few,
             slots-few (i + 1) n (omega arith),
           )
 
-      pub lines-few : c < limit 1 → classInstanceWords ws c < limit 9 → classSlotCount ws c < limit 3
-          → length (linesOf ws text abi labels area c) ≤ 293 + 528 * classSlotCount ws c
+      pub lines-few : classInstanceWords ws c < limit 9 → classSlotCount ws c < limit 3
+          → length (linesOf ws text abi labels area c) ≤ 293 + 531 * classSlotCount ws c
       unfolding linesOf tableEntries
-      lines-few h w s =
-          let l = class-line-few c (className ws text c) (classInstanceWords ws c) (classSlotCount ws c) h
+      lines-few w s =
+          let l = class-line-few c (className ws text c) (classInstanceWords ws c) (classSlotCount ws c) few
           (name-few text (classNameStart ws c) (classNameLength ws c) (short .name)) w s in
           simp length-append (omega (arith, slots-few 0 (min (classSlotCount ws c) 1024) (omega arith)))
 
 pub class-lines-few : (ws abi area : List ℕ) (c : ℕ) → Short ws (textOf ws) abi (abiTextOf abi) c → ((i : ℕ) → getD area i 0 < limit 9) → c < limit 1
-    → classInstanceWords ws c < limit 9 → classSlotCount ws c < limit 3 → length (classLines ws abi area c) ≤ 293 + 528 * classSlotCount ws c
+    → classInstanceWords ws c < limit 9 → classSlotCount ws c < limit 3 → length (classLines ws abi area c) ≤ 293 + 531 * classSlotCount ws c
 unfolding classLines
 class-lines-few ws abi area c short words h w s =
     by (isUnlisted ws abi c) (λ t. rw t (omega arith))

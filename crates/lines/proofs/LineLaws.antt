@@ -6,7 +6,7 @@ use native.Mathlib.Omega.{arith}
 use lib.ListN.{length}
 use Rattle.descriptor.specs.Bytes.{text}
 use Rattle.lines.specs.Bytes.{put, decimal}
-use Rattle.lines.specs.Lines.{lineEnd, numbered, shown, classLine, slotLine, classRefused, sheetRefused}
+use Rattle.lines.specs.Lines.{lineEnd, numbered, shown, column, classLine, slotLine, classRefused, sheetRefused}
 use Rattle.lines.proofs.ByteLaws.{then}
 
 pub shown-dash : (p : List ℕ × ℕ) {q : List ℕ × ℕ} (part : List ℕ) → length part ≡ 0 → q ≡ put p (text "-") → q ≡ put p (shown part)
@@ -16,6 +16,10 @@ shown-dash p (b ∷ bs) h e = absurd (omega arith)
 pub shown-part : (p : List ℕ × ℕ) {q : List ℕ × ℕ} (part : List ℕ) → (length part ≡ 0 → ⊥) → q ≡ put p part → q ≡ put p (shown part)
 shown-part p [] h e = absurd (omega arith)
 shown-part p (b ∷ bs) h e = e
+
+pub column-put : (p : List ℕ × ℕ) {p₁ p₂ : List ℕ × ℕ} (part : List ℕ) → p₁ ≡ put p (text " ") → p₂ ≡ put p₁ (shown part) → p₂ ≡ put p (column part)
+unfolding column
+column-put p part e₁ e₂ = then p (text " ") _ e₁ e₂
 
 module _ (p : List ℕ × ℕ) {p₁ p₂ p₃ : List ℕ × ℕ} where
   pub class-refused-put : (c row : ℕ) → p₁ ≡ put p (text "class " ++ decimal c) → p₂ ≡ put p₁ (text " refused " ++ decimal row) → p₃ ≡ put p₂ lineEnd
@@ -37,10 +41,10 @@ module _ (p : List ℕ × ℕ) {p₁ p₂ p₃ : List ℕ × ℕ} where
         then p (text "class " ++ decimal c) _ e₁ (then p₁ (text " ") _ e₂ (then p₂ name _ e₃
         (then p₃ (text " words " ++ decimal words) _ e₄ (then p₄ (text " slots " ++ decimal slots) _ e₅ e₆))))
 
-    pub slot-line-put : (i : ℕ) (name descriptor : List ℕ) (target : ℕ) {p₇ : List ℕ × ℕ} → p₁ ≡ put p (decimal i) → p₂ ≡ put p₁ (text " ")
-        → p₃ ≡ put p₂ (shown name) → p₄ ≡ put p₃ (text " ") → p₅ ≡ put p₄ (shown descriptor) → p₆ ≡ put p₅ (text " " ++ decimal target)
-        → p₇ ≡ put p₆ lineEnd → p₇ ≡ put p (slotLine i name descriptor target)
+    pub slot-line-put : (i : ℕ) (name descriptor : List ℕ) (target class : ℕ) → p₁ ≡ put p (decimal i) → p₂ ≡ put p₁ (column name)
+        → p₃ ≡ put p₂ (column descriptor) → p₄ ≡ put p₃ (text " " ++ decimal target) → p₅ ≡ put p₄ (text " " ++ decimal class)
+        → p₆ ≡ put p₅ lineEnd → p₆ ≡ put p (slotLine i name descriptor target class)
     unfolding slotLine numbered
-    slot-line-put i name descriptor target e₁ e₂ e₃ e₄ e₅ e₆ e₇ =
-        then p (decimal i) _ e₁ (then p₁ (text " ") _ e₂ (then p₂ (shown name) _ e₃ (then p₃ (text " ") _ e₄ (then p₄ (shown descriptor) _ e₅
-        (then p₅ (text " " ++ decimal target) _ e₆ e₇)))))
+    slot-line-put i name descriptor target class e₁ e₂ e₃ e₄ e₅ e₆ =
+        then p (decimal i) _ e₁ (then p₁ (column name) _ e₂ (then p₂ (column descriptor) _ e₃ (then p₃ (text " " ++ decimal target) _ e₄
+        (then p₄ (text " " ++ decimal class) _ e₅ e₆))))

@@ -1,4 +1,5 @@
--- The lines of the listing: "writes class number, name, words, slots; then slot, name, descriptor, target". Assumes nothing.
+-- The lines of the listing: "writes class number, name, words, slots; then slot, name, descriptor, target", and after the target the number of
+-- the class that declares the slot's method. Assumes nothing.
 use Prim.Native.Nat.{ℕ, _+_}
 use Prim.Native.String.{String}
 use mathlib.Core.List.{List, [], _∷_, _++_}
@@ -14,6 +15,7 @@ use Rattle.linking.specs.Chain.{chain}
 use Rattle.linking.specs.Abi.{classAbi, slotAt}
 use Rattle.linking.specs.Vtable.{Entry, tableEntries}
 use Rattle.linking.specs.Link.{noClass}
+use Rattle.linking.specs.Whose.{classOf, readDeclared}
 use Rattle.lines.specs.Bytes.{decimal}
 
 -- ---- lines, each ended by a newline
@@ -35,10 +37,14 @@ abbrev pub shown : List ℕ → List ℕ
 shown [] = text "-"
 shown (b ∷ bs) = b ∷ bs
 
--- `I NAME DESCRIPTOR TARGET`
-unfoldable pub slotLine : ℕ → List ℕ → List ℕ → ℕ → List ℕ
-slotLine i name descriptor target =
-    decimal i ++ (text " " ++ (shown name ++ (text " " ++ (shown descriptor ++ (numbered " " target ++ lineEnd)))))
+-- a part after a blank
+unfoldable pub column : List ℕ → List ℕ
+column part = text " " ++ shown part
+
+-- `I NAME DESCRIPTOR TARGET CLASS`: "The listing adds the number as a last column, 0 for an unknown slot"
+unfoldable pub slotLine : ℕ → List ℕ → List ℕ → ℕ → ℕ → List ℕ
+slotLine i name descriptor target class =
+    decimal i ++ (column name ++ (column descriptor ++ (numbered " " target ++ (numbered " " class ++ lineEnd))))
 
 -- "A refusal prints `class N refused R`"
 unfoldable pub classRefused : ℕ → ℕ → List ℕ
@@ -78,8 +84,10 @@ module _ (ws text abi labels : List ℕ) where
 
   -- ---- a linked class
 
+  -- the class is the one that declares the method that Reading finds at the slot's word
   unfoldable pub slotText : ℕ → ℕ → Entry → List ℕ
-  slotText c i e = slotLine i (slotName c i (e .method)) (slotDescriptor c i (e .method)) (e .word)
+  slotText c i e =
+      slotLine i (slotName c i (e .method)) (slotDescriptor c i (e .method)) (e .word) (classOf (readDeclared ws text abi labels c i (e .word)))
 
   -- the lines of a table's slots from index i on
   unfoldable pub slotTexts : ℕ → ℕ → List Entry → List ℕ

@@ -6,9 +6,10 @@ ghost use Prim.Native.Nat.{_+_, _<_, _≤_};
 ghost use mathlib.Core.List.{_++_};
 ghost use Rattle.class_sheet.specs.ClassSheet.{textOf, textLength, textLimit};
 ghost use Rattle.abi_sheet.specs.AbiSheet.{abiTextOf, abiTextLength, abiTextLimit};
-ghost use Rattle.reading.specs.Arrays.{methodOf, entriesOf};
+ghost use Rattle.linking.specs.Vtable.{tableEntries};
+ghost use Rattle.reading.specs.Arrays.{methodOf};
 ghost use Rattle.lines.specs.Bytes.{putByte, put, decimal};
-ghost use Rattle.lines.specs.Lines.{shown, classLine, slotLine, classRefused, sheetRefused, ownSlot, fixedSlot, slotName, slotDescriptor, slotTexts, linesOf, isUnlisted, classLines};
+ghost use Rattle.lines.specs.Lines.{shown, column, classLine, slotLine, classRefused, sheetRefused, ownSlot, fixedSlot, slotName, slotDescriptor, slotTexts, linesOf, isUnlisted, classLines};
 
 // Puts a byte, and answers the next place, or the same one where there is no room.
 fn put_byte(out: &mut [u8], at: usize, b: u8) -> usize
@@ -63,6 +64,14 @@ fn put_shown(out: &mut [u8], at: usize, part: &[u8]) -> usize
     put_bytes(out, at, part)
 }
 
+// Puts a blank and that.
+fn put_column(out: &mut [u8], at: usize, part: &[u8]) -> usize
+    ensures { λ r. ⌜ (now (out .exit), r) ≡ put (now (out .entry), at) (column (now (part .entry))) ⌝ }
+{
+    let place = put_bytes(out, at, b" ");
+    put_shown(out, place, part)
+}
+
 // Puts a word and a number.
 fn put_numbered(out: &mut [u8], at: usize, label: &[u8], n: u32) -> usize
     ensures { λ r. ⌜ (now (out .exit), r) ≡ put (now (out .entry), at) (now (label .entry) ++ decimal n) ⌝ }
@@ -83,7 +92,7 @@ fn class_line(out: &mut [u8], at: usize, c: u32, name: &[u8], words: u32, slots:
     put_bytes(out, at5, b"\n")
 }
 
-// Puts `I NAME DESCRIPTOR TARGET`, a dash for each empty part.
+// Puts `I NAME DESCRIPTOR TARGET CLASS`, a dash for each empty part.
 fn slot_line(
     out: &mut [u8],
     at: usize,
@@ -91,16 +100,16 @@ fn slot_line(
     name: &[u8],
     descriptor: &[u8],
     target: u32,
+    class: u32,
 ) -> usize
-    ensures { λ r. ⌜ (now (out .exit), r) ≡ put (now (out .entry), at) (slotLine i (now (name .entry)) (now (descriptor .entry)) target) ⌝ }
+    ensures { λ r. ⌜ (now (out .exit), r) ≡ put (now (out .entry), at) (slotLine i (now (name .entry)) (now (descriptor .entry)) target class) ⌝ }
 {
     let at1 = put_decimal(out, at, i);
-    let at2 = put_bytes(out, at1, b" ");
-    let at3 = put_shown(out, at2, name);
-    let at4 = put_bytes(out, at3, b" ");
-    let at5 = put_shown(out, at4, descriptor);
-    let at6 = put_numbered(out, at5, b" ", target);
-    put_bytes(out, at6, b"\n")
+    let at2 = put_column(out, at1, name);
+    let at3 = put_column(out, at2, descriptor);
+    let at4 = put_numbered(out, at3, b" ", target);
+    let at5 = put_numbered(out, at4, b" ", class);
+    put_bytes(out, at5, b"\n")
 }
 
 // Puts `class N refused R`.
@@ -187,47 +196,62 @@ pub fn slot_descriptor<'a>(
     }
 }
 
-// Puts the line of slot i of class c's table, which holds w and whose method has mark k.
+// A slot of a table: its index, its word, its method's mark, and the class that declares the method.
+struct Slot {
+    index: u32,
+    word: u32,
+    mark: u32,
+    class: u32,
+}
+
+// Puts the line of a slot of class c's table.
 fn list_slot<'a>(
     ws: &[u32],
     text: &'a [u8],
     abi: &[u32],
     labels: &'a [u8],
     c: u32,
-    i: u32,
-    w: u32,
-    k: u32,
+    s: Slot,
     out: &mut [u8],
     at: usize,
 ) -> usize
-    ensures { λ r. ⌜ (now (out .exit), r) ≡ put (now (out .entry), at) (slotLine i (slotName (now (ws .entry)) (now (text .entry)) (now (abi .entry)) (now (labels .entry)) c i (methodOf k)) (slotDescriptor (now (ws .entry)) (now (text .entry)) (now (abi .entry)) (now (labels .entry)) c i (methodOf k)) w) ⌝ }
+    ensures { λ r. ⌜ (now (out .exit), r) ≡ put (now (out .entry), at) (slotLine (s .index) (slotName (now (ws .entry)) (now (text .entry)) (now (abi .entry)) (now (labels .entry)) c (s .index) (methodOf (s .mark))) (slotDescriptor (now (ws .entry)) (now (text .entry)) (now (abi .entry)) (now (labels .entry)) c (s .index) (methodOf (s .mark))) (s .word) (s .class)) ⌝ }
 {
-    let name = slot_name(ws, text, abi, labels, c, i, k);
-    let descriptor = slot_descriptor(ws, text, abi, labels, c, i, k);
-    slot_line(out, at, i, name, descriptor, w)
+    let name = slot_name(ws, text, abi, labels, c, s.index, s.mark);
+    let descriptor = slot_descriptor(ws, text, abi, labels, c, s.index, s.mark);
+    slot_line(out, at, s.index, name, descriptor, s.word, s.class)
 }
 
-// Puts the lines of class c's slots, the first n of two arrays.
+// Puts the lines of class c's slots, each as Reading finds it.
 fn list_slots<'a>(
     ws: &[u32],
     text: &'a [u8],
     abi: &[u32],
     labels: &'a [u8],
+    area: &[u32],
     c: u32,
-    ts: &[u32],
-    ms: &[u32],
-    n: u32,
     out: &mut [u8],
     at: usize,
 ) -> usize
-    ensures { λ r. ⌜ (now (out .exit), r) ≡ put (now (out .entry), at) (slotTexts (now (ws .entry)) (now (text .entry)) (now (abi .entry)) (now (labels .entry)) c 0 (entriesOf (now (ts .entry)) (now (ms .entry)) n)) ⌝ }
+    ensures { λ r. ⌜ (now (out .exit), r) ≡ put (now (out .entry), at) (slotTexts (now (ws .entry)) (now (text .entry)) (now (abi .entry)) (now (labels .entry)) c 0 (tableEntries (now (ws .entry)) (now (text .entry)) (now (abi .entry)) (now (labels .entry)) (now (area .entry)) c)) ⌝ }
 {
+    let mut ts = [0u32; 1024];
+    let mut ms = [0u32; 1024];
+    let mut cs = [0u32; 1024];
+    let n = reading::table_entries(ws, text, abi, labels, area, c, &mut ts, &mut ms, &mut cs);
     let mut place = at;
     let mut i: u32 = 0;
     while i < n {
-        let w = words::word_at(ts, words::wide(i));
-        let k = words::word_at(ms, words::wide(i));
-        place = list_slot(ws, text, abi, labels, c, i, w, k, out, place);
+        let word = words::word_at(&ts, words::wide(i));
+        let mark = words::word_at(&ms, words::wide(i));
+        let class = words::word_at(&cs, words::wide(i));
+        let s = Slot {
+            index: i,
+            word,
+            mark,
+            class,
+        };
+        place = list_slot(ws, text, abi, labels, c, s, out, place);
         i += 1;
     }
     place
@@ -250,10 +274,7 @@ fn list_with<'a>(
     let words = class_sheet::class_instance_words(ws, c);
     let slots = class_sheet::class_slot_count(ws, c);
     let place = class_line(out, at, c, name, words, slots);
-    let mut ts = [0u32; 1024];
-    let mut ms = [0u32; 1024];
-    let n = reading::table_entries(ws, text, abi, labels, area, c, &mut ts, &mut ms);
-    list_slots(ws, text, abi, labels, c, &ts, &ms, n, out, place)
+    list_slots(ws, text, abi, labels, area, c, out, place)
 }
 
 // Unpacks the texts, and puts class c's lines.

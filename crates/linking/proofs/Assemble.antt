@@ -7,10 +7,12 @@ use lib.ListN.{length, take, drop, replicate}
 use Rattle.words.specs.Lists.{listFrom}
 use Rattle.descriptor.specs.Bytes.{text}
 use Rattle.class_sheet.specs.ClassSheet.{classInstanceWords, classTablePlace, classSlotCount, textOf, methodName, methodFlags, methodTarget, fieldIndex}
+use Rattle.abi_sheet.specs.AbiSheet.{abiTextOf}
 use Rattle.linking.specs.Chain.{ownMethods, ownFields}
 use Rattle.linking.specs.Set.{packed}
 use Rattle.linking.specs.Link.{Outcome, linkDef}
 use Rattle.linking.specs.Ask.{askDef}
+use Rattle.linking.specs.Whose.{slotClass}
 
 -- ---- members
 
@@ -379,3 +381,8 @@ wordsOf c d = classInstanceWords (d .set) c
 -- the words of its slots
 unfoldable pub tableOf : ℕ → Lent → List ℕ
 tableOf c d = take (classSlotCount (d .set) c) (drop (classTablePlace (d .set) c + 1) (d .area))
+
+-- the classes of its slots, 0 for an unknown one
+unfoldable pub classesOf : ℕ → Lent → List ℕ
+classesOf c d =
+    listFrom (slotClass (d .set) (textOf (d .set)) (d .abi) (abiTextOf (d .abi)) (d .area) c) 0 (classSlotCount (d .set) c)

@@ -35,7 +35,8 @@ use Rattle.linking.specs.Link.{noClass, badArray, badClass, endsBelow, b
 use Rattle.linking.specs.Link.{generatedMethods, planGenerated, planArray, plan, newWords, listsFull, setShort, noRoom, writeAt, linkedArea}
 use Rattle.linking.specs.Link.{linkedRecord, linkedWords, finishLink, linkDef}
 use Rattle.linking.specs.Ask.{walk, ownImplementation, implementation, dispatchEntries, askedArea, buildNode, badAsk, askDef}
-use Rattle.linking.proofs.Assemble.{call, answers, after, indicesOf, methodsOf, wordsOf, tableOf}
+use Rattle.linking.specs.Whose.{firstDeclared, declaredByTarget, declaredByIndex, readDeclared, slotClass}
+use Rattle.linking.proofs.Assemble.{call, answers, after, indicesOf, methodsOf, wordsOf, tableOf, classesOf}
 
 unfoldable pub opened : ℕ
 unfolding allOf table listFrom find firstFound allFound position fold keep some leWord byteOf inside textByte textOfWords nameAt sameBytes printable
@@ -54,5 +55,6 @@ unfolding allOf table listFrom find firstFound allFound position fold keep some 
     hasSlot appendMethod entryMethods compilerTable putIndices newRecords newText packed inserted overlaid grownMethods grownFields sectionFull
     grownEnd noClass badArray badClass endsBelow badArea withinSlots newFieldsOf builtTable planBuilt generatedTable generatedMethods planGenerated
     planArray plan newWords listsFull setShort noRoom writeAt linkedArea linkedRecord linkedWords finishLink linkDef walk ownImplementation
-    implementation dispatchEntries askedArea buildNode badAsk askDef call answers after indicesOf methodsOf wordsOf tableOf
+    implementation dispatchEntries askedArea buildNode badAsk askDef firstDeclared declaredByTarget declaredByIndex readDeclared slotClass call answers
+    after indicesOf methodsOf wordsOf tableOf classesOf
 opened = 0

@@ -1,10 +1,10 @@
--- The longest listing. Each accepted link takes its slots and two words of the area, so all tables of an area of 4,096 words have 4,095 slots at
--- most; a slot's line has 528 bytes at most, and a class's 293. Assumes nothing.
+-- The longest listing. Each accepted link takes its slots and two words of the area, so all tables of an area of 4,096 words have 4,093 slots at
+-- most; a slot's line has 531 bytes at most, and a class's 293. Assumes nothing.
 use mathlib.Core.Path.{_≡_, refl, sym, ap, _∙_}
 use mathlib.Core.Logic.{_≢_, _⊎_, inl, inr}
 use mathlib.Core.Bool.{true, false, cond}
 use mathlib.Core.List.{List, [], _∷_, _++_}
-use Prim.Native.Nat.{ℕ, zero, suc, _+_, _*_, _-_, _^_, _≤_, _<_}
+use Prim.Native.Nat.{ℕ, zero, suc, _+_, _*_, _-_, _^_, _≤_, _<_, min}
 use native.Mathlib.Omega.{arith}
 use lib.ListN.{length, getD, set, take, replicate, length-append, length-set, length-take, length-replicate, List·getD-eq-default}
 use lib.Seq.{getD-set-same, getD-take}
@@ -179,7 +179,8 @@ pub record All (ws area : List ℕ) (c n : ℕ) (all : Links) : Type 0 where
   pub classes : classCount (all .set) ≡ classCount ws
   pub before : (d : ℕ) → IsClass ws d → d < c → classSlotCount (all .set) d ≡ classSlotCount ws d
   pub rows : length (all .rows) ≡ n
-  pub slots : slotsIn (all .set) c (all .rows) + nextFree area ≤ nextFree (all .area)
+  -- a slot has a table, and a table two words beside its slots
+  pub slots : slotsIn (all .set) c (all .rows) + 2 * min 1 (slotsIn (all .set) c (all .rows)) + nextFree area ≤ nextFree (all .area)
   pub within : nextFree (all .area) ≤ length area
 
 module _ (abi stubs : List ℕ) where
@@ -226,7 +227,7 @@ module _ (ws abi area : List ℕ) (b : Bounded ws) (v : ValidAbi abi) (few : cla
   instance-few c = words _
 
   text-few : (c row : ℕ) → IsClass ws c → row < limit 9 → (row ≡ 0 → classSlotCount ws c < limit 3)
-      → length (classText ws abi area c row) ≤ 293 + 528 * cond (eqb row 0) (classSlotCount ws c) 0
+      → length (classText ws abi area c row) ≤ 293 + 531 * cond (eqb row 0) (classSlotCount ws c) 0
   unfolding classText
   text-few c row k h s =
       by (eqb row 0)
@@ -237,7 +238,7 @@ module _ (ws abi area : List ℕ) (b : Bounded ws) (v : ValidAbi abi) (few : cla
       (λ t. rw t (omega (arith, class-refused-few c row (omega (arith, k .1)) h)))
 
   texts-few : (c : ℕ) (rows : List ℕ) → 1 ≤ c → c + length rows ≤ classCount ws + 1 → ((i : ℕ) → getD rows i 0 < limit 9)
-      → slotsIn ws c rows < limit 3 → length (classTexts ws abi area c rows) ≤ 293 * length rows + 528 * slotsIn ws c rows
+      → slotsIn ws c rows < limit 3 → length (classTexts ws abi area c rows) ≤ 293 * length rows + 531 * slotsIn ws c rows
   unfolding classTexts slotsIn
   texts-few c [] s m r n = omega arith
   texts-few c (row ∷ rows) s m r n =
@@ -266,7 +267,7 @@ fresh-facts = (refl, ap suc (length-replicate {0} {A = ℕ} 4095 0))
 
 pub set-few : (ws abi : List ℕ) {s t area stubs : List ℕ} (rows : List ℕ) {n : ℕ} → setRefusal ws abi ≡ 0 → area ≡ freshArea → stubs ≡ stubWords
     → n ≡ classCount ws → links (take n rows) s t ≡ linkAll abi stubs n 1 ws area → Small s → Small t → Small rows
-    → length (setText ws abi) ≤ 2180912
+    → length (setText ws abi) ≤ 2192135
 unfolding setText
 set-few ws abi {s} {t} {area} {stubs} rows {n} r e f g k hs ht hr =
     let v = valid ws abi r in
@@ -276,7 +277,7 @@ set-few ws abi {s} {t} {area} {stubs} rows {n} r e f g k hs ht hr =
     let x : All ws area 1 n (links (take n rows) s t) = rw k a in
     let few : classCount s ≤ classLimit = omega (arith, x .classes, v .0 .class-count) in
     let l = x .rows in
-    let u : slotsIn s 1 (take n rows) ≤ 4095 =
+    let u : slotsIn s 1 (take n rows) ≤ 4093 =
     omega (arith, x .slots, x .within, ap nextFree e, ap (λ (y : List ℕ). length y) e) in
     let w = texts-few s abi t (x .bounded) (v .1) few (small-limit s hs) (small-limit t ht) 1 (take n rows) (omega arith) (omega (arith, x .classes))
     (small-take n rows hr) (omega arith) in
@@ -287,17 +288,17 @@ unfolding sheetRefused numbered
 sheet-few sheet row l h = let d = decimal-few 9 row (omega arith) in simp length-append (omega arith)
 
 module _ (abi classes : List ℕ) {row : ℕ} (read : row ≡ readClassSheet classes (replicate sheetWords 0) .refusal) where
-  pub classes-few : {m : List ℕ} → row ≡ 0 → m ≡ readClassSheet classes (replicate sheetWords 0) .memory → length (setText m abi) ≤ 2180912
-      → length (classesText abi classes) ≤ 2180912
+  pub classes-few : {m : List ℕ} → row ≡ 0 → m ≡ readClassSheet classes (replicate sheetWords 0) .memory → length (setText m abi) ≤ 2192135
+      → length (classesText abi classes) ≤ 2192135
   unfolding classesText
   classes-few h f e = rw (← read, eq-eqb row 0 h, ← f) e
 
-  pub refused-few : (row ≡ 0 → ⊥) → row < 4294967296 → length (classesText abi classes) ≤ 2180912
+  pub refused-few : (row ≡ 0 → ⊥) → row < 4294967296 → length (classesText abi classes) ≤ 2192135
   unfolding classesText
   refused-few h l = rw (← read, ne-eqb row 0 h) (omega (arith, sheet-few (text "classes") row (omega arith) l))
 
 module _ (abi classes : List ℕ) {row : ℕ} (read : row ≡ readAbiSheet abi (replicate abiSheetWords 0) .refusal) where
-  pub listing-few : {m : List ℕ} → row ≡ 0 → m ≡ readAbiSheet abi (replicate abiSheetWords 0) .memory → length (classesText m classes) ≤ 2180912
+  pub listing-few : {m : List ℕ} → row ≡ 0 → m ≡ readAbiSheet abi (replicate abiSheetWords 0) .memory → length (classesText m classes) ≤ 2192135
       → length (listing abi classes) < 2228224
   unfolding listing
   listing-few h f e = rw (← read, eq-eqb row 0 h, ← f) (omega arith)

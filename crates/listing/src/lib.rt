@@ -133,7 +133,7 @@ fn first_word(ws: &[u32]) -> u32
 fn list_set(set: &mut [u32], abi: &[u32], out: &mut [u8]) -> usize
     requires { ⌜ setRefusal (now set) (now abi) ≡ 0 ⌝ }
     ensures lines { λ r. ⌜ (now (out .exit), r) ≡ put (now (out .entry), 0) (setText (now (set .entry)) (now (abi .entry))) ⌝ }
-    ensures longest { λ r. ⌜ length (setText (now (set .entry)) (now (abi .entry))) ≤ 2180912 ⌝ }
+    ensures longest { λ r. ⌜ length (setText (now (set .entry)) (now (abi .entry))) ≤ 2192135 ⌝ }
 {
     let mut area = fresh_area();
     let stubs = stub_words();
@@ -162,7 +162,7 @@ pub fn abi_line(abi: &[u8], out: &mut [u8]) -> usize
 fn list_classes(abi: &[u32], classes: &[u8], out: &mut [u8]) -> usize
     requires { ⌜ Accepts (now abi) ⌝ }
     ensures lines { λ r. ⌜ (now (out .exit), r) ≡ put (now (out .entry), 0) (classesText (now (abi .entry)) (now (classes .entry))) ⌝ }
-    ensures longest { λ r. ⌜ length (classesText (now (abi .entry)) (now (classes .entry))) ≤ 2180912 ⌝ }
+    ensures longest { λ r. ⌜ length (classesText (now (abi .entry)) (now (classes .entry))) ≤ 2192135 ⌝ }
 {
     let mut set = [0u32; class_sheet::SHEET_WORDS];
     let row = read_row(sheet::read_class_sheet(classes, &mut set));

@@ -1,3 +1,4 @@
 pub mod ArrayLaws
+pub mod ClassLaws
 pub mod MarkLaws
 pub mod ReadLaws

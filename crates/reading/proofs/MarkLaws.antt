@@ -26,18 +26,18 @@ use Rattle.reading.proofs.ReadLaws.{own-fixed-room, read-back}
 
 -- ---- stores
 
-stores-rest : (n : ℕ) (f : ℕ → ℕ) (d : List ℕ) (j : ℕ) → n ≤ j → getD (stores n f d) j 0 ≡ getD d j 0
+pub stores-rest : (n : ℕ) (f : ℕ → ℕ) (d : List ℕ) (j : ℕ) → n ≤ j → getD (stores n f d) j 0 ≡ getD d j 0
 unfolding stores
 stores-rest zero f d j h = refl
 stores-rest (suc n) f d j h =
     getD-set-other (stores n f d) n j (f n) 0 (λ (e : j ≡ n). absurd (omega arith)) ∙ stores-rest n f d j (omega arith)
 
-stores-at : (n : ℕ) (f : ℕ → ℕ) (d : List ℕ) (j : ℕ) → j < n → n ≤ length d → getD (stores n f d) j 0 ≡ f j
+pub stores-at : (n : ℕ) (f : ℕ → ℕ) (d : List ℕ) (j : ℕ) → j < n → n ≤ length d → getD (stores n f d) j 0 ≡ f j
 stores-at n f d j h g =
     let e = length-table n f in
     rw (stores-is n f d g) (List·getD-append (table n f) (drop n d) 0 j (omega arith) ∙ getD-table n f j h)
 
-stores-ext : (n : ℕ) (f g : ℕ → ℕ) (d : List ℕ) → ((i : ℕ) → i < n → f i ≡ g i) → stores n f d ≡ stores n g d
+pub stores-ext : (n : ℕ) (f g : ℕ → ℕ) (d : List ℕ) → ((i : ℕ) → i < n → f i ≡ g i) → stores n f d ≡ stores n g d
 unfolding stores
 stores-ext zero f g d h = refl
 stores-ext (suc n) f g d h = rw (stores-ext n f g d (λ i l. h i (omega arith)), h n (omega arith))
@@ -47,13 +47,13 @@ pub stores-past : (n : ℕ) (f : ℕ → ℕ) (d : List ℕ) → n ≤ length d 
 stores-past n f d h = rw (stores-is n f d h) (drop-at (table n f) (drop n d) n (length-table n f))
 
 -- what is stored twice
-stores-twice : (n : ℕ) (f g : ℕ → ℕ) (d : List ℕ) → n ≤ length d → stores n g (stores n f d) ≡ stores n g d
+pub stores-twice : (n : ℕ) (f g : ℕ → ℕ) (d : List ℕ) → n ≤ length d → stores n g (stores n f d) ≡ stores n g d
 stores-twice n f g d h =
     let l = length-stores n f d in
     stores-is n g (stores n f d) (omega arith) ∙ rw (stores-past n f d h) (sym (stores-is n g d h))
 
 -- what is there already
-stores-same : (n : ℕ) (f : ℕ → ℕ) (d : List ℕ) → ((i : ℕ) → f i ≡ getD d i 0) → stores n f d ≡ d
+pub stores-same : (n : ℕ) (f : ℕ → ℕ) (d : List ℕ) → ((i : ℕ) → f i ≡ getD d i 0) → stores n f d ≡ d
 unfolding stores
 stores-same zero f d h = refl
 stores-same (suc n) f d h = rw (stores-same n f d h, h n) (set-getD d n 0)
@@ -97,7 +97,7 @@ module _ (f : ℕ → Found) (n : ℕ) (ms : List ℕ) where
   unfolding marksWith
   length-marks = length-stores n (λ i. orMark (getD ms i 0) (f i)) ms
 
-  marks-at : (i : ℕ) → i < n → n ≤ length ms → getD (marksWith f n ms) i 0 ≡ orMark (getD ms i 0) (f i)
+  pub marks-at : (i : ℕ) → i < n → n ≤ length ms → getD (marksWith f n ms) i 0 ≡ orMark (getD ms i 0) (f i)
   unfolding marksWith
   marks-at i h g = stores-at n (λ j. orMark (getD ms j 0) (f j)) ms i h g
 
@@ -218,10 +218,10 @@ module _ (ws text abi labels : List ℕ) (c n : ℕ) (ms : List ℕ) where
 
 -- ---- a table's words, methodOf by target and then by index, are its entries
 
-entries-ext : (f g : ℕ → Entry) (m n : ℕ) → ((i : ℕ) → i < m + n → f i ≡ g i) → listFrom f m n ≡ listFrom g m n
+pub list-from-ext {ℓ} : {A : Type ℓ} (f g : ℕ → A) (m n : ℕ) → ((i : ℕ) → i < m + n → f i ≡ g i) → listFrom f m n ≡ listFrom g m n
 unfolding listFrom
-entries-ext f g m zero h = refl
-entries-ext f g m (suc n) h = rw (h m (omega arith), entries-ext f g (m + 1) n (λ i l. h i (omega arith)))
+list-from-ext f g m zero h = refl
+list-from-ext f g m (suc n) h = rw (h m (omega arith), list-from-ext f g (m + 1) n (λ i l. h i (omega arith)))
 
 module _ (ws text abi labels area : List ℕ) (place c n : ℕ) (ts ms : List ℕ) where
   module _ {us ns ks ls : List ℕ} (t : us ≡ stores n (λ i. getD area (place + 1 + i) 0) ts)
@@ -249,7 +249,7 @@ module _ (ws text abi labels area : List ℕ) (place c n : ℕ) (ts ms : List �
 
     slots-are-read : entriesOf us ls n ≡ listFrom (slotRead ws text abi labels area place c) 0 n
     unfolding entriesOf
-    slots-are-read = entries-ext (entryAt us ls) (slotRead ws text abi labels area place c) 0 n (λ i h. slot-is-read i (omega arith))
+    slots-are-read = list-from-ext (entryAt us ls) (slotRead ws text abi labels area place c) 0 n (λ i h. slot-is-read i (omega arith))
 
     -- past them both arrays stay
     words-stay : drop n us ≡ drop n ts

@@ -1,9 +1,10 @@
 // Reading: a table's slots, from their words in the area to their methods. A table lies in two arrays of the caller: its slots' words, 0
-// where empty, and their methods' marks. A mark is a word that stands for a method's number or for none: only this crate knows how.
+// where empty, and their methods' marks. A mark is a word that stands for a method's number or for none: only this crate knows how. Reading
+// fills a third array beside them: the numbers of the classes that declare the methods, 0 where there is none.
 use words::Found;
 ghost use mathlib.Core.Path.{_≡_};
 ghost use Prim.Native.Nat.{_≤_, _<_, _+_, min};
-ghost use lib.ListN.{length, getD, set, drop};
+ghost use lib.ListN.{length, getD, set, take, drop};
 ghost use mathlib.Core.Bool.{cond};
 ghost use lib.Dec.{eqb};
 ghost use Rattle.words.specs.Folds.{stores};
@@ -14,7 +15,9 @@ ghost use Rattle.linking.specs.Chain.{findByTarget};
 ghost use Rattle.linking.specs.Abi.{classAbi};
 ghost use Rattle.chain.specs.Records.{firstTarget};
 ghost use Rattle.linking.specs.Vtable.{ownFixed, findByIndex, tableEntries, parentEntries};
-ghost use Rattle.reading.specs.Arrays.{markOf, methodOf, orMark, marksWith, entriesOf, slotRead};
+ghost use Rattle.linking.specs.Whose.{declaredByTarget, declaredByIndex, slotClass};
+ghost use Rattle.reading.specs.Arrays.{markOf, methodOf, orMark, marksWith, entriesOf};
+ghost use Rattle.reading.specs.Classes.{claimed, claims, classesWith, Paired};
 
 // The mark of what a search found.
 pub fn mark_of(f: Found) -> u32
@@ -94,11 +97,32 @@ fn mark_targets(records: &[u32], first: u32, count: u32, n: u32, ts: &[u32], ms:
     }
 }
 
-// Marks each of the n slots that has no mark by its word: with the first method that has it as target, class c's, then its ancestors'. The
-// chain is gone along once for all slots.
-fn mark_by_target(ws: &[u32], c: u32, n: u32, ts: &[u32], ms: &mut [u32])
-    requires { ⌜ (n ≤ length (now ts)) × (n ≤ length (now ms)) ⌝ }
-    ensures { λ _. ⌜ now (ms .exit) ≡ marksWith (λ i. findByTarget (now (ws .entry)) c (getD (now (ts .entry)) i 0)) n (now (ms .entry)) ⌝ }
+// A slot's class d, or where it has none and its mark k says that it has a method, class c.
+fn class_if(k: u32, d: u32, c: u32) -> u32
+    ensures { λ r. ⌜ r ≡ claimed c k d ⌝ }
+{
+    if (d == 0) & (k != 0) { c } else { d }
+}
+
+// Gives class c to each of the n slots that has a mark and no class yet.
+fn claim(c: u32, n: u32, ms: &[u32], cs: &mut [u32])
+    requires { ⌜ (n ≤ length (now ms)) × (n ≤ length (now cs)) ⌝ }
+    ensures { λ _. ⌜ now (cs .exit) ≡ claims c n (now (ms .entry)) (now (cs .entry)) ⌝ }
+{
+    let count = words::wide(n);
+    let mut i: usize = 0;
+    while i < count {
+        cs[i] = class_if(ms[i], cs[i], c);
+        i += 1;
+    }
+}
+
+// Marks each of the n slots that has no mark by its word: with the first method that has it as target, class c's, then its ancestors', and
+// the class that has it. The chain is gone along once for all slots.
+fn mark_by_target(ws: &[u32], c: u32, n: u32, ts: &[u32], ms: &mut [u32], cs: &mut [u32])
+    requires { ⌜ (n ≤ length (now ts)) × (n ≤ length (now ms)) × (n ≤ length (now cs)) × Paired n (now ms) (now cs) ⌝ }
+    ensures marks { λ _. ⌜ now (ms .exit) ≡ marksWith (λ i. findByTarget (now (ws .entry)) c (getD (now (ts .entry)) i 0)) n (now (ms .entry)) ⌝ }
+    ensures classes { λ _. ⌜ now (cs .exit) ≡ classesWith (λ i. declaredByTarget (now (ws .entry)) c (getD (now (ts .entry)) i 0)) n (now (cs .entry)) ⌝ }
 {
     if c == 0 {
         return;
@@ -106,7 +130,8 @@ fn mark_by_target(ws: &[u32], c: u32, n: u32, ts: &[u32], ms: &mut [u32])
     let first = class_sheet::class_first_method(ws, c);
     let count = class_sheet::class_method_count(ws, c);
     mark_targets(chain::method_records(ws), first, count, n, ts, ms);
-    mark_by_target(ws, chain::parent_of(ws, c), n, ts, ms);
+    claim(c, n, ms, cs);
+    mark_by_target(ws, chain::parent_of(ws, c), n, ts, ms, cs);
 }
 
 // Class c's own method of the signature that its ABI entry a fixes at index i.
@@ -183,7 +208,7 @@ fn mark_own(ws: &[u32], text: &[u8], abi: &[u32], labels: &[u8], c: u32, n: u32,
 }
 
 // Marks each of the n slots that has no mark by its index: with the own method of the first class of c's chain that has one of the signature
-// that the class's ABI entry fixes there. Each class's entry is looked up once for all slots.
+// that the class's ABI entry fixes there, and that class. Each class's entry is looked up once for all slots.
 fn mark_by_index(
     ws: &[u32],
     text: &[u8],
@@ -192,15 +217,18 @@ fn mark_by_index(
     c: u32,
     n: u32,
     ms: &mut [u32],
+    cs: &mut [u32],
 )
-    requires { ⌜ n ≤ length (now ms) ⌝ }
-    ensures { λ _. ⌜ now (ms .exit) ≡ marksWith (findByIndex (now (ws .entry)) (now (text .entry)) (now (abi .entry)) (now (labels .entry)) c) n (now (ms .entry)) ⌝ }
+    requires { ⌜ (n ≤ length (now ms)) × (n ≤ length (now cs)) × Paired n (now ms) (now cs) ⌝ }
+    ensures marks { λ _. ⌜ now (ms .exit) ≡ marksWith (findByIndex (now (ws .entry)) (now (text .entry)) (now (abi .entry)) (now (labels .entry)) c) n (now (ms .entry)) ⌝ }
+    ensures classes { λ _. ⌜ now (cs .exit) ≡ classesWith (declaredByIndex (now (ws .entry)) (now (text .entry)) (now (abi .entry)) (now (labels .entry)) c) n (now (cs .entry)) ⌝ }
 {
     if c == 0 {
         return;
     }
     mark_own(ws, text, abi, labels, c, n, ms);
-    mark_by_index(ws, text, abi, labels, chain::parent_of(ws, c), n, ms);
+    claim(c, n, ms, cs);
+    mark_by_index(ws, text, abi, labels, chain::parent_of(ws, c), n, ms, cs);
 }
 
 // How many slots class c's table has.
@@ -211,42 +239,22 @@ fn slot_count(ws: &[u32], c: u32) -> u32
     if n < 1024 { n } else { 1024 }
 }
 
-// Fills the arrays with the n words of the table at `place`, and no marks.
-fn copy_slots(area: &[u32], place: u32, n: u32, ts: &mut [u32], ms: &mut [u32])
+// Fills the arrays with the n words of the table at `place`, no marks and no classes.
+fn copy_slots(area: &[u32], place: u32, n: u32, ts: &mut [u32], ms: &mut [u32], cs: &mut [u32])
     ensures words { λ _. ⌜ now (ts .exit) ≡ stores n (λ i. getD (now (area .entry)) (place + 1 + i) 0) (now (ts .entry)) ⌝ }
     ensures marks { λ _. ⌜ now (ms .exit) ≡ stores n (λ i. 0) (now (ms .entry)) ⌝ }
+    ensures classes { λ _. ⌜ now (cs .exit) ≡ stores n (λ i. 0) (now (cs .entry)) ⌝ }
 {
     let mut i: u32 = 0;
     while i < n {
         let w = words::word_at(area, words::wide(place) + 1 + words::wide(i));
         put_slot(ts, ms, i, w, 0);
+        words::put_word(cs, words::wide(i), 0);
         i += 1;
     }
 }
 
-// Fills the arrays with the n slots of the table at `place`, read along class c's chain.
-fn read_slots(
-    ws: &[u32],
-    text: &[u8],
-    abi: &[u32],
-    labels: &[u8],
-    area: &[u32],
-    place: u32,
-    n: u32,
-    c: u32,
-    ts: &mut [u32],
-    ms: &mut [u32],
-)
-    requires { ⌜ (n ≤ 1024) × (1024 ≤ length (now ts)) × (1024 ≤ length (now ms)) ⌝ }
-    ensures is { λ _. ⌜ entriesOf (now (ts .exit)) (now (ms .exit)) n ≡ listFrom (slotRead (now (ws .entry)) (now (text .entry)) (now (abi .entry)) (now (labels .entry)) (now (area .entry)) place c) 0 n ⌝ }
-    ensures rest { λ _. ⌜ (drop n (now (ts .exit)) ≡ drop n (now (ts .entry))) × (drop n (now (ms .exit)) ≡ drop n (now (ms .entry))) ⌝ }
-{
-    copy_slots(area, place, n, ts, ms);
-    mark_by_target(ws, c, n, ts, ms);
-    mark_by_index(ws, text, abi, labels, c, n, ms);
-}
-
-// Fills the arrays with class c's slots, and answers how many there are.
+// Fills the arrays with class c's slots, read along its chain, and answers how many there are.
 fn read_table(
     ws: &[u32],
     text: &[u8],
@@ -256,20 +264,25 @@ fn read_table(
     c: u32,
     ts: &mut [u32],
     ms: &mut [u32],
+    cs: &mut [u32; 1024],
 ) -> u32
     requires { ⌜ (1024 ≤ length (now ts)) × (1024 ≤ length (now ms)) ⌝ }
     ensures is { λ r. ⌜ entriesOf (now (ts .exit)) (now (ms .exit)) r ≡ tableEntries (now (ws .entry)) (now (text .entry)) (now (abi .entry)) (now (labels .entry)) (now (area .entry)) c ⌝ }
     ensures count { λ r. ⌜ r ≤ 1024 ⌝ }
     ensures rest { λ r. ⌜ (drop r (now (ts .exit)) ≡ drop r (now (ts .entry))) × (drop r (now (ms .exit)) ≡ drop r (now (ms .entry))) ⌝ }
+    ensures classes { λ r. ⌜ take r (now (cs .exit)) ≡ listFrom (slotClass (now (ws .entry)) (now (text .entry)) (now (abi .entry)) (now (labels .entry)) (now (area .entry)) c) 0 r ⌝ }
+    ensures others { λ r. ⌜ drop r (now (cs .exit)) ≡ drop r (now (cs .entry)) ⌝ }
 {
     let n = slot_count(ws, c);
     let place = class_sheet::class_table_place(ws, c);
-    read_slots(ws, text, abi, labels, area, place, n, c, ts, ms);
+    copy_slots(area, place, n, ts, ms, cs);
+    mark_by_target(ws, c, n, ts, ms, cs);
+    mark_by_index(ws, text, abi, labels, c, n, ms, cs);
     n
 }
 
-// Fills the front of the arrays with the entries of class c's table, each as Reading finds it, and answers how many there are. The rest of
-// the arrays stays.
+// Fills the front of the arrays with the entries of class c's table, each as Reading finds it, and with the classes that declare their
+// methods, and answers how many there are. The rest of the arrays stays.
 pub fn table_entries(
     ws: &[u32],
     text: &[u8],
@@ -279,13 +292,16 @@ pub fn table_entries(
     c: u32,
     ts: &mut [u32; 1024],
     ms: &mut [u32; 1024],
+    cs: &mut [u32; 1024],
 ) -> u32
     ensures is { λ r. ⌜ entriesOf (now (ts .exit)) (now (ms .exit)) r ≡ tableEntries (now (ws .entry)) (now (text .entry)) (now (abi .entry)) (now (labels .entry)) (now (area .entry)) c ⌝ }
     ensures count { λ r. ⌜ r ≤ 1024 ⌝ }
     ensures arrays { λ r. ⌜ (length (now (ts .exit)) ≡ 1024) × (length (now (ms .exit)) ≡ 1024) ⌝ }
     ensures rest { λ r. ⌜ (drop r (now (ts .exit)) ≡ drop r (now (ts .entry))) × (drop r (now (ms .exit)) ≡ drop r (now (ms .entry))) ⌝ }
+    ensures classes { λ r. ⌜ take r (now (cs .exit)) ≡ listFrom (slotClass (now (ws .entry)) (now (text .entry)) (now (abi .entry)) (now (labels .entry)) (now (area .entry)) c) 0 r ⌝ }
+    ensures others { λ r. ⌜ drop r (now (cs .exit)) ≡ drop r (now (cs .entry)) ⌝ }
 {
-    read_table(ws, text, abi, labels, area, c, ts, ms)
+    read_table(ws, text, abi, labels, area, c, ts, ms, cs)
 }
 
 // Fills the arrays with the slots of class c's parent, read along the parent's own chain, and answers how many there are.
@@ -308,10 +324,8 @@ fn read_parent(
     if parent == 0 {
         return 0;
     }
-    let n = slot_count(ws, parent);
-    let place = class_sheet::class_table_place(ws, parent);
-    read_slots(ws, text, abi, labels, area, place, n, parent, ts, ms);
-    n
+    let mut cs = [0u32; 1024];
+    read_table(ws, text, abi, labels, area, parent, ts, ms, &mut cs)
 }
 
 // Fills the front of the arrays with the entries of the table of class c's parent, and answers how many there are: none without a parent.

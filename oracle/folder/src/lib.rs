@@ -79,13 +79,14 @@ pub fn listing(abi_sheet: &[u8], class_sheet: &[u8]) -> Told {
     told
 }
 
-/// "class number, name, words, slots; then slot, name, descriptor, target"
+/// "class number, name, words, slots; then slot, name, descriptor, target", and the number of the class that declares the method
 fn class_lines(set: &ClassSheet, abi: &AbiSheet, area: &[u32], class: u32) -> String {
     let record = set.class(class);
     let mut lines = format!("class {class} {} words {} slots {}\n", shown(set.name(class)), record.instance_words, record.slots);
     for (entry, index) in reading(set, abi, area, class).iter().zip(0..) {
         let (name, descriptor) = slot_name(set, abi, class, index, entry);
-        writeln!(lines, "{index} {name} {descriptor} {}", entry.target).expect("a string takes all");
+        let declaring = entry.method.map_or(0, |method| method.owner);
+        writeln!(lines, "{index} {name} {descriptor} {} {declaring}", entry.target).expect("a string takes all");
     }
     lines
 }

@@ -8,6 +8,7 @@ pub mod corpus;
 pub mod demand3;
 pub mod drive;
 pub mod generate;
+pub mod listings;
 pub mod names;
 pub mod oracle;
 pub mod orders;

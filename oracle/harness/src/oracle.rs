@@ -13,6 +13,8 @@ use crate::side::{Answer, Linker};
 use machine::{Linked, Machine, Member};
 use references::Bitmaps;
 
+pub use machine::{Declared, Slot};
+
 /// Makes a call into the original that it is handed: whoever measures gives its own.
 pub type Watch = fn(&mut dyn FnMut());
 
@@ -55,6 +57,11 @@ impl Oracle {
     /// times. Whether a table was built; unless `keeps`, its node is taken off the list again.
     pub fn ask_alone(&mut self, class: u32, interface: u32, keeps: bool, watch: Watch) -> bool {
         self.machine.ask_alone(class, interface, keeps, watch)
+    }
+
+    /// The slots of a class that a call of this case linked, as the original's `vtable_entries` has them, each method with its declaring class.
+    pub fn slots(&self, class: u32) -> Vec<Slot> {
+        self.machine.slots(class)
     }
 
     fn fresh_call(&mut self) {

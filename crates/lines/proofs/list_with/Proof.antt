@@ -1,4 +1,4 @@
--- The class's line, and then those of the table that is read. Assumes nothing.
+-- The class's line, and then those of its slots. Assumes nothing.
 use Rattle.lines.proofs.SlotLaws.{lines-put}
 use borrow.Author.Needs.{needs}
 use Rattle.lines.proofs.list_with.Statement.{statement}
@@ -15,9 +15,6 @@ list-with-spec =
     (λ c κs. search needs)
     (λ c κs. search needs)
     (λ c κs. search needs)
-    (λ c κs. search needs)
-    (λ c. search needs)
-    (λ c. search needs)
     (λ c κs. search needs)
     (λ c. search needs)
     returns)

@@ -5,7 +5,8 @@ use Rattle.reading.proofs.table_entries.Statement.{statement}
 use Rattle.reading.proofs.table_entries.Tie as tie
 
 returns : tie.Need-returns
-returns c = (c .read-table .ensures .0, (omega arith, ((search needs, search needs), c .read-table .ensures .1 .1)))
+returns c =
+    let r = c .read-table .ensures in (r .0, (omega arith, ((search needs, search needs), r .1 .1)))
 
 pub table-entries-spec : {M : Type 1} → statement M
 table-entries-spec = tie.close (tie.spec (λ c κs. search needs) returns)

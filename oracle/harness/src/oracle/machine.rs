@@ -9,7 +9,7 @@ use jvm_class_proto::{JavaClassProto, JavaFieldProto, JavaMethodProto, NoBody};
 use jvm_types::{ClassAccessFlags, FieldAccessFlags, MethodAccessFlags};
 use linker::runtime::java::JavaSvcFunctions;
 use linker::runtime::java::abi::{JAVA_ABI, JavaAbi};
-use linker::runtime::java::jvm_support::{JavaClassDefinition, JavaField};
+use linker::runtime::java::jvm_support::{JavaClassDefinition, JavaField, JavaMethod};
 use wie_core_arm::ArmCore;
 use wie_util::{WieError, read_generic, write_generic};
 
@@ -34,6 +34,22 @@ pub struct Linked {
     pub instance_words: Option<u32>,
     pub methods: Vec<Member>,
     pub fields: Vec<Member>,
+}
+
+/// A slot of a linked class as the Rust reads it.
+pub struct Slot {
+    pub word: u32,
+    /// None where the Rust knows no method.
+    pub method: Option<Declared>,
+}
+
+/// A method as the Rust hands it out, with the number of the class that its raw record points to.
+pub struct Declared {
+    pub name: String,
+    pub descriptor: String,
+    pub flags: u32,
+    pub target: u32,
+    pub class: u32,
 }
 
 /// What the Rust answered to an ask.
@@ -225,6 +241,24 @@ impl Machine {
     pub fn keep(&mut self, class: u32, definition: JavaClassDefinition) {
         self.jvm.register(definition.clone());
         self.classes.insert(class, definition);
+    }
+
+    /// The slots of a class in memory, by `vtable_entries`.
+    pub fn slots(&self, class: u32) -> Vec<Slot> {
+        let entries = self.original(|| run(self.classes[&class].vtable_entries(&self.jvm))).expect("a linked class is read");
+        entries.into_iter().map(|entry| Slot { word: entry.target, method: entry.method.map(|method| self.declared(&method)) }).collect()
+    }
+
+    fn declared(&self, method: &JavaMethod) -> Declared {
+        let ptr_class = method.raw().unwrap().ptr_class;
+        let class = self.classes.iter().find(|(_, definition)| definition.ptr_raw == ptr_class);
+        Declared {
+            name: method.name().into_owned(),
+            descriptor: method.descriptor().into_owned(),
+            flags: u32::from(method.access_flags().bits()),
+            target: method.target().unwrap(),
+            class: *class.expect("a method points to a class in memory").0,
+        }
     }
 
     /// Asks by `interface_dispatch_table`. `nodes` are the class's list as the area has it.
