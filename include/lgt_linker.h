@@ -2,7 +2,7 @@
  * The LGT class linker, proved in Rattle (crates/lgt_linker). Link with liblgt_linker.a: `rt staticlib lgt_linker` makes it in
  * target/staticlib, `make install PREFIX=..` installs it with this header and a pkg-config file.
  *
- * What it needs. x86-64 Linux; memcpy and memset, and nothing else: no allocation, no system call. Of the stack at most 138,568
+ * What it needs. x86-64 Linux; memcpy and memset, and nothing else: no allocation, no system call. Of the stack at most 142,344
  * bytes were measured (docs/PERFORMANCE.md): give a thread that calls it LGT_STACK_BYTES. A thread of musl's default size,
  * 128 KiB, is too small for a link. Frames are probed page by page, so a stack that is too short ends in its guard page
  * and not in other memory.
@@ -25,7 +25,7 @@
 #include <stdint.h>
 
 /* The version of this library: the file VERSION, which a test holds this line to. */
-#define LGT_LINKER_VERSION "0.1.0"
+#define LGT_LINKER_VERSION "0.2.0"
 
 /* A compiler that can warns where an answer is not looked at. */
 #if defined(__GNUC__) || defined(__clang__)

@@ -19,7 +19,7 @@ const SIZE: usize = 1 << 20;
 const PAINT: u8 = 0xA5;
 
 /// The exported functions, in the order of `Painted`'s stacks.
-const FUNCTIONS: [&str; 10] = [
+const FUNCTIONS: [&str; 11] = [
     "lgt_read_class_sheet",
     "lgt_read_abi_sheet",
     "lgt_link",
@@ -30,6 +30,7 @@ const FUNCTIONS: [&str; 10] = [
     "lgt_write_class_sheet",
     "lgt_read_unordered_sheet",
     "lgt_renumber_classes",
+    "lgt_compare_names",
 ];
 
 /// A stack whose touched bytes show.
@@ -130,6 +131,10 @@ impl Linker for Painted {
 
     fn renumber_classes(&mut self, set: &mut [u32], order: &mut [u32]) -> Answer {
         self.stacks[9].run(|| self.library.renumber_classes(set, order))
+    }
+
+    fn compare_names(&mut self, a: &[u8], b: &[u8]) -> Answer {
+        self.stacks[10].run(|| self.library.compare_names(a, b))
     }
 }
 

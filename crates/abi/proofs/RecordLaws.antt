@@ -11,7 +11,8 @@ use Rattle.words.specs.declared.Found.{Found}
 use Rattle.words.specs.declared.Found.the-variants.{At, Nothing}
 use Rattle.words.proofs.ListLaws.{findFrom, find-hit, find-miss, find-end}
 use Rattle.words.proofs.Laws.{part-rest}
-use Rattle.abi_sheet.specs.AbiSheet.{abiSlotsAt, abiFieldsAt, abiSlotWord, abiFieldWord}
+use Rattle.text.specs.Text.{nameStartWord, nameLengthWord, descriptorStartWord, descriptorLengthWord, numberWord}
+use Rattle.abi_sheet.specs.AbiSheet.{abiMemberWidth, abiSlotsAt, abiFieldsAt, abiSlotWord, abiFieldWord}
 use Rattle.chain.specs.Records.{recordWord, recordIs}
 use Rattle.linking.specs.Abi.{slotIndex, slotIs, fieldIs}
 use Rattle.abi.specs.Abis.{slotRecords, fieldRecords}
@@ -27,40 +28,40 @@ module _ (abi : List ℕ) {r : List ℕ} where
   unfolding fieldRecords
   fields-are e f g = g ∙ rw (f, e) (part-rest abi (abiFieldsAt abi))
 
-slot-word : (abi : List ℕ) (s k : ℕ) → recordWord (slotRecords abi) 5 s k ≡ abiSlotWord abi s k
+slot-word : (abi : List ℕ) (s k : ℕ) → recordWord (slotRecords abi) abiMemberWidth s k ≡ abiSlotWord abi s k
 unfolding recordWord slotRecords abiSlotWord
 slot-word abi s k =
-    let e : abiSlotsAt abi + (5 * s + k) ≡ abiSlotsAt abi + 5 * s + k = omega arith in
-    getD-drop (abiSlotsAt abi) abi (5 * s + k) 0 ∙ rw e
+    let e : abiSlotsAt abi + (abiMemberWidth * s + k) ≡ abiSlotsAt abi + abiMemberWidth * s + k = omega arith in
+    getD-drop (abiSlotsAt abi) abi (abiMemberWidth * s + k) 0 ∙ rw e
 
 pub record-slot : (abi labels : List ℕ) (s : ℕ) (name descriptor : List ℕ) {r : List ℕ} → r ≡ slotRecords abi
-    → recordIs r 5 labels s name descriptor ≡ slotIs abi labels s name descriptor
+    → recordIs r abiMemberWidth labels s name descriptor ≡ slotIs abi labels s name descriptor
 unfolding recordIs slotIs
-record-slot abi labels s name descriptor e = rw (e, slot-word abi s 0, slot-word abi s 1, slot-word abi s 2, slot-word abi s 3)
+record-slot abi labels s name descriptor e = rw (e, slot-word abi s nameStartWord, slot-word abi s nameLengthWord, slot-word abi s descriptorStartWord, slot-word abi s descriptorLengthWord)
 
 pub record-index : (abi : List ℕ) (s i : ℕ) {r : List ℕ} → r ≡ slotRecords abi
-    → eqb (min (recordWord r 5 s 4) 1023) i ≡ eqb (slotIndex abi s) i
+    → eqb (min (recordWord r abiMemberWidth s numberWord) 1023) i ≡ eqb (slotIndex abi s) i
 unfolding slotIndex
-record-index abi s i e = rw (e, slot-word abi s 4)
+record-index abi s i e = rw (e, slot-word abi s numberWord)
 
 -- the index as the code reads it
-pub index-read : (records : List ℕ) (s i : ℕ) {j w k : ℕ} → j ≡ s → w ≡ getD records (5 * j + 4) 0 → k ≡ min w 1023
-    → eqb k i ≡ eqb (min (recordWord records 5 s 4) 1023) i
+pub index-read : (records : List ℕ) (s i : ℕ) {j w k : ℕ} → j ≡ s → w ≡ getD records (abiMemberWidth * j + numberWord) 0 → k ≡ min w 1023
+    → eqb k i ≡ eqb (min (recordWord records abiMemberWidth s numberWord) 1023) i
 unfolding recordWord
 index-read records s i e f g = rw (g, f, e)
 
 -- ---- fields
 
-field-word : (abi : List ℕ) (f k : ℕ) → recordWord (fieldRecords abi) 5 f k ≡ abiFieldWord abi f k
+field-word : (abi : List ℕ) (f k : ℕ) → recordWord (fieldRecords abi) abiMemberWidth f k ≡ abiFieldWord abi f k
 unfolding recordWord fieldRecords abiFieldWord
 field-word abi f k =
-    let e : abiFieldsAt abi + (5 * f + k) ≡ abiFieldsAt abi + 5 * f + k = omega arith in
-    getD-drop (abiFieldsAt abi) abi (5 * f + k) 0 ∙ rw e
+    let e : abiFieldsAt abi + (abiMemberWidth * f + k) ≡ abiFieldsAt abi + abiMemberWidth * f + k = omega arith in
+    getD-drop (abiFieldsAt abi) abi (abiMemberWidth * f + k) 0 ∙ rw e
 
 pub record-field : (abi labels : List ℕ) (f : ℕ) (name descriptor : List ℕ) {r : List ℕ} → r ≡ fieldRecords abi
-    → recordIs r 5 labels f name descriptor ≡ fieldIs abi labels f name descriptor
+    → recordIs r abiMemberWidth labels f name descriptor ≡ fieldIs abi labels f name descriptor
 unfolding recordIs fieldIs
-record-field abi labels f name descriptor e = rw (e, field-word abi f 0, field-word abi f 1, field-word abi f 2, field-word abi f 3)
+record-field abi labels f name descriptor e = rw (e, field-word abi f nameStartWord, field-word abi f nameLengthWord, field-word abi f descriptorStartWord, field-word abi f descriptorLengthWord)
 
 -- ---- a search along records
 

@@ -8,8 +8,8 @@ ghost use lib.ListN.{length, take, drop};
 ghost use lib.Dec.{eqb};
 ghost use Rattle.class_sheet.specs.ClassSheet.{classLimit};
 ghost use Rattle.words.specs.Lists.{find, allFound};
-ghost use Rattle.text.specs.Text.{sameBytes};
-ghost use Rattle.abi_sheet.specs.AbiSheet.{abiClassName, abiClassFirstSlot, abiClassSlotCount, abiClassFirstField, abiClassFieldCount, abiSlotLimit, abiFieldLimit};
+ghost use Rattle.text.specs.Text.{numberWord, sameBytes};
+ghost use Rattle.abi_sheet.specs.AbiSheet.{abiMemberWidth, abiClassName, abiClassFirstSlot, abiClassSlotCount, abiClassFirstField, abiClassFieldCount, abiSlotLimit, abiFieldLimit};
 ghost use Rattle.linking.specs.Chain.{listCount, chain};
 ghost use Rattle.linking.specs.Abi.{abiNamed, abiSlots, slotIndex, fixedFieldIndex, slotIs, vtableIndex, slotAt, fieldIs, fixedField, classSize, givenWords, classAbi, chainAbi, fixedIndex, minimumSize};
 ghost use Rattle.linking.specs.Vtable.{fixedOf};
@@ -134,9 +134,13 @@ fn vtable_index(abi: &[u32], labels: &[u8], name: &[u8], descriptor: &[u8], a: u
 
 // Whether record s of the slot records fixes index i.
 fn index_is(records: &[u32], s: u32, i: u32) -> bool
-    ensures { λ r. ⌜ r ≡ eqb (min (recordWord (now (records .entry)) 5 s 4) 1023) i ⌝ }
+    ensures { λ r. ⌜ r ≡ eqb (min (recordWord (now (records .entry)) abiMemberWidth s numberWord) 1023) i ⌝ }
 {
-    smaller(words::word_at(records, 5 * words::wide(s) + 4), 1023) == i
+    let index = words::word_at(
+        records,
+        abi_sheet::MEMBER_WIDTH * words::wide(s) + text::NUMBER,
+    );
+    smaller(index, 1023) == i
 }
 
 // ABI class a's first slot record that fixes index i.

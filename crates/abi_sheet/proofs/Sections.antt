@@ -278,3 +278,59 @@ module _ (abi : List ℕ) (fits : abiContentEnd abi ≤ length abi) where
       ∙ ap abiSectionsOf (laid-more s more)
       ∙ sections-laid (abiWithRest s (s .rest ++ more))
       (record { classes = f .classes; slots = f .slots; fields = f .fields; text = f .text })
+
+-- ---- what follows the content does not matter: words and longer words are laid out from sections that differ in their rest alone, and no named
+-- word is in the rest
+
+module _ (abi more : List ℕ) (fits : abiContentEnd abi ≤ length abi) where
+  abbrev here : AbiSections
+  here = abiSectionsOf abi
+
+  abbrev longer : AbiSections
+  longer = abiWithRest here (here .rest ++ more)
+
+  e : AbiFormed here
+  e = formed abi fits
+
+  g : AbiFormed longer
+  g = record { classes = e .classes; slots = e .slots; fields = e .fields; text = e .text }
+
+  -- what is read alike from both is read alike from words and longer words
+  kept {ℓ} : {A : Type ℓ} (read : List ℕ → A) → read (abiLaidOut longer) ≡ read (abiLaidOut here) → read (abi ++ more) ≡ read abi
+  kept read p =
+      ap (λ (x : List ℕ). read (x ++ more)) (sym (laid-sections abi fits))
+      ∙ ap read (laid-more here more)
+      ∙ p
+      ∙ ap read (laid-sections abi fits)
+
+  -- as many as the words say
+  as-many : (read : List ℕ → ℕ) {n i : ℕ} → read (abiLaidOut here) ≡ n → i ≤ read abi → i ≤ n
+  as-many read p h = omega (arith, ap read (laid-sections abi fits))
+
+  pub count-kept : (k : ℕ) → k < abiCountsWidth → abiCountAt (abi ++ more) k ≡ abiCountAt abi k
+  unfolding abiCountAt
+  count-kept k h =
+      kept (λ (x : List ℕ). abiCountAt x k)
+      (rw (at-classes longer, at-classes here)
+      (List·getD-append (countsOf here) (fromClasses longer) 0 k h ∙ sym (List·getD-append (countsOf here) (fromClasses here) 0 k h)))
+
+  pub end-kept : abiContentEnd (abi ++ more) ≡ abiContentEnd abi
+  end-kept = kept abiContentEnd (end-at longer ∙ sym (end-at here))
+
+  pub class-kept : (a k : ℕ) → a < abiClassCount abi → k < abiClassWidth → abiClassWord (abi ++ more) a k ≡ abiClassWord abi a k
+  class-kept a k h i =
+      let n = as-many abiClassCount (class-count here) h in
+      kept (λ (x : List ℕ). abiClassWord x a k) (class-word longer g a k n i ∙ sym (class-word here e a k n i))
+
+  pub slot-kept : (m k : ℕ) → m < abiSlotCount abi → k < abiMemberWidth → abiSlotWord (abi ++ more) m k ≡ abiSlotWord abi m k
+  slot-kept m k h i =
+      let n = as-many abiSlotCount (slot-count here) h in
+      kept (λ (x : List ℕ). abiSlotWord x m k) (slot-word longer g m k n i ∙ sym (slot-word here e m k n i))
+
+  pub field-kept : (m k : ℕ) → m < abiFieldCount abi → k < abiMemberWidth → abiFieldWord (abi ++ more) m k ≡ abiFieldWord abi m k
+  field-kept m k h i =
+      let n = as-many abiFieldCount (field-count here) h in
+      kept (λ (x : List ℕ). abiFieldWord x m k) (field-word longer g m k n i ∙ sym (field-word here e m k n i))
+
+  pub text-kept : abiTextOf (abi ++ more) ≡ abiTextOf abi
+  text-kept = kept abiTextOf (text-of longer g ∙ sym (text-of here e))

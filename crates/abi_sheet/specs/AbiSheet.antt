@@ -43,19 +43,28 @@ abiBlockLimit = (abiContentLimit + 126) / 127
 abbrev pub abiSheetWords : ℕ
 abiSheetWords = 127 * abiBlockLimit
 
--- ---- counts
+-- ---- counts, by their numbers
+
+abbrev pub abiClassCountNumber : ℕ
+abiClassCountNumber = 0
+
+abbrev pub abiSlotCountNumber : ℕ
+abiSlotCountNumber = 1
+
+abbrev pub abiFieldCountNumber : ℕ
+abiFieldCountNumber = 2
 
 unfoldable pub abiCountAt : List ℕ → ℕ → ℕ
 abiCountAt abi k = getD abi k 0
 
 abbrev pub abiClassCount : List ℕ → ℕ
-abiClassCount abi = abiCountAt abi 0
+abiClassCount abi = abiCountAt abi abiClassCountNumber
 
 abbrev pub abiSlotCount : List ℕ → ℕ
-abiSlotCount abi = abiCountAt abi 1
+abiSlotCount abi = abiCountAt abi abiSlotCountNumber
 
 abbrev pub abiFieldCount : List ℕ → ℕ
-abiFieldCount abi = abiCountAt abi 2
+abiFieldCount abi = abiCountAt abi abiFieldCountNumber
 
 abbrev pub abiTextLength : List ℕ → ℕ
 abiTextLength abi = abiCountAt abi 3

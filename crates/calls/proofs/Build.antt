@@ -13,7 +13,7 @@ use Rattle.words.specs.declared.Found.{Found}
 use Rattle.words.specs.declared.Found.the-variants.{At, Nothing}
 use Rattle.words.proofs.Bools.{by}
 use Rattle.words.proofs.ListLaws.{by-found}
-use Rattle.class_sheet.specs.ClassSheet.{classCount, methodCount, textOf, classKind, methodName, methodDescriptor}
+use Rattle.class_sheet.specs.ClassSheet.{kindWord, classCount, methodCount, textOf, classKind, methodName, methodDescriptor}
 use Rattle.abi_sheet.specs.AbiSheet.{abiSlotName, abiSlotDescriptor}
 use Rattle.set_rules.specs.Valid.{Valid}
 use Rattle.linking.proofs.ChainLaws.{own-target-member, own-method-member}
@@ -259,7 +259,7 @@ module _ (old new : List ℕ) (valid : Valid old) (like : Like old new) (abi lab
   unfolding tableFrom
   table-same c s a n P h =
       rw (
-        like .word c 4 s a (omega arith),
+        like .word c kindWord s a (omega arith),
         chain-abi old new valid like abi labels c a,
         own-same old new valid like c s a n,
         start-same c s a P h,

@@ -5,13 +5,13 @@ use mathlib.Core.Logic.{_≢_}
 use mathlib.Core.List.{List, [], _++_, append-nil, append-assoc}
 use Prim.Native.Nat.{ℕ, _≤_, _<_}
 use native.Mathlib.Omega.{arith}
-use Rattle.class_sheet.specs.ClassSheet.{memberWidth, classCount, methodCount, textOf, classWord, classKind, methodWord}
+use Rattle.class_sheet.specs.ClassSheet.{memberWidth, kindWord, firstMethodWord, firstFieldWord, classCount, methodCount, textOf, classWord, classKind, methodWord}
 
 pub record Like (old new : List ℕ) : Type 0 where
   pub classes : classCount new ≡ classCount old
   pub methods : methodCount old ≤ methodCount new
-  pub word : (c k : ℕ) → 1 ≤ c → c ≤ classCount old → k < 5 → classWord new c k ≡ classWord old c k
-  pub listed : (c k : ℕ) → 1 ≤ c → c ≤ classCount old → classKind old c ≢ 1 → k < 7 → classWord new c k ≡ classWord old c k
+  pub word : (c k : ℕ) → 1 ≤ c → c ≤ classCount old → k < firstMethodWord → classWord new c k ≡ classWord old c k
+  pub listed : (c k : ℕ) → 1 ≤ c → c ≤ classCount old → classKind old c ≢ 1 → k < firstFieldWord → classWord new c k ≡ classWord old c k
   pub method : (m k : ℕ) → m < methodCount old → k < memberWidth → methodWord new m k ≡ methodWord old m k
   pub more : List ℕ
   pub text : textOf new ≡ textOf old ++ more
@@ -37,7 +37,7 @@ like-next a b c p q =
       methods = omega arith;
       word = λ d k s h l. q .word d k s (omega arith) l ∙ p .word d k s h l;
       listed = λ d k s h n l.
-          q .listed d k s (omega arith) (λ f. n (sym (p .word d 4 s h (omega arith)) ∙ f)) l ∙ p .listed d k s h n l;
+          q .listed d k s (omega arith) (λ f. n (sym (p .word d kindWord s h (omega arith)) ∙ f)) l ∙ p .listed d k s h n l;
       method = λ i k h l. q .method i k (omega arith) l ∙ p .method i k h l;
       more = p .more ++ q .more;
       text = q .text ∙ ap (λ (t : List ℕ). t ++ q .more) (p .text) ∙ append-assoc (textOf a) (p .more) (q .more);

@@ -10,7 +10,7 @@ use lib.ListN.{length, getD}
 use lib.Dec.{eqb}
 use borrow.Author.Tests.{eqb-true, eqb-false}
 use Rattle.words.proofs.Bools.{by}
-use Rattle.class_sheet.specs.ClassSheet.{classWidth, memberWidth, classCount, methodCount, fieldCount, contentEnd, classWord, classKind, classFirstMethod, classMethodCount, classFirstField, classFieldCount, classTablePlace, classSlotCount, methodWord}
+use Rattle.class_sheet.specs.ClassSheet.{classWidth, memberWidth, firstMethodWord, methodCountWord, firstFieldWord, fieldCountWord, tablePlaceWord, slotCountWord, classCount, methodCount, fieldCount, contentEnd, classWord, classKind, classFirstMethod, classMethodCount, classFirstField, classFieldCount, classTablePlace, classSlotCount, methodWord}
 use Rattle.words.specs.Rows.{rowWord}
 use Rattle.class_sheet.specs.Sections.{Sections, laidOut, sectionsOf}
 use Rattle.class_sheet.proofs.Sections.{class-count, method-count, class-word, method-word, text-of, formed-of, class-of, method-of, text-of-words}
@@ -49,8 +49,8 @@ module _ (ws : List ℕ) (c place words : ℕ) (p : Plan) (some : 1 ≤ c) (amon
   linked : (more : List ℕ) × Left s g c place (length (p .table)) more
   linked =
       linked-left s (formed-of ws fits) c place words p some within
-      (omega (arith, methods, own 5 (omega arith), own 6 (omega arith), lies-of ws fits .methods))
-      (omega (arith, fields, own 7 (omega arith), own 8 (omega arith), lies-of ws fits .fields)) method-bytes field-bytes
+      (omega (arith, methods, own firstMethodWord (omega arith), own methodCountWord (omega arith), lies-of ws fits .methods))
+      (omega (arith, fields, own firstFieldWord (omega arith), own fieldCountWord (omega arith), lies-of ws fits .fields)) method-bytes field-bytes
 
   abbrev left : Left s g c place (length (p .table)) (linked .0)
   left = linked .1
@@ -67,7 +67,7 @@ module _ (ws : List ℕ) (c place words : ℕ) (p : Plan) (some : 1 ≤ c) (amon
   other d k l h b n = kept d k l h b (left .others (d - 1) k (λ e. n (omega arith)))
 
   -- its method list grows only where it is generated
-  still : (k : ℕ) → k < 7 → classKind ws c ≢ 1 → classWord (laidOut g) c k ≡ classWord ws c k
+  still : (k : ℕ) → k < firstFieldWord → classKind ws c ≢ 1 → classWord (laidOut g) c k ≡ classWord ws c k
   still k h n =
       by (isNone (p .newMethods))
       (λ t. kept c k some among (omega arith) (linked-still s (formed-of ws fits) c place words p some within t k h))
@@ -96,8 +96,8 @@ module _ (ws : List ℕ) (c place words : ℕ) (p : Plan) (some : 1 ≤ c) (amon
       text = text-of g (left .formed) ∙ left .text ∙ ap (λ (t : List ℕ). t ++ linked .0) (sym (text-of-words ws fits));
     };
     others = other;
-    place = at-class c 15 some among (omega arith) ∙ left .place;
-    slots = at-class c 16 some among (omega arith) ∙ left .slots;
+    place = at-class c tablePlaceWord some among (omega arith) ∙ left .place;
+    slots = at-class c slotCountWord some among (omega arith) ∙ left .slots;
   }
 
   pub link-leaves : Leaves ws (linkedWords ws c place words p) c place (length (p .table))

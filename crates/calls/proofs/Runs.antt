@@ -12,7 +12,7 @@ use borrow.Author.Tests.{eqb-true, eqb-false}
 use Rattle.words.specs.Lists.{listFrom}
 use Rattle.words.proofs.Bools.{by}
 use Rattle.words.proofs.Lists.{part-ext}
-use Rattle.class_sheet.specs.ClassSheet.{classCount, methodCount, textLength, textWords, textOf, classKind, classFlags, classFirstMethod, classMethodCount, classTablePlace, classSlotCount, methodLimit}
+use Rattle.class_sheet.specs.ClassSheet.{flagsWord, kindWord, methodCountWord, classCount, methodCount, textLength, textWords, textOf, classKind, classFlags, classFirstMethod, classMethodCount, classTablePlace, classSlotCount, methodLimit}
 use Rattle.abi_sheet.specs.AbiSheet.{abiTextLength, abiTextWords, abiTextOf}
 use Rattle.set_rules.specs.Valid.{Valid}
 use Rattle.set_rules.proofs.Valid.{valid}
@@ -250,10 +250,10 @@ module _ (ws₀ abi : List ℕ) (valid₀ : Valid ws₀) (P : ℕ → Type 0) wh
         (tableOf s (parentOf ws₀ c))))
 
     here-kind : classKind (s .set) c ≡ classKind ws₀ c
-    here-kind = inv .like .word c 4 some among₀ (omega arith)
+    here-kind = inv .like .word c kindWord some among₀ (omega arith)
 
     here-flags : classFlags (s .set) c ≡ classFlags ws₀ c
-    here-flags = inv .like .word c 3 some among₀ (omega arith)
+    here-flags = inv .like .word c flagsWord some among₀ (omega arith)
 
     new-from : Plain ws₀ c → tableFrom ws₀ (textOf ws₀) abi (abiTextOf abi) c (inheritedFrom ws₀ (textOf ws₀) abi (abiTextOf abi) (tableOf s) c) ≡ built T
     new-from p =
@@ -270,7 +270,7 @@ module _ (ws₀ abi : List ℕ) (valid₀ : Valid ws₀) (P : ℕ → Type 0) wh
 
     new-bare : classKind ws₀ c ≡ 2 → ownMethods ws₀ c ≡ []
     new-bare e =
-        no-methods (sym (inv .like .listed c 6 some among₀ (λ f. omega arith) (omega arith)) ∙ acc .class .bare (here-kind ∙ e))
+        no-methods (sym (inv .like .listed c methodCountWord some among₀ (λ f. omega arith) (omega arith)) ∙ acc .class .bare (here-kind ∙ e))
 
     new-made : Plain ws₀ c → MadeIn next c
     new-made p = record {

@@ -10,7 +10,7 @@ use lib.Dec.{eqb}
 use Rattle.words.specs.Lists.{andThen}
 use Rattle.words.proofs.ListLaws.{by-found, numbers-within}
 use Rattle.text.specs.Text.{nameAt}
-use Rattle.class_sheet.specs.ClassSheet.{classCount, methodCount, textOf, classKind, classFirstMethod, classMethodCount, className, methodName, methodDescriptor, methodFlags, methodTarget, methodLimit, classLimit}
+use Rattle.class_sheet.specs.ClassSheet.{nameStartWord, nameLengthWord, parentWord, firstMethodWord, methodCountWord, classCount, methodCount, textOf, classKind, classFirstMethod, classMethodCount, className, methodName, methodDescriptor, methodFlags, methodTarget, methodLimit, classLimit}
 use Rattle.abi_sheet.specs.AbiSheet.{abiSlotName, abiSlotDescriptor}
 use Rattle.set_rules.specs.Valid.{Valid}
 use Rattle.words.proofs.Ext.{list-ext, find-ext, first-ext, founds-ext}
@@ -33,7 +33,7 @@ module _ (old new : List ℕ) (valid : Valid old) (like : Like old new) where
   pub class-name : (c : ℕ) → 1 ≤ c → c ≤ classCount old → className new (textOf new) c ≡ className old (textOf old) c
   class-name c s a =
       let p = valid .class c (s, a) .name .inside in
-      rw (like .word c 0 s a (omega arith), like .word c 1 s a (omega arith)) (name-same _ _ p)
+      rw (like .word c nameStartWord s a (omega arith), like .word c nameLengthWord s a (omega arith)) (name-same _ _ p)
 
   module _ (m : ℕ) (h : m < methodCount old) where
     pub method-name : methodName new (textOf new) m ≡ methodName old (textOf old) m
@@ -64,7 +64,7 @@ module _ (old new : List ℕ) (valid : Valid old) (like : Like old new) where
 
   pub parent-same : (c : ℕ) → 1 ≤ c → c ≤ classCount old → parentOf new c ≡ parentOf old c
   unfolding parentOf
-  parent-same c s a = rw (like .word c 2 s a (omega arith))
+  parent-same c s a = rw (like .word c parentWord s a (omega arith))
 
   chain-of-same : (k c : ℕ) → c ≤ classCount old → chainOf new k c ≡ chainOf old k c
   unfolding chainOf
@@ -86,7 +86,7 @@ module _ (old new : List ℕ) (valid : Valid old) (like : Like old new) where
   module _ (d : ℕ) (s : 1 ≤ d) (a : d ≤ classCount old) (n : classKind old d ≢ 1) where
     pub own-same : ownMethods new d ≡ ownMethods old d
     unfolding ownMethods
-    own-same = rw (like .listed d 5 s a n (omega arith), like .listed d 6 s a n (omega arith))
+    own-same = rw (like .listed d firstMethodWord s a n (omega arith), like .listed d methodCountWord s a n (omega arith))
 
     pub own-below : (m : ℕ) → In m (ownMethods old d) → m < methodCount old
     unfolding ownMethods

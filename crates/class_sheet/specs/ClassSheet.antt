@@ -54,7 +54,10 @@ blockLimit = (contentLimit + 126) / 127
 abbrev pub sheetWords : ℕ
 sheetWords = 127 * blockLimit
 
--- ---- words that are stored to, by their numbers: counts, words of a class record, and the word index of a field record
+-- ---- words that are stored to, or that proofs name, by their numbers: counts, words of a class record, and words of a member record
+
+abbrev pub classCountNumber : ℕ
+classCountNumber = 0
 
 abbrev pub methodCountNumber : ℕ
 methodCountNumber = 1
@@ -62,8 +65,27 @@ methodCountNumber = 1
 abbrev pub fieldCountNumber : ℕ
 fieldCountNumber = 2
 
+abbrev pub interfaceCountNumber : ℕ
+interfaceCountNumber = 3
+
+abbrev pub compilerCountNumber : ℕ
+compilerCountNumber = 4
+
 abbrev pub textLengthNumber : ℕ
 textLengthNumber = 5
+
+-- the first words of a class record, and of a method or field record
+abbrev pub nameStartWord : ℕ
+nameStartWord = 0
+
+abbrev pub nameLengthWord : ℕ
+nameLengthWord = 1
+
+abbrev pub parentWord : ℕ
+parentWord = 2
+
+abbrev pub flagsWord : ℕ
+flagsWord = 3
 
 abbrev pub kindWord : ℕ
 kindWord = 4
@@ -80,8 +102,23 @@ firstFieldWord = 7
 abbrev pub fieldCountWord : ℕ
 fieldCountWord = 8
 
+abbrev pub firstInterfaceWord : ℕ
+firstInterfaceWord = 9
+
+abbrev pub interfaceCountWord : ℕ
+interfaceCountWord = 10
+
+abbrev pub linkStateWord : ℕ
+linkStateWord = 11
+
 abbrev pub instanceWordsWord : ℕ
 instanceWordsWord = 12
+
+abbrev pub compilerTableWord : ℕ
+compilerTableWord = 13
+
+abbrev pub compilerSlotsWord : ℕ
+compilerSlotsWord = 14
 
 abbrev pub tablePlaceWord : ℕ
 tablePlaceWord = 15
@@ -89,6 +126,14 @@ tablePlaceWord = 15
 abbrev pub slotCountWord : ℕ
 slotCountWord = 16
 
+-- of a method record, and of a field record
+abbrev pub descriptorStartWord : ℕ
+descriptorStartWord = 2
+
+abbrev pub descriptorLengthWord : ℕ
+descriptorLengthWord = 3
+
+-- the word of a field record that holds its word index
 abbrev pub indexWord : ℕ
 indexWord = 5
 
@@ -102,7 +147,7 @@ unfoldable pub countAt : List ℕ → ℕ → ℕ
 countAt ws k = getD ws k 0
 
 abbrev pub classCount : List ℕ → ℕ
-classCount ws = countAt ws 0
+classCount ws = countAt ws classCountNumber
 
 abbrev pub methodCount : List ℕ → ℕ
 methodCount ws = countAt ws methodCountNumber
@@ -111,10 +156,10 @@ abbrev pub fieldCount : List ℕ → ℕ
 fieldCount ws = countAt ws fieldCountNumber
 
 abbrev pub interfaceCount : List ℕ → ℕ
-interfaceCount ws = countAt ws 3
+interfaceCount ws = countAt ws interfaceCountNumber
 
 abbrev pub compilerCount : List ℕ → ℕ
-compilerCount ws = countAt ws 4
+compilerCount ws = countAt ws compilerCountNumber
 
 abbrev pub textLength : List ℕ → ℕ
 textLength ws = countAt ws textLengthNumber
@@ -169,16 +214,16 @@ textOf ws = textOfWords (textWords ws) (textLength ws)
 -- table (0 none, else first word counted from 1), compiler slots, table place (0 unlinked), slot count."
 
 abbrev pub classNameStart : List ℕ → ℕ → ℕ
-classNameStart ws c = classWord ws c 0
+classNameStart ws c = classWord ws c nameStartWord
 
 abbrev pub classNameLength : List ℕ → ℕ → ℕ
-classNameLength ws c = classWord ws c 1
+classNameLength ws c = classWord ws c nameLengthWord
 
 abbrev pub classParent : List ℕ → ℕ → ℕ
-classParent ws c = classWord ws c 2
+classParent ws c = classWord ws c parentWord
 
 abbrev pub classFlags : List ℕ → ℕ → ℕ
-classFlags ws c = classWord ws c 3
+classFlags ws c = classWord ws c flagsWord
 
 abbrev pub classKind : List ℕ → ℕ → ℕ
 classKind ws c = classWord ws c kindWord
@@ -196,22 +241,22 @@ abbrev pub classFieldCount : List ℕ → ℕ → ℕ
 classFieldCount ws c = classWord ws c fieldCountWord
 
 abbrev pub classFirstInterface : List ℕ → ℕ → ℕ
-classFirstInterface ws c = classWord ws c 9
+classFirstInterface ws c = classWord ws c firstInterfaceWord
 
 abbrev pub classInterfaceCount : List ℕ → ℕ → ℕ
-classInterfaceCount ws c = classWord ws c 10
+classInterfaceCount ws c = classWord ws c interfaceCountWord
 
 abbrev pub classLinkState : List ℕ → ℕ → ℕ
-classLinkState ws c = classWord ws c 11
+classLinkState ws c = classWord ws c linkStateWord
 
 abbrev pub classInstanceWords : List ℕ → ℕ → ℕ
 classInstanceWords ws c = classWord ws c instanceWordsWord
 
 abbrev pub classCompilerTable : List ℕ → ℕ → ℕ
-classCompilerTable ws c = classWord ws c 13
+classCompilerTable ws c = classWord ws c compilerTableWord
 
 abbrev pub classCompilerSlots : List ℕ → ℕ → ℕ
-classCompilerSlots ws c = classWord ws c 14
+classCompilerSlots ws c = classWord ws c compilerSlotsWord
 
 abbrev pub classTablePlace : List ℕ → ℕ → ℕ
 classTablePlace ws c = classWord ws c tablePlaceWord
@@ -222,16 +267,16 @@ classSlotCount ws c = classWord ws c slotCountWord
 -- ---- "Method and field records, 6 words: name start and length, descriptor start and length, flags, then target or word index."
 
 abbrev pub methodNameStart : List ℕ → ℕ → ℕ
-methodNameStart ws m = methodWord ws m 0
+methodNameStart ws m = methodWord ws m nameStartWord
 
 abbrev pub methodNameLength : List ℕ → ℕ → ℕ
-methodNameLength ws m = methodWord ws m 1
+methodNameLength ws m = methodWord ws m nameLengthWord
 
 abbrev pub methodDescriptorStart : List ℕ → ℕ → ℕ
-methodDescriptorStart ws m = methodWord ws m 2
+methodDescriptorStart ws m = methodWord ws m descriptorStartWord
 
 abbrev pub methodDescriptorLength : List ℕ → ℕ → ℕ
-methodDescriptorLength ws m = methodWord ws m 3
+methodDescriptorLength ws m = methodWord ws m descriptorLengthWord
 
 abbrev pub methodFlags : List ℕ → ℕ → ℕ
 methodFlags ws m = methodWord ws m 4
@@ -240,16 +285,16 @@ abbrev pub methodTarget : List ℕ → ℕ → ℕ
 methodTarget ws m = methodWord ws m targetWord
 
 abbrev pub fieldNameStart : List ℕ → ℕ → ℕ
-fieldNameStart ws f = fieldWord ws f 0
+fieldNameStart ws f = fieldWord ws f nameStartWord
 
 abbrev pub fieldNameLength : List ℕ → ℕ → ℕ
-fieldNameLength ws f = fieldWord ws f 1
+fieldNameLength ws f = fieldWord ws f nameLengthWord
 
 abbrev pub fieldDescriptorStart : List ℕ → ℕ → ℕ
-fieldDescriptorStart ws f = fieldWord ws f 2
+fieldDescriptorStart ws f = fieldWord ws f descriptorStartWord
 
 abbrev pub fieldDescriptorLength : List ℕ → ℕ → ℕ
-fieldDescriptorLength ws f = fieldWord ws f 3
+fieldDescriptorLength ws f = fieldWord ws f descriptorLengthWord
 
 abbrev pub fieldFlags : List ℕ → ℕ → ℕ
 fieldFlags ws f = fieldWord ws f 4

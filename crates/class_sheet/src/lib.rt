@@ -61,6 +61,9 @@ const TABLE_PLACE: u32 = 15;
 
 const SLOT_COUNT: u32 = 16;
 
+// The word of a class record that holds its parent's number.
+pub const PARENT: usize = 2;
+
 // The word of a field record that holds its word index.
 pub const FIELD_INDEX: usize = 5;
 

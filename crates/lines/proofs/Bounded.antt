@@ -15,7 +15,7 @@ use Rattle.words.specs.declared.Found.the-variants.{At, Nothing}
 use Rattle.words.proofs.Bools.{by}
 use Rattle.words.proofs.ListLaws.{by-found, found-by, find-member, find-within, numbers-within, getD-list-from, length-list-from}
 use Rattle.text.specs.Text.{nameAt, sameBytes}
-use Rattle.class_sheet.specs.ClassSheet.{className, classWidth, firstMethodWord, methodCountWord, firstFieldWord, fieldCountWord, slotCountWord, classCount, methodCount, fieldCount, contentEnd, classNameLength, classFirstMethod, classMethodCount, classFirstField, classFieldCount, classCompilerTable, interfaceWord, classTablePlace, classSlotCount, methodNameLength, methodDescriptorLength, classWord, methodWord, textOf, methodLimit}
+use Rattle.class_sheet.specs.ClassSheet.{nameLengthWord, descriptorLengthWord, className, classWidth, firstMethodWord, methodCountWord, firstFieldWord, fieldCountWord, slotCountWord, classCount, methodCount, fieldCount, contentEnd, classNameLength, classFirstMethod, classMethodCount, classFirstField, classFieldCount, classCompilerTable, interfaceWord, classTablePlace, classSlotCount, methodNameLength, methodDescriptorLength, classWord, methodWord, textOf, methodLimit}
 use Rattle.words.specs.Rows.{rowWord}
 use Rattle.class_sheet.specs.Sections.{Sections, Formed, laidOut, sectionsOf, withClasses, withFields}
 use Rattle.class_sheet.proofs.Sections.{formed-of, class-of, method-of, class-count, method-count, class-word, method-word}
@@ -215,8 +215,8 @@ module _ (ws text abi labels : List ℕ) (b : Bounded ws) (v : ValidAbi abi) whe
 
 pub record BoundedIn (s : Sections) : Type 0 where
   pub list : (d : ℕ) → 1 ≤ d → d ≤ length (s .classes) → rowWord (s .classes) (d - 1) firstMethodWord + rowWord (s .classes) (d - 1) methodCountWord ≤ length (s .methods)
-  pub name : (d : ℕ) → 1 ≤ d → d ≤ length (s .classes) → rowWord (s .classes) (d - 1) 1 ≤ 255
-  pub method : (m : ℕ) → m < length (s .methods) → (rowWord (s .methods) m 1 ≤ 255) × (rowWord (s .methods) m 3 ≤ 255)
+  pub name : (d : ℕ) → 1 ≤ d → d ≤ length (s .classes) → rowWord (s .classes) (d - 1) nameLengthWord ≤ 255
+  pub method : (m : ℕ) → m < length (s .methods) → (rowWord (s .methods) m nameLengthWord ≤ 255) × (rowWord (s .methods) m descriptorLengthWord ≤ 255)
 
 bounded-laid : (s : Sections) → Formed classWidth s → BoundedIn s → Bounded (laidOut s)
 bounded-laid s f b =
@@ -230,11 +230,11 @@ bounded-laid s f b =
             class-word s f d firstMethodWord (k .0) (omega arith) (omega arith),
             class-word s f d methodCountWord (k .0) (omega arith) (omega arith),
           );
-      name = λ d k. omega (arith, b .name d (k .0) (omega arith), class-word s f d 1 (k .0) (omega arith) (omega arith));
+      name = λ d k. omega (arith, b .name d (k .0) (omega arith), class-word s f d nameLengthWord (k .0) (omega arith) (omega arith));
       method = λ i h.
           let p = b .method i (omega arith) in (
-            omega (arith, method-word s f i 1 (omega arith) (omega arith)),
-            omega (arith, method-word s f i 3 (omega arith) (omega arith)),
+            omega (arith, method-word s f i nameLengthWord (omega arith) (omega arith)),
+            omega (arith, method-word s f i descriptorLengthWord (omega arith) (omega arith)),
           );
     }
 
@@ -247,11 +247,11 @@ module _ (ws : List ℕ) (fits : contentEnd ws ≤ length ws) where
       record {
         list = λ d h k.
             omega (arith, b .list d (h, omega arith), class-of ws fits d firstMethodWord h (omega arith) (omega arith), class-of ws fits d methodCountWord h (omega arith) (omega arith));
-        name = λ d h k. omega (arith, b .name d (h, omega arith), class-of ws fits d 1 h (omega arith) (omega arith));
+        name = λ d h k. omega (arith, b .name d (h, omega arith), class-of ws fits d nameLengthWord h (omega arith) (omega arith));
         method = λ i h.
             let p = b .method i (omega arith) in (
-              omega (arith, method-of ws fits i 1 (omega arith) (omega arith)),
-              omega (arith, method-of ws fits i 3 (omega arith) (omega arith)),
+              omega (arith, method-of ws fits i nameLengthWord (omega arith) (omega arith)),
+              omega (arith, method-of ws fits i descriptorLengthWord (omega arith) (omega arith)),
             );
       }
 
@@ -262,7 +262,7 @@ bounded-kept s g n w m b =
     let l = ap length m in
     record {
       list = λ d h k. omega (arith, b .list d h (omega arith), w d firstMethodWord (omega arith), w d methodCountWord (omega arith));
-      name = λ d h k. omega (arith, b .name d h (omega arith), w d 1 (omega arith));
+      name = λ d h k. omega (arith, b .name d h (omega arith), w d nameLengthWord (omega arith));
       method = λ i h. rw m (b .method i (omega arith));
     }
 
@@ -314,19 +314,19 @@ module _ (s : Sections) (f : Formed classWidth s) (c : ℕ) (some : 1 ≤ c) (am
             omega (
               arith,
               b .name c some among,
-              own-word s f c new inside some among 1 (omega arith) (omega arith) (omega arith),
-              ap (λ (x : ℕ). classWord grown x 1) e,
+              own-word s f c new inside some among nameLengthWord (omega arith) (omega arith) (omega arith),
+              ap (λ (x : ℕ). classWord grown x nameLengthWord) e,
             ))
             (λ t.
             let x = eqb-false (d - 1) (c - 1) t in
-            omega (arith, b .name d (k .0) (omega arith), other-class s f c new inside d 1 (k .0) (omega arith) (omega arith) x));
+            omega (arith, b .name d (k .0) (omega arith), other-class s f c new inside d nameLengthWord (k .0) (omega arith) (omega arith) x));
         method = λ m h.
             by (ltb m count)
             (λ t.
             let p = ltb-true m count t in
             let q = b .method m p in (
-              omega (arith, old-method s f c new inside 1 (omega arith) m p),
-              omega (arith, old-method s f c new inside 3 (omega arith) m p),
+              omega (arith, old-method s f c new inside nameLengthWord (omega arith) m p),
+              omega (arith, old-method s f c new inside descriptorLengthWord (omega arith) m p),
             ))
             (λ t.
             let p = ltb-false m count t in
@@ -337,8 +337,8 @@ module _ (s : Sections) (f : Formed classWidth s) (c : ℕ) (some : 1 ≤ c) (am
             let z : count + j ≡ m = omega arith in
             let q = b .method (rowWord (s .classes) (c - 1) firstMethodWord + j) (omega (arith, inside)) in
             rw (← z) (
-              omega (arith, copied-method s f c new inside 1 (omega arith) j (omega arith)),
-              omega (arith, copied-method s f c new inside 3 (omega arith) j (omega arith)),
+              omega (arith, copied-method s f c new inside nameLengthWord (omega arith) j (omega arith)),
+              omega (arith, copied-method s f c new inside descriptorLengthWord (omega arith) j (omega arith)),
             ))
             (λ u.
             let x = ltb-false m (count + own) u in
@@ -347,8 +347,8 @@ module _ (s : Sections) (f : Formed classWidth s) (c : ℕ) (some : 1 ≤ c) (am
             let i : j < length new = omega arith in
             let q = short j i in
             rw (← z) (
-              omega (arith, new-method s f c new inside 1 (omega arith) j i),
-              omega (arith, new-method s f c new inside 3 (omega arith) j i),
+              omega (arith, new-method s f c new inside nameLengthWord (omega arith) j i),
+              omega (arith, new-method s f c new inside descriptorLengthWord (omega arith) j i),
             )));
       }
 

@@ -36,40 +36,10 @@ listed n =
     onArea ((5 + 2 * n) ∷ 1 ∷ 5 ∷ 2 ∷ 0 ∷ nodes n 5 ++ replicate 2 0)
     (lent (linkedAt 1 0 (plain "C" 0) ∷ linkedAt 3 0 (plain "I" 0) ∷ []) [])
 
--- a class under one whose last runtime field has magnitude 3 and two words
-abbrev runtime-parent : Lent
-runtime-parent =
-    onArea (area (3 ∷ 1 ∷ 0 ∷ []))
-    (lent
-    (linkedAt 1 0 (generated "A" 0 [] (static "s" "I" (2 ^ 32 - 9) ∷ field "x" "J" (2 ^ 32 - 3) ∷ []) 0)
-    ∷ built "C" 1 [] (field "y" "I" 9 ∷ field "z" "D" 9 ∷ field "w" "I" 9 ∷ [])
-    ∷ [])
-    (worded 1 (abi "C" [] []) ∷ []))
-
--- class 1's list head is class 2's slot 0
-abbrev overlapping : Lent
-overlapping = onArea (area (6 ∷ 9 ∷ 50 ∷ 0 ∷ 60 ∷ 0 ∷ [])) (lent (linkedAt 1 1 (plain "C" 0) ∷ linkedAt 2 2 (plain "I" 0) ∷ []) [])
-
 pub record Telling : Type 0 where
-  -- a linked set need not hang together: a linked class under an unlinked one, a table without its class's number, a wild list head
-  pub orphan :
-      tableOf 3
-      (after
-      (onArea (area (4 ∷ 57005 ∷ 9 ∷ (2 ^ 32 - 1) ∷ []))
-      (lent (having-method "A" 0 "a" 9 ∷ linkedAt 1 1 (plain "P" 1) ∷ having-method "C" 2 "a" 8 ∷ []) []))
-      (link 3 ∷ []))
-      ≡ 8 ∷ []
-  -- a link walks no list, an ask walks one
-  pub no-walk :
-      answers
-      (onArea (area (3 ∷ 1 ∷ (2 ^ 32 - 1) ∷ [])) (lent (linkedAt 1 0 (plain "L" 0) ∷ plain "C" 0 ∷ []) []))
-      (link 2 ∷ ask 1 2 ∷ ask 2 1 ∷ [])
-      ≡ (0, 3, 0) ∷ (7, 0, 0) ∷ (0, 6, 0) ∷ []
   -- the 64th node may be the hit, a 65th is refused
   pub hit-64 : answers (listed 64) (ask 1 2 ∷ []) ≡ (0, 132, 64) ∷ []
   pub node-65 : answers (listed 65) (ask 1 2 ∷ []) ≡ (7, 0, 0) ∷ []
-  -- the runtime count starts after the parent chain's instance fields, of a generated parent too
-  pub runtime-start : indicesOf 2 (after runtime-parent (link 2 ∷ [])) ≡ (2 ^ 32 - 5) ∷ (2 ^ 32 - 6) ∷ (2 ^ 32 - 8) ∷ []
   -- a method of target 0 takes its slot's stub; read again, the slot is unknown, and the signature gets a second slot
   pub target-0 : tableOf 2 (after (lent (having-method "P" 0 "a" 0 ∷ having-method "C" 1 "a" 6 ∷ []) []) both) ≡ 901 ∷ 6 ∷ []
   -- the parent's chain reads the parent's table: b is appended, though its target is in slot 0
@@ -92,23 +62,17 @@ pub record Telling : Type 0 where
       ∷ 1 ∷ 1 ∷ 2 ∷ 1 ∷ 0 ∷ 0
       ∷ 3 ∷ 1 ∷ 4 ∷ 1 ∷ 2 ∷ 3
       ∷ 1850308675 ∷ 73 ∷ []
-  -- tables that overlap are plain memory: the entries are read, then the head is written
-  pub overlap : after overlapping (ask 1 2 ∷ []) .area ≡ 10 ∷ 9 ∷ 50 ∷ 6 ∷ 60 ∷ 0 ∷ 0 ∷ 2 ∷ 901 ∷ 60 ∷ replicate 4 0
 
 pub telling : Telling
 unfolding opened
 telling =
     record {
-      orphan = refl;
-      no-walk = refl;
       hit-64 = refl;
       node-65 = refl;
-      runtime-start = refl;
       target-0 = refl;
       parents-reading = refl;
       relaid = refl;
       copied = refl;
-      overlap = refl;
     }
 
 -- ---- whose a slot's method is

@@ -12,11 +12,11 @@ use borrow.Author.Tests.{eqb-true, eqb-false, ne-eqb, eq-eqb, ltb-true, ltb-fals
 use Rattle.words.specs.Lists.{numbers}
 use Rattle.words.proofs.Bools.{by}
 use Rattle.words.proofs.ListLaws.{length-list-from, getD-list-from}
-use Rattle.class_sheet.specs.ClassSheet.{classWidth, classCount, interfaceCount, classWord, interfaceWord, textOf, classParent, className}
+use Rattle.class_sheet.specs.ClassSheet.{parentWord, classWidth, classCount, interfaceCount, classWord, interfaceWord, textOf, classParent, className}
 use Rattle.class_sheet.specs.Sections.{sectionsOf}
 use Rattle.class_sheet.proofs.Sections.{laid-of, class-of, interface-of, class-count, interface-count}
 use Rattle.set_rules.specs.Valid.{IsClass}
-use Rattle.renumber.specs.Renumber.{orderOf, newNumber, parentWord, movedRecord, renumbered}
+use Rattle.renumber.specs.Renumber.{orderOf, newNumber, movedRecord, renumbered}
 use Rattle.renumber.specs.Places.{Before, Settled, up}
 use Rattle.order.specs.Order.{Orderable, Ordered, Follows}
 use Rattle.renumber.proofs.Stop.{positive}

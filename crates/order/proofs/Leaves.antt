@@ -14,13 +14,13 @@ use Rattle.words.proofs.Bools.{by, and-both, and-3}
 use Rattle.words.proofs.FoldLaws.{all-each, all-if, all-ext}
 use Rattle.text.specs.Text.{sameBytes}
 use Rattle.text.proofs.Laws.{same-is, same-refl}
-use Rattle.class_sheet.specs.ClassSheet.{countsWidth, classWidth, memberWidth, countAt, classCount, methodCount, fieldCount, interfaceCount, classWord, methodWord, fieldWord, interfaceWord, textOf, classParent, classFirstMethod, classMethodCount, classFirstField, classFieldCount, className}
+use Rattle.class_sheet.specs.ClassSheet.{classCountNumber, compilerCountNumber, compilerSlotsWord, compilerTableWord, fieldCountNumber, fieldCountWord, firstFieldWord, firstInterfaceWord, firstMethodWord, flagsWord, instanceWordsWord, interfaceCountNumber, interfaceCountWord, kindWord, linkStateWord, methodCountNumber, methodCountWord, nameLengthWord, nameStartWord, slotCountWord, tablePlaceWord, textLengthNumber, parentWord, countsWidth, classWidth, memberWidth, countAt, classCount, methodCount, fieldCount, interfaceCount, classWord, methodWord, fieldWord, interfaceWord, textOf, classParent, classFirstMethod, classMethodCount, classFirstField, classFieldCount, className}
 use Rattle.apart.specs.Apart.{apart, methodsApart, fieldsApart, classesApart, apartBefore}
 use Rattle.apart.proofs.Laws.{apart-is, apart-if}
 use Rattle.class_rules.specs.ClassRules.{classLimits, classFits, allUnlinked, classNumbers, classLists, classRecord, methodRecord, fieldRecord, interfaceNames, classRecords}
 use Rattle.set_rules.specs.SetRules.{methodTyped, fieldTyped, classDescriptors}
 use Rattle.set_rules.specs.Valid.{IsClass}
-use Rattle.renumber.specs.Renumber.{orderOf, newNumber, parentWord, renumbered, renumberForm}
+use Rattle.renumber.specs.Renumber.{orderOf, newNumber, renumbered, renumberForm}
 use Rattle.renumber.specs.Places.{Before}
 use Rattle.order.specs.Order.{Orderable, looseNumbers, looseRecord, looseRecords, InOrder}
 use Rattle.renumber.proofs.OrderLaws.{each-order, element-class, element-settled}
@@ -110,12 +110,12 @@ module _ (ws : List ℕ) (ok : Orderable ws) where
   unfolding renumberForm classFits classLimits
   fits-new =
       rw (
-        count 0 (omega arith),
-        count 1 (omega arith),
-        count 2 (omega arith),
-        count 3 (omega arith),
-        count 4 (omega arith),
-        count 5 (omega arith),
+        count classCountNumber (omega arith),
+        count methodCountNumber (omega arith),
+        count fieldCountNumber (omega arith),
+        count interfaceCountNumber (omega arith),
+        count compilerCountNumber (omega arith),
+        count textLengthNumber (omega arith),
         end-same ws l (fits ws ok) (distinct ws ok) (whole ws ok),
         length-same ws l (fits ws ok) (distinct ws ok) (whole ws ok),
       )
@@ -139,26 +139,26 @@ module _ (ws : List ℕ) (ok : Orderable ws) where
       simp (
         below,
         named,
-        word-at i 0 h (omega arith) (λ e. omega arith),
-        word-at i 1 h (omega arith) (λ e. omega arith),
-        word-at i 3 h (omega arith) (λ e. omega arith),
-        word-at i 4 h (omega arith) (λ e. omega arith),
-        word-at i 5 h (omega arith) (λ e. omega arith),
-        word-at i 6 h (omega arith) (λ e. omega arith),
-        word-at i 7 h (omega arith) (λ e. omega arith),
-        word-at i 8 h (omega arith) (λ e. omega arith),
-        word-at i 9 h (omega arith) (λ e. omega arith),
-        word-at i 10 h (omega arith) (λ e. omega arith),
-        word-at i 11 h (omega arith) (λ e. omega arith),
-        word-at i 12 h (omega arith) (λ e. omega arith),
-        word-at i 13 h (omega arith) (λ e. omega arith),
-        word-at i 14 h (omega arith) (λ e. omega arith),
-        word-at i 15 h (omega arith) (λ e. omega arith),
-        word-at i 16 h (omega arith) (λ e. omega arith),
-        count 1 (omega arith),
-        count 2 (omega arith),
-        count 3 (omega arith),
-        count 4 (omega arith),
+        word-at i nameStartWord h (omega arith) (λ e. omega arith),
+        word-at i nameLengthWord h (omega arith) (λ e. omega arith),
+        word-at i flagsWord h (omega arith) (λ e. omega arith),
+        word-at i kindWord h (omega arith) (λ e. omega arith),
+        word-at i firstMethodWord h (omega arith) (λ e. omega arith),
+        word-at i methodCountWord h (omega arith) (λ e. omega arith),
+        word-at i firstFieldWord h (omega arith) (λ e. omega arith),
+        word-at i fieldCountWord h (omega arith) (λ e. omega arith),
+        word-at i firstInterfaceWord h (omega arith) (λ e. omega arith),
+        word-at i interfaceCountWord h (omega arith) (λ e. omega arith),
+        word-at i linkStateWord h (omega arith) (λ e. omega arith),
+        word-at i instanceWordsWord h (omega arith) (λ e. omega arith),
+        word-at i compilerTableWord h (omega arith) (λ e. omega arith),
+        word-at i compilerSlotsWord h (omega arith) (λ e. omega arith),
+        word-at i tablePlaceWord h (omega arith) (λ e. omega arith),
+        word-at i slotCountWord h (omega arith) (λ e. omega arith),
+        count methodCountNumber (omega arith),
+        count fieldCountNumber (omega arith),
+        count interfaceCountNumber (omega arith),
+        count compilerCountNumber (omega arith),
       )
 
   -- a test of each class, in the order's order
@@ -213,7 +213,7 @@ module _ (ws : List ℕ) (ok : Orderable ws) where
       let a = interface-class i h in
       let b = interfaces-named ws ok i h in
       rw (
-        count 0 (omega arith),
+        count classCountNumber (omega arith),
         le-leb 1 (interfaceWord new i) (a .0),
         le-leb (interfaceWord new i) n (a .1),
         le-leb 1 (interfaceWord ws i) (b .0),
@@ -226,18 +226,18 @@ module _ (ws : List ℕ) (ok : Orderable ws) where
   unfolding classesApart methodsApart fieldsApart
   pair-at text i j h g =
       simp (
-        word-at i 0 h (omega arith) (λ e. omega arith),
-        word-at i 1 h (omega arith) (λ e. omega arith),
-        word-at i 5 h (omega arith) (λ e. omega arith),
-        word-at i 6 h (omega arith) (λ e. omega arith),
-        word-at i 7 h (omega arith) (λ e. omega arith),
-        word-at i 8 h (omega arith) (λ e. omega arith),
-        word-at j 0 g (omega arith) (λ e. omega arith),
-        word-at j 1 g (omega arith) (λ e. omega arith),
-        word-at j 5 g (omega arith) (λ e. omega arith),
-        word-at j 6 g (omega arith) (λ e. omega arith),
-        word-at j 7 g (omega arith) (λ e. omega arith),
-        word-at j 8 g (omega arith) (λ e. omega arith),
+        word-at i nameStartWord h (omega arith) (λ e. omega arith),
+        word-at i nameLengthWord h (omega arith) (λ e. omega arith),
+        word-at i firstMethodWord h (omega arith) (λ e. omega arith),
+        word-at i methodCountWord h (omega arith) (λ e. omega arith),
+        word-at i firstFieldWord h (omega arith) (λ e. omega arith),
+        word-at i fieldCountWord h (omega arith) (λ e. omega arith),
+        word-at j nameStartWord g (omega arith) (λ e. omega arith),
+        word-at j nameLengthWord g (omega arith) (λ e. omega arith),
+        word-at j firstMethodWord g (omega arith) (λ e. omega arith),
+        word-at j methodCountWord g (omega arith) (λ e. omega arith),
+        word-at j firstFieldWord g (omega arith) (λ e. omega arith),
+        word-at j fieldCountWord g (omega arith) (λ e. omega arith),
       )
 
   pairs-new : (text : List ℕ) → pairsOf new text n ≡ pairsOf ws text n
@@ -273,10 +273,10 @@ module _ (ws : List ℕ) (ok : Orderable ws) where
   unfolding classRecords looseRecords
   rows-4 text =
       rw (
-        count 0 (omega arith),
-        count 1 (omega arith),
-        count 2 (omega arith),
-        count 3 (omega arith),
+        count classCountNumber (omega arith),
+        count methodCountNumber (omega arith),
+        count fieldCountNumber (omega arith),
+        count interfaceCountNumber (omega arith),
         records-new text,
         all-ext (methodCount ws) (methodRecord new text) (methodRecord ws text) (method-new text),
         all-ext (fieldCount ws) (fieldRecord new text) (fieldRecord ws text) (field-new text),
@@ -288,8 +288,8 @@ module _ (ws : List ℕ) (ok : Orderable ws) where
   unfolding classDescriptors
   rows-5 text =
       rw (
-        count 1 (omega arith),
-        count 2 (omega arith),
+        count methodCountNumber (omega arith),
+        count fieldCountNumber (omega arith),
         all-ext (methodCount ws) (methodTyped new text) (methodTyped ws text) (method-typed text),
         all-ext (fieldCount ws) (fieldTyped new text) (fieldTyped ws text) (field-typed text),
       )
@@ -299,7 +299,7 @@ module _ (ws : List ℕ) (ok : Orderable ws) where
       let t = text-same ws l (fits ws ok) (distinct ws ok) (whole ws ok) in
       record {
         parent = parent-below;
-        interface = λ i h. let k = interface-class i h in (k .0, rw (count 0 (omega arith)) (k .1));
+        interface = λ i h. let k = interface-class i h in (k .0, rw (count classCountNumber (omega arith)) (k .1));
         fits = fits-new;
         records = rw t (rows-4 (textOf ws));
         descriptors = rw t (rows-5 (textOf ws));

@@ -13,8 +13,8 @@ use Rattle.words.proofs.Bools.{by, and-both, and-4, passed}
 use Rattle.words.proofs.FoldLaws.{all-ext}
 use Rattle.block.specs.Block.{blockCount, sheetWords, leastFit}
 use Rattle.text.specs.Text.{zeroRest}
-use Rattle.class_sheet.specs.ClassSheet.{classCount, textLength, textAt, contentEnd, textOf}
-use Rattle.class_sheet.proofs.Kept.{count-kept, class-kept}
+use Rattle.class_sheet.specs.ClassSheet.{classCountNumber, tablePlaceWord, slotCountWord, classCount, textLength, textAt, contentEnd, textOf}
+use Rattle.class_sheet.proofs.Sections.{count-kept, class-kept}
 use Rattle.class_rules.specs.ClassRules.{classLimits, classFits, unlinked, allUnlinked, classForm}
 use Rattle.class_rules.proofs.Laws as class
 use Rattle.set_rules.specs.SetRules.{classRefusal}
@@ -34,12 +34,12 @@ form-kept ws rest h =
     let p = and-4 (classLimits ws) (leastFit (contentEnd ws) (length ws)) (zeroRest ws (4 * textAt ws + textLength ws)) (allUnlinked ws) h in
     let fit : classFits ws ≡ true = fitted ws (p .0) (and-both (leb (contentEnd ws) (length ws)) (ltb (length ws) (contentEnd ws + 127)) (p .1) .0) in
     let end : contentEnd ws ≤ length ws = class.fits ws fit .1 in
-    rw (class-fits-kept ws rest fit, count-kept ws rest end 0 (omega arith))
+    rw (class-fits-kept ws rest fit, count-kept ws rest end classCountNumber (omega arith))
     (all-ext (classCount ws) (λ i. unlinked (ws ++ rest) (i + 1)) (λ i. unlinked ws (i + 1))
     (λ i k.
     simp (
-      class-kept ws rest end (i + 1) 15 (omega arith) (omega arith) (omega arith),
-      class-kept ws rest end (i + 1) 16 (omega arith) (omega arith) (omega arith),
+      class-kept ws rest end (i + 1) tablePlaceWord (omega arith) (omega arith) (omega arith),
+      class-kept ws rest end (i + 1) slotCountWord (omega arith) (omega arith) (omega arith),
     ))
     ∙ p .3)
 

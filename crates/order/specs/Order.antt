@@ -9,7 +9,7 @@ use lib.ListN.{length, getD, take, drop}
 use lib.Dec.{eqb, leb}
 use Rattle.words.specs.Folds.{allOf}
 use Rattle.words.specs.Lists.{numbers}
-use Rattle.class_sheet.specs.ClassSheet.{countsWidth, classWidth, memberWidth, countAt, classCount, methodCount, fieldCount, interfaceCount, compilerCount, contentEnd, classWord, methodWord, fieldWord, interfaceWord, compilerWord, textOf, classNameStart, classNameLength, classParent, classFlags, classKind, classLinkState, classInstanceWords, classCompilerSlots, classTablePlace, classSlotCount, className}
+use Rattle.class_sheet.specs.ClassSheet.{parentWord, countsWidth, classWidth, memberWidth, countAt, classCount, methodCount, fieldCount, interfaceCount, compilerCount, contentEnd, classWord, methodWord, fieldWord, interfaceWord, compilerWord, textOf, classNameStart, classNameLength, classParent, classFlags, classKind, classLinkState, classInstanceWords, classCompilerSlots, classTablePlace, classSlotCount, className}
 use Rattle.text.specs.Text.{partOk}
 use Rattle.block.specs.Block.{sheetWords}
 use Rattle.apart.specs.Apart.{apartBefore}
@@ -18,7 +18,7 @@ use Rattle.set_rules.specs.SetRules.{classDescriptors, classRefusal}
 use Rattle.set_rules.specs.Valid.{IsClass}
 use Rattle.sheet.specs.Sheet.{readClassSheet, readUnorderedSheet}
 use Rattle.renumber.specs.Places.{Named, Before, Settled, up, Returns}
-use Rattle.renumber.specs.Renumber.{Outcome, orderOf, newNumber, parentWord, renumbered, renumberForm, namesClasses, returns, cyclic, renumberRefusal, renumberDef}
+use Rattle.renumber.specs.Renumber.{Outcome, orderOf, newNumber, renumbered, renumberForm, namesClasses, returns, cyclic, renumberRefusal, renumberDef}
 
 -- 3, 4 and 19 do not refuse: with room for the list nothing does
 abbrev pub Orderable : List ℕ → Type 0

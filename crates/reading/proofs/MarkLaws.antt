@@ -15,7 +15,7 @@ use Rattle.words.specs.declared.Found.the-variants.{At, Nothing}
 use Rattle.words.proofs.FoldLaws.{length-table, getD-table, stores-turn, stores-is, length-stores}
 use Rattle.words.proofs.ListLaws.{find-within}
 use Rattle.words.proofs.Bools.{by, and-both}
-use Rattle.class_sheet.specs.ClassSheet.{classFirstMethod, classMethodCount, methodLimit}
+use Rattle.class_sheet.specs.ClassSheet.{memberWidth, targetWord, classFirstMethod, classMethodCount, methodLimit}
 use Rattle.linking.specs.Chain.{listCount, parentOf, chain, ownTarget, findByTarget}
 use Rattle.linking.specs.Vtable.{Entry, ownFixed, findByIndex, readEntry}
 use Rattle.chain.specs.Records.{methodRecords, recordWord, firstTarget}
@@ -159,20 +159,20 @@ find-more p m (suc n) =
 -- the methods of a list, one after the other
 module _ (records ts : List ℕ) (first count n : ℕ) (ms : List ℕ) where
   abbrev pub firstOf : ℕ → ℕ → Found
-  firstOf j i = find (λ m. eqb (recordWord records 6 m 5) (getD ts i 0)) (numbers first j)
+  firstOf j i = find (λ m. eqb (recordWord records memberWidth m targetWord) (getD ts i 0)) (numbers first j)
 
   pub targets-start : ms ≡ marksWith (firstOf 0) n ms
   unfolding find listFrom
   targets-start = marks-none (λ i. Nothing) n ms (λ i. refl)
 
-  pub targets-turn : (j : ℕ) {ns us : List ℕ} {w : ℕ} → ns ≡ marksWith (firstOf j) n ms → w ≡ recordWord records 6 (first + j) 5
+  pub targets-turn : (j : ℕ) {ns us : List ℕ} {w : ℕ} → ns ≡ marksWith (firstOf j) n ms → w ≡ recordWord records memberWidth (first + j) targetWord
       → us ≡ marksWith (λ i. cond (eqb w (getD ts i 0)) (At (first + j)) Nothing) n ns → first + j < methodLimit → n ≤ length ms
       → us ≡ marksWith (firstOf (j + 1)) n ms
   targets-turn j {w = w} e f u h l =
       u ∙ rw e (marks-then (firstOf j) n ms (λ i. cond (eqb w (getD ts i 0)) (At (first + j)) Nothing) (firstOf (j + 1)) l
-      (λ i k. rw (f, find-more (λ m. eqb (recordWord records 6 m 5) (getD ts i 0)) first j)
-      (mark-then k (firstOf j i) (cond (eqb (recordWord records 6 (first + j) 5) (getD ts i 0)) (At (first + j)) Nothing)
-      (λ m q. let b = find-within (λ m. eqb (recordWord records 6 m 5) (getD ts i 0)) first j m q in omega arith))))
+      (λ i k. rw (f, find-more (λ m. eqb (recordWord records memberWidth m targetWord) (getD ts i 0)) first j)
+      (mark-then k (firstOf j i) (cond (eqb (recordWord records memberWidth (first + j) targetWord) (getD ts i 0)) (At (first + j)) Nothing)
+      (λ m q. let b = find-within (λ m. eqb (recordWord records memberWidth m targetWord) (getD ts i 0)) first j m q in omega arith))))
 
   pub targets-end : {j : ℕ} {ns : List ℕ} → ns ≡ marksWith (firstOf j) n ms → j ≡ listCount first count methodLimit
       → ns ≡ marksWith (λ i. firstTarget records first count (getD ts i 0)) n ms

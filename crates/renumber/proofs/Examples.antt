@@ -5,7 +5,7 @@ use Prim.Native.Nat.{ℕ}
 use Rattle.words.specs.Folds.{allOf}
 use Rattle.words.specs.Lists.{listFrom, find, position, some}
 use Rattle.words.specs.Rows.{joined, cut}
-use Rattle.class_sheet.specs.ClassSheet.{countAt, classWord, interfaceWord, methodsAt, fieldsAt, interfacesAt, compilersAt, textAt, contentEnd}
+use Rattle.class_sheet.specs.ClassSheet.{classCount, countAt, classWord, interfaceWord, methodsAt, fieldsAt, interfacesAt, compilersAt, textAt, contentEnd}
 use Rattle.class_sheet.specs.Sections.{laidOut, sectionsBy}
 use Rattle.class_rules.specs.ClassRules.{classLimits, classFits, unlinked, interfaceNames}
 use Rattle.renumber.specs.Renumber.{Outcome, placed, ready, nextClass, orderFrom, orderOf, newNumber, movedRecord, renumbered, renumberForm, strayParent, namesClasses, returnsFrom, returns, cyclic, renumberRefusal, renumberDef}
@@ -36,7 +36,7 @@ parents ps = setOf (map under ps) []
 
 -- a call that is accepted, and one that is refused
 abbrev accepted : List ℕ → List ℕ → Outcome
-accepted ws list = record { refusal = 0; classes = countAt ws 0; set = ws; list = list }
+accepted ws list = record { refusal = 0; classes = classCount ws; set = ws; list = list }
 
 abbrev refused : ℕ → List ℕ → List ℕ → Outcome
 refused row ws list = record { refusal = row; classes = 0; set = ws; list = list }

@@ -14,11 +14,11 @@ use Rattle.words.specs.Rows.{Rows, no-rows, a-row}
 use Rattle.words.specs.declared.Found.the-variants.{At, Nothing}
 use Rattle.words.proofs.Bools.{by, or-neither}
 use Rattle.words.proofs.Rows.{row-length}
-use Rattle.class_sheet.specs.ClassSheet.{countsWidth, classWidth, memberWidth, countAt, classCount, methodCount, fieldCount, interfaceCount, compilerCount, textLength, contentEnd, classWord, methodWord, fieldWord, interfaceWord, compilerWord, textOf, classParent}
+use Rattle.class_sheet.specs.ClassSheet.{parentWord, countsWidth, classWidth, memberWidth, countAt, classCount, methodCount, fieldCount, interfaceCount, compilerCount, textLength, contentEnd, classWord, methodWord, fieldWord, interfaceWord, compilerWord, textOf, classParent}
 use Rattle.class_sheet.specs.Sections.{Sections, Formed, laidOut, sectionsOf}
 use Rattle.class_sheet.proofs.Sections.{formed-of, laid-of, class-of, method-of, field-of, interface-of, compiler-of, text-of-words, class-count, method-count, field-count, interface-count, compiler-count, text-length, end-at, class-word, method-word, field-word, interface-word, compiler-word, text-of, rest-is, length-laid}
 use Rattle.set_rules.specs.Valid.{IsClass}
-use Rattle.renumber.specs.Renumber.{placed, newNumber, parentWord, movedRecord, renumbered}
+use Rattle.renumber.specs.Renumber.{placed, newNumber, movedRecord, renumbered}
 use Rattle.renumber.proofs.Distinct.{Distinct, placed-place}
 
 -- ---- new numbers

@@ -16,11 +16,11 @@ use Rattle.words.proofs.Bools.{passed}
 use Rattle.words.proofs.Laws.{room}
 use Rattle.words.proofs.Lists.{length-part}
 use Rattle.words.proofs.Rows.{joined-append}
-use Rattle.class_sheet.specs.ClassSheet.{countsWidth, classWidth, classLimit, classCount, interfaceCount, methodsAt, fieldsAt, interfacesAt, compilersAt, textAt, contentEnd, classParent}
+use Rattle.class_sheet.specs.ClassSheet.{parentWord, countsWidth, classWidth, classLimit, classCount, interfaceCount, methodsAt, fieldsAt, interfacesAt, compilersAt, textAt, contentEnd, classParent}
 use Rattle.class_sheet.specs.Sections.{Sections, Formed, sectionsBy, sectionsOf, withClasses}
 use Rattle.class_sheet.proofs.Sections.{at-classes, at-methods, at-interfaces, countsOf, toMethods, toInterfaces, fromMethods, fromInterfaces, fromCompilers, class-count, interface-count, methods-start, interfaces-start, length-laid, laid-of, formed-of, sections-laid}
 use Rattle.set_rules.specs.Valid.{IsClass}
-use Rattle.renumber.specs.Renumber.{newNumber, parentWord, movedRecord, renumbered, renumberForm, namesClasses, cyclic, renumberRefusal, renumberDef, Outcome}
+use Rattle.renumber.specs.Renumber.{newNumber, movedRecord, renumbered, renumberForm, namesClasses, cyclic, renumberRefusal, renumberDef, Outcome}
 use Rattle.renumber.specs.Steps.{Complete, recordsMoved, withInterfaces, interfacesMapped}
 use Rattle.renumber.proofs.OrderLaws.{each-order, element-class, order-distinct}
 use Rattle.renumber.proofs.Moved.{formed-moved}

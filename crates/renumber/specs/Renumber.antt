@@ -10,7 +10,7 @@ use Rattle.words.specs.Folds.{allOf}
 use Rattle.words.specs.Lists.{numbers, find, position, some}
 use Rattle.words.specs.declared.Found.{Found}
 use Rattle.words.specs.declared.Found.the-variants.{At, Nothing}
-use Rattle.class_sheet.specs.ClassSheet.{classCount, interfaceCount, classParent}
+use Rattle.class_sheet.specs.ClassSheet.{parentWord, classCount, interfaceCount, classParent}
 use Rattle.class_sheet.specs.Sections.{Sections, laidOut, sectionsOf}
 use Rattle.class_rules.specs.ClassRules.{classFits, allUnlinked, interfaceNames}
 use Rattle.renumber.specs.declared.Renumbered.{Renumbered}
@@ -70,10 +70,6 @@ orNone Nothing = 0
 -- old class c's new number: its place in the list, counted from 1; 0, as every number that is not there, becomes 0
 unfoldable pub newNumber : List ℕ → ℕ → ℕ
 newNumber l c = orNone (position (eqb c) 1 l)
-
--- the word of a class record that holds its parent's number
-abbrev pub parentWord : ℕ
-parentWord = 2
 
 -- old class c's record, whole, with its parent's new number
 unfoldable pub movedRecord : List ℕ → List ℕ → ℕ → List ℕ

@@ -28,9 +28,6 @@ const LIST_TOO_SHORT: u32 = 15;
 
 const PARENTS_RETURN: u32 = 19;
 
-// The word of a class record that holds its parent's number.
-const PARENT: usize = 2;
-
 // The words of as many class records as there may be.
 const RECORD_WORDS: usize = class_sheet::CLASS_WIDTH * (class_sheet::CLASS_LIMIT as usize);
 
@@ -183,7 +180,7 @@ fn put_record(ws: &[u32], list: &[u32], c: u32, part: &mut [u32])
     words::copy_words(ws, at, class_sheet::CLASS_WIDTH, part, 0);
     let p = class_sheet::class_parent(ws, c);
     let q = new_number(list, p);
-    words::put_word(part, PARENT, q);
+    words::put_word(part, class_sheet::PARENT, q);
 }
 
 // Puts the records of the listed classes, in the list's order, into the first words of an array.

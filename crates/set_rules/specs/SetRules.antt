@@ -47,12 +47,12 @@ abiRefusal abi text = cond (not (abiRecords abi text)) 4 (cond (not (abiDescript
 unfoldable pub setFits : List ℕ → List ℕ → Bool
 setFits ws abi = classFits ws && abiFits abi
 
--- rows 4 and 5, with the two sheets' texts
+-- rows 4 and 5, with the two sheets' texts: here and in the crates above `text` is the class sheet's and `labels` the ABI sheet's
 unfoldable pub recordsRefusal : List ℕ → List ℕ → List ℕ → List ℕ → ℕ
-recordsRefusal ws text abi abiText =
-    cond (not (classRecords ws text && abiRecords abi abiText))
+recordsRefusal ws text abi labels =
+    cond (not (classRecords ws text && abiRecords abi labels))
     4
-    (cond (not (classDescriptors ws text && abiDescriptors abi abiText)) 5 0)
+    (cond (not (classDescriptors ws text && abiDescriptors abi labels)) 5 0)
 
 -- rows 3, 4 and 5: the number that refuses, or 0
 unfoldable pub setRefusal : List ℕ → List ℕ → ℕ

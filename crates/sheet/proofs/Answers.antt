@@ -11,6 +11,8 @@ use lib.Dec.{eqb, leb}
 use borrow.Author.Tests.{not-true, not-false, eqb-true, eqb-false}
 use Rattle.words.specs.Folds.{allOf}
 use Rattle.words.proofs.Bools.{by, and-4, passed}
+use Rattle.class_sheet.specs.ClassSheet.{blockLimit}
+use Rattle.abi_sheet.specs.AbiSheet.{abiBlockLimit}
 use Rattle.block.specs.Block.{blockCount, sheetWords, checkOk, shapeOk}
 use Rattle.sheet.specs.Sheet.{Outcome, outcome, blockRefusal, sheetRefusal, readSheet, classRows, classSheetRefusal, readClassSheet, looseRows, unorderedSheetRefusal, readUnorderedSheet, abiRows, abiSheetRefusal, readAbiSheet}
 use Rattle.sheet.specs.declared.Read.{Read}
@@ -50,12 +52,12 @@ sheet-tells limit rows bs ws =
 
 pub class-sheet-tells : (bs ws : List ℕ) → Tells (readClassSheet bs ws)
 unfolding readClassSheet classSheetRefusal
-class-sheet-tells bs ws = sheet-tells 92 classRows bs ws
+class-sheet-tells bs ws = sheet-tells blockLimit classRows bs ws
 
 pub unordered-sheet-tells : (bs ws : List ℕ) → Tells (readUnorderedSheet bs ws)
 unfolding readUnorderedSheet unorderedSheetRefusal
-unordered-sheet-tells bs ws = sheet-tells 92 looseRows bs ws
+unordered-sheet-tells bs ws = sheet-tells blockLimit looseRows bs ws
 
 pub abi-sheet-tells : (bs ws : List ℕ) → Tells (readAbiSheet bs ws)
 unfolding readAbiSheet abiSheetRefusal
-abi-sheet-tells bs ws = sheet-tells 51 abiRows bs ws
+abi-sheet-tells bs ws = sheet-tells abiBlockLimit abiRows bs ws

@@ -17,8 +17,8 @@ use Rattle.words.proofs.Lists.{skip}
 use Rattle.block.specs.Block.{leastFit}
 use Rattle.block.proofs.Laws.{blocks-least, least-blocks}
 use Rattle.text.specs.Text.{textByte, zeroAt, zeroRest}
-use Rattle.class_sheet.specs.ClassSheet.{classCount, textLength, countAt, methodsAt, fieldsAt, interfacesAt, compilersAt, textAt, contentEnd, textOf}
-use Rattle.class_sheet.proofs.Kept as kept
+use Rattle.class_sheet.specs.ClassSheet.{classCountNumber, compilerCountNumber, fieldCountNumber, interfaceCountNumber, methodCountNumber, textLengthNumber, countsWidth, tablePlaceWord, slotCountWord, classCount, textLength, countAt, methodsAt, fieldsAt, interfacesAt, compilersAt, textAt, contentEnd, textOf}
+use Rattle.class_sheet.proofs.Sections as kept
 use Rattle.class_rules.specs.ClassRules.{classLimits, classFits, unlinked, allUnlinked, classForm}
 use Rattle.class_rules.proofs.Laws as class
 use Rattle.set_rules.specs.SetRules.{classRefusal}
@@ -84,11 +84,11 @@ module _ (ws rest : List ℕ) (fits : classFits ws ≡ true) where
 
   unlinked-longer-at : (c : ℕ) → 1 ≤ c → c ≤ classCount ws → unlinked (ws ++ rest) c ≡ unlinked ws c
   unfolding unlinked
-  unlinked-longer-at c l h = rw (kept.class-kept ws rest end c 15 l h (omega arith), kept.class-kept ws rest end c 16 l h (omega arith))
+  unlinked-longer-at c l h = rw (kept.class-kept ws rest end c tablePlaceWord l h (omega arith), kept.class-kept ws rest end c slotCountWord l h (omega arith))
 
   pub unlinked-longer : allUnlinked (ws ++ rest) ≡ allUnlinked ws
   unlinked-longer =
-      rw (kept.count-kept ws rest end 0 (omega arith))
+      rw (kept.count-kept ws rest end classCountNumber (omega arith))
       (all-ext (classCount ws) (λ i. unlinked (ws ++ rest) (i + 1)) (λ i. unlinked ws (i + 1))
       (λ i k. unlinked-longer-at (i + 1) (omega arith) (omega arith)))
 
@@ -99,18 +99,18 @@ module _ (ws rest : List ℕ) (fits : classFits ws ≡ true) where
   unfolding textAt compilersAt interfacesAt fieldsAt methodsAt
   text-end-longer =
       rw (
-        kept.count-kept ws rest end 0 (omega arith),
-        kept.count-kept ws rest end 1 (omega arith),
-        kept.count-kept ws rest end 2 (omega arith),
-        kept.count-kept ws rest end 3 (omega arith),
-        kept.count-kept ws rest end 4 (omega arith),
-        kept.count-kept ws rest end 5 (omega arith),
+        kept.count-kept ws rest end classCountNumber (omega arith),
+        kept.count-kept ws rest end methodCountNumber (omega arith),
+        kept.count-kept ws rest end fieldCountNumber (omega arith),
+        kept.count-kept ws rest end interfaceCountNumber (omega arith),
+        kept.count-kept ws rest end compilerCountNumber (omega arith),
+        kept.count-kept ws rest end textLengthNumber (omega arith),
       )
 
 -- ---- the content alone
 
-module _ (ws : List ℕ) (e : ℕ) (counts : 6 ≤ e) where
-  count-cut : (k : ℕ) → k < 6 → countAt (take e ws) k ≡ countAt ws k
+module _ (ws : List ℕ) (e : ℕ) (counts : countsWidth ≤ e) where
+  count-cut : (k : ℕ) → k < countsWidth → countAt (take e ws) k ≡ countAt ws k
   unfolding countAt
   count-cut k h = getD-take e ws k 0 (omega arith)
 
@@ -118,24 +118,24 @@ module _ (ws : List ℕ) (e : ℕ) (counts : 6 ≤ e) where
   unfolding contentEnd textAt compilersAt interfacesAt fieldsAt methodsAt
   end-cut =
       rw (
-        count-cut 0 (omega arith),
-        count-cut 1 (omega arith),
-        count-cut 2 (omega arith),
-        count-cut 3 (omega arith),
-        count-cut 4 (omega arith),
-        count-cut 5 (omega arith),
+        count-cut classCountNumber (omega arith),
+        count-cut methodCountNumber (omega arith),
+        count-cut fieldCountNumber (omega arith),
+        count-cut interfaceCountNumber (omega arith),
+        count-cut compilerCountNumber (omega arith),
+        count-cut textLengthNumber (omega arith),
       )
 
   limits-cut : classLimits (take e ws) ≡ classLimits ws
   unfolding classLimits
   limits-cut =
       rw (
-        count-cut 0 (omega arith),
-        count-cut 1 (omega arith),
-        count-cut 2 (omega arith),
-        count-cut 3 (omega arith),
-        count-cut 4 (omega arith),
-        count-cut 5 (omega arith),
+        count-cut classCountNumber (omega arith),
+        count-cut methodCountNumber (omega arith),
+        count-cut fieldCountNumber (omega arith),
+        count-cut interfaceCountNumber (omega arith),
+        count-cut compilerCountNumber (omega arith),
+        count-cut textLengthNumber (omega arith),
       )
 
 module _ (ws : List ℕ) (fits : classFits ws ≡ true) where

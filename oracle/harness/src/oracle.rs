@@ -178,6 +178,15 @@ impl Linker for Oracle {
     fn reference_count(&mut self, bitmap: &[u8], words: u32) -> Answer {
         self.bitmaps.marked(bitmap, words).map_or(Answer::refused(24), |marked| Answer::accepted(marked.len() as u32, 0))
     }
+
+    /// Pair by pair from the far end; the first that differs is read, too.
+    fn compare_names(&mut self, a: &[u8], b: &[u8]) -> Answer {
+        if a.len() != b.len() {
+            return Answer::accepted(0, 0);
+        }
+        let alike = a.iter().rev().zip(b.iter().rev()).take_while(|(x, y)| x == y).count() as u32;
+        if a == b { Answer::accepted(1, alike) } else { Answer::accepted(0, alike + 1) }
+    }
 }
 
 /// The content words of the set after a link, with the lists that the Rust left; row 14.

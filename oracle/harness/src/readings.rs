@@ -14,7 +14,7 @@ use crate::side::{Answer, Linker};
 use crate::writings;
 
 /// What a reading or a descriptor is about; a run must reach each.
-const BUCKETS: [&str; 59] = [
+const BUCKETS: [&str; 67] = [
     "class sheet read",
     "class sheet refused by row 1",
     "class sheet refused by row 2",
@@ -74,6 +74,14 @@ const BUCKETS: [&str; 59] = [
     "bitmap: bits beyond the words",
     "bitmap: bytes beyond the words",
     "bitmap: more than 8,192 words",
+    "names: of unequal lengths",
+    "names: one the start of the other",
+    "names: both empty",
+    "names: the same",
+    "names: the first byte alone differs",
+    "names: the last byte alone differs",
+    "names: several bytes differ",
+    "names: of more than 255 bytes",
 ];
 
 /// Counts of readings and descriptors.
@@ -101,8 +109,8 @@ impl ReadingCounts {
     }
 }
 
-/// Reads the case's sheets, damaged or not, on both sides, writes its set back, renumbers it shuffled, and asks for argument words and of a
-/// reference bitmap.
+/// Reads the case's sheets, damaged or not, on both sides, writes its set back, renumbers it shuffled, asks for argument words and of a reference
+/// bitmap, and compares two names.
 /// Answers the first disagreement.
 pub fn compare(
     oracle: &mut Oracle,
@@ -142,7 +150,8 @@ pub fn compare(
     }
     references::compare(oracle, other, &references::random(random), counts)?;
     writings::compare(oracle, other, &writings::random(random, case), counts)?;
-    orders::compare(oracle, other, random, case, counts)
+    orders::compare(oracle, other, random, case, counts)?;
+    names::compare(oracle, other, &names::random(random), counts)
 }
 
 /// Reads a class sheet by rows 1 to 3 alone, on both sides; `strictly` is what a reading by rows 1 to 5 answered.

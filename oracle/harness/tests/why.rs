@@ -76,6 +76,10 @@ impl Linker for Explained {
     fn reference_count(&mut self, bitmap: &[u8], words: u32) -> Answer {
         Model.reference_count(bitmap, words)
     }
+
+    fn compare_names(&mut self, a: &[u8], b: &[u8]) -> Answer {
+        Model.compare_names(a, b)
+    }
 }
 
 /// `replay` holds each row to the stored one.

@@ -211,6 +211,10 @@ impl Linker for Guarded {
     fn reference_count(&mut self, bitmap: &[u8], words: u32) -> Answer {
         self.read(bitmap, &mut [0u32; 0], &mut |library, bitmap, _| library.reference_count(bitmap, words))
     }
+
+    fn compare_names(&mut self, a: &[u8], b: &[u8]) -> Answer {
+        self.read_both(a, b, &mut |library, a, b| library.compare_names(a, b))
+    }
 }
 
 #[cfg(test)]

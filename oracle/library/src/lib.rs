@@ -51,6 +51,8 @@ unsafe extern "C" {
     fn lgt_reference_words(bitmap: *const u8, bitmap_len: usize, words: u32, list: *mut u32, list_len: usize, answer: *mut u32) -> u32;
 
     fn lgt_reference_count(bitmap: *const u8, bitmap_len: usize, words: u32, answer: *mut u32) -> u32;
+
+    fn lgt_compare_names(a: *const u8, a_len: usize, b: *const u8, b_len: usize, answer: *mut u64) -> u32;
 }
 
 /// What an answer array holds before a call, so that a word that is not written shows.
@@ -147,5 +149,13 @@ impl Linker for Library {
 
     fn reference_count(&mut self, bitmap: &[u8], words: u32) -> Answer {
         answered(1, |answer| unsafe { lgt_reference_count(self.read_only(bitmap), bitmap.len(), words, answer) })
+    }
+
+    fn compare_names(&mut self, a: &[u8], b: &[u8]) -> Answer {
+        let mut answer = [u64::from(UNWRITTEN); 3];
+        let refusal = unsafe { lgt_compare_names(self.read_only(a), a.len(), self.read_only(b), b.len(), answer.as_mut_ptr()) };
+        assert_eq!(answer[2], u64::from(UNWRITTEN), "a word after the answer is written");
+        let [first, second, _] = answer.map(|word| word.try_into().unwrap_or(u32::MAX));
+        Answer { refusal, first, second }
     }
 }

@@ -2,6 +2,7 @@
 
 use harness::case::{Call, Case};
 use harness::generate;
+use harness::names::{self, Names};
 use harness::orders::{self, Order};
 use harness::random::Random;
 use harness::readings::{self, Reading};
@@ -153,4 +154,19 @@ pub fn bitmap(random: &mut Random) -> Bitmap {
         _ => {}
     }
     bitmap
+}
+
+/// Two names of any length: one or both of no bytes, both longer than a page.
+pub fn names(random: &mut Random) -> Names {
+    let mut names = names::random(random);
+    match random.below(6) {
+        0 => names.a.clear(),
+        1 => names.b.clear(),
+        2 if random.chance(10) => {
+            let start = vec![random.word() as u8; random.between(4_000, 9_000) as usize];
+            names = Names { a: [&start[..], &names.a].concat(), b: [&start[..], &names.b].concat() };
+        }
+        _ => {}
+    }
+    names
 }

@@ -6,6 +6,7 @@ mod ask;
 mod descriptors;
 mod fields;
 mod link;
+mod names;
 mod order;
 mod reading;
 mod references;
@@ -22,6 +23,7 @@ use crate::why::{Refused, Why};
 pub use ask::ask;
 pub use descriptors::argument_words;
 pub use link::link;
+pub use names::compare_names;
 pub use order::{read_unordered_sheet, renumber_classes};
 pub use reading::{read_abi_sheet, read_class_sheet};
 pub use references::{reference_count, reference_words};
@@ -77,6 +79,10 @@ impl Linker for Model {
 
     fn reference_count(&mut self, bitmap: &[u8], words: u32) -> Answer {
         answer(reference_count(bitmap, words).map(|count| (count, 0)))
+    }
+
+    fn compare_names(&mut self, a: &[u8], b: &[u8]) -> Answer {
+        answer(Ok(compare_names(a, b)))
     }
 }
 

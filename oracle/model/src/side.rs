@@ -5,7 +5,7 @@
 pub struct Answer {
     pub refusal: u32,
     /// Link: the table's place. Ask: the interface table's place. Reading: words filled. Writing: blocks. Renumbering: classes.
-    /// Argument words: their number. Reference words: their number.
+    /// Argument words: their number. Reference words: their number. Names: 1 if they are the same, else 0.
     pub first: u32,
     /// Link: slots. Ask: nodes read. Names: pairs of bytes read. Else 0.
     pub second: u32,
@@ -43,4 +43,6 @@ pub trait Linker {
     fn reference_words(&mut self, bitmap: &[u8], words: u32, list: &mut [u32]) -> Answer;
 
     fn reference_count(&mut self, bitmap: &[u8], words: u32) -> Answer;
+
+    fn compare_names(&mut self, a: &[u8], b: &[u8]) -> Answer;
 }

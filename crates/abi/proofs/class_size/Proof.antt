@@ -4,7 +4,7 @@ use Rattle.abi_sheet.specs.AbiSheet.{abiSlotLimit}
 use Rattle.words.proofs.ListLaws.{foldFrom, fold-start, fold-turn, fold-end}
 use Rattle.linking.specs.Abi.{abiSlots, slotIndex, classSize}
 use native.Mathlib.Omega.{arith}
-use mathlib.Core.Path.{_≡_, _∙_}
+use mathlib.Core.Path.{_≡_, refl, _∙_}
 use Prim.Native.Nat.{_+_, _-_, _≤_}
 use borrow.Author.Needs.{needs}
 use Rattle.abi.proofs.class_size.Statement.{statement}
@@ -26,8 +26,12 @@ unfolding slotIndex
 add-larger c = omega arith
 
 loop-again : tie.Need-loop-again Inv-loop μ-loop
-loop-again c =
-    (omega arith, omega arith, fold-turn _ _ _ _ _ (c .before .before .loop-test .taken) (cc) ∙ c .before .before .before .loop .inv .2)
+loop-again c = (
+  omega arith,
+  omega arith,
+  fold-turn _ _ _ _ _ (c .before .before .loop-test .taken) (rw (c .larger .ensures, c .before .slot-index .ensures) refl)
+      ∙ c .before .before .before .loop .inv .2,
+)
 
 returns : tie.Need-returns Inv-loop μ-loop
 returns c = fold-end _ _ _ _ _ _ (c .loop-test .left) ∙ c .before .loop .inv .2

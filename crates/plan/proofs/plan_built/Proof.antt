@@ -5,9 +5,12 @@ use borrow.Author.Needs.{needs}
 use Rattle.plan.proofs.plan_built.Statement.{statement}
 use Rattle.plan.proofs.plan_built.Tie as tie
 
--- the function's entry, before the slices and arrays that it lends
+-- the function's entry: before the arrays that it lends, and before its slices are known
+abbrev lent : tie.After-built-fields → tie.After-shared-slice-known5
+lent c = c .before .before .before .before
+
 abbrev start : tie.After-built-fields → tie.Start
-start c = c .before .before .before .before .before .before .before .before .before
+start c = lent c .before .before .before .before .before
 
 returns : tie.Need-returns
 returns c =

@@ -5,7 +5,7 @@ use mathlib.Core.Path.{_≡_}
 use Prim.Native.Nat.{_-_, _≤_}
 use lib.ListN.{length, getD}
 use lib.Dec.{eqb}
-use Rattle.class_sheet.specs.ClassSheet.{methodLimit}
+use Rattle.class_sheet.specs.ClassSheet.{memberWidth, targetWord, methodLimit}
 use Rattle.words.specs.Lists.{numbers, find}
 use Rattle.linking.specs.Chain.{listCount}
 use Rattle.chain.specs.Records.{recordWord}
@@ -18,7 +18,7 @@ use Rattle.reading.proofs.mark_targets.Tie as tie
 abbrev Inv-loop : tie.InvT-loop
 Inv-loop records first count n ts ms₀ methods j₀ ms j =
     (j ≤ methods) × (methods ≡ listCount first count methodLimit) × (n ≤ length ts) × (n ≤ length ms₀) × (length ms ≡ length ms₀)
-    × (ms ≡ marksWith (λ i. find (λ m. eqb (recordWord records 6 m 5) (getD ts i 0)) (numbers first j)) n ms₀)
+    × (ms ≡ marksWith (λ i. find (λ m. eqb (recordWord records memberWidth m targetWord) (getD ts i 0)) (numbers first j)) n ms₀)
 
 abbrev μ-loop : tie.MeasureT-loop
 μ-loop records first count n ts ms₀ methods j₀ ms j = methods - j

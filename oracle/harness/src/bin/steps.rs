@@ -4,7 +4,8 @@
 //! and stubs; these four; then class words and area after the call. Then small calls of the other
 //! functions, in the same form: what they read stands for the ABI words, what they write for the
 //! area, bytes one to a word, and a number that they take for the class (kinds 2 reference words,
-//! 3 reference count, 4 writing, 5 reading loosely, 6 renumbering; class words are class words).
+//! 3 reference count, 4 writing, 5 reading loosely, 6 renumbering, 7 and 8 reading a class and an
+//! ABI sheet, 9 argument words, 10 names, the second for the area; class words are class words).
 
 use std::collections::BTreeMap;
 use std::process::ExitCode;
@@ -16,7 +17,7 @@ use harness::generate;
 use harness::oracle::Oracle;
 use harness::random::Random;
 use harness::side::{Answer, Linker};
-use harness::{orders, readings, references, writings};
+use harness::{names, orders, readings, references, writings};
 
 /// How many cases are looked at, and the most words of a slice.
 const LOOKED_AT: u64 = 30_000;
@@ -65,16 +66,17 @@ fn others(oracle: &mut Oracle, seed: u64) -> Vec<Vec<u32>> {
     let writing = |number| writings::random(&mut random, &generate::case(seed, number));
     kept.extend((0..).map(writing).map(|writing| writing_call(oracle, &writing)).filter(is_small).take(OTHERS));
     let reading = |number| readings::reading(&mut random, &generate::case(seed, number));
-    kept.extend(
-        (0..)
-            .map(reading)
-            .filter(|reading| reading.is_class_sheet)
-            .map(|reading| loose_call(oracle, &reading))
-            .filter(is_small)
-            .take(OTHERS),
-    );
+    kept.extend((0..).map(reading).flat_map(|reading| reading_calls(oracle, &reading)).filter(is_small).take(3 * OTHERS));
+    kept.extend((0..OTHERS).map(|_| readings::descriptor(&mut random)).map(|(descriptor, flags)| {
+        let answer = oracle.argument_words(&descriptor, flags);
+        call(9, flags, answer, &[], &wide(&descriptor), &[], &[])
+    }));
     let order = |number| orders::random(&mut random, &generate::case(seed, number));
     kept.extend((0..).map(order).map(|order| order_call(oracle, &order)).filter(is_small).take(OTHERS));
+    kept.extend((0..OTHERS).map(|_| names::random(&mut random)).map(|names::Names { a, b }| {
+        let (answer, second) = (oracle.compare_names(&a, &b), wide(&b));
+        call(10, 0, answer, &[], &wide(&a), &second, &second)
+    }));
     kept
 }
 
@@ -90,11 +92,16 @@ fn call(kind: u32, number: u32, answer: Answer, set: &[u32], read: &[u32], befor
     [&head[..], &lengths, set, read, before, set, after].concat()
 }
 
-fn loose_call(oracle: &mut Oracle, reading: &readings::Reading) -> Vec<u32> {
-    let before = readings::lent_words(reading.lent);
-    let mut after = before.clone();
-    let answer = oracle.read_unordered_sheet(&reading.bytes, &mut after);
-    call(5, 0, answer, &[], &wide(&reading.bytes), &before, &after)
+/// A reading; of a class sheet by rows 1 to 3 alone, too.
+fn reading_calls(oracle: &mut Oracle, reading: &readings::Reading) -> Vec<Vec<u32>> {
+    let (before, bytes) = (readings::lent_words(reading.lent), wide(&reading.bytes));
+    let (mut after, mut loosely) = (before.clone(), before.clone());
+    let answer = readings::read(oracle, reading, &mut after);
+    if !reading.is_class_sheet {
+        return vec![call(8, 0, answer, &[], &bytes, &before, &after)];
+    }
+    let loose = oracle.read_unordered_sheet(&reading.bytes, &mut loosely);
+    vec![call(7, 0, answer, &[], &bytes, &before, &after), call(5, 0, loose, &[], &bytes, &before, &loosely)]
 }
 
 fn order_call(oracle: &mut Oracle, order: &orders::Order) -> Vec<u32> {

@@ -91,7 +91,7 @@ fn main() -> ExitCode {
     ExitCode::SUCCESS
 }
 
-/// A case's calls, a reading, of a class sheet loosely too, a writing, an order, a descriptor and a reference bitmap.
+/// A case's calls, a reading, of a class sheet loosely too, a writing, an order, a descriptor, a reference bitmap and two names.
 fn one(seed: u64, number: u64, oracle: &mut Oracle, guarded: &mut Guarded, counts: &mut Counts) -> Result<(), String> {
     let case = malformed::case(seed, number);
     let result = compare::compare(oracle, guarded, &case, &mut |step| {
