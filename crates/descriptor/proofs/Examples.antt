@@ -1,5 +1,5 @@
--- Two descriptors with their derivations: what the grammar spells, and the words that are counted along it. Descriptors are counted and
--- refused by `judge`'s vectors. Assumes nothing.
+-- Two descriptors with their derivations: what the grammar spells; and the width of bytes that are no descriptor, which no call shows.
+-- Descriptors are counted and refused by `judge`'s vectors. Assumes nothing.
 use mathlib.Core.Path.{_≡_, refl}
 use mathlib.Core.Bool.{So}
 use mathlib.Core.List.{[], _∷_}
@@ -10,7 +10,7 @@ use Rattle.descriptor.specs.Grammar.{UnqualifiedName, I, J, L, base, obj
 use Rattle.descriptor.specs.Grammar.{«V», void, MethodDescriptor, nameBytes, nameSpelling, restSpelling, classSpelling, baseByte}
 use Rattle.descriptor.specs.Grammar.{objectSpelling, typeSpelling, fieldSpelling, parameterSpelling, parametersSpelling}
 use Rattle.descriptor.specs.Grammar.{voidSpelling, resultSpelling, methodSpelling}
-use Rattle.descriptor.specs.Words.{typeWords, parameterWords, parametersWords, argumentWords, byteWidth, width}
+use Rattle.descriptor.specs.Words.{byteWidth, width}
 
 -- ( I J ) V, and [ L a / b ;
 abbrev pub int-long-void : MethodDescriptor
@@ -25,15 +25,13 @@ array-of-a-b = field (array (of (component (object (L (record { first = letter (
 
 pub record Rows : Type 0 where
   pub method : methodSpelling int-long-void ≡ text "(IJ)V"
-  pub instance-words : argumentWords int-long-void 0 ≡ 4
-  pub static-words : argumentWords int-long-void 0x0008 ≡ 3
   pub class : fieldSpelling array-of-a-b ≡ text "[La/b;"
   -- of bytes that are no descriptor the first counts
   pub any-width : width (text "D;") ≡ 2
   pub no-width : width (text "") ≡ 1
 
 pub rows : Rows
-unfolding isBaseByte isNameByte some argumentWords parametersWords parameterWords typeWords width byteWidth methodSpelling parametersSpelling
+unfolding isBaseByte isNameByte some width byteWidth methodSpelling parametersSpelling
     parameterSpelling resultSpelling voidSpelling fieldSpelling typeSpelling
     baseByte objectSpelling classSpelling restSpelling nameSpelling nameBytes array-of-a-b letter
-rows = record { method = refl; instance-words = refl; static-words = refl; class = refl; any-width = refl; no-width = refl }
+rows = record { method = refl; class = refl; any-width = refl; no-width = refl }

@@ -1,13 +1,12 @@
 -- Calls that show how a point is read where a reader might expect otherwise, computed on the definitions. All telling calls are executed:
--- oracle/harness/src/telling has them, and `corpus` replays them. Answers are the refusal, 0 for none, then place and slots of a link, place
--- and nodes of an ask. Assumes nothing.
+-- oracle/harness/src/telling has them, and `corpus` replays them. Assumes nothing.
 use mathlib.Core.Path.{_≡_, refl}
 use mathlib.Core.List.{List, [], _∷_, _++_}
 use Prim.Native.String.{String}
-use Prim.Native.Nat.{ℕ, zero, suc, _+_, _*_, _-_, _^_}
+use Prim.Native.Nat.{ℕ}
 use lib.ListN.{replicate}
-use Rattle.linking.proofs.Assemble.{Class, Lent, Call, method, flagged, field, static, built, generated, compiled, linkedAt, having, slot, fixed, abi, worded}
-use Rattle.linking.proofs.Assemble.{lent, onArea, spare, link, ask, answers, after, indicesOf, tableOf, classesOf}
+use Rattle.linking.proofs.Assemble.{Class, Lent, Call, method, flagged, field, built, compiled, linkedAt, having, slot, fixed, abi}
+use Rattle.linking.proofs.Assemble.{lent, onArea, spare, link, after, tableOf, classesOf}
 use Rattle.linking.proofs.Opened.{opened}
 
 abbrev both : List Call
@@ -24,26 +23,9 @@ plain name parent = built name parent [] []
 abbrev area : List ℕ → List ℕ
 area ws = ws ++ replicate 8 0
 
--- nodes of classes that are not asked for, and a last one for class 2, from word `at` on
-abbrev nodes : ℕ → ℕ → List ℕ
-nodes zero at = []
-nodes (suc zero) at = 0 ∷ 2 ∷ []
-nodes (suc (suc n)) at = (at + 2) ∷ 77 ∷ nodes (suc n) (at + 2)
-
--- classes 1 and 2 linked with no slots, and n nodes in class 1's list
-abbrev listed : ℕ → Lent
-listed n =
-    onArea ((5 + 2 * n) ∷ 1 ∷ 5 ∷ 2 ∷ 0 ∷ nodes n 5 ++ replicate 2 0)
-    (lent (linkedAt 1 0 (plain "C" 0) ∷ linkedAt 3 0 (plain "I" 0) ∷ []) [])
-
 pub record Telling : Type 0 where
-  -- the 64th node may be the hit, a 65th is refused
-  pub hit-64 : answers (listed 64) (ask 1 2 ∷ []) ≡ (0, 132, 64) ∷ []
-  pub node-65 : answers (listed 65) (ask 1 2 ∷ []) ≡ (7, 0, 0) ∷ []
   -- a method of target 0 takes its slot's stub; read again, the slot is unknown, and the signature gets a second slot
   pub target-0 : tableOf 2 (after (lent (having-method "P" 0 "a" 0 ∷ having-method "C" 1 "a" 6 ∷ []) []) both) ≡ 901 ∷ 6 ∷ []
-  -- the parent's chain reads the parent's table: b is appended, though its target is in slot 0
-  pub parents-reading : tableOf 2 (after (lent (having-method "P" 0 "a" 5 ∷ having-method "Q" 1 "b" 5 ∷ []) []) both) ≡ 5 ∷ 5 ∷ []
   -- a class with an ABI entry: known entries go to their fixed index, else after the minimum size
   pub relaid :
       tableOf 2
@@ -67,10 +49,7 @@ pub telling : Telling
 unfolding opened
 telling =
     record {
-      hit-64 = refl;
-      node-65 = refl;
       target-0 = refl;
-      parents-reading = refl;
       relaid = refl;
       copied = refl;
     }

@@ -4,7 +4,8 @@ use mathlib.Core.Bool.{_&&_, _||_}
 use mathlib.Core.List.{List}
 use Prim.Native.Nat.{ℕ}
 use lib.Dec.{eqb, leb, ltb}
-use Rattle.class_sheet.specs.ClassSheet.{classParent, classFlags, classKind, classLinkState, classInstanceWords, classCompilerSlots, classTablePlace, classSlotCount}
+use Rattle.class_sheet.specs.ClassSheet.{classParent, classFlags, classKind, classLinkState, classInstanceWords, classCompilerSlots}
+use Rattle.class_sheet.specs.ClassSheet.{classTablePlace, classSlotCount}
 use Rattle.class_rules.specs.ClassRules.{classNumbers}
 use borrow.Author.Needs.{needs}
 use Rattle.class_rules.proofs.numbers_ok.Statement.{statement}

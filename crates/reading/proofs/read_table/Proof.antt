@@ -52,7 +52,8 @@ returns c =
     (placed .before .slot-count .result) _ _ (t .0) (t .1 .0) (m .0) (i .0) (omega (arith, start .pre))
     (omega (arith, start .pre)) in
     let d = read-classes (now (a .ws)) (now (a .area)) (placed .class-table-place .result) (a .c) (placed .before .slot-count .result) _ _ _ (t .0)
-    (t .1 .0) (t .1 .1) (m .0) (m .1) (omega (arith, start .pre)) (omega (arith, start .pre)) (omega (arith, copied .before .copy-slots-arg3 .given)) (now (a .text)) (now (a .abi)) (now (a .labels)) (i .1)
+    (t .1 .0) (t .1 .1) (m .0) (m .1) (omega (arith, start .pre)) (omega (arith, start .pre))
+    (omega (arith, copied .before .copy-slots-arg3 .given)) (now (a .text)) (now (a .abi)) (now (a .labels)) (i .1)
     (placed .class-table-place .ensures) in (
       table-is _ _ _ _ _ _ (placed .class-table-place .ensures) (placed .before .slot-count .ensures) (r .0),
       (omega arith, (r .1, (d .0, d .1))),
