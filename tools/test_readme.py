@@ -22,14 +22,16 @@ COMMAND = r"(?:\./|tools/|oracle/|bench/|examples/|bash |rt |cargo |make |python
 IN_THE_GATE = {
     "oracle/run SEED COUNT": "oracle/run 1 ", "oracle/run 1 1000000": "oracle/run 1 ", "oracle/run --model SEED COUNT": "oracle/run --model 1 ",
     "oracle/faults SEED COUNT": "oracle/faults 1 ", "oracle/corpus SEED N FILE": "oracle/corpus 1 300 ",
-    "oracle/corpus telling FILE": "oracle/corpus telling ",
+    "oracle/corpus telling FILE": "oracle/corpus telling ", "oracle/corpus answers SEED N FILE": "oracle/corpus answers 1 50 ",
     "cargo test --offline": "(cd oracle && cargo test --offline", "examples/c/run": "examples/c/run",
     "python3 tools/test_sheet.py": "python3 tools/test_sheet.py",
 }
 # Shorter or with a file in the place of a word that stands for one.
 INSTEAD = {
-    "oracle/corpus replay FILE": "oracle/corpus replay crates/corpus/data/rust.bin",
+    "oracle/corpus replay FILE": "oracle/corpus replay crates/corpus/data/rust.bin && oracle/corpus replay crates/answers/data/rust.bin",
     "oracle/corpus spoiled SEED FILE": "oracle/corpus spoiled 1 {folder}/spoiled.bin && cmp {folder}/spoiled.bin crates/corpus/data/spoiled.bin",
+    "oracle/corpus answers-spoiled SEED FILE":
+        "oracle/corpus answers-spoiled 1 {folder}/answers.bin && cmp {folder}/answers.bin crates/answers/data/spoiled.bin",
     "oracle/premises SEED": "oracle/premises 1",
     "oracle/listings SEED COUNT FOLDER": "oracle/listings 1 300 {folder}",
     "rt staticlib lgt_linker": "./linked examples/card",  # which lets rt do it where that is not done

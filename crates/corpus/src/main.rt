@@ -7,7 +7,6 @@ ghost use Prim.Native.Nat.{_≤_};
 ghost use lib.ListN.{length};
 use libc::STDOUT_FILENO;
 use words::byte_of;
-use words::le_word;
 use words::part;
 use words::put_byte;
 use words::put_word;
@@ -127,18 +126,6 @@ fn make_changes(f: &[u32], at: u32, out: &mut [u32]) -> u32 {
     place
 }
 
-// Whether the words are the first of others.
-fn is_front(words: &[u32], others: &[u32]) -> bool {
-    let mut i: usize = 0;
-    while i < words.len() {
-        if word_at(words, i) != word_at(others, i) {
-            return false;
-        }
-        i += 1;
-    }
-    true
-}
-
 // The sum of the words before the last, modulo 2^32, is the last.
 fn is_summed(f: &[u32]) -> bool {
     let mut sum: u32 = 0;
@@ -189,7 +176,7 @@ fn make_call(
     let mut answers = [0u32; 3];
     let lent = word_part(&stubs, 0, wide(word(f, place)));
     replay::replay(set, abi, area, &call, lent, &mut answers);
-    is_front(&answers, word_part(f, wide(on(at, 4)), 3))
+    files::is_front(&answers, word_part(f, wide(on(at, 4)), 3))
 }
 
 // What differs after a call, of which the answer is the Rust's or not.
@@ -197,10 +184,10 @@ fn difference(same: bool, set: &[u32], area: &[u32], rust_set: &[u32], rust_area
     if !same {
         return ANSWER;
     }
-    if !is_front(set, rust_set) {
+    if !files::is_front(set, rust_set) {
         return SET;
     }
-    if !is_front(area, rust_area) {
+    if !files::is_front(area, rust_area) {
         return AREA;
     }
     0
@@ -356,7 +343,7 @@ fn is_reading(packed: &[u32], n: u32, kind: u32, lent: u32, refusal: u32, first:
     lend_words(&mut words, lent);
     read_words(packed, first, &mut rust_words, lent);
     let answer = read_lent(kind, part(&bytes, 0, wide(n)), &mut words, wide(lent));
-    is_read(answer, refusal, first) & is_front(word_part(&words, 0, wide(lent)), &rust_words)
+    is_read(answer, refusal, first) & files::is_front(word_part(&words, 0, wide(lent)), &rust_words)
 }
 
 // What an item without calls comes to.
@@ -545,51 +532,8 @@ fn print_corpus(path: &[u8], f: &[u32]) {
     );
 }
 
-// Stores the whole words of the bytes from the word `at` on, as many as there is room for.
-fn load_words(bytes: &[u8], words: &mut [u32], at: usize)
-    requires { ⌜ at ≤ 131072 ⌝ }
-{
-    let mut i: usize = 0;
-    while i < bytes.len() / 4 {
-        put_word(words, at + i, le_word(bytes, 4 * i));
-        i += 1;
-    }
-}
-
-// Room for a part of a file.
-fn file_part() -> [u8; 32768]
-    ensures { λ r. ⌜ 32768 ≡ length r ⌝ }
-{
-    [0; 32768]
-}
-
-// Reads a part of a file into the words from `at` on, and answers how many bytes it has.
-fn load_part(fd: i32, words: &mut [u32], at: usize) -> usize
-    requires { ⌜ at ≤ 131072 ⌝ }
-    ensures { λ r. ⌜ r ≤ 32768 ⌝ }
-{
-    let mut bytes = file_part();
-    let n = io::read_full(fd, &mut bytes);
-    load_words(&bytes[..n], words, at);
-    n
-}
-
-// Reads the parts of a file that count, and answers how many bytes they have.
-fn load_file(fd: i32, words: &mut [u32]) -> usize {
-    let mut read: usize = 0;
-    let mut i: usize = 0;
-    while i < 16 {
-        read += load_part(fd, words, 8192 * i);
-        i += 1;
-    }
-    read
-}
-
-// Replays the corpus in an open file.
-fn replay_open(path: &[u8], fd: i32) {
-    let mut words = [0u32; 131072];
-    let n = load_file(fd, &mut words);
-    let f = word_part(&words, 0, n / 4);
+// Replays the corpus in the words of a file.
+fn replay_words(path: &[u8], f: &[u32]) {
     if is_corpus(f) {
         print_corpus(path, f);
     } else {
@@ -598,15 +542,21 @@ fn replay_open(path: &[u8], fd: i32) {
     }
 }
 
-// Replays the corpus at a path.
+// Room for the bytes of a file that count.
+fn file_bytes() -> [u8; 524288]
+    ensures { λ r. ⌜ 524288 ≡ length r ⌝ }
+{
+    [0; 524288]
+}
+
+// Replays the corpus in the file at a path.
 fn replay_path(path: &[u8]) {
-    let fd = os::open_read(path);
-    if fd < 0 {
-        os::fail(path);
-        return;
+    let mut bytes = file_bytes();
+    if let files::File::Bytes(n) = files::read_path(path, &mut bytes) {
+        let mut words = [0u32; 131072];
+        files::load_words(part(&bytes, 0, n), &mut words);
+        replay_words(path, word_part(&words, 0, n / 4));
     }
-    replay_open(path, fd);
-    libc::close(fd);
 }
 
 // Replays the corpus that argument i names.

@@ -22,7 +22,6 @@ use libc::STDOUT_FILENO;
 use words::byte_at;
 use words::le_word;
 use words::part;
-use words::put_word;
 use words::wide;
 use words::word_at;
 use words::word_part;
@@ -311,15 +310,6 @@ fn file_words() -> [u32; 32768]
     [0; 32768]
 }
 
-// The whole words of the bytes, as many as there is room for.
-fn load_words(bytes: &[u8], words: &mut [u32]) {
-    let mut i: usize = 0;
-    while i < bytes.len() / 4 {
-        put_word(words, i, le_word(bytes, 4 * i));
-        i += 1;
-    }
-}
-
 // Renumbers the class words with the first n words of the list lent, or all where there are fewer.
 fn renumber_lent(set: &mut [u32], list: &mut [u32], n: usize) -> renumber::Renumbered {
     if n < list.len() {
@@ -377,7 +367,7 @@ fn print_words_of_set(path: &[u8], name: &[u8], set: &[u32], abi: &[u32], room: 
 
 // Judges the set in bytes: the class words and the ABI words that stand after the number of class words.
 fn print_set(path: &[u8], name: &[u8], bytes: &[u8], words: &mut [u32]) {
-    load_words(bytes, words);
+    files::load_words(bytes, words);
     let all = word_part(words, 0, bytes.len() / 4);
     let n = wide(word_at(all, 0));
     print_words_of_set(
@@ -467,35 +457,12 @@ fn file_bytes() -> [u8; 131072]
     [0; 131072]
 }
 
-// Whether the n bytes that were read are all of the input, or all that count.
-fn is_whole(fd: i32, n: usize) -> bool {
-    if n == 131072 {
-        return true;
-    }
-    let mut one = [0u8; 1];
-    libc::read(fd, &mut one) == 0
-}
-
-// Reads an open file and judges it, or says on standard error why it cannot be read.
-fn judge_open(path: &[u8], fd: i32) {
-    let mut bytes = file_bytes();
-    let n = io::read_full(fd, &mut bytes);
-    if is_whole(fd, n) {
-        print_line(path, &bytes[..n]);
-    } else {
-        os::fail(path);
-    }
-}
-
 // Judges the file at a path.
 fn judge_path(path: &[u8]) {
-    let fd = os::open_read(path);
-    if fd < 0 {
-        os::fail(path);
-        return;
+    let mut bytes = file_bytes();
+    if let files::File::Bytes(n) = files::read_path(path, &mut bytes) {
+        print_line(path, part(&bytes, 0, n));
     }
-    judge_open(path, fd);
-    libc::close(fd);
 }
 
 // Judges the file that argument i names.

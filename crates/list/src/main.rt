@@ -20,45 +20,12 @@ fn listing_bytes() -> [u8; 2228224]
     [0; 2228224]
 }
 
-// Whether the n bytes that were read are all of the input, or all that count.
-fn is_whole(fd: i32, n: usize) -> bool {
-    if n == 47616 {
-        return true;
-    }
-    let mut one = [0u8; 1];
-    libc::read(fd, &mut one) == 0
-}
-
-// Reads an open file to its end. Answers the number of bytes, or 47,617 where it cannot be read.
-fn read_open(fd: i32, bytes: &mut [u8]) -> usize {
-    let n = io::read_full(fd, bytes);
-    if is_whole(fd, n) {
-        return n;
-    }
-    47617
-}
-
-// Reads the file at a path, as `read_open` does, and says on standard error why it cannot.
-fn read_file(path: &[u8], bytes: &mut [u8]) -> usize {
-    let fd = os::open_read(path);
-    if fd < 0 {
-        os::fail(path);
-        return 47617;
-    }
-    let n = read_open(fd, bytes);
-    if n == 47617 {
-        os::fail(path);
-    }
-    libc::close(fd);
-    n
-}
-
 // Reads the file of this name in a folder.
-fn read_in(folder: &[u8], name: &[u8], bytes: &mut [u8]) -> usize {
+fn read_in(folder: &[u8], name: &[u8], bytes: &mut [u8]) -> files::File {
     let mut path = io::buffer();
     let at = lines::put_bytes(&mut path, 0, folder);
     let end = lines::put_bytes(&mut path, at, name);
-    read_file(words::part(&path, 0, end), bytes)
+    files::read_path(words::part(&path, 0, end), bytes)
 }
 
 // Puts the listing into the bytes lent for it, and answers how many it has: it is there whole.
@@ -71,8 +38,7 @@ fn put_listing(abi: &[u8], classes: &[u8], out: &mut [u8; 2228224]) -> usize
 // Lists the folder whose ABI sheet is read, and good.
 fn list_classes(folder: &[u8], abi: &[u8], out: &mut [u8; 2228224]) {
     let mut classes = sheet_bytes();
-    let n = read_in(folder, b"classes.bin", &mut classes);
-    if n != 47617 {
+    if let files::File::Bytes(n) = read_in(folder, b"classes.bin", &mut classes) {
         let end = put_listing(abi, words::part(&classes, 0, n), out);
         io::write_all(STDOUT_FILENO, words::part(out, 0, end));
     }
@@ -91,8 +57,7 @@ fn list_read(folder: &[u8], abi: &[u8], out: &mut [u8; 2228224]) {
 // Lists a folder.
 fn list_folder(folder: &[u8]) {
     let mut abi = sheet_bytes();
-    let n = read_in(folder, b"abi.bin", &mut abi);
-    if n != 47617 {
+    if let files::File::Bytes(n) = read_in(folder, b"abi.bin", &mut abi) {
         let mut out = listing_bytes();
         list_read(folder, words::part(&abi, 0, n), &mut out);
     }

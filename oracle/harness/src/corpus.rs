@@ -1,6 +1,7 @@
 //! The corpus: cases with the oracle's answers, as little-endian words that a program
 //! without any Rust can replay. README.md sets the format out.
 
+pub mod answers;
 mod format;
 
 use crate::buckets::Counts;
@@ -231,6 +232,9 @@ fn write_descriptor(writer: &mut Writer, oracle: &mut Oracle, random: &mut Rando
 
 /// Replays a corpus on a side; answers the number of calls, or what differs first.
 pub fn replay(corpus: &[u32], side: &mut dyn Linker) -> Result<usize, String> {
+    if corpus.first() == Some(&answers::MAGIC) {
+        return answers::replay(corpus, side);
+    }
     let mut reader = Reader::new(corpus)?;
     let [magic, version, _, _, cases, readings, descriptors] = reader.words()?;
     let _longest: [u32; 7] = reader.words()?;

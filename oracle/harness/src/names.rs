@@ -53,7 +53,12 @@ fn change(random: &mut Random, name: &mut [u8], place: u32) {
 
 /// Compares on both sides. Answers the first disagreement.
 pub fn compare(oracle: &mut Oracle, other: &mut dyn Linker, names: &Names, counts: &mut ReadingCounts) -> Result<(), String> {
-    let compared = judge(oracle, other, names)?;
+    observe(names, judge(oracle, other, names)?, counts);
+    Ok(())
+}
+
+/// Counts what two names that were compared so are about.
+pub fn observe(names: &Names, compared: Answer, counts: &mut ReadingCounts) {
     let Names { a, b } = names;
     let (is_same, is_long) = (compared.first == 1, a.len() == b.len() && a.len() > 1);
     let differing = a.iter().zip(b).filter(|(x, y)| x != y).count();
@@ -71,7 +76,6 @@ pub fn compare(oracle: &mut Oracle, other: &mut dyn Linker, names: &Names, count
             counts.hit(bucket);
         }
     }
-    Ok(())
 }
 
 /// The answer on which both sides agree.

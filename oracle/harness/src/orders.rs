@@ -87,14 +87,9 @@ pub fn compare(
 ) -> Result<(), String> {
     let order = self::random(random, case);
     let (answer, list, after) = judge(oracle, other, &order)?;
-    counts.hit(&match answer.refusal {
-        0 => "classes renumbered".to_owned(),
-        row => format!("classes not renumbered, by row {row}"),
-    });
+    observe(&order, answer, &list, counts);
     if answer.refusal == 0 {
-        let is_in_order = list.is_sorted();
-        counts.hit(if is_in_order { "order: kept" } else { "order: changed" });
-        if is_in_order && after != order.set {
+        if list.is_sorted() && after != order.set {
             return Err(format!("a set in order was changed\nclass words {:?}", order.set));
         }
         let mut again = after.clone();
@@ -104,6 +99,39 @@ pub fn compare(
         }
     }
     if random.below(LINKED_EACH) == 0 { link_alike(oracle, other, random, case, counts) } else { Ok(()) }
+}
+
+/// Counts what a renumbering that was answered so is about; `list` has the old numbers.
+pub fn observe(order: &Order, answer: Answer, list: &[u32], counts: &mut ReadingCounts) {
+    counts.hit(&match answer.refusal {
+        0 => "classes renumbered".to_owned(),
+        row => format!("classes not renumbered, by row {row}"),
+    });
+    let Some(set) = Set::decode(&order.set) else {
+        counts.hit("order: no class set");
+        return;
+    };
+    let any = |row: u32, word: usize, is_such: &dyn Fn(u32) -> bool| {
+        answer.refusal == row && set.classes.iter().any(|class| is_such(class.get(word)))
+    };
+    let (classes, is_some) = (set.classes.len() as u32, |word: u32| word != 0);
+    let parents: Vec<u32> = set.classes.iter().map(|class| class.get(class_word::PARENT)).collect();
+    for (bucket, reached) in [
+        ("order: kept", answer.refusal == 0 && list.is_sorted()),
+        ("order: changed", answer.refusal == 0 && !list.is_sorted()),
+        ("order: list words after the classes", answer.refusal == 0 && order.lent > set.classes.len()),
+        ("order: words after the content", answer.refusal == 0 && order.set.len() > set.content()),
+        ("order: a table place alone", any(3, class_word::PLACE, &is_some) && !any(3, class_word::SLOTS, &is_some)),
+        ("order: a slot count alone", any(3, class_word::SLOTS, &is_some) && !any(3, class_word::PLACE, &is_some)),
+        ("order: a parent above the classes", any(4, class_word::PARENT, &|parent| parent > classes)),
+        ("order: an interface word that names no class", answer.refusal == 4 && parents.iter().all(|&parent| parent <= classes)),
+        ("order: a class its own parent", answer.refusal == 19 && (1..).zip(&parents).any(|(class, &parent)| class == parent)),
+        ("order: several classes that return", answer.refusal == 19 && (1..).zip(&parents).all(|(class, &parent)| class != parent)),
+    ] {
+        if reached {
+            counts.hit(bucket);
+        }
+    }
 }
 
 /// The answer on which both sides agree, the list, and the class words, on which they agree too.

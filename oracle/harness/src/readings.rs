@@ -14,7 +14,7 @@ use crate::side::{Answer, Linker};
 use crate::writings;
 
 /// What a reading or a descriptor is about; a run must reach each.
-const BUCKETS: [&str; 67] = [
+const BUCKETS: &[&str] = &[
     "class sheet read",
     "class sheet refused by row 1",
     "class sheet refused by row 2",
@@ -52,6 +52,15 @@ const BUCKETS: [&str; 67] = [
     "classes not renumbered, by row 15",
     "order: kept",
     "order: changed",
+    "order: list words after the classes",
+    "order: words after the content",
+    "order: no class set",
+    "order: a table place alone",
+    "order: a slot count alone",
+    "order: a parent above the classes",
+    "order: an interface word that names no class",
+    "order: a class its own parent",
+    "order: several classes that return",
     "order: linked alike",
     "order: a class refused alike",
     "order: a table in another order",
@@ -74,6 +83,7 @@ const BUCKETS: [&str; 67] = [
     "bitmap: bits beyond the words",
     "bitmap: bytes beyond the words",
     "bitmap: more than 8,192 words",
+    "bitmap: list words after the count",
     "names: of unequal lengths",
     "names: one the start of the other",
     "names: both empty",
@@ -100,6 +110,11 @@ impl ReadingCounts {
 
     pub fn add(&mut self, other: &Self) {
         other.0.iter().for_each(|(bucket, more)| *self.0.entry(bucket).or_default() += more);
+    }
+
+    /// Every bucket, and whether it was reached.
+    pub(crate) fn buckets(&self) -> impl Iterator<Item = (&'static str, bool)> {
+        BUCKETS.iter().map(|&bucket| (bucket, self.0[bucket] > 0))
     }
 
     /// The summary, and whether every bucket was reached.
@@ -165,11 +180,7 @@ fn loosely(
     let before = lent_words(reading.lent);
     let (mut expected, mut found) = (before.clone(), before);
     let answers = [oracle.read_unordered_sheet(&reading.bytes, &mut expected), other.read_unordered_sheet(&reading.bytes, &mut found)];
-    counts.hit(&match answers[0].refusal {
-        0 if matches!(strictly.refusal, 4 | 5) => "class sheet read loosely alone".to_owned(),
-        0 => "class sheet read loosely".to_owned(),
-        row => format!("class sheet refused loosely by row {row}"),
-    });
+    observe_loosely(strictly, answers[0], counts);
     if answers[0] != answers[1] || expected != found || (strictly.refusal < 4 && answers[0] != strictly) {
         return Err(format!(
             "reading loosely, {}: oracle {:?}, other {:?}\nbytes {:?}",
@@ -177,6 +188,15 @@ fn loosely(
         ));
     }
     Ok(())
+}
+
+/// Counts a class sheet that was read so by rows 1 to 5, and so by rows 1 to 3 alone.
+pub(crate) fn observe_loosely(strictly: Answer, loosely: Answer, counts: &mut ReadingCounts) {
+    counts.hit(&match loosely.refusal {
+        0 if matches!(strictly.refusal, 4 | 5) => "class sheet read loosely alone".to_owned(),
+        0 => "class sheet read loosely".to_owned(),
+        row => format!("class sheet refused loosely by row {row}"),
+    });
 }
 
 /// The content of class words, as if no class were linked.

@@ -53,8 +53,13 @@ pub fn random(random: &mut Random) -> Bitmap {
 
 /// Lists and counts on both sides. Answers the first disagreement.
 pub fn compare(oracle: &mut Oracle, other: &mut dyn Linker, bitmap: &Bitmap, counts: &mut ReadingCounts) -> Result<(), String> {
-    let listed = judge(oracle, other, bitmap)?;
-    let Bitmap { bytes, words, lent: _ } = bitmap;
+    observe(bitmap, judge(oracle, other, bitmap)?, counts);
+    Ok(())
+}
+
+/// Counts what a bitmap that was listed so is about.
+pub fn observe(bitmap: &Bitmap, listed: Answer, counts: &mut ReadingCounts) {
+    let Bitmap { bytes, words, lent } = bitmap;
     counts.hit(match listed.refusal {
         0 => "reference words listed",
         24 => "reference words refused by row 24",
@@ -68,13 +73,13 @@ pub fn compare(oracle: &mut Oracle, other: &mut dyn Linker, bitmap: &Bitmap, cou
             ("bitmap: bits beyond the words", beyond),
             ("bitmap: bytes beyond the words", bytes.len() > words.div_ceil(8) as usize),
             ("bitmap: more than 8,192 words", *words > 8_192),
+            ("bitmap: list words after the count", *lent > listed.first as usize),
         ] {
             if reached {
                 counts.hit(bucket);
             }
         }
     }
-    Ok(())
 }
 
 /// The list's answer on which both sides agree, as they do on the list and on the count.

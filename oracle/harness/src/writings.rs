@@ -48,12 +48,17 @@ pub fn random(random: &mut Random, case: &Case) -> Writing {
 
 /// Writes on both sides, and reads what is written. Answers the first disagreement.
 pub fn compare(oracle: &mut Oracle, other: &mut dyn Linker, writing: &Writing, counts: &mut ReadingCounts) -> Result<(), String> {
-    let answer = judge(oracle, other, writing)?;
+    observe(writing, judge(oracle, other, writing)?, counts);
+    Ok(())
+}
+
+/// Counts what a writing that was answered so is about.
+pub fn observe(writing: &Writing, answer: Answer, counts: &mut ReadingCounts) {
     counts.hit(&match answer.refusal {
         0 => "class set written".to_owned(),
         row => format!("class set not written, by row {row}"),
     });
-    let Some(set) = Set::decode(&writing.set) else { return Ok(()) };
+    let Some(set) = Set::decode(&writing.set) else { return };
     let places: Vec<(u32, u32)> = set.classes.iter().map(|class| class.span(class_word::PLACE)).collect();
     for (bucket, reached) in [
         ("writing: a table place alone", answer.refusal == 17 && places.iter().all(|&(_, slots)| slots == 0)),
@@ -66,7 +71,6 @@ pub fn compare(oracle: &mut Oracle, other: &mut dyn Linker, writing: &Writing, c
             counts.hit(bucket);
         }
     }
-    Ok(())
 }
 
 /// The answer on which both sides agree, as they do on the bytes; reading the blocks gives the content words and zeros after them.

@@ -50,9 +50,7 @@ impl Writer {
     /// Bytes: their number, then four a word, lowest byte first, the last filled with zeros.
     pub fn bytes(&mut self, bytes: &[u8]) {
         self.0.push(bytes.len() as u32);
-        let word = |part: &[u8]| part.iter().rev().fold(0, |word, &byte| word << 8 | u32::from(byte));
-        let words: Vec<u32> = bytes.chunks(4).map(word).collect();
-        self.list(&words);
+        self.list(&packed(bytes));
     }
 
     /// What changed: the number of changes, then position and new word of each.
@@ -63,11 +61,54 @@ impl Writer {
         self.0.extend(changes.iter().flat_map(|&(at, word)| [at, word]));
     }
 
+    /// Words as they are: their number, then these.
+    pub fn plain_words(&mut self, words: &[u32]) {
+        self.0.push(words.len() as u32);
+        self.words(words);
+    }
+
+    /// Bytes as they are: their number, then these, packed.
+    pub fn plain_bytes(&mut self, bytes: &[u8]) {
+        self.0.push(bytes.len() as u32);
+        self.words(&packed(bytes));
+    }
+
+    /// A slice of words before and after a call: its length; how many words are stored of it before and after, always the first, so that
+    /// the others are `rest` before, and after as before; then these.
+    pub fn word_slice(&mut self, before: &[u32], after: &[u32], rest: u32) {
+        let [stored, changed] = self.lengths(before, after, rest);
+        self.words(&before[..stored]);
+        self.words(&after[..changed]);
+    }
+
+    /// A slice of bytes likewise, packed.
+    pub fn byte_slice(&mut self, before: &[u8], after: &[u8], rest: u8) {
+        let [stored, changed] = self.lengths(before, after, rest);
+        self.words(&packed(&before[..stored]));
+        self.words(&packed(&after[..changed]));
+    }
+
+    fn lengths<T: Copy + PartialEq>(&mut self, before: &[T], after: &[T], rest: T) -> [usize; 2] {
+        let stored = before.iter().rposition(|&unit| unit != rest).map_or(0, |last| last + 1);
+        let changed = (0..before.len()).rev().find(|&at| before[at] != after[at]).map_or(0, |last| last + 1);
+        self.words(&[before.len(), stored, changed].map(|length| length as u32));
+        [stored, changed]
+    }
+
+    pub fn into_words(self) -> Vec<u32> {
+        self.0
+    }
+
     /// The words with their sum, modulo 2^32, behind them.
     pub fn finish(mut self) -> Vec<u32> {
         self.0.push(self.0.iter().fold(0, |sum, word| sum.wrapping_add(*word)));
         self.0
     }
+}
+
+/// Bytes four a word, lowest byte first, the last word filled with zeros.
+fn packed(bytes: &[u8]) -> Vec<u32> {
+    bytes.chunks(4).map(|part| part.iter().rev().fold(0, |word, &byte| word << 8 | u32::from(byte))).collect()
 }
 
 pub struct Reader<'a>(&'a [u32]);
@@ -77,6 +118,11 @@ impl<'a> Reader<'a> {
         let (sum, words) = corpus.split_last().ok_or("an empty corpus")?;
         let found = words.iter().fold(0u32, |sum, word| sum.wrapping_add(*word));
         if found == *sum { Ok(Self(words)) } else { Err("the corpus's sum differs".to_owned()) }
+    }
+
+    /// Of words without a sum.
+    pub fn unsummed(words: &'a [u32]) -> Self {
+        Self(words)
     }
 
     fn take(&mut self, count: usize) -> Result<&'a [u32], String> {
@@ -112,6 +158,37 @@ impl<'a> Reader<'a> {
         Ok(bytes)
     }
 
+    pub fn plain_words(&mut self) -> Result<Vec<u32>, String> {
+        let [length] = self.words()?;
+        Ok(self.take(length as usize)?.to_vec())
+    }
+
+    pub fn plain_bytes(&mut self) -> Result<Vec<u8>, String> {
+        let [length] = self.words()?;
+        self.packed(length)
+    }
+
+    fn packed(&mut self, length: u32) -> Result<Vec<u8>, String> {
+        let length = length as usize;
+        let mut bytes: Vec<u8> = self.take(length.div_ceil(4))?.iter().flat_map(|word| word.to_le_bytes()).collect();
+        bytes.truncate(length);
+        Ok(bytes)
+    }
+
+    /// A slice of words before and after a call.
+    pub fn word_slice(&mut self, rest: u32) -> Result<[Vec<u32>; 2], String> {
+        let [length, stored, changed] = self.words()?;
+        let (before, after) = (self.take(stored as usize)?, self.take(changed as usize)?);
+        both(length as usize, before, after, rest)
+    }
+
+    /// A slice of bytes before and after a call.
+    pub fn byte_slice(&mut self, rest: u8) -> Result<[Vec<u8>; 2], String> {
+        let [length, stored, changed] = self.words()?;
+        let (before, after) = (self.packed(stored)?, self.packed(changed)?);
+        both(length as usize, &before, &after, rest)
+    }
+
     /// Makes the stored changes.
     pub fn change(&mut self, words: &mut [u32]) -> Result<(), String> {
         let [count] = self.words()?;
@@ -125,4 +202,13 @@ impl<'a> Reader<'a> {
     pub fn end(&self) -> Result<(), String> {
         if self.0.is_empty() { Ok(()) } else { Err("words after the corpus's end".to_owned()) }
     }
+}
+
+/// A slice before and after a call, by the first units of either.
+fn both<T: Copy>(length: usize, stored: &[T], changed: &[T], rest: T) -> Result<[Vec<T>; 2], String> {
+    let mut before = vec![rest; length];
+    before.get_mut(..stored.len()).ok_or("more is stored than lent")?.copy_from_slice(stored);
+    let mut after = before.clone();
+    after.get_mut(..changed.len()).ok_or("more is changed than lent")?.copy_from_slice(changed);
+    Ok([before, after])
 }
