@@ -25,7 +25,7 @@
 #include <stdint.h>
 
 /* The version of this library: the file VERSION, which a test holds this line to. */
-#define LGT_LINKER_VERSION "0.2.0"
+#define LGT_LINKER_VERSION "0.3.0"
 
 /* A compiler that can warns where an answer is not looked at. */
 #if defined(__GNUC__) || defined(__clang__)
@@ -43,7 +43,8 @@
 #define LGT_REFUSED_SHEET_SIZE 1u
 /* a block's check */
 #define LGT_REFUSED_BLOCK_CHECK 2u
-/* a count above its limit, content that does not fit its blocks or its words, an unclean end, a table place in a sheet */
+/* a count above its limit, content that does not fit its blocks or its words, an unclean end, a table place in a sheet, or static
+   words of a built or array class in it */
 #define LGT_REFUSED_SHEET_COUNTS 3u
 /* a record */
 #define LGT_REFUSED_RECORD 4u
@@ -71,7 +72,8 @@
 #define LGT_REFUSED_SECTION_FULL 14u
 /* too few stub words, free words of the area, class words, or words of a renumbering's list */
 #define LGT_REFUSED_NO_ROOM 15u
-/* a set that cannot be stored: a table place or slot count that is not 0, or a byte that is not 0 after the text in its last word */
+/* a set that cannot be stored: a table place or slot count that is not 0, static words of a built or array class, or a byte that is
+   not 0 after the text in its last word */
 #define LGT_REFUSED_NOT_STORABLE 17u
 /* fewer bytes lent than the blocks of the sheet take */
 #define LGT_REFUSED_SHEET_ROOM 18u
@@ -147,10 +149,32 @@
 #define LGT_SET_TEXT_BYTES 5
 #define LGT_SET_COUNTS 6
 
-/* The words of a class record. */
+/*
+ * The words of a class record, 18 of them. Those marked * are written by a link of the class, + unless it is generated; of the others
+ * only the lists' first and count change, where a list grows.
+ *
+ *   word    holds                                     limits, before a link
+ *    0, 1   name: start in the text, bytes            1 to 255 bytes
+ *    2      parent: a class number, 0 for none        below the class's own number
+ *    3      access flags                              at most 65,535
+ *    4      kind (LGT_KIND_..)                        at most 2
+ *    5, 6   methods: first, count                     inside their section, in no other class's list
+ *    7, 8   fields: first, count                      inside their section, in no other class's list
+ *    9, 10  interface words: first, count             inside their section
+ *   11      link state                                at most 65,535
+ *   12  +   instance words                            at most 65,535
+ *   13, 14  compiler table: 0 for none, else its first compiler word counted from 1; its slots, at most 1,024
+ *   15  *   table place, 0 while it is not linked     0 in a sheet
+ *   16  *   slot count                                0 in a sheet
+ *   17  +   static words: those of a built class's own static fields, J and D two, others one; 0 of an array class
+ *                                                     0 in a sheet; a generated class brings any
+ *
+ * Sheets of 17-word records, made before there were static words, are another form, and cannot be told from these: no byte marks the
+ * form. Mostly they are refused here by 3 or 4, but some are accepted and say something else. Keep the two apart.
+ */
 #define LGT_CLASS_NAME_START 0
 #define LGT_CLASS_NAME_LENGTH 1
-#define LGT_CLASS_PARENT 2 /* a class number, 0 for none */
+#define LGT_CLASS_PARENT 2
 #define LGT_CLASS_FLAGS 3
 #define LGT_CLASS_KIND 4
 #define LGT_CLASS_FIRST_METHOD 5
@@ -161,11 +185,12 @@
 #define LGT_CLASS_INTERFACE_COUNT 10
 #define LGT_CLASS_LINK_STATE 11
 #define LGT_CLASS_INSTANCE_WORDS 12
-#define LGT_CLASS_COMPILER_TABLE 13 /* 0 for none, else its first compiler word counted from 1 */
+#define LGT_CLASS_COMPILER_TABLE 13
 #define LGT_CLASS_COMPILER_SLOTS 14
-#define LGT_CLASS_TABLE_PLACE 15 /* 0 while the class is not linked */
+#define LGT_CLASS_TABLE_PLACE 15
 #define LGT_CLASS_SLOT_COUNT 16
-#define LGT_CLASS_RECORD 17
+#define LGT_CLASS_STATIC_WORDS 17
+#define LGT_CLASS_RECORD 18
 
 /* Kinds, and the flags and the link state that linking looks at. */
 #define LGT_KIND_BUILT 0
@@ -241,10 +266,11 @@ static inline const char *lgt_refusal_text(uint32_t refusal)
                "again, or make it again from its text form.";
     case LGT_REFUSED_SHEET_COUNTS:
         return "Keep the counts within their limits and the file as short as its content allows, with zeros after the "
-               "content, and store only an unlinked set: every table place and slot count 0. A link, an interface table "
-               "or a write asks, of each sheet, only that its counts keep their limits and that the lent words hold all "
-               "of its content: lend as many words as the counts and their sections take. A renumbering asks the same of "
-               "the class sheet, and every table place and slot count 0.";
+               "content, and store only an unlinked set: every table place and slot count 0, and the static words of "
+               "every built or array class. A link, an interface table or a write asks, of each sheet, only that its "
+               "counts keep their limits and that the lent words hold all of its content: lend as many words as the "
+               "counts and their sections take. A renumbering asks the same of the class sheet, and every table place "
+               "and slot count 0, and those static words.";
     case LGT_REFUSED_RECORD:
         return "Mend the record named: lists and text parts lie inside their sections, two classes share no method or "
                "field record, names and descriptors have 1 to 255 bytes from 0x21 to 0x7E, a parent comes before its "
@@ -290,8 +316,8 @@ static inline const char *lgt_refusal_text(uint32_t refusal)
         return "The class has no method that implements one of the interface's methods: declare it, not static and not "
                "private, in the class or an ancestor.";
     case LGT_REFUSED_NOT_STORABLE:
-        return "Store the set as it was before its first link, with every table place and slot count 0, and with zeros "
-               "in the bytes that follow the text in its last word.";
+        return "Store the set as it was before its first link, with every table place and slot count 0, and the static "
+               "words of every built or array class, and with zeros in the bytes that follow the text in its last word.";
     case LGT_REFUSED_SHEET_ROOM:
         return "Lend 512 bytes for each block that the sheet takes, 127 words of content a block: 47,104 bytes are "
                "enough for every set.";
@@ -364,8 +390,8 @@ uint32_t lgt_renumber_classes(uint32_t *set, size_t set_len, uint32_t *order, si
  * Classes count from 1, and a parent is linked before its child.
  * Answers: answer[0], the place of the class's table in the area; answer[1], its slots.
  * Leaves in the area, from that place on: the class number, the slots, a zero list head; word 0 moves past them.
- * Leaves in the set: the class's table place and slot count; unless it is generated, its instance words; the indices of
- * its fields. A built class gets the ABI's fields that it lacks, a generated one the methods of its compiler table that it
+ * Leaves in the set: the class's table place and slot count; unless it is generated, its instance words and static words, the
+ * latter where the indices of its own static fields end and 0 for an array class; the indices of its fields. A built class gets the ABI's fields that it lacks, a generated one the methods of its compiler table that it
  * lacks: its list is then copied to the end of its section, and the sections behind move up. The class's link state stays.
  * Refuses by 3 to 15.
  */

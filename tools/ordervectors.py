@@ -5,9 +5,9 @@ link, then `order` and the row of the step or `ok`, and, after `-lent-`, how man
 the writer) where it is not 66, two more than there can be classes.
 """
 
-from sheetlib import CLASS_SHEET, WORD, judge_order, judge_set, order_faults, renumbered as moved, sheet_of
-from setvectors import joined, record, words_of
-from sheetvectors import ABI, CLASSES, but, crowd, lent_number, padded
+from sheetlib import CLASS_SHEET, STATICS, WORD, judge_order, judge_set, order_faults, renumbered as moved, sheet_of
+from setvectors import joined, record, shown, words_of
+from sheetvectors import ABI, CLASSES, but, crowd, lent_number, padded, with_statics
 import sheetform
 
 TOP = WORD - 1
@@ -15,7 +15,7 @@ MOST_LISTED = 66
 
 cover = {}  # (layout name, row, clause) -> ([refused], [accepted])
 
-PLACE, SLOTS = (3, "table place: zero"), (3, "slot count: zero")
+PLACE, SLOTS, UNCOUNTED = (3, "table place: zero"), (3, "slot count: zero"), (3, STATICS)
 PARENT, RING, ROOM = (4, "class parent: at most the class count"), (19, "parents: none returns"), (15, "list words: enough")
 ZERO, ABOVE = (4, "interface word: not 0"), (4, "interface word: at most the class count")
 
@@ -98,8 +98,9 @@ class Board
   implements Sign Wall
   compiler 30 31
   method hang (I)V 21
-class Wall
+class Wall generated
   words 7
+  statics 4000000000
   field wide J 0
 """)
 
@@ -153,6 +154,17 @@ def form():
     accepted("no-descriptors", [2, 1], [PARENT], but(base, "method", 0, descriptor_length=0))
 
 
+def statics():
+    """Row 3 of a built or array class; another kind, 3 too, moves with its word."""
+    base = but(but(CLASSES, "class", 1, parent=2), "class", 2, parent=0)
+    for kind, value in ((0, 1), (0, TOP), (2, 1), (2, TOP)):
+        refused(UNCOUNTED, f"kind-{kind}-statics-{shown(value)}", with_statics(kind, value, base))
+    refused(UNCOUNTED, "statics-of-1", but(base, "class", 1, static_words=1))
+    for kind, value in ((1, 1), (1, TOP), (3, 1), (TOP, TOP)):
+        accepted(f"kind-{shown(kind)}-statics-{shown(value)}", [2, 1], [UNCOUNTED], with_statics(kind, value, base))
+    refused(UNCOUNTED, "statics-and-parent-9", but(parents(0), "class", 1, static_words=1, parent=9), also=[PARENT])
+
+
 def rows_in_order():
     """3, 4, 19, 15."""
     refused(PARENT, "parents-1-3", parents(1, 3), also=[RING])
@@ -175,4 +187,5 @@ def make():
     rings()
     moving()
     form()
+    statics()
     rows_in_order()

@@ -14,7 +14,7 @@ from sheetlib import (
     ABI_SHEET, CLASS_SHEET, WORD, Sheet, argument_words, block_words, content_size, count_clauses, faults, judge_set,
     record_clauses, word_faults)
 import sheetvectors
-from sheetvectors import ABI, BASE, CLASSES, LARGEST, but, padded, renamed
+from sheetvectors import ABI, BASE, CLASSES, LARGEST, but, padded, renamed, with_statics
 
 TOP = WORD - 1
 
@@ -163,6 +163,14 @@ def linked():
                     but(CLASSES, "class", number, table_place=place, slot_count=slots))
 
 
+def statics():
+    """Static words are no row's at a link or an ask: any, of any kind but for row 4's own rule of kinds."""
+    for kind in (0, 1, 2):
+        for value in (1, TOP):
+            accepted(CLASS_SHEET, f"kind-{kind}-statics-{shown(value)}", [(4, "class kind: at most 2")], with_statics(kind, value))
+    refused(CLASS_SHEET, 4, "kind-3-statics", "class kind: at most 2", with_statics(3, 1))
+
+
 def shown(value):
     return "top" if value == TOP else str(value)
 
@@ -282,5 +290,6 @@ def make():
         counts_and_fit(layout)
         after_the_content(layout)
     linked()
+    statics()
     orders()
     arguments()

@@ -6,7 +6,7 @@ lists each section record by record, so that it can tell every sheet exactly.
 
 import re
 
-from sheetlib import ABI_SHEET, CLASS_SHEET, WORD, Sheet, content_faults, count_faults, label, shown
+from sheetlib import ABI_SHEET, CLASS_SHEET, WORD, Sheet, content_faults, count_faults, label, linked_faults, shown
 from sheetorder import parents_of, rings
 
 KINDS = ("built", "generated", "array")
@@ -152,7 +152,8 @@ def form_faults(form, any_order=False):
     may come before its parent, and rings are told."""
     out = [(fault.line, fault.what) for fault in form.faults]
     sheet = form.sheet
-    for fault in [*count_faults(sheet.layout, sheet.counts()), *content_faults(sheet)]:
+    unlinked = [] if sheet.layout is ABI_SHEET else linked_faults(sheet, 3, "a sheet that is read is unlinked, so 0")
+    for fault in [*count_faults(sheet.layout, sheet.counts()), *unlinked, *content_faults(sheet)]:
         if not (any_order and comes_later(sheet, fault)):
             out.append(told(form, fault))
     if any_order and sheet.layout is CLASS_SHEET:
@@ -316,8 +317,8 @@ def class_line(one, word, line):
         last = line.value("the target" if word == "method" else "the word index")
         one[word].append(row + [line.value("flags") if line.option("flags") else 1, last])
         return
-    if word not in ("flags", "state", "words", "implements", "compiler"):
-        line.fail(f"{word!r} is none of class, method, field, flags, state, words, implements, compiler")
+    if word not in ("flags", "state", "words", "statics", "implements", "compiler"):
+        line.fail(f"{word!r} is none of class, method, field, flags, state, words, statics, implements, compiler")
     if word in one and word != "implements":
         line.fail(f"{word!r} is said twice of one class")
     one["lines"][word] = line.number
@@ -333,7 +334,8 @@ def class_line(one, word, line):
 
 
 # The words of a class record that a line of their own tells.
-TOLD_BY = (("access flags", "flags"), ("link state", "state"), ("instance words", "words"), ("compiler slots", "compiler"))
+TOLD_BY = (("access flags", "flags"), ("link state", "state"), ("instance words", "words"), ("compiler slots", "compiler"),
+           ("static words", "statics"))
 
 
 def add_class(form, text, one, numbers):
@@ -357,7 +359,7 @@ def add_class(form, text, one, numbers):
         record += [first + 1, count]
     else:
         record += [0, 0]
-    form.sheet.records["class"].append(record + [0, 0])
+    form.sheet.records["class"].append(record + [0, 0, one.get("statics", 0)])
 
 
 def parse_abi(form, lines):
@@ -411,11 +413,11 @@ def render_classes(sheet):
     names = [sheet.part("class", i, "name").decode("ascii") for i in range(len(records))]
     for name, record in zip(names, records):
         (_, _, parent, flags, kind, method, methods, field, fields, interface, interfaces,
-         state, words, table, slots, _, _) = record
+         state, words, table, slots, _, _, statics) = record
         extends = f" extends {names[parent - 1]}" if parent else ""
         out += ["", f"class {name}{extends}" + (f" {KINDS[kind]}" if kind else "")]
         out += [f"  {word} {value}" for word, value, usual in
-                (("flags", f"0x{flags:x}", "0x1"), ("state", state, 0), ("words", words, 0)) if value != usual]
+                (("flags", f"0x{flags:x}", "0x1"), ("state", state, 0), ("words", words, 0), ("statics", statics, 0)) if value != usual]
         if interfaces:
             numbers = [w for [w] in sheet.records["interface word"][interface:interface + interfaces]]
             out += implemented([names[n - 1] for n in numbers])

@@ -1,4 +1,4 @@
-"""Sheets: the two layouts as data, the block form, and a judge of rows 1 to 5, of the
+"""Sheets: the layouts as data, the block form, and a judge of rows 1 to 5, of the
 writer's rows and of the order of classes.
 
 The judge is written from docs/SPECIFICATION.md ("What a call answers", "Sheets") and the
@@ -56,29 +56,43 @@ class Layout:
     def most_words(self):
         return self.most_blocks * BLOCK_WORDS
 
+    def is_class_sheet(self):
+        """Whether it is a class sheet's, of either form."""
+        return "table place" in self.section("class").words
+
 
 MEMBER = ("name start", "name length", "descriptor start", "descriptor length")
 SIGNATURE = ("name", "descriptor")
 
-CLASS_SHEET = Layout("class", 92, (
-    Section("class", "classes", 64,
-            ("name start", "name length", "parent", "access flags", "kind",
-             "first method", "method count", "first field", "field count",
-             "first interface word", "interface count", "link state", "instance words",
-             "compiler table", "compiler slots", "table place", "slot count"),
-            parts=("name",),
-            lists=(("method", "first method", "method count"),
-                   ("field", "first field", "field count"),
-                   ("interface word", "first interface word", "interface count")),
-            most=(("access flags", 65535), ("kind", 2), ("link state", 65535),
-                  ("instance words", 65535), ("compiler slots", 1024))),
-    Section("method", "methods", 512, MEMBER + ("flags", "target"),
-            parts=SIGNATURE, mask=(("flags", 0x1DFF),), grammar="method"),
-    Section("field", "fields", 512, MEMBER + ("flags", "word index"),
-            parts=SIGNATURE, most=(("flags", 65535),), grammar="field"),
-    Section("interface word", "interface words", 256, ("class number",)),
-    Section("compiler word", "compiler words", 2048, ("target",)),
-))
+OLD_RECORD = ("name start", "name length", "parent", "access flags", "kind",
+              "first method", "method count", "first field", "field count",
+              "first interface word", "interface count", "link state", "instance words",
+              "compiler table", "compiler slots", "table place", "slot count")
+
+
+def class_layout(name, record):
+    """A class sheet whose class records have these words."""
+    return Layout(name, 92, (
+        Section("class", "classes", 64, record,
+                parts=("name",),
+                lists=(("method", "first method", "method count"),
+                       ("field", "first field", "field count"),
+                       ("interface word", "first interface word", "interface count")),
+                most=(("access flags", 65535), ("kind", 2), ("link state", 65535),
+                      ("instance words", 65535), ("compiler slots", 1024))),
+        Section("method", "methods", 512, MEMBER + ("flags", "target"),
+                parts=SIGNATURE, mask=(("flags", 0x1DFF),), grammar="method"),
+        Section("field", "fields", 512, MEMBER + ("flags", "word index"),
+                parts=SIGNATURE, most=(("flags", 65535),), grammar="field"),
+        Section("interface word", "interface words", 256, ("class number",)),
+        Section("compiler word", "compiler words", 2048, ("target",)),
+    ))
+
+
+CLASS_SHEET = class_layout("class", OLD_RECORD + ("static words",))
+# The form before the eighteenth word, which no entry reads any more. Bytes do not tell the two apart, so nothing here guesses: a caller
+# says which layout it means (docs/DECISIONS.md).
+OLD_CLASS_SHEET = class_layout("old", OLD_RECORD)
 
 ABI_SHEET = Layout("abi", 51, (
     Section("class", "classes", 64,
@@ -93,7 +107,10 @@ ABI_SHEET = Layout("abi", 51, (
             parts=SIGNATURE, most=(("index", 4095),), grammar="field"),
 ))
 
-LAYOUTS = {layout.name: layout for layout in (CLASS_SHEET, ABI_SHEET)}
+BUILT, ARRAY = 0, 2
+# What is 0 in every class of a set before it is linked, the static words in a built or array class alone.
+ZERO_UNLINKED = ("table place", "slot count", "static words")
+STATICS = "static words: zero in a built or array class"
 
 
 def layout_of(path):
@@ -384,15 +401,13 @@ def word_faults(layout, words):
 
 def writing_faults(words, room):
     """Every fault of class words that are to be written into `room` bytes: "3 to 5 as for a link; 17, after them, if any class has a nonzero
-    table place or slot count or a nonzero byte follows the text in its last word; 18, last, if the lent bytes are too few"."""
+    table place or slot count or a nonzero byte follows the text in its last word; 18, last, if the lent bytes are too few"; 17 also takes
+    "a nonzero value in an unlinked built or array class"."""
     yield from word_faults(CLASS_SHEET, words)
     sheet = sheet_of(CLASS_SHEET, words)
     if sheet is None:
         return
-    for word in ("table place", "slot count"):
-        for i in range(len(sheet.records["class"])):
-            if sheet.get("class", i, word):
-                yield Fault(17, f"{word}: zero", f"{said(sheet, 'class', i, word)}, and only an unlinked set is written", ("class", i, word))
+    yield from linked_faults(sheet, 17, "only an unlinked set is written")
     content = content_words(CLASS_SHEET, words)
     text = b"".join(word.to_bytes(4, "little") for word in content)[4 * section_start(CLASS_SHEET, sheet.counts(), "text"):]
     for i in range(len(sheet.text), len(text)):
@@ -405,17 +420,14 @@ def writing_faults(words, room):
 
 def order_faults(words, room):
     """Every fault of class words that are to be renumbered with `room` list words: "3, first, as for a link or if a table place or slot
-    count is not 0; 4, if a parent number exceeds the count or an interface word names no class; 19, after that, if following parents from
+    count is not 0", or if a built or array class has static words; "4, if a parent number exceeds the count or an interface word names no class; 19, after that, if following parents from
     some class returns to a class already passed; 15, last, if the list is too short"."""
     yield from (fault for fault in word_faults(CLASS_SHEET, words) if fault.row == 3)
     sheet = sheet_of(CLASS_SHEET, words)
     if sheet is None:
         return
     classes = range(len(sheet.records["class"]))
-    for word in ("table place", "slot count"):
-        for i in classes:
-            if sheet.get("class", i, word):
-                yield Fault(3, f"{word}: zero", f"{said(sheet, 'class', i, word)}, and only an unlinked set is renumbered", ("class", i, word))
+    yield from linked_faults(sheet, 3, "only an unlinked set is renumbered")
     parents = parents_of(words)
     for i in classes:
         if parents[i] > len(parents):
@@ -539,12 +551,24 @@ def row_3(layout, words):
     for i in range(size, len(words)):
         if words[i]:
             yield Fault(3, "words after the content: zero", f"after the content, the word at {spot(i)} is {words[i]}, not 0")
-    if layout is CLASS_SHEET:
-        for word in ("table place", "slot count"):
-            for i in range(len(sheet.records["class"])):
-                if sheet.get("class", i, word):
-                    yield Fault(3, f"{word}: zero", f"{said(sheet, 'class', i, word)}, and a sheet that is read is unlinked, so 0",
-                                ("class", i, word))
+    if layout.is_class_sheet():
+        yield from linked_faults(sheet, 3, "a sheet that is read is unlinked, so 0")
+
+
+def linked_faults(sheet, row, why):
+    """What only a link leaves: "a nonzero table place or slot count", and static words, "a nonzero value in an unlinked built or array
+    class"; a generated class brings its own."""
+    for word in ZERO_UNLINKED:
+        if word not in sheet.layout.section("class").words:
+            continue  # the old form has no static words
+        for i in range(len(sheet.records["class"])):
+            if not sheet.get("class", i, word):
+                continue
+            if word != "static words":
+                yield Fault(row, f"{word}: zero", f"{said(sheet, 'class', i, word)}, and {why}", ("class", i, word), f"and {why}")
+            elif sheet.get("class", i, "kind") in (BUILT, ARRAY):
+                yield Fault(row, STATICS, f"{said(sheet, 'class', i, word)}, and only a generated class brings its own", ("class", i, word),
+                            "and only a generated class brings its own")
 
 
 def row_4(sheet):
@@ -562,7 +586,7 @@ def row_4(sheet):
                                 f"{said(sheet, section.name, i, word)}, with the bits "
                                 f"0x{sheet.get(section.name, i, word) & ~mask:04X} outside 0x{mask:04X}", (section.name, i, word),
                                 f"with the bits 0x{sheet.get(section.name, i, word) & ~mask:x} outside 0x{mask:x}")
-    if sheet.layout is CLASS_SHEET:
+    if sheet.layout.is_class_sheet():
         yield from class_faults(sheet)
 
 
@@ -637,7 +661,7 @@ def class_faults(sheet):
             yield Fault(4, "interface word: not 0" if zero else "interface word: at most the class count",
                         f"{said(sheet, 'interface word', i, 'class number')}, and the classes are 1 to {classes}",
                         ("interface word", i, "class number"))
-    for of, first_word, count_word in CLASS_SHEET.section("class").lists[:2]:
+    for of, first_word, count_word in sheet.layout.section("class").lists[:2]:
         yield from overlap_faults(sheet, of, first_word, count_word)
 
 
@@ -695,7 +719,7 @@ def clauses(layout):
     out += count_clauses(layout)
     out += [(3, c) for c in ("blocks: enough", "blocks: none too many", "bytes after the text: zero", "words after the content: zero")]
     if layout is CLASS_SHEET:
-        out += [(3, "table place: zero"), (3, "slot count: zero")]
+        out += [(3, "table place: zero"), (3, "slot count: zero"), (3, STATICS)]
     return out + record_clauses(layout)
 
 
@@ -709,13 +733,13 @@ def link_clauses(layout):
 
 def writing_clauses():
     """Each clause that the writer alone can answer."""
-    return [(17, "table place: zero"), (17, "slot count: zero"), (17, "bytes after the text: zero"), (18, "lent bytes: enough")]
+    return [(17, "table place: zero"), (17, "slot count: zero"), (17, STATICS), (17, "bytes after the text: zero"), (18, "lent bytes: enough")]
 
 
 def order_clauses():
     """Each clause that the step which renumbers classes can answer, but for counts and the content's fit."""
-    return [(3, "table place: zero"), (3, "slot count: zero"), (4, "class parent: at most the class count"), (4, "interface word: not 0"),
-            (4, "interface word: at most the class count"), (19, "parents: none returns"), (15, "list words: enough")]
+    return [(3, "table place: zero"), (3, "slot count: zero"), (3, STATICS), (4, "class parent: at most the class count"),
+            (4, "interface word: not 0"), (4, "interface word: at most the class count"), (19, "parents: none returns"), (15, "list words: enough")]
 
 
 def count_clauses(layout):

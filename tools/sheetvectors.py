@@ -13,9 +13,11 @@ import re
 
 import sheetform
 from sheetlib import (
-    ABI_SHEET, BLOCK_BYTES, BLOCK_WORDS, CLASS_SHEET, WORD, Sheet, block_words, blocks, faults, layout_of)
+    ABI_SHEET, BLOCK_BYTES, BLOCK_WORDS, CLASS_SHEET, STATICS, WORD, Sheet, block_words, blocks, faults, layout_of)
 
 TOP = WORD - 1
+BUILT, GENERATED, ARRAY = range(3)
+AAAA, BBBB = 0x41414141, 0x42424242  # four bytes of text
 
 vectors = {}  # file name -> bytes
 good_names = {}  # (sheet, lent words, bytes) of an accepted vector -> its file name
@@ -184,6 +186,7 @@ def largest_classes():
         out += [f"class p/C{n:02}{parent} {sheetform.KINDS[n % 3]}", "  flags 65535", "  state 65535", "  words 65535",
                 f"  implements p/C01 p/C{n:02} p/C64 p/C{65 - n:02}",
                 "  compiler " + " ".join(str(TOP - 32 * n - k) for k in range(32))]
+        out += [f"  statics {TOP - n}"] if sheetform.KINDS[n % 3] == "generated" else []
         for k in range(8):
             out.append(f"  method m{n}_{k} ([Lp/C{k:02};J{'I' * k})[[D {TOP - 8 * n - k} flags 0x1DFF")
             out.append(f"  field f{n}_{k} {'[' * k}Lp/C{k:02}; {8 * n + k} flags 65535")
@@ -307,6 +310,8 @@ def row_3(layout):
     row_3_zeros(layout)
     if layout is CLASS_SHEET:
         row_3_unlinked()
+        row_3_statics()
+        row_3_old_form()
 
 
 def row_3_blocks(layout):
@@ -360,6 +365,38 @@ def row_3_unlinked():
             also=[(3, "slot count: zero")])
 
 
+def with_statics(kind, value, sheet=CLASSES):
+    """The sheet whose class 2 is of this kind and has these static words."""
+    return but(sheet, "class", 2, kind=kind, static_words=value)
+
+
+def row_3_statics():
+    """A built or array class has none before it is linked; a generated class brings any."""
+    for kind in (BUILT, ARRAY):
+        name = f"statics-{sheetform.KINDS[kind]}"
+        accepted(CLASS_SHEET, f"{name}-0", [(3, STATICS)], with_statics(kind, 0))
+        for value, file in ((1, name), (0x01000000, f"{name}-byte-3"), (TOP, f"{name}-top")):
+            refused(CLASS_SHEET, 3, file, STATICS, with_statics(kind, value))
+    refused(CLASS_SHEET, 3, "statics-of-1", STATICS, but(CLASSES, "class", 1, static_words=1))
+    for value, file in ((1, "1"), (4000000000, "4000000000"), (TOP, "max")):
+        accepted(CLASS_SHEET, f"statics-generated-{file}", [(3, STATICS)], with_statics(GENERATED, value))
+    refused(CLASS_SHEET, 3, "statics-before-5", STATICS, renamed(with_statics(BUILT, 1), "method", 0, "descriptor", b"(V)V"),
+            also=[(5, "method descriptor: VoidDescriptor")])
+
+
+def row_3_old_form():
+    """Sheets of 17-word records: bytes do not tell the form. Two that are good in both forms, and name another class in each; in the old
+    form class AAAA, here BBBB. And content that takes a block more than it did: 7 classes of one-byte names, 127 words and now 134."""
+    for name, words in (("generated", [1, 0, 0, 0, 0, 8, 0, 4, 0, 1, GENERATED] + [0] * 12 + [AAAA, BBBB]),
+                        ("built", [1, 0, 0, 0, 0, 12, 4, 4, 0, 1, BUILT] + [0] * 12 + [0, AAAA, BBBB])):
+        accepted(CLASS_SHEET, f"both-forms-{name}", [(3, STATICS)], blocks(words))
+    refused(CLASS_SHEET, 3, "old-form-built", STATICS, blocks([1, 0, 0, 0, 0, 8, 0, 4, 0, 1, BUILT] + [0] * 12 + [AAAA, BBBB]))
+    seven = sheetform.parse("".join(f"class {c}\n" for c in "ABCDEFG"))
+    enough = [(3, "blocks: enough")]
+    accepted(CLASS_SHEET, "7-classes-in-two-blocks", enough, seven)
+    refused(CLASS_SHEET, 3, "7-classes-in-one-block", enough[0][1], blocks(seven.words()[:127], 1))
+
+
 # ---- row 4: every record's rules
 
 def row_4(layout):
@@ -378,6 +415,7 @@ def row_4(layout):
         row_4_interfaces()
         row_4_compiler_tables()
         row_4_names()
+        row_4_statics()
         row_4_overlaps("method")
         row_4_overlaps("field")
         row_4_class_names()
@@ -538,6 +576,12 @@ def row_4_names():
     accepted(CLASS_SHEET, "names-overlap", [(4, clause)], but(three, "class", 3, name_start=1, name_length=3))
     late = renamed(renamed(three, "class", 1, "name", b"x" * 255), "class", 3, "name", b"x" * 254 + b"y")
     accepted(CLASS_SHEET, "names-differ-at-byte-254", [(4, clause)], late)
+
+
+def row_4_statics():
+    """A class of another kind is neither built nor array: its static words are not row 3's."""
+    for kind in (3, TOP):
+        refused(CLASS_SHEET, 4, f"kind-{'top' if kind == TOP else kind}-statics", "class kind: at most 2", with_statics(kind, 1))
 
 
 def row_4_overlaps(of):

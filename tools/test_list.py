@@ -79,7 +79,7 @@ def class_sheet():
     sheet = Sheet(CLASS_SHEET, text=DESCRIPTOR + NAMES + bytes(range(0x41, 0x41 + CLASSES)))
     for c in range(CLASSES):
         first = len(DESCRIPTOR) + len(NAMES) + c
-        sheet.records["class"].append([first, 1, c, 1, 0, 0, METHODS if c == 0 else 0] + [0] * 10)
+        sheet.records["class"].append([first, 1, c, 1, 0, 0, METHODS if c == 0 else 0] + [0] * 11)
     for i in range(METHODS):
         sheet.records["method"].append([len(DESCRIPTOR) + i * STEP, LONGEST, 0, LONGEST, 1, 4096 + i])
     return sheet

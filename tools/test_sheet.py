@@ -22,7 +22,7 @@ import sheetlib  # noqa: E402
 import sheetorder  # noqa: E402
 import sheetvectors  # noqa: E402
 import vectors  # noqa: E402
-from sheetlib import ABI_SHEET, CLASS_SHEET, WORD, Sheet, blocks, judge, judge_set, judge_words, layout_of  # noqa: E402
+from sheetlib import ABI_SHEET, CLASS_SHEET, OLD_CLASS_SHEET, WORD, Sheet, blocks, judge, judge_set, judge_words, layout_of  # noqa: E402
 
 TOP = WORD - 1
 vectors.make_all()
@@ -71,8 +71,9 @@ def random_form(pick, layout):
             out += [f"slot {random_name(pick)} {random_method_type(pick)} {pick.randrange(1024)}" for _ in range(pick.randrange(4))]
             out += [f"field {random_name(pick)} {random_type(pick)} {pick.randrange(4096)}" for _ in range(pick.randrange(3))]
             continue
-        out.append(f"class {name}" + (f" extends {pick.choice(names[:i])}" if i and pick.random() < 0.6 else "")
-                   + pick.choice(("", " built", " generated", " array")))
+        kind = pick.choice(("", " built", " generated", " array"))
+        out.append(f"class {name}" + (f" extends {pick.choice(names[:i])}" if i and pick.random() < 0.6 else "") + kind)
+        out += [f"statics {pick.choice((1, TOP, pick.randrange(WORD)))}"] if kind == " generated" and pick.random() < 0.5 else []
         for word in ("flags", "state", "words"):
             out += [f"{word} {pick.randrange(65536)}"] if pick.random() < 0.3 else []
         if pick.random() < 0.3:
@@ -171,7 +172,7 @@ def with_parents(parents):
     """Classes without members, of these parents."""
     text = bytes(range(0x41, 0x41 + len(parents)))
     records = {s.name: [] for s in CLASS_SHEET.sections}
-    records["class"] = [[i, 1, parent, 1] + [0] * 13 for i, parent in enumerate(parents)]
+    records["class"] = [[i, 1, parent, 1] + [0] * 14 for i, parent in enumerate(parents)]
     return Sheet(CLASS_SHEET, records, text)
 
 
@@ -262,14 +263,16 @@ class Blocks(unittest.TestCase):
 
     def test_sizes(self):
         """The limits of docs/SPECIFICATION.md fill 92 and 51 blocks."""
-        for layout, words in ((CLASS_SHEET, 11590), (ABI_SHEET, 6404)):
+        for layout, words in ((CLASS_SHEET, 11654), (OLD_CLASS_SHEET, 11590), (ABI_SHEET, 6404)):
             counts = [s.limit for s in layout.sections] + [layout.text_limit]
             self.assertEqual(sheetlib.content_size(layout, counts), words)
             self.assertEqual(-(-words // 127), layout.most_blocks)
         self.assertEqual((CLASS_SHEET.most_words(), ABI_SHEET.most_words()), (11684, 6477))
 
     def test_widths(self):
-        self.assertEqual([s.width() for s in CLASS_SHEET.sections], [17, 6, 6, 1, 1])
+        self.assertEqual([s.width() for s in CLASS_SHEET.sections], [18, 6, 6, 1, 1])
+        self.assertEqual([s.width() for s in OLD_CLASS_SHEET.sections], [17, 6, 6, 1, 1])
+        self.assertEqual(CLASS_SHEET.section("class").words[:17], OLD_CLASS_SHEET.section("class").words)
         self.assertEqual([s.width() for s in ABI_SHEET.sections], [8, 5, 5])
 
 
@@ -337,7 +340,7 @@ class OpenPoints(unittest.TestCase):
         """The writer's rows come after those of a link: 3, 4, 5, 17, 18."""
         rows = sheetlib.judge_writing
         one = self.one().words()
-        self.assertEqual(one, [1, 0, 0, 0, 0, 1, 0, 1, 0, 1] + [0] * 13 + [65])
+        self.assertEqual(one, [1, 0, 0, 0, 0, 1, 0, 1, 0, 1] + [0] * 14 + [65])
         self.assertEqual(rows(one, 512), (0, 1))
         self.assertEqual(blocks(one)[508:], (70).to_bytes(4, "little"))
         self.assertEqual(rows(one + [7, 7], 512), (0, 1))
@@ -345,6 +348,10 @@ class OpenPoints(unittest.TestCase):
         for words, room, want in ((dict(table_place=1, kind=3), 512, 4), (dict(table_place=1, slot_count=1025), 512, 4),
                                   (dict(table_place=1), 0, 17), (dict(slot_count=1), 512, 17), ({}, 511, 18)):
             self.assertEqual(rows(self.one(**words).words(), room), (want, 0))
+        for kind, want in ((0, (17, 0)), (1, (0, 1)), (2, (17, 0)), (3, (4, 0))):
+            self.assertEqual(rows(self.one(kind=kind, static_words=1).words(), 512), want)
+        bad = sheetvectors.renamed(sheetvectors.with_statics(0, 1), "method", 0, "descriptor", b"(V)V")
+        self.assertEqual(rows(bad.words(), 512), (5, 0))
         self.assertEqual(rows(one[:-1] + [0x0141], 512), (17, 0))
         self.assertEqual(rows([0] * 6, 511), (18, 0))
         self.assertEqual(rows([0] * 6, 512), (0, 1))
@@ -360,6 +367,8 @@ class OpenPoints(unittest.TestCase):
         for parents, room, row in (((1,), 0, 19), ((2, 1), 9, 19), ((0, 3, 4, 3), 9, 19), ((1, 3), 9, 4), ((5,), 0, 4), ((0,), 0, 15)):
             self.assertEqual(of(*parents, room=room), (row, []))
         self.assertEqual(sheetlib.judge_order(self.one(slot_count=1, parent=9).words(), 9), (3, []))
+        for kind, row in ((0, 3), (1, 0), (2, 3), (3, 0), (TOP, 0)):
+            self.assertEqual(sheetlib.judge_order(self.one(kind=kind, static_words=1).words(), 9)[0], row)
 
     def test_orders(self):
         """Trying all orders, the heap, and taking the smallest that is ready agree; a set in order stays as it is."""
@@ -419,6 +428,26 @@ class OpenPoints(unittest.TestCase):
     def test_linked(self):
         self.assertEqual(row(self.one(table_place=1)), 3)
         self.assertEqual(row(self.one(slot_count=1)), 3)
+
+    def test_statics(self):
+        """Row 3 takes them of a built or array class alone; a link and an ask do not ask."""
+        for kind, want in ((0, 3), (1, 0), (2, 3), (3, 4)):
+            for words in (1, TOP):
+                made = self.one(kind=kind, static_words=words)
+                self.assertEqual((row(made), judge_words(CLASS_SHEET, made.words())[0]), (want, 4 if kind == 3 else 0))
+        self.assertEqual(row(sheetvectors.renamed(sheetvectors.with_statics(0, 1), "method", 0, "descriptor", b"(V)V")), 3)
+
+    def test_both_forms(self):
+        """Bytes do not tell the form: sheets that are good in both and name another class in each, and 127 words that become 134."""
+        for name in ("generated", "built"):
+            data = vectors.vectors[f"class-ok-both-forms-{name}.bin"]
+            words = sheetlib.block_words(data)
+            new, old = sheetlib.sheet_of(CLASS_SHEET, words), sheetlib.sheet_of(OLD_CLASS_SHEET, words)
+            self.assertEqual((judge(CLASS_SHEET, data)[0], judge(OLD_CLASS_SHEET, data)[0]), (0, 0))
+            self.assertEqual((old.part("class", 0, "name"), new.part("class", 0, "name")), (b"AAAA", b"BBBB"))
+            self.assertEqual(new.get("class", 0, "static words"), 0x41414141 if name == "generated" else 0)
+        seven = form("".join(f"class {c}\n" for c in "ABCDEFG")).counts()
+        self.assertEqual([sheetlib.content_size(layout, seven) for layout in (OLD_CLASS_SHEET, CLASS_SHEET)], [127, 134])
 
     def test_naturals(self):
         for word, count in (("first_method", "method_count"), ("first_field", "field_count"), ("first_interface_word", "interface_count")):
@@ -496,6 +525,29 @@ class OpenPoints(unittest.TestCase):
             for layout in (CLASS_SHEET, ABI_SHEET):
                 rows.add(judge(layout, blocks(words))[0])
         self.assertEqual(rows, {0, 3, 4, 5})
+
+
+class OldVectors(unittest.TestCase):
+    """The class vectors of 17-word records and their answers, as they stood before the eighteenth word (tools/old-vectors): the layout of
+    the old form, which nothing reads any more, still answers the same."""
+
+    FOLDER = os.path.join(HERE, "old-vectors")
+
+    def test_answers(self):
+        with open(os.path.join(self.FOLDER, "answers"), encoding="utf-8") as file:
+            lines = file.read().splitlines()
+        names = sorted(name for name in os.listdir(self.FOLDER) if name.endswith(".bin"))
+        self.assertEqual([line.split()[0] for line in lines], names)
+        forms = {0: 0, 3: 0}
+        for line, name in zip(lines, names):
+            with open(os.path.join(self.FOLDER, name), "rb") as file:
+                data = file.read()
+            row, words = judge(OLD_CLASS_SHEET, data, sheetvectors.lent_words(name))
+            self.assertTrue(line.startswith(f"{name} {f'refused {row}' if row else f'accepted {words}'} "), line)
+            if not row:
+                forms[judge(CLASS_SHEET, data)[0]] += 1
+        # Of these the new form refuses all by 3 but those without classes, which are the same bytes in both.
+        self.assertEqual((len(names), forms), (489, {0: 12, 3: 171}))
 
 
 class Vectors(unittest.TestCase):
@@ -596,29 +648,30 @@ class Commands(unittest.TestCase):
         """All faults of a text, each with its line, the class and the one clause that applies."""
         text = self.file("classes.txt", "\n".join((
             "class A flags", "  method m (V)V 1   # a comment", "  metod x", "class CardReader extends Device generated  # another",
-            "  flags 70000", "  field x Q 0", "class CardReader", "  implements A Gone", "class Device extends Nothing",
+            "  flags 70000", "  statics 5", "  field x Q 0", "class CardReader", "  implements A Gone", "class Device extends Nothing",
             "  method z ()V 1 flags 0x200", "class E extends E", "  words 65536", "  state 65536", "  field f I 0 flags 65536",
-            "  compiler " + "1 " * 1025, "class " + "n" * 256)) + "\n")
+            "  compiler " + "1 " * 1025, "  statics 7", "class " + "n" * 256)) + "\n")
         status, _, err = sheet("make", text)
         self.assertEqual(status, 1)
         self.assertEqual(err.replace(text, "classes.txt").replace("n" * 256, "N"), """\
 classes.txt line 1: 'flags' is not expected here
 classes.txt line 2: method m (V)V of A: byte 1 of the descriptor: V (void) stands only as a method's result (row 5)
-classes.txt line 3: 'metod' is none of class, method, field, flags, state, words, implements, compiler
-classes.txt line 4: CardReader extends Device, which comes later, line 9 (row 4)
+classes.txt line 3: 'metod' is none of class, method, field, flags, state, words, statics, implements, compiler
+classes.txt line 4: CardReader extends Device, which comes later, line 10 (row 4)
 classes.txt line 5: class CardReader: access flags 0x11170, above 65535 (row 4)
-classes.txt line 6: field x Q of CardReader: byte 0 of the descriptor: no type starts with Q (row 5)
-classes.txt line 7: the name CardReader is taken by class 2, line 4 (row 4)
-classes.txt line 8: no class is named Gone
-classes.txt line 9: no class is named Nothing
-classes.txt line 10: method z ()V of Device: flags 0x200, with the bits 0x200 outside 0x1dff (row 4)
-classes.txt line 11: E extends itself (row 4)
-classes.txt line 12: class E: instance words 65536, above 65535 (row 4)
-classes.txt line 13: class E: link state 65536, above 65535 (row 4)
-classes.txt line 14: field f I of E: flags 0x10000, above 65535 (row 4)
-classes.txt line 15: class E: compiler slots 1025, above 1024 (row 4)
-classes.txt line 16: class N: its name has 256 bytes, above 255 (row 4)
-classes.txt: 16 faults, nothing was written
+classes.txt line 7: field x Q of CardReader: byte 0 of the descriptor: no type starts with Q (row 5)
+classes.txt line 8: the name CardReader is taken by class 2, line 4 (row 4)
+classes.txt line 9: no class is named Gone
+classes.txt line 10: no class is named Nothing
+classes.txt line 11: method z ()V of Device: flags 0x200, with the bits 0x200 outside 0x1dff (row 4)
+classes.txt line 12: E extends itself (row 4)
+classes.txt line 13: class E: instance words 65536, above 65535 (row 4)
+classes.txt line 14: class E: link state 65536, above 65535 (row 4)
+classes.txt line 15: field f I of E: flags 0x10000, above 65535 (row 4)
+classes.txt line 16: class E: compiler slots 1025, above 1024 (row 4)
+classes.txt line 17: class E: static words 7, and only a generated class brings its own (row 3)
+classes.txt line 18: class N: its name has 256 bytes, above 255 (row 4)
+classes.txt: 17 faults, nothing was written
 """)
         text = self.file("abi.txt", "abi class A size 1025 words 4097\n slot m ()V 1024\n field f I 4096\n field g () 0\n")
         self.assertEqual(sheet("make", text)[2].replace(text, "abi.txt"), """\
@@ -680,7 +733,12 @@ classes.txt: 3 faults, nothing was written (--anyway writes it)
                            ("class A\n" + "".join(f" method m{i} ()V 1\n" for i in range(513)), "line 514: 513 methods, above 512 (row 3)"),
                            ("class A\n" + "".join(f" field {i:0>200} I 1\n" for i in range(50)), "line 42: 10002 text bytes, above 8192 (row 3)")):
             self.assertIn("classes.txt " + told, sheet("make", self.file("classes.txt", text))[2])
-        raw = self.file("classes.txt", "sheet classes raw\ntext A\nclass 0 1 0 1 3 0 0 0 0 0 0 0 0 0 0 0 0\n")
+        raw = self.file("classes.txt", "sheet classes raw\ntext A\nclass 0 1 0 1 0 0 0 0 0 0 0 0 0 0 0 1 0 0\n")
+        self.assertIn("classes.txt line 3: class 1 `A`: table place at byte 84 of the file (block 1) is 1, and a sheet that is read is unlinked, so 0 (row 3)",
+                      sheet("make", raw)[2])
+        raw = self.file("classes.txt", "sheet classes raw\ntext A\nclass 0 1 0 1 0 0 0 0 0 0 0 0 0 0 0 0 0\n")
+        self.assertIn("classes.txt line 3: a class record has 18 words, and here are 17", sheet("make", raw)[2])
+        raw = self.file("classes.txt", "sheet classes raw\ntext A\nclass 0 1 0 1 3 0 0 0 0 0 0 0 0 0 0 0 0 0\n")
         self.assertIn("classes.txt line 3: class 1 `A`: kind at byte 40 of the file (block 1) is 3, above 2 (row 4)", sheet("make", raw)[2])
 
     def test_other_files(self):
@@ -710,6 +768,15 @@ classes.txt: 3 faults, nothing was written (--anyway writes it)
         self.assertEqual((status, err.count("warning")), (0, 1))
         self.assertIn("classes.txt line 3: warning: method a ()V of I has target 0, so its slot stays unknown", err)
         self.assertIn("no interface table is refused by 16 for want of it", err)
+
+    def test_statics(self):
+        """A generated class brings any; the plain form tells them, and the raw form of the same sheet."""
+        path = self.file("classes.txt", "class A generated\n  statics 4294967295\n  field f J 0 flags 0x9\nclass B\n  statics 0\n")
+        self.assertEqual(sheet("make", path), (0, "", ""))
+        made = path[:-4] + ".bin"
+        self.assertEqual(sheet("show", made)[1], "sheet classes\n\nclass A generated\n  statics 4294967295\n  field f J 0 flags 0x9\n\nclass B\n")
+        self.assertIn("\nclass 0 1 0 1 1 0 0 0 1 0 0 0 0 0 0 0 0 4294967295\n", sheet("show", "--raw", made)[1])
+        self.assertIn("slot count, static words\n", sheet("show", "--raw", made)[1])
 
     def test_comments_and_flags(self):
         """Comments follow on a line where no name can stand; show prints flags in hexadecimal."""
@@ -795,8 +862,9 @@ classes.txt: 3 faults, nothing was written (--anyway writes it)
                 ("abi-r2-check-plus-1", "block 1: the check word at byte 508"),
                 ("class-r3-65-classes", "the count of classes at byte 0 of the file (block 1) is 65, above 64"),
                 ("abi-r3-first-word-after", "after the content, the word at byte"),
-                ("class-r3-table-place-2-1", "class 2 `B`: table place at byte 152 of the file (block 1) is 1"),
-                ("class-r4-parent-equal", "class 2 `c01`: parent at byte 100 of the file (block 1) is 2, which is not below"),
+                ("class-r3-table-place-2-1", "class 2 `B`: table place at byte 156 of the file (block 1) is 1"),
+                ("class-r3-statics-of-1", "class 1 `A`: static words at byte 92 of the file (block 1) is 1, and only a generated class brings its own"),
+                ("class-r4-parent-equal", "class 2 `c01`: parent at byte 104 of the file (block 1) is 2, which is not below"),
                 ("class-r4-method-flags-0x0200", "method 0 `m` `()V`: flags at byte"),
                 ("abi-r4-slot-index-1024", "slot 2 `k` `()I`: index at byte"),
                 ("class-r4-class-name-last-0x7f", "byte 5 of its name, byte"),

@@ -5,9 +5,9 @@ written. A name tells the row of a link, then `write` and the row of the writer 
 lent where it is not 1,024 more than the file has, 93 blocks at the most.
 """
 
-from sheetlib import BLOCK_BYTES, BLOCK_WORDS, CLASS_SHEET, WORD, Sheet, judge_set, writing_faults
+from sheetlib import BLOCK_BYTES, BLOCK_WORDS, CLASS_SHEET, STATICS, WORD, Sheet, judge_set, writing_faults
 from setvectors import joined, record, shown, words_of
-from sheetvectors import ABI, CLASSES, but, lent_number, padded, renamed, text_only
+from sheetvectors import ABI, CLASSES, but, lent_number, padded, renamed, text_only, with_statics
 import sheetform
 
 TOP = WORD - 1
@@ -53,6 +53,7 @@ def accepted(name, about, made, lent=None):
 # ---- row 17
 
 PLACE, SLOTS, AFTER = (17, "table place: zero"), (17, "slot count: zero"), (17, "bytes after the text: zero")
+UNCOUNTED = (17, STATICS)
 ROOM = (18, "lent bytes: enough")
 
 A = sheetform.parse("class A\n")
@@ -65,6 +66,20 @@ def linked():
             refused(17, f"place-{shown(value)}-of-{number}", PLACE[1], but(CLASSES, "class", number, table_place=value))
             refused(17, f"slot-count-{shown(value)}-of-{number}", SLOTS[1], but(CLASSES, "class", number, slot_count=value))
         refused(17, f"place-and-slot-count-of-{number}", PLACE[1], but(CLASSES, "class", number, table_place=1, slot_count=2), also=[SLOTS])
+
+
+def statics():
+    """A built or array class has none before it is linked; a generated class's are written."""
+    bad = "method descriptor: VoidDescriptor"
+    for kind, value in ((0, 1), (0, TOP), (2, 1), (2, TOP)):
+        refused(17, f"kind-{kind}-statics-{shown(value)}", STATICS, with_statics(kind, value))
+    refused(17, "statics-of-1", STATICS, but(CLASSES, "class", 1, static_words=1))
+    for value in (1, TOP):
+        accepted(f"generated-statics-{shown(value)}", [UNCOUNTED], with_statics(1, value))
+    refused(4, "kind-3-statics", "class kind: at most 2", with_statics(3, 1))
+    refused(5, "statics-and-descriptor", bad, renamed(with_statics(0, 1), "method", 0, "descriptor", b"(V)V"), also=[UNCOUNTED])
+    refused(17, "statics-and-place", PLACE[1], but(CLASSES, "class", 1, table_place=1, static_words=1), also=[UNCOUNTED])
+    refused(17, "statics-no-bytes", STATICS, with_statics(0, 1), 0, also=[ROOM])
 
 
 def after_the_text():
@@ -112,6 +127,7 @@ def room():
 def make():
     """Makes them, among the vectors of setvectors."""
     linked()
+    statics()
     after_the_text()
     orders()
     room()

@@ -33,7 +33,11 @@ fn index(word: u32) -> String {
 /// The lines of a linked class, of which these many fields and methods were declared.
 fn class_text(class: Class, linked: Linked, declared: [usize; 2]) -> String {
     let (number, name, words) = (class.number(), class.name(), class.instance_words());
-    let mut text = format!("class {number} {name} words {words} slots {} place {}\n", linked.slots, linked.place);
+    let statics = match class.static_words() {
+        0 => String::new(),
+        words => format!(" statics {words}"),
+    };
+    let mut text = format!("class {number} {name} words {words} slots {} place {}{statics}\n", linked.slots, linked.place);
     for (number, field) in class.fields().enumerate() {
         let is_static = if field.is_static() { " static" } else { "" };
         let added = if number < declared[0] { "" } else { " added" };

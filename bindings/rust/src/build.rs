@@ -139,6 +139,7 @@ pub struct ClassBuilder {
     interfaces: Vec<String>,
     link_state: u32,
     instance_words: u32,
+    static_words: u32,
     compiler_table: Option<Vec<u32>>,
 }
 
@@ -162,6 +163,7 @@ impl ClassBuilder {
             interfaces: Vec::new(),
             link_state: 0,
             instance_words: 0,
+            static_words: 0,
             compiler_table: None,
         }
     }
@@ -299,6 +301,21 @@ impl ClassBuilder {
         self
     }
 
+    /// Its static words, which a generated class brings along, any number. Linking counts a built class's, so such a class has none before.
+    ///
+    /// ```
+    /// # use lgt_linker::*;
+    /// let set = SetBuilder::new().class(ClassBuilder::new("Made").kind(Kind::Generated).static_words(u32::MAX)).build()?;
+    /// assert_eq!(set.class(1).unwrap().static_words(), u32::MAX);
+    /// let wrong = SetBuilder::new().class(ClassBuilder::new("Built").static_words(1)).build();
+    /// assert_eq!(wrong, Err(BuildError::Refused(Refusal::SheetCounts)));
+    /// # Ok::<(), BuildError>(())
+    /// ```
+    pub fn static_words(mut self, words: u32) -> ClassBuilder {
+        self.static_words = words;
+        self
+    }
+
     /// Its compiler table, a target for each slot, 0 where the parent's stays.
     ///
     /// ```
@@ -392,6 +409,7 @@ impl SetBuilder {
             record[class::KIND] = given.kind.number();
             record[class::LINK_STATE] = given.link_state;
             record[class::INSTANCE_WORDS] = given.instance_words;
+            record[class::STATIC_WORDS] = given.static_words;
             laid.record(set::CLASSES, &record);
         }
         Ok(laid.blocks())

@@ -87,8 +87,8 @@ pub fn read_abi_sheet(bytes: &[u8], words: &mut [u32]) -> Result<u32, Refusal> {
 ///
 /// # Errors
 ///
-/// Refusals 3 to 5 as of a link, 17 where a class is linked or a byte behind the text is not 0, then 18: too few bytes are lent, which
-/// [`CLASS_BYTES`] never are. The bytes are then as they were.
+/// Refusals 3 to 5 as of a link, 17 where a class is linked, a built or array class has static words or a byte behind the text is not
+/// 0, then 18: too few bytes are lent, which [`CLASS_BYTES`] never are. The bytes are then as they were.
 ///
 /// ```
 /// # use lgt_linker::*;

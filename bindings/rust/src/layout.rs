@@ -97,8 +97,10 @@ pub mod class {
     pub const TABLE_PLACE: usize = 15;
     /// How many slots that table has.
     pub const SLOT_COUNT: usize = 16;
-    /// How many words a class record has.
-    pub const WIDTH: usize = 17;
+    /// Its static words: 0 in a built or array class until a link counts them; a generated class brings its own.
+    pub const STATIC_WORDS: usize = 17;
+    /// How many words a class record has. Sheets of 17-word records are another form, and cannot be told from these by their bytes.
+    pub const WIDTH: usize = 18;
 
     /// Where the record of a class begins, which is counted from 1.
     ///

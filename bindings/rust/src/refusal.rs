@@ -50,7 +50,7 @@ pub enum Refusal {
     NoRoom,
     /// 16: an interface method has no implementation
     NoImplementation,
-    /// 17: a set that cannot be stored: linked, or with something behind its text
+    /// 17: a set that cannot be stored: linked, with static words that linking counts, or with something behind its text
     NotStorable,
     /// 18: too few bytes lent for the sheet
     SheetRoom,
@@ -91,11 +91,13 @@ const REFUSALS: &[Row] = &[
     Row {
         number: 3,
         refusal: Refusal::SheetCounts,
-        wrong: "a count is above its limit, the content does not fit, or something follows it that should be zero",
+        wrong: "a count is above its limit, the content does not fit, something follows it that should be zero, or a class holds what only \
+         a link writes",
         mend: "Keep the counts within their limits and the file as short as its content allows, with zeros after the content, and store \
-         only an unlinked set: every table place and slot count 0. A link, an interface table or a write asks, of each sheet, only \
-         that its counts keep their limits and that the lent words hold all of its content: lend as many words as the counts and \
-         their sections take. A renumbering asks the same of the class sheet, and every table place and slot count 0.",
+         only an unlinked set: every table place and slot count 0, and the static words of every built or array class. A link, an \
+         interface table or a write asks, of each sheet, only that its counts keep their limits and that the lent words hold all \
+         of its content: lend as many words as the counts and their sections take. A renumbering asks the same of the class \
+         sheet, and every table place and slot count 0, and those static words.",
     },
     Row {
         number: 4,
@@ -194,9 +196,9 @@ const REFUSALS: &[Row] = &[
     Row {
         number: 17,
         refusal: Refusal::NotStorable,
-        wrong: "a class of the set is linked, or a byte after the text in its last word is not 0",
-        mend: "Store the set as it was before its first link, with every table place and slot count 0, and with zeros in the bytes that \
-         follow the text in its last word.",
+        wrong: "a class of the set is linked, a built or array class has static words, or a byte after the text in its last word is not 0",
+        mend: "Store the set as it was before its first link, with every table place and slot count 0, and the static words of every built \
+         or array class, and with zeros in the bytes that follow the text in its last word.",
     },
     Row {
         number: 18,

@@ -126,7 +126,8 @@ impl ClassSet {
     ///
     /// # Errors
     ///
-    /// Refusal 17: a class is linked, or the words that the set was [made of](ClassSet::from_words) have something behind their text.
+    /// Refusal 17: a class is linked, or the words that the set was [made of](ClassSet::from_words) have something behind their text or
+    /// static words in a built or array class.
     ///
     /// ```
     /// # use lgt_linker::*;
@@ -387,6 +388,24 @@ impl ClassSet {
         let mut fields = self.class(class)?.chain().flat_map(Class::fields);
         let found = fields.find(|field| field.name == name && field.descriptor == descriptor && field.is_static() == is_static);
         found.map(|field| field.word_index)
+    }
+
+    /// The static words of a class, [as its record has them](Class::static_words): what to allocate for its static fields, once it is
+    /// linked. None where there is no class of that number.
+    ///
+    /// ```
+    /// # use lgt_linker::*;
+    /// let mut set = ClassSet::read(&std::fs::read("../../examples/interface/classes.bin").unwrap())?;
+    /// let abi = AbiSheet::read(&std::fs::read("../../examples/interface/abi.bin").unwrap())?;
+    /// assert_eq!(set.static_words(2), Some(0));
+    /// set.link(&abi, 2, &mut Area::fresh(64), &[9; 8])?;
+    /// assert_eq!(set.static_words(2), Some(1)); // Door: a static I
+    /// assert_eq!(set.static_words(0), None);
+    /// # Ok::<(), Refusal>(())
+    /// ```
+    #[must_use]
+    pub fn static_words(&self, class: u32) -> Option<u32> {
+        Some(self.class(class)?.static_words())
     }
 
     /// The instance words of a linked class that hold references, by its instance reference bitmap: [`reference_words`] with as many words

@@ -303,6 +303,23 @@ impl<'a> Class<'a> {
         self.word(class::INSTANCE_WORDS)
     }
 
+    /// How many words its own static fields take, where their word indices end: a link counts a built class's and gives an array class 0,
+    /// and a generated class brings its own, whatever its fields. As the Rust's `static_field_word_count`.
+    ///
+    /// ```
+    /// # use lgt_linker::*;
+    /// let made = ClassBuilder::new("Made").kind(Kind::Generated).static_words(7);
+    /// let mut set = SetBuilder::new().class(ClassBuilder::new("A").field_with("s", "J", 0x9, 0)).class(made).build()?;
+    /// assert_eq!([1, 2].map(|number| set.class(number).unwrap().static_words()), [0, 7]);
+    /// set.link_all(&AbiBuilder::new().build()?, &mut Area::fresh(64), &[9; 8]);
+    /// assert_eq!([1, 2].map(|number| set.class(number).unwrap().static_words()), [2, 7]);
+    /// # Ok::<(), BuildError>(())
+    /// ```
+    #[must_use]
+    pub fn static_words(self) -> u32 {
+        self.word(class::STATIC_WORDS)
+    }
+
     /// Its methods, in order; those that a link added come last.
     ///
     /// ```

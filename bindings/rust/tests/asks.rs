@@ -135,6 +135,8 @@ fn fields_are_found_where_a_link_put_them() {
                 end += field.width();
             }
             assert_eq!(class.instance_words(), end);
+            let own = class.fields().filter(Field::is_static).map(|field| field.width()).sum::<u32>();
+            assert_eq!((class.static_words(), set.static_words(class.number())), (own, Some(own)));
             for (name, descriptor, is_static) in [("x", "I", false), ("y", "J", true), ("z", "D", false)] {
                 let own = |class: Class| {
                     let is_it = |field: &Field| (field.name, field.descriptor, field.is_static()) == (name, descriptor, is_static);

@@ -59,7 +59,7 @@ fn words_come_back_linked_or_not() {
     let mut again = ClassSet::from_words(set.words()).unwrap();
     assert_eq!(again, set);
     // As many words as the content takes are enough.
-    let content = 6 + 2 * 17 + 4 * 6 + "CardopenVipCard()Vclosemark".len().div_ceil(4);
+    let content = 6 + 2 * layout::class::WIDTH + 4 * 6 + "CardopenVipCard()Vclosemark".len().div_ceil(4);
     assert_eq!(ClassSet::from_words(&set.words()[..content]).unwrap(), set);
     assert_eq!(ClassSet::from_words(&set.words()[..content - 1]), Err(Refusal::SheetCounts));
     let mut longer = set.words().to_vec();

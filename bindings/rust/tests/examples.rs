@@ -127,6 +127,7 @@ fn set_of(text: &str) -> SetBuilder {
             ["flags", flags] => class.flags(number(flags)),
             ["state", state] => class.link_state(number(state)),
             ["words", words] => class.instance_words(number(words)),
+            ["statics", words] => class.static_words(number(words)),
             _ => panic!("{words:?}"),
         });
     }
@@ -182,7 +183,7 @@ fn builders_make_the_bytes_of_every_text_form() {
 fn again(set: &ClassSet) -> SetBuilder {
     set.classes().fold(SetBuilder::new(), |builder, class| {
         let mut made = ClassBuilder::new(class.name()).flags(class.flags()).kind(class.kind());
-        made = made.link_state(class.link_state()).instance_words(class.instance_words());
+        made = made.link_state(class.link_state()).instance_words(class.instance_words()).static_words(class.static_words());
         if let Some(parent) = class.parent() {
             made = made.extends(parent.name());
         }

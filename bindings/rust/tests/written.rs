@@ -80,8 +80,8 @@ fn every_example_is_written_as_it_was_read() {
 
 #[test]
 fn only_the_blocks_that_the_content_takes_are_touched() {
-    // 127 words of content are one block, 128 two: the counts, a class, 13 fields, and 104 bytes of text or one more.
-    for (text, blocks) in [(104, 1), (105, 2)] {
+    // 127 words of content are one block, 128 two: the counts, a class, 13 fields, and 100 bytes of text or one more.
+    for (text, blocks) in [(100, 1), (101, 2)] {
         let mut words = vec![0; CLASS_WORDS];
         words[set::CLASSES] = 1;
         words[set::FIELDS] = 13;
@@ -113,7 +113,7 @@ fn only_the_blocks_that_the_content_takes_are_touched() {
 
 #[test]
 fn what_is_linked_or_unclean_is_refused_before_the_room() {
-    for (word, value) in [(class::TABLE_PLACE, 1), (class::SLOT_COUNT, 1)] {
+    for (word, value) in [(class::TABLE_PLACE, 1), (class::SLOT_COUNT, 1), (class::STATIC_WORDS, u32::MAX)] {
         let mut words = card();
         words[class::record(2) + word] = value;
         assert_eq!(write_class_sheet(&words, &mut []), Err(Refusal::NotStorable));

@@ -29,7 +29,7 @@ pub record Leaves (old new : List ℕ) (c p n : ℕ) : Type 0 where
   pub place : classTablePlace new c ≡ p
   pub slots : classSlotCount new c ≡ n
 
-module _ (ws : List ℕ) (c place words : ℕ) (p : Plan) (some : 1 ≤ c) (among : c ≤ classCount ws) (fits : contentEnd ws ≤ length ws)
+module _ (ws : List ℕ) (c place words statics : ℕ) (p : Plan) (some : 1 ≤ c) (among : c ≤ classCount ws) (fits : contentEnd ws ≤ length ws)
     (methods : classFirstMethod ws c + classMethodCount ws c ≤ methodCount ws) (fields : classFirstField ws c + classFieldCount ws c ≤ fieldCount ws)
     (inside : classFirstField ws c + length (p .indices) ≤ fieldCount ws) (generated : isNone (p .newMethods) ≡ false → classKind ws c ≡ 1)
     (method-bytes : Bytes (newText (p .newMethods))) (field-bytes : Bytes (newText (p .newFields))) where
@@ -37,7 +37,7 @@ module _ (ws : List ℕ) (c place words : ℕ) (p : Plan) (some : 1 ≤ c) (amon
   s = sectionsOf ws
 
   abbrev g : Sections
-  g = linkedSections s c place words p
+  g = linkedSections s c place words statics p
 
   -- a word of class c's record
   own : (k : ℕ) → k < classWidth → classWord ws c k ≡ rowWord (s .classes) (c - 1) k
@@ -48,7 +48,7 @@ module _ (ws : List ℕ) (c place words : ℕ) (p : Plan) (some : 1 ≤ c) (amon
 
   linked : (more : List ℕ) × Left s g c place (length (p .table)) more
   linked =
-      linked-left s (formed-of ws fits) c place words p some within
+      linked-left s (formed-of ws fits) c place words statics p some within
       (omega (arith, methods, own firstMethodWord (omega arith), own methodCountWord (omega arith), lies-of ws fits .methods))
       (omega (arith, fields, own firstFieldWord (omega arith), own fieldCountWord (omega arith), lies-of ws fits .fields)) method-bytes field-bytes
 
@@ -70,7 +70,7 @@ module _ (ws : List ℕ) (c place words : ℕ) (p : Plan) (some : 1 ≤ c) (amon
   still : (k : ℕ) → k < firstFieldWord → classKind ws c ≢ 1 → classWord (laidOut g) c k ≡ classWord ws c k
   still k h n =
       by (isNone (p .newMethods))
-      (λ t. kept c k some among (omega arith) (linked-still s (formed-of ws fits) c place words p some within t k h))
+      (λ t. kept c k some among (omega arith) (linked-still s (formed-of ws fits) c place words statics p some within t k h))
       (λ f. absurd (n (generated f)))
 
   method : (m k : ℕ) → m < methodCount ws → k < memberWidth → methodWord (laidOut g) m k ≡ methodWord ws m k
@@ -100,5 +100,5 @@ module _ (ws : List ℕ) (c place words : ℕ) (p : Plan) (some : 1 ≤ c) (amon
     slots = at-class c slotCountWord some among (omega arith) ∙ left .slots;
   }
 
-  pub link-leaves : Leaves ws (linkedWords ws c place words p) c place (length (p .table))
-  link-leaves = rw (linked-laid ws fits c place words p some among inside methods fields) leaves
+  pub link-leaves : Leaves ws (linkedWords ws c place words statics p) c place (length (p .table))
+  link-leaves = rw (linked-laid ws fits c place words statics p some among inside methods fields) leaves

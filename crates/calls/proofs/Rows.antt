@@ -15,7 +15,7 @@ use Rattle.abi_sheet.specs.AbiSheet.{abiTextOf}
 use Rattle.set_rules.specs.SetRules.{setRefusal}
 use Rattle.linking.specs.Chain.{parentOf}
 use Rattle.linking.specs.Vtable.{Entry, Built, built, refused, tableEntries}
-use Rattle.linking.specs.Link.{objectName, noClass, isLinked, badArray, badClass, nextFree, badArea, Plan, Planned, planned, unplanned, plan, newWords, listsFull, setShort, noRoom, linkedArea, linkedWords, Outcome, refusedCall, finishLink, onPlan, linkDef}
+use Rattle.linking.specs.Link.{objectName, noClass, isLinked, badArray, badClass, nextFree, badArea, Plan, Planned, planned, unplanned, plan, newWords, newStatics, listsFull, setShort, noRoom, linkedArea, linkedWords, Outcome, refusedCall, finishLink, onPlan, linkDef}
 use Rattle.linking.specs.Ask.{Walk, hit, missed, broken, walk, headPlace, dispatchEntries, askedArea, onDispatch, buildNode, onWalk, badAsk, askDef}
 use Rattle.linking.proofs.Plans.{unplanned-number}
 use Rattle.linking.proofs.Rows.{Fits, fits, Linked, Sound, sound}
@@ -85,7 +85,7 @@ pub record Accepted (ws abi : List ℕ) (c : ℕ) (area stubs : List ℕ) (o : O
   pub number : o .refusal ≡ 0
   pub answers-place : o .first ≡ nextFree area
   pub answers-slots : o .second ≡ length (coming .table)
-  pub new-set : o .set ≡ linkedWords ws c (nextFree area) (newWords ws (textOf ws) abi (abiTextOf abi) area c) coming
+  pub new-set : o .set ≡ linkedWords ws c (nextFree area) (newWords ws (textOf ws) abi (abiTextOf abi) area c) (newStatics ws (textOf ws) c) coming
   pub new-area : o .area ≡ linkedArea area c (coming .table) stubs
 
 refused-call : (ws area : List ℕ) (n : ℕ) → n ≢ 0 → Refused (refusedCall n ws area) ws area

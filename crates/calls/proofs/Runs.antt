@@ -19,7 +19,7 @@ use Rattle.set_rules.proofs.Valid.{valid}
 use Rattle.linking.proofs.ChainLaws.{parent-within}
 use Rattle.linking.specs.Chain.{listCount, ownMethods, parentOf, chain, isInterface}
 use Rattle.linking.specs.Vtable.{Entry, built, parentEntries, slotWords}
-use Rattle.linking.specs.Link.{nextFree, newWords, linkedArea, Outcome}
+use Rattle.linking.specs.Link.{nextFree, newWords, newStatics, linkedArea, Outcome}
 use Rattle.linking.proofs.Names.{text-bytes}
 use Rattle.linking.proofs.Plans.{Plans, plans}
 use Rattle.linking.proofs.Rows.{Linked}
@@ -159,7 +159,8 @@ module _ (ws₀ abi : List ℕ) (valid₀ : Valid ws₀) (P : ℕ → Type 0) wh
         let t = text-bytes (textWords (s .set)) (textLength (s .set)) in
         let l = text-bytes (abiTextWords abi) (abiTextLength abi) in
         subst (λ (x : List ℕ). Leaves (s .set) x c (nextFree (s .area)) (length T)) (sym (acc .new-set))
-        (link-leaves (s .set) c (nextFree (s .area)) (newWords (s .set) (textOf (s .set)) abi (abiTextOf abi) (s .area) c) (acc .coming)
+        (link-leaves (s .set) c (nextFree (s .area)) (newWords (s .set) (textOf (s .set)) abi (abiTextOf abi) (s .area) c)
+        (newStatics (s .set) (textOf (s .set)) c) (acc .coming)
         some among (valid-now .fits) (v .methods) (v .fields) (omega arith) (planning .generated) (planning .method-bytes t l) (planning .field-bytes t l))
 
     room : nextFree (s .area) + length T + 2 ≤ length (s .area)

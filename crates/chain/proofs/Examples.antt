@@ -9,7 +9,7 @@ use Rattle.linking.specs.Chain.{ownMethods, parentOf, chainOf, chain}
 
 -- a class with the parent and the method list
 abbrev class : ℕ → ℕ → ℕ → List ℕ
-class parent first count = 0 ∷ 1 ∷ parent ∷ 1 ∷ 0 ∷ first ∷ count ∷ 0 ∷ 0 ∷ 0 ∷ 0 ∷ 0 ∷ 0 ∷ 0 ∷ 0 ∷ 0 ∷ 0 ∷ []
+class parent first count = 0 ∷ 1 ∷ parent ∷ 1 ∷ 0 ∷ first ∷ count ∷ 0 ∷ 0 ∷ 0 ∷ 0 ∷ 0 ∷ 0 ∷ 0 ∷ 0 ∷ 0 ∷ 0 ∷ 0 ∷ []
 
 -- class 1, class 2 whose parent is said to be itself, class 3 below 1 with a list that runs past method 511
 abbrev set : List ℕ

@@ -1,11 +1,12 @@
 -- Laws of row 3 for a class sheet, the reading's form as the code tests it, and of row 4's records as it reads them. Assumes nothing.
 use mathlib.Core.Path.{_≡_, refl, sym, ap, _∙_}
-use mathlib.Core.Bool.{Bool, true, false, not, _&&_, and-false}
+use mathlib.Core.Logic.{_⊎_, inl, inr}
+use mathlib.Core.Bool.{Bool, true, false, not, _&&_, _||_, and-false, false≢true}
 use mathlib.Core.List.{List}
 use Prim.Native.Nat.{ℕ, _+_, _*_, _≤_, _<_}
 use lib.ListN.{length, getD, take, drop}
-use lib.Dec.{leb, ltb}
-use borrow.Author.Tests.{le-leb, lt-leb, leb-true, not-true, not-false}
+use lib.Dec.{eqb, leb, ltb}
+use borrow.Author.Tests.{eqb-true, le-leb, lt-leb, leb-true, not-true, not-false}
 use Rattle.words.proofs.Bools.{and-both, and-4, and-6}
 use Rattle.words.proofs.Laws.{part-rest}
 use Rattle.words.specs.Folds.{allOf}
@@ -13,9 +14,9 @@ use Rattle.words.proofs.FoldLaws.{all-ext}
 use Rattle.block.specs.Block.{leastFit}
 use Rattle.text.specs.Text.{numberWord, zeroRest, printable, signatureClean, memberClean}
 use Rattle.text.proofs.Laws.{signature-is, member-is}
-use Rattle.class_sheet.specs.ClassSheet.{memberWidth, classLimit, methodLimit, fieldLimit, interfaceLimit, compilerLimit, textLimit, classCount, methodCount, fieldCount, interfaceCount, compilerCount, textLength, methodsAt, fieldsAt, textAt, contentEnd, methodWord, fieldWord}
+use Rattle.class_sheet.specs.ClassSheet.{memberWidth, classLimit, methodLimit, fieldLimit, interfaceLimit, compilerLimit, textLimit, classCount, methodCount, fieldCount, interfaceCount, compilerCount, textLength, methodsAt, fieldsAt, textAt, contentEnd, methodWord, fieldWord, classKind, classTablePlace, classSlotCount, classStaticWords}
 use Rattle.class_sheet.proofs.Laws.{Within}
-use Rattle.class_rules.specs.ClassRules.{classLimits, classFits, allUnlinked, classForm, methodFlagsOk, methodRecord, fieldRecord}
+use Rattle.class_rules.specs.ClassRules.{classLimits, classFits, unlinked, staticsClean, fresh, allFresh, classForm, methodFlagsOk, methodRecord, fieldRecord}
 
 module _ (ws : List ℕ) {l : Bool} (limits : l ≡ classLimits ws) where
   pub form-limits : l ≡ false → false ≡ classForm ws
@@ -28,7 +29,7 @@ module _ (ws : List ℕ) {l : Bool} (limits : l ≡ classLimits ws) where
     form-short h = simp (← end, lt-leb e (length ws) h, and-false)
 
     pub form-rest : l ≡ true → e ≤ length ws → {x : ℕ} {z u : Bool} → x ≡ 4 * textAt ws + textLength ws → z ≡ zeroRest ws x
-        → u ≡ allUnlinked ws → (ltb (length ws) (e + 127) && z && u) ≡ classForm ws
+        → u ≡ allFresh ws → (ltb (length ws) (e + 127) && z && u) ≡ classForm ws
     unfolding classForm leastFit
     form-rest h k f g i = rw (g, i, f) (simp (← limits, h, ← end, le-leb e (length ws) k))
 
@@ -56,7 +57,36 @@ pub formed : (ws : List ℕ) → classForm ws ≡ true → Within ws
 unfolding classForm
 formed ws h =
     limits ws
-    (and-4 (classLimits ws) (leastFit (contentEnd ws) (length ws)) (zeroRest ws (4 * textAt ws + textLength ws)) (allUnlinked ws) h .0)
+    (and-4 (classLimits ws) (leastFit (contentEnd ws) (length ws)) (zeroRest ws (4 * textAt ws + textLength ws)) (allFresh ws) h .0)
+
+or-left : (a b : Bool) → b ≡ true → (a || not b) ≡ true → a ≡ true
+or-left true b h e = refl
+or-left false b h e = absurd (false≢true (rw h at e))
+
+-- a class is fresh by four words of its record
+pub fresh-same : (ws us : List ℕ) (c d : ℕ) → classKind ws c ≡ classKind us d → classTablePlace ws c ≡ classTablePlace us d
+    → classSlotCount ws c ≡ classSlotCount us d → classStaticWords ws c ≡ classStaticWords us d → fresh ws c ≡ fresh us d
+unfolding fresh unlinked staticsClean
+fresh-same ws us c d kind place slots statics = rw (kind, place, slots, statics)
+
+some-kind : (k : ℕ) → (k ≡ 0) ⊎ (k ≡ 2) → (eqb k 0 || eqb k 2) ≡ true
+some-kind k (inl e) = rw e
+some-kind k (inr e) = rw e
+
+-- what it says: no table, and no static words of a built or array class
+abbrev pub Fresh : List ℕ → ℕ → Type 0
+Fresh ws c =
+    (classTablePlace ws c ≡ 0) × (classSlotCount ws c ≡ 0) × ((classKind ws c ≡ 0) ⊎ (classKind ws c ≡ 2) → classStaticWords ws c ≡ 0)
+
+pub fresh-says : (ws : List ℕ) (c : ℕ) → fresh ws c ≡ true → Fresh ws c
+unfolding fresh unlinked staticsClean
+fresh-says ws c h =
+    let p = and-both (unlinked ws c) (staticsClean ws c) h in
+    let q = and-both (eqb (classTablePlace ws c) 0) (eqb (classSlotCount ws c) 0) (p .0) in (
+      eqb-true _ _ (q .0),
+      eqb-true _ _ (q .1),
+      λ k. eqb-true _ _ (or-left (eqb (classStaticWords ws c) 0) _ (some-kind (classKind ws c) k) (p .1)),
+    )
 
 -- ---- row 4's records, as the code reads them: from their section's beginning on, told whether the text is printable
 

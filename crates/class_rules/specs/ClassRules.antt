@@ -1,6 +1,6 @@
 -- Rows 3 and 4 of the table of refusals, for the words of a class sheet. Sums are of naturals: they do not wrap. Assumes nothing.
 use Prim.Native.Nat.{ℕ, _+_, _*_, _-_, _/_, _%_}
-use mathlib.Core.Bool.{Bool, cond, _&&_, _||_}
+use mathlib.Core.Bool.{Bool, cond, not, _&&_, _||_}
 use mathlib.Core.List.{List}
 use lib.ListN.{length}
 use lib.Dec.{eqb, leb, ltb}
@@ -8,7 +8,7 @@ use Rattle.words.specs.Folds.{allOf}
 use Rattle.words.specs.Words.{inside}
 use Rattle.block.specs.Block.{leastFit}
 use Rattle.text.specs.Text.{zeroRest, partOk}
-use Rattle.class_sheet.specs.ClassSheet.{classLimit, methodLimit, fieldLimit, interfaceLimit, compilerLimit, textLimit, classCount, methodCount, fieldCount, interfaceCount, compilerCount, textLength, textAt, contentEnd, interfaceWord, classNameStart, classNameLength, classParent, classFlags, classKind, classFirstMethod, classMethodCount, classFirstField, classFieldCount, classFirstInterface, classInterfaceCount, classLinkState, classInstanceWords, classCompilerTable, classCompilerSlots, classTablePlace, classSlotCount, methodNameStart, methodNameLength, methodDescriptorStart, methodDescriptorLength, methodFlags, fieldNameStart, fieldNameLength, fieldDescriptorStart, fieldDescriptorLength, fieldFlags}
+use Rattle.class_sheet.specs.ClassSheet.{classLimit, methodLimit, fieldLimit, interfaceLimit, compilerLimit, textLimit, classCount, methodCount, fieldCount, interfaceCount, compilerCount, textLength, textAt, contentEnd, interfaceWord, classNameStart, classNameLength, classParent, classFlags, classKind, classFirstMethod, classMethodCount, classFirstField, classFieldCount, classFirstInterface, classInterfaceCount, classLinkState, classInstanceWords, classCompilerTable, classCompilerSlots, classTablePlace, classSlotCount, classStaticWords, methodNameStart, methodNameLength, methodDescriptorStart, methodDescriptorLength, methodFlags, fieldNameStart, fieldNameLength, fieldDescriptorStart, fieldDescriptorLength, fieldFlags}
 use Rattle.apart.specs.Apart.{apartBefore}
 
 -- ---- row 3
@@ -31,18 +31,26 @@ classFits ws = classLimits ws && leb (contentEnd ws) (length ws)
 unfoldable pub unlinked : List ℕ → ℕ → Bool
 unlinked ws c = eqb (classTablePlace ws c) 0 && eqb (classSlotCount ws c) 0
 
--- the same of each class
-abbrev pub allUnlinked : List ℕ → Bool
-allUnlinked ws = allOf (classCount ws) (λ i. unlinked ws (i + 1))
+-- "row 3, in reading and ticket 3's step, and 17 also take a nonzero value in an unlinked built or array class": this does not hold, of class c's static
+-- words; built is kind 0, array kind 2
+unfoldable pub staticsClean : List ℕ → ℕ → Bool
+staticsClean ws c = eqb (classStaticWords ws c) 0 || not (eqb (classKind ws c) 0 || eqb (classKind ws c) 2)
+
+-- no link has written to class c's record, as far as its words tell; the same of each class
+unfoldable pub fresh : List ℕ → ℕ → Bool
+fresh ws c = unlinked ws c && staticsClean ws c
+
+abbrev pub allFresh : List ℕ → Bool
+allFresh ws = allOf (classCount ws) (λ i. fresh ws (i + 1))
 
 -- in a reading, of the words of whole blocks: "a count above its limit, a block count not the least that fits, a nonzero word or byte after the content, or a
--- nonzero table place or slot count" does not hold
+-- nonzero table place or slot count" does not hold, nor have static words a value that is turned away
 unfoldable pub classForm : List ℕ → Bool
 classForm ws =
     classLimits ws
     && leastFit (contentEnd ws) (length ws)
     && zeroRest ws (4 * textAt ws + textLength ws)
-    && allUnlinked ws
+    && allFresh ws
 
 -- ---- row 4
 

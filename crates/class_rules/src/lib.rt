@@ -4,7 +4,7 @@ ghost use Prim.Native.Nat.{_+_, _<_, _^_};
 ghost use Rattle.words.specs.Folds.{allOf};
 ghost use Rattle.text.specs.Text.{printable};
 ghost use Rattle.class_sheet.specs.ClassSheet.{classCount, methodCount, fieldCount, interfaceCount, methodsAt};
-ghost use Rattle.class_rules.specs.ClassRules.{classLimits, classFits, unlinked, allUnlinked, classForm, compilerOk, classNumbers, classLists, classRecord, methodFlagsOk, methodRecord, fieldRecord, interfaceNames, classRecords};
+ghost use Rattle.class_rules.specs.ClassRules.{classLimits, classFits, unlinked, staticsClean, fresh, allFresh, classForm, compilerOk, classNumbers, classLists, classRecord, methodFlagsOk, methodRecord, fieldRecord, interfaceNames, classRecords};
 
 // The words of a method record, and of a field record.
 const MEMBER_WIDTH: u32 = class_sheet::MEMBER_WIDTH as u32;
@@ -35,14 +35,29 @@ fn is_unlinked(ws: &[u32], c: u32) -> bool
     (class_sheet::class_table_place(ws, c) == 0) & (class_sheet::class_slot_count(ws, c) == 0)
 }
 
-// Whether each class has table place and slot count 0.
-pub fn all_unlinked(ws: &[u32]) -> bool
-    ensures { λ r. ⌜ r ≡ allUnlinked (now (ws .entry)) ⌝ }
+// Whether class c, if built or an array class, has no static words.
+fn statics_clean(ws: &[u32], c: u32) -> bool
+    ensures { λ r. ⌜ r ≡ staticsClean (now (ws .entry)) c ⌝ }
+{
+    let kind = class_sheet::class_kind(ws, c);
+    (class_sheet::class_static_words(ws, c) == 0) | !((kind == 0) | (kind == 2))
+}
+
+// Whether class c has what a sheet may bring: no table, and no static words that a link would write.
+fn is_fresh(ws: &[u32], c: u32) -> bool
+    ensures { λ r. ⌜ r ≡ fresh (now (ws .entry)) c ⌝ }
+{
+    is_unlinked(ws, c) & statics_clean(ws, c)
+}
+
+// The same of each class.
+pub fn all_fresh(ws: &[u32]) -> bool
+    ensures { λ r. ⌜ r ≡ allFresh (now (ws .entry)) ⌝ }
 {
     let n = class_sheet::class_count(ws);
     let mut i: u32 = 0;
     while i < n {
-        if !is_unlinked(ws, i + 1) {
+        if !is_fresh(ws, i + 1) {
             return false;
         }
         i += 1;
@@ -63,7 +78,7 @@ pub fn form_ok(ws: &[u32]) -> bool
         return false;
     }
     let text_end = 4 * class_sheet::text_at(ws) + words::wide(class_sheet::text_length(ws));
-    (n < end + 127) & text::zero_rest(ws, text_end) & all_unlinked(ws)
+    (n < end + 127) & text::zero_rest(ws, text_end) & all_fresh(ws)
 }
 
 // Whether a compiler table, counted from 1, lies inside its section; without one there are no slots.

@@ -15,7 +15,7 @@ text-is ws d e f g k h = h ∙ rw (g, f, e, k, part-rest ws (textAt ws))
 
 -- ---- the most words that the content has, the blocks that hold them, and their words, as numbers
 
-pub sizes : (contentLimit ≡ 11590) × (blockLimit ≡ 92) × (sheetWords ≡ 11684)
+pub sizes : (contentLimit ≡ 11654) × (blockLimit ≡ 92) × (sheetWords ≡ 11684)
 sizes = (refl, refl, refl)
 
 -- a sheet's counts are within their limits

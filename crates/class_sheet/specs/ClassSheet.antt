@@ -13,7 +13,7 @@ abbrev pub countsWidth : ℕ
 countsWidth = 6
 
 abbrev pub classWidth : ℕ
-classWidth = 17
+classWidth = 18
 
 -- of a method record, and of a field record
 abbrev pub memberWidth : ℕ
@@ -126,6 +126,9 @@ tablePlaceWord = 15
 abbrev pub slotCountWord : ℕ
 slotCountWord = 16
 
+abbrev pub staticWordsWord : ℕ
+staticWordsWord = 17
+
 -- of a method record, and of a field record
 abbrev pub descriptorStartWord : ℕ
 descriptorStartWord = 2
@@ -211,7 +214,8 @@ textOf ws = textOfWords (textWords ws) (textLength ws)
 
 -- ---- "Class record, 17 words: name start, name length, parent number (0 none), access flags, kind (0 built, 1 generated, 2 array),
 -- first method, method count, first field, field count, first interface word, interface count, link state, instance words, compiler
--- table (0 none, else first word counted from 1), compiler slots, table place (0 unlinked), slot count."
+-- table (0 none, else first word counted from 1), compiler slots, table place (0 unlinked), slot count."; "The class record gets an
+-- eighteenth word for static words, then the only form read"
 
 abbrev pub classNameStart : List ℕ → ℕ → ℕ
 classNameStart ws c = classWord ws c nameStartWord
@@ -263,6 +267,9 @@ classTablePlace ws c = classWord ws c tablePlaceWord
 
 abbrev pub classSlotCount : List ℕ → ℕ → ℕ
 classSlotCount ws c = classWord ws c slotCountWord
+
+abbrev pub classStaticWords : List ℕ → ℕ → ℕ
+classStaticWords ws c = classWord ws c staticWordsWord
 
 -- ---- "Method and field records, 6 words: name start and length, descriptor start and length, flags, then target or word index."
 
@@ -356,6 +363,9 @@ putClassTablePlace ws c v = putClassWord ws c tablePlaceWord v
 
 abbrev pub putClassSlotCount : List ℕ → ℕ → ℕ → List ℕ
 putClassSlotCount ws c v = putClassWord ws c slotCountWord v
+
+abbrev pub putClassStaticWords : List ℕ → ℕ → ℕ → List ℕ
+putClassStaticWords ws c v = putClassWord ws c staticWordsWord v
 
 -- to the word index of field record f, in words whose field section begins at `at`
 abbrev pub putIndexAt : ℕ → ℕ → ℕ → List ℕ → List ℕ

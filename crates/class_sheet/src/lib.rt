@@ -2,12 +2,12 @@
 ghost use mathlib.Core.Path.{_≡_};
 ghost use Prim.Native.Nat.{_<_, _^_};
 ghost use Rattle.text.specs.Text.{unpackedText};
-ghost use Rattle.class_sheet.specs.ClassSheet.{countAt, classCount, methodCount, fieldCount, interfaceCount, compilerCount, textLength, methodsAt, fieldsAt, interfacesAt, compilersAt, textAt, contentEnd, classWord, methodWord, fieldWord, interfaceWord, textWords, classNameStart, classNameLength, classParent, classFlags, classKind, classFirstMethod, classMethodCount, classFirstField, classFieldCount, classFirstInterface, classInterfaceCount, classLinkState, classInstanceWords, classCompilerTable, classCompilerSlots, classTablePlace, classSlotCount, methodNameStart, methodNameLength, methodDescriptorStart, methodDescriptorLength, methodFlags, methodTarget, fieldNameStart, fieldNameLength, fieldDescriptorStart, fieldDescriptorLength, fieldFlags, fieldIndex, className, methodName, methodDescriptor, fieldName, fieldDescriptor, putCount, putMethodCount, putFieldCount, putTextLength, putClassWord, putClassFirstMethod, putClassMethodCount, putClassFirstField, putClassFieldCount, putClassInstanceWords, putClassTablePlace, putClassSlotCount, putMember};
+ghost use Rattle.class_sheet.specs.ClassSheet.{countAt, classCount, methodCount, fieldCount, interfaceCount, compilerCount, textLength, methodsAt, fieldsAt, interfacesAt, compilersAt, textAt, contentEnd, classWord, methodWord, fieldWord, interfaceWord, textWords, classNameStart, classNameLength, classParent, classFlags, classKind, classFirstMethod, classMethodCount, classFirstField, classFieldCount, classFirstInterface, classInterfaceCount, classLinkState, classInstanceWords, classCompilerTable, classCompilerSlots, classTablePlace, classSlotCount, classStaticWords, methodNameStart, methodNameLength, methodDescriptorStart, methodDescriptorLength, methodFlags, methodTarget, fieldNameStart, fieldNameLength, fieldDescriptorStart, fieldDescriptorLength, fieldFlags, fieldIndex, className, methodName, methodDescriptor, fieldName, fieldDescriptor, putCount, putMethodCount, putFieldCount, putTextLength, putClassWord, putClassFirstMethod, putClassMethodCount, putClassFirstField, putClassFieldCount, putClassInstanceWords, putClassTablePlace, putClassSlotCount, putClassStaticWords, putMember};
 
 // Widths, in words: of the counts, of a class record, and of a method or field record.
 pub const COUNTS_WIDTH: usize = 6;
 
-pub const CLASS_WIDTH: usize = 17;
+pub const CLASS_WIDTH: usize = 18;
 
 pub const MEMBER_WIDTH: usize = 6;
 
@@ -26,7 +26,7 @@ pub const COMPILER_LIMIT: u32 = 2048;
 
 pub const TEXT_LIMIT: u32 = 8192;
 
-// The most words that the content has, 11,590; the blocks of 127 words that hold them, 92; and the words of those blocks, 11,684.
+// The most words that the content has, 11,654; the blocks of 127 words that hold them, 92; and the words of those blocks, 11,684.
 pub const CONTENT_LIMIT: usize = COUNTS_WIDTH
     + CLASS_WIDTH * (CLASS_LIMIT as usize)
     + MEMBER_WIDTH * (METHOD_LIMIT as usize)
@@ -60,6 +60,8 @@ const INSTANCE_WORDS: u32 = 12;
 const TABLE_PLACE: u32 = 15;
 
 const SLOT_COUNT: u32 = 16;
+
+const STATIC_WORDS: u32 = 17;
 
 // The word of a class record that holds its parent's number.
 pub const PARENT: usize = 2;
@@ -304,6 +306,12 @@ pub fn class_slot_count(ws: &[u32], c: u32) -> u32
     class_word(ws, c, SLOT_COUNT)
 }
 
+pub fn class_static_words(ws: &[u32], c: u32) -> u32
+    ensures { λ r. ⌜ r ≡ classStaticWords (now (ws .entry)) c ⌝ }
+{
+    class_word(ws, c, STATIC_WORDS)
+}
+
 // The words of a method record.
 pub fn method_name_start(ws: &[u32], m: u32) -> u32
     ensures { λ r. ⌜ r ≡ methodNameStart (now (ws .entry)) m ⌝ }
@@ -490,6 +498,12 @@ pub fn put_class_slot_count(ws: &mut [u32], c: u32, v: u32)
     ensures { λ _. ⌜ now (ws .exit) ≡ putClassSlotCount (now (ws .entry)) c v ⌝ }
 {
     put_class_word(ws, c, SLOT_COUNT, v);
+}
+
+pub fn put_class_static_words(ws: &mut [u32], c: u32, v: u32)
+    ensures { λ _. ⌜ now (ws .exit) ≡ putClassStaticWords (now (ws .entry)) c v ⌝ }
+{
+    put_class_word(ws, c, STATIC_WORDS, v);
 }
 
 // Stores a method or field record into the first words of a part: where its name and its descriptor begin and how long they are, its flags,

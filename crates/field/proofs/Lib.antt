@@ -4,3 +4,4 @@ pub mod MovedLaws
 pub mod NumberLaws
 pub mod OutcomeLaws
 pub mod RuntimeLaws
+pub mod StaticLaws

@@ -1,5 +1,5 @@
 // Field words (field.rs, `new`, `patch_declared_instance_field_word_indices`): the word indices of a class's fields, its instance
-// words, and the ABI fields that are added to it.
+// words and static words, and the ABI fields that are added to it.
 use words::Found;
 ghost use mathlib.Core.Path.{_≡_};
 ghost use mathlib.Core.List.{[], _∷_, _++_};
@@ -13,7 +13,7 @@ ghost use Rattle.class_sheet.specs.ClassSheet.{fieldFlags, fieldIndex, fieldLim
 ghost use Rattle.linking.specs.Chain.{onFound, ownFields, chain, isStatic};
 ghost use Rattle.linking.specs.Abi.{givenWords};
 ghost use Rattle.linking.specs.Fields.{belowZero, fieldWidth, instanceWords, runtimeEnd, ownRuntime, numberInstance, numberField, numberFields};
-ghost use Rattle.linking.specs.Fields.{declaresField, addedFields, raised, addWidth, declaredWords, standFrom, movedIndex, indicesPlus};
+ghost use Rattle.linking.specs.Fields.{declaresField, addedFields, raised, addWidth, declaredWords, addStatic, staticWords, standFrom, movedIndex, indicesPlus};
 ghost use Rattle.field.specs.Numbers.{signedOf, counting, firstNumbering, declaredBy, ownCount, fixedBy, Holds, Fits, Movable, undeclared};
 ghost use Rattle.field.specs.Numbers.{Small, namesOver, flagsOver, indicesOver, wordsFrom, addedTo};
 ghost use Rattle.field.specs.Numbers.{numbered, refused, numberedOf, fieldsBy, builtFields, generatedFields};
@@ -493,6 +493,33 @@ fn declared_words(ws: &[u32], text: &[u8], c: u32) -> u32
     let mut i: u32 = 0;
     while i < n {
         sum = add_width(ws, text, sum, first + i);
+        i += 1;
+    }
+    sum
+}
+
+// The words with those of field f, if it is static.
+fn add_static(ws: &[u32], text: &[u8], sum: u32, f: u32) -> u32
+    requires { ⌜ sum ≤ 1024 ⌝ }
+    ensures is { λ r. ⌜ r ≡ addStatic (now (ws .entry)) (now (text .entry)) sum f ⌝ }
+    ensures small { λ r. ⌜ r ≤ sum + 2 ⌝ }
+{
+    if is_static(ws, f) {
+        return sum + field_width(ws, text, f);
+    }
+    sum
+}
+
+// How many words class c's own static fields take: at most 1,024, whatever the words are.
+pub fn static_words(ws: &[u32], text: &[u8], c: u32) -> u32
+    ensures { λ r. ⌜ r ≡ staticWords (now (ws .entry)) (now (text .entry)) c ⌝ }
+{
+    let first = class_sheet::class_first_field(ws, c);
+    let n = chain::field_count(ws, c);
+    let mut sum: u32 = 0;
+    let mut i: u32 = 0;
+    while i < n {
+        sum = add_static(ws, text, sum, first + i);
         i += 1;
     }
     sum

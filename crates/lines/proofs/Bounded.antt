@@ -361,10 +361,10 @@ relisted-row rs c k l first count i j m n =
 
 -- ---- an accepted link
 
-module _ (s : Sections) (f : Formed classWidth s) (c place words : ℕ) (p : Plan) (some : 1 ≤ c) (among : c ≤ length (s .classes)) (b : BoundedIn s)
+module _ (s : Sections) (f : Formed classWidth s) (c place words statics : ℕ) (p : Plan) (some : 1 ≤ c) (among : c ≤ length (s .classes)) (b : BoundedIn s)
     (methods : ShortNews (p .newMethods)) (fields : rowWord (s .classes) (c - 1) firstFieldWord + rowWord (s .classes) (c - 1) fieldCountWord ≤ length (s .fields)) where
   abbrev rows : List (List ℕ)
-  rows = recordRows (s .classes) c place (length (p .table)) words
+  rows = recordRows (s .classes) c place (length (p .table)) words statics
 
   abbrev rec : Sections
   rec = withClasses s rows
@@ -373,7 +373,7 @@ module _ (s : Sections) (f : Formed classWidth s) (c place words : ℕ) (p : Pla
   num = withFields rec (rowIndices (rowWord (s .classes) (c - 1) firstFieldWord) (p .indices) (s .fields))
 
   rec-formed : Formed classWidth rec
-  rec-formed = formed-recorded s f c place (length (p .table)) words some among
+  rec-formed = formed-recorded s f c place (length (p .table)) words statics some among
 
   num-formed : Formed classWidth num
   num-formed = record {
@@ -386,11 +386,13 @@ module _ (s : Sections) (f : Formed classWidth s) (c place words : ℕ) (p : Pla
   row-left : (d k : ℕ) → k ≤ fieldCountWord → rowWord rows (d - 1) k ≡ rowWord (s .classes) (d - 1) k
   row-left d k h =
       by (eqb (d - 1) (c - 1))
-      (λ t. rw (eqb-true (d - 1) (c - 1) t) (record-word (s .classes) c place (length (p .table)) words k (omega arith) (omega arith) (omega arith)))
-      (λ t. record-class (s .classes) c place (length (p .table)) words (d - 1) k (eqb-false (d - 1) (c - 1) t))
+      (λ t.
+      rw (eqb-true (d - 1) (c - 1) t)
+      (record-word (s .classes) c place (length (p .table)) words statics k (omega arith) (omega arith) (omega arith) (omega arith)))
+      (λ t. record-class (s .classes) c place (length (p .table)) words statics (d - 1) k (eqb-false (d - 1) (c - 1) t))
 
   rec-bounded : BoundedIn rec
-  rec-bounded = bounded-kept s rec (length-record (s .classes) c place (length (p .table)) words) (λ d k h. row-left d k (omega arith)) refl b
+  rec-bounded = bounded-kept s rec (length-record (s .classes) c place (length (p .table)) words statics) (λ d k h. row-left d k (omega arith)) refl b
 
   num-bounded : BoundedIn num
   num-bounded = record { list = rec-bounded .list; name = rec-bounded .name; method = rec-bounded .method }
@@ -406,7 +408,7 @@ module _ (s : Sections) (f : Formed classWidth s) (c place words : ℕ) (p : Pla
   unfolding fieldsGrowing
   fields-bounded = bounded-kept rec _ (length-relisting rows c firstFieldWord fieldCountWord _ _) field-row refl rec-bounded
 
-  linked-bounded : Bounded (laidOut (linkedSections s c place words p))
+  linked-bounded : Bounded (laidOut (linkedSections s c place words statics p))
   unfolding linkedSections
   linked-bounded =
       by (isNone (p .newFields))
@@ -414,7 +416,8 @@ module _ (s : Sections) (f : Formed classWidth s) (c place words : ℕ) (p : Pla
       by (isNone (p .newMethods)) (λ u. rw (t, u) (bounded-laid num num-formed num-bounded))
       (λ u.
       rw (t, u)
-      (bounded-methods num num-formed c some (omega (arith, length-record (s .classes) c place (length (p .table)) words)) (p .newMethods) methods num-bounded)))
+      (bounded-methods num num-formed c some (omega (arith, length-record (s .classes) c place (length (p .table)) words statics)) (p .newMethods) methods
+      num-bounded)))
       (λ t.
       rw t
       (bounded-laid (fieldsGrowing rec c (p .indices) (p .newFields)) (formed-fields-growing rec rec-formed c (p .newFields) (p .indices) inside₇)
@@ -423,10 +426,10 @@ module _ (s : Sections) (f : Formed classWidth s) (c place words : ℕ) (p : Pla
   -- ---- its slot count, and those of the other classes
 
   abbrev after : Sections
-  after = linkedSections s c place words p
+  after = linkedSections s c place words statics p
 
   methods-inside : rowWord (num .classes) (c - 1) firstMethodWord + rowWord (num .classes) (c - 1) methodCountWord ≤ length (num .methods)
-  methods-inside = num-bounded .list c some (omega (arith, length-record (s .classes) c place (length (p .table)) words))
+  methods-inside = num-bounded .list c some (omega (arith, length-record (s .classes) c place (length (p .table)) words statics))
 
   after-formed : Formed classWidth after
   unfolding linkedSections
@@ -441,7 +444,7 @@ module _ (s : Sections) (f : Formed classWidth s) (c place words : ℕ) (p : Pla
   after-rows : (length (after .classes) ≡ length (s .classes)) × ((i : ℕ) → rowWord (after .classes) i slotCountWord ≡ rowWord rows i slotCountWord)
   unfolding linkedSections methodsGrowing fieldsGrowing
   after-rows =
-      let l = length-record (s .classes) c place (length (p .table)) words in
+      let l = length-record (s .classes) c place (length (p .table)) words statics in
       by (isNone (p .newFields))
       (λ t.
       by (isNone (p .newMethods)) (λ u. rw (t, u) (l, λ i. refl))
@@ -466,9 +469,9 @@ pub record Leaves (ws new : List ℕ) (c slots : ℕ) : Type 0 where
   pub own : classSlotCount new c ≡ slots
   pub others : (d : ℕ) → IsClass ws d → d ≢ c → classSlotCount new d ≡ classSlotCount ws d
 
-pub link-leaves : (ws : List ℕ) → Valid ws → (c place words : ℕ) (p : Plan) → IsClass ws c → ShortNews (p .newMethods)
-    → classFirstField ws c + length (p .indices) ≤ fieldCount ws → Leaves ws (linkedWords ws c place words p) c (length (p .table))
-link-leaves ws v c place words p k short inside =
+pub link-leaves : (ws : List ℕ) → Valid ws → (c place words statics : ℕ) (p : Plan) → IsClass ws c → ShortNews (p .newMethods)
+    → classFirstField ws c + length (p .indices) ≤ fieldCount ws → Leaves ws (linkedWords ws c place words statics p) c (length (p .table))
+link-leaves ws v c place words statics p k short inside =
     let l = lies-of ws (v .fits) in
     let n = l .classes in
     let m = l .fields in
@@ -479,14 +482,14 @@ link-leaves ws v c place words p k short inside =
     let among : c ≤ length (s .classes) = omega arith in
     let fields : rowWord (s .classes) (c - 1) firstFieldWord + rowWord (s .classes) (c - 1) fieldCountWord ≤ length (s .fields) =
     omega (arith, x .fields, class-of ws (v .fits) c firstFieldWord (k .0) (k .1) (omega arith), class-of ws (v .fits) c fieldCountWord (k .0) (k .1) (omega arith)) in
-    rw (linked-laid ws (v .fits) c place words p (k .0) (k .1) inside (x .methods) (x .fields))
+    rw (linked-laid ws (v .fits) c place words statics p (k .0) (k .1) inside (x .methods) (x .fields))
     (record {
-      bounded = linked-bounded s f c place words p (k .0) among b short fields;
-      classes = class-count (linkedSections s c place words p) ∙ after-rows s f c place words p (k .0) among b short fields .0 ∙ sym n;
-      own = linked-slots s f c place words p (k .0) among b short fields c (k .0) among
-          ∙ record-slots (s .classes) c place (length (p .table)) words (f .classes) (omega arith) (omega arith) (omega arith);
+      bounded = linked-bounded s f c place words statics p (k .0) among b short fields;
+      classes = class-count (linkedSections s c place words statics p) ∙ after-rows s f c place words statics p (k .0) among b short fields .0 ∙ sym n;
+      own = linked-slots s f c place words statics p (k .0) among b short fields c (k .0) among
+          ∙ record-slots (s .classes) c place (length (p .table)) words statics (f .classes) (omega arith) (omega arith) (omega arith);
       others = λ d i e.
-          linked-slots s f c place words p (k .0) among b short fields d (i .0) (omega arith)
-          ∙ record-class (s .classes) c place (length (p .table)) words (d - 1) slotCountWord (λ q. e (omega arith))
+          linked-slots s f c place words statics p (k .0) among b short fields d (i .0) (omega arith)
+          ∙ record-class (s .classes) c place (length (p .table)) words statics (d - 1) slotCountWord (λ q. e (omega arith))
           ∙ sym (class-of ws (v .fits) d slotCountWord (i .0) (i .1) (omega arith));
     })

@@ -34,23 +34,23 @@ module _ (ws text abi labels refs flags lasts : List ℕ) where
       (λ q. rw q (rw (none-same, end-same ws text abi labels refs flags lasts (classFieldCount ws c))))
       (λ q. rw q (rw (none-same, end-same ws text abi labels refs flags lasts (classMethodCount ws c))))
 
-  module _ (c : ℕ) (area stubs slots : List ℕ) (n words : ℕ) (indices : List ℕ) {f : Bool}
+  module _ (c : ℕ) (area stubs slots : List ℕ) (n words statics : ℕ) (indices : List ℕ) {f : Bool}
       (full : f ≡ listsFull ws c (membersPlan ws c (named ws text abi labels refs))) where
     pub finish-full : f ≡ true
-        → refusedCall 14 ws area ≡ finished ws c area stubs slots n words indices (news ws text abi labels refs flags lasts)
+        → refusedCall 14 ws area ≡ finished ws c area stubs slots n words statics indices (news ws text abi labels refs flags lasts)
     unfolding finished
     finish-full e = rw (← (names-full c), ← full, e)
 
     module _ (left : f ≡ false) {r s : Bool} (room : r ≡ noRoom area stubs n)
         (short : s ≡ setShort ws c (membersPlan ws c (named ws text abi labels refs))) where
       pub finish-short : (r || s) ≡ true
-          → refusedCall 15 ws area ≡ finished ws c area stubs slots n words indices (news ws text abi labels refs flags lasts)
+          → refusedCall 15 ws area ≡ finished ws c area stubs slots n words statics indices (news ws text abi labels refs flags lasts)
       unfolding finished
       finish-short e = rw (← (names-full c), ← full, left, ← (names-short c), ← room, ← short, e)
 
       pub finish-done : {place : ℕ} {set lent : List ℕ} → (r || s) ≡ false → place ≡ nextFree area
-          → set ≡ storedNews ws c place n words indices (news ws text abi labels refs flags lasts) → lent ≡ tableWritten area c slots n stubs
+          → set ≡ storedNews ws c place n words statics indices (news ws text abi labels refs flags lasts) → lent ≡ tableWritten area c slots n stubs
           → _≡_ {A = Outcome} (record { refusal = 0; first = place; second = n; set = set; area = lent })
-          (finished ws c area stubs slots n words indices (news ws text abi labels refs flags lasts))
+          (finished ws c area stubs slots n words statics indices (news ws text abi labels refs flags lasts))
       unfolding finished
       finish-done e p q t = rw (← (names-full c), ← full, left, ← (names-short c), ← room, ← short, e, q, t, p)

@@ -11,7 +11,7 @@ use Rattle.abi_sheet.specs.AbiSheet.{abiTextOf}
 use Rattle.set_rules.specs.Valid.{Valid}
 use Rattle.linking.specs.Compiler.{New}
 use Rattle.linking.specs.Vtable.{Entry, slotWords}
-use Rattle.linking.specs.Link.{Plan, isNone, nextFree, listsFull, setShort, noRoom, linkedArea, linkedWords, newWords, finishLink, Outcome, refusedCall}
+use Rattle.linking.specs.Link.{Plan, isNone, nextFree, listsFull, setShort, noRoom, linkedArea, linkedWords, newWords, newStatics, finishLink, Outcome, refusedCall}
 use Rattle.growth.specs.Growth.{canGrow, methodsGrown, fieldsGrown}
 use Rattle.growth.proofs.Linked.{linked-methods, linked-fields, can-grow, methods-end, fields-end}
 use Rattle.reading.specs.Arrays.{entriesOf}
@@ -64,31 +64,31 @@ module _ (ws : List ℕ) (c : ℕ) (p : Plan) (new : List New) (methods : p .new
 
     -- ---- the class words
 
-    module _ (place words : ℕ) (indices : classFirstField ws c + length (p .indices) ≤ fieldCount ws) where
+    module _ (place words statics : ℕ) (indices : classFirstField ws c + length (p .indices) ≤ fieldCount ws) where
       numbered-none : isNone (p .newFields) ≡ true → isNone (p .newMethods) ≡ true
-          → numbered (withMethods ws c (p .newMethods)) c place (length (p .table)) words (p .indices) ≡ linkedWords ws c place words p
+          → numbered (withMethods ws c (p .newMethods)) c place (length (p .table)) words statics (p .indices) ≡ linkedWords ws c place words statics p
       unfolding linkedWords withMethods numbered
       numbered-none n q = rw (n, q)
 
       numbered-some : isNone (p .newFields) ≡ true → isNone (p .newMethods) ≡ false
-          → numbered (withMethods ws c (p .newMethods)) c place (length (p .table)) words (p .indices) ≡ linkedWords ws c place words p
+          → numbered (withMethods ws c (p .newMethods)) c place (length (p .table)) words statics (p .indices) ≡ linkedWords ws c place words statics p
       unfolding withMethods numbered
-      numbered-some n q = rw q (sym (linked-methods ws c place words p some among n q (room-methods q) indices refl))
+      numbered-some n q = rw q (sym (linked-methods ws c place words statics p some among n q (room-methods q) indices refl))
 
-      stored-linked : stored ws c place (length (p .table)) words (p .indices) (p .newMethods) (p .newFields) ≡ linkedWords ws c place words p
+      stored-linked : stored ws c place (length (p .table)) words statics (p .indices) (p .newMethods) (p .newFields) ≡ linkedWords ws c place words statics p
       unfolding stored
       stored-linked =
           by (isNone (p .newFields))
           (λ q. rw q (by (isNone (p .newMethods)) (numbered-none q) (numbered-some q)))
-          (λ q. rw q (sym (linked-fields ws c place words p some among q (room-fields q) refl)))
+          (λ q. rw q (sym (linked-fields ws c place words statics p some among q (room-fields q) refl)))
 
-      pub words-linked : storedNews ws c place (length (p .table)) words (p .indices) new ≡ linkedWords ws c place words p
+      pub words-linked : storedNews ws c place (length (p .table)) words statics (p .indices) new ≡ linkedWords ws c place words statics p
       words-linked = rw (← methods, ← fields) stored-linked
 
 -- ---- the whole
 
 -- what the code has at a link's end, and what it stands for
-pub record Finish (ws abi : List ℕ) (c : ℕ) (area stubs slots : List ℕ) (n words : ℕ) (new : List New) (p : Plan) : Type 0 where
+pub record Finish (ws abi : List ℕ) (c : ℕ) (area stubs slots : List ℕ) (n words statics : ℕ) (new : List New) (p : Plan) : Type 0 where
   pub valid : Valid ws
   pub some : 1 ≤ c
   pub among : c ≤ classCount ws
@@ -98,33 +98,34 @@ pub record Finish (ws abi : List ℕ) (c : ℕ) (area stubs slots : List ℕ) (n
   pub slot-count : length (p .table) ≡ n
   pub slot-words : slotWords stubs 0 (p .table) ≡ slotWords stubs 0 (entriesOf slots [] n)
   pub words-are : words ≡ newWords ws (textOf ws) abi (abiTextOf abi) area c
+  pub statics-are : statics ≡ newStatics ws (textOf ws) c
   pub indices-fit : classFirstField ws c + length (p .indices) ≤ fieldCount ws
 
-module _ (ws abi : List ℕ) (c : ℕ) (area stubs slots : List ℕ) (n words : ℕ) (new : List New) (p : Plan)
-    (f : Finish ws abi c area stubs slots n words new p) where
+module _ (ws abi : List ℕ) (c : ℕ) (area stubs slots : List ℕ) (n words statics : ℕ) (new : List New) (p : Plan)
+    (f : Finish ws abi c area stubs slots n words statics new p) where
   done : (full : listsFull ws c p ≡ false) (room : noRoom area stubs n ≡ false) (short : setShort ws c p ≡ false)
       → _≡_ {A = Outcome}
       (record {
         refusal = 0;
         first = nextFree area;
         second = n;
-        set = storedNews ws c (nextFree area) n words (p .indices) new;
+        set = storedNews ws c (nextFree area) n words statics (p .indices) new;
         area = tableWritten area c slots n stubs;
       })
       (record {
         refusal = 0;
         first = nextFree area;
         second = length (p .table);
-        set = linkedWords ws c (nextFree area) (newWords ws (textOf ws) abi (abiTextOf abi) area c) p;
+        set = linkedWords ws c (nextFree area) (newWords ws (textOf ws) abi (abiTextOf abi) area c) (newStatics ws (textOf ws) c) p;
         area = linkedArea area c (p .table) stubs;
       })
   done full room short =
-      let w = words-linked ws c p new (f .methods) (f .fields) (f .valid) (f .some) (f .among) full short (nextFree area) words (f .indices-fit) in
+      let w = words-linked ws c p new (f .methods) (f .fields) (f .valid) (f .some) (f .among) full short (nextFree area) words statics (f .indices-fit) in
       let t = table-linked area slots [] stubs n room (f .short-area) c
       ∙ linked-same area c (p .table) (entriesOf slots [] n) stubs (f .slot-words) (f .slot-count ∙ sym (length-entries slots [] n)) in
-      rw (← (f .words-are), ← w, t, f .slot-count)
+      rw (← (f .words-are), ← (f .statics-are), ← w, t, f .slot-count)
 
-  pub finished-is : finished ws c area stubs slots n words (p .indices) new ≡ finishLink ws abi c area stubs p
+  pub finished-is : finished ws c area stubs slots n words statics (p .indices) new ≡ finishLink ws abi c area stubs p
   unfolding finished finishLink
   finished-is =
       rw (full-plan ws c p new (f .methods) (f .fields), short-plan ws c p new (f .methods) (f .fields), f .slot-count)

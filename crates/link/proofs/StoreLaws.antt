@@ -9,32 +9,44 @@ use lib.ListN.{length}
 use lib.Dec.{eqb, ltb}
 use borrow.Author.Tests.{eq-eqb, ne-eqb, eqb-true, not-false}
 use Rattle.words.proofs.Bools.{by}
-use Rattle.class_sheet.specs.ClassSheet.{methodCount, fieldCount, classKind, classMethodCount, classFirstField, classFieldCount, fieldsAt, putClassInstanceWords, putClassTablePlace, putClassSlotCount}
+use Rattle.class_sheet.specs.ClassSheet.{methodCount, fieldCount, classKind, classMethodCount, classFirstField, classFieldCount, fieldsAt, putClassInstanceWords, putClassTablePlace, putClassSlotCount, putClassStaticWords}
 use Rattle.linking.specs.Compiler.{New}
 use Rattle.linking.specs.Set.{putIndices, sectionFull, grownEnd}
-use Rattle.linking.specs.Link.{isNone, linkedRecord, listsFull, setShort}
+use Rattle.linking.specs.Fields.{staticWords}
+use Rattle.linking.specs.Link.{isNone, newStatics, linkedRecord, listsFull, setShort}
 use Rattle.growth.specs.News.{newCount, news}
 use Rattle.growth.specs.Growth.{methodsGrown, fieldsGrown}
 use Rattle.growth.proofs.NewsLaws.{length-news}
 use Rattle.link.specs.Stored.{membersPlan, numbered, withMethods, stored, storedNews}
 
+-- ---- the static words
+
+pub statics-built : (ws text : List ℕ) (c : ℕ) {k n : ℕ} → k ≡ classKind ws c → k ≡ 0 → n ≡ staticWords ws text c → n ≡ newStatics ws text c
+unfolding newStatics
+statics-built ws text c {k} kind e f = f ∙ rw (← kind, e)
+
+pub statics-other : (ws text : List ℕ) (c : ℕ) {k : ℕ} → k ≡ classKind ws c → k ≢ 0 → 0 ≡ newStatics ws text c
+unfolding newStatics
+statics-other ws text c {k} kind n = rw (← kind) (simp (ne-eqb k 0 n))
+
 -- ---- the record
 
-module _ (ws : List ℕ) (c place slots words : ℕ) {k : ℕ} (kind : k ≡ classKind ws c) {s t : List ℕ} (placed : s ≡ putClassTablePlace ws c place)
+module _ (ws : List ℕ) (c place slots words statics : ℕ) {k : ℕ} (kind : k ≡ classKind ws c) {s t : List ℕ} (placed : s ≡ putClassTablePlace ws c place)
     (counted : t ≡ putClassSlotCount s c slots) where
-  pub record-worded : {u : List ℕ} → k ≢ 1 → u ≡ putClassInstanceWords t c words → u ≡ linkedRecord ws c place slots words
+  pub record-worded : {u v : List ℕ} → k ≢ 1 → u ≡ putClassInstanceWords t c words → v ≡ putClassStaticWords u c statics
+      → v ≡ linkedRecord ws c place slots words statics
   unfolding linkedRecord
-  record-worded n e = rw (← kind) (simp (ne-eqb k 1 n) (e ∙ rw (counted, placed)))
+  record-worded n e f = rw (← kind) (simp (ne-eqb k 1 n) (f ∙ rw (e, counted, placed)))
 
-  pub record-generated : k ≡ 1 → t ≡ linkedRecord ws c place slots words
+  pub record-generated : k ≡ 1 → t ≡ linkedRecord ws c place slots words statics
   unfolding linkedRecord
   record-generated e = rw (← kind) (simp (eq-eqb k 1 e) (counted ∙ rw placed))
 
-pub indices-stored : (ws : List ℕ) (c place slots words : ℕ) (indices : List ℕ) {at first : ℕ} {s t : List ℕ} → at ≡ fieldsAt ws
-    → first ≡ classFirstField ws c → s ≡ linkedRecord ws c place slots words → t ≡ putIndices at first indices s
-    → t ≡ numbered ws c place slots words indices
+pub indices-stored : (ws : List ℕ) (c place slots words statics : ℕ) (indices : List ℕ) {at first : ℕ} {s t : List ℕ} → at ≡ fieldsAt ws
+    → first ≡ classFirstField ws c → s ≡ linkedRecord ws c place slots words statics → t ≡ putIndices at first indices s
+    → t ≡ numbered ws c place slots words statics indices
 unfolding numbered
-indices-stored ws c place slots words indices e f g h = h ∙ rw (e, f, g)
+indices-stored ws c place slots words statics indices e f g h = h ∙ rw (e, f, g)
 
 -- ---- new members
 
@@ -116,24 +128,25 @@ short-none ws c l h = by (eqb (classKind ws c) 0) (λ q. rw q (rw h)) (λ q. rw 
 
 -- ---- what a link stores
 
-module _ (ws : List ℕ) (c place slots words : ℕ) (indices : List ℕ) (l : List New) {k : ℕ} (kind : k ≡ classKind ws c) where
-  pub stored-fields : {s t : List ℕ} → k ≡ 0 → isNone l ≡ false → s ≡ fieldsGrown ws c indices l → t ≡ linkedRecord s c place slots words
-      → t ≡ storedNews ws c place slots words indices l
+module _ (ws : List ℕ) (c place slots words statics : ℕ) (indices : List ℕ) (l : List New) {k m : ℕ} (kind : k ≡ classKind ws c)
+    (sum : m ≡ statics) where
+  pub stored-fields : {s t : List ℕ} → k ≡ 0 → isNone l ≡ false → s ≡ fieldsGrown ws c indices l → t ≡ linkedRecord s c place slots words m
+      → t ≡ storedNews ws c place slots words statics indices l
   unfolding stored
-  stored-fields e h f g = g ∙ rw (f, ← kind) (simp (eq-eqb k 0 e) (rw h))
+  stored-fields e h f g = g ∙ rw (sum, f, ← kind) (simp (eq-eqb k 0 e) (rw h))
 
-  stored-built : {s t : List ℕ} → k ≡ 0 → isNone l ≡ true → s ≡ withMethods ws c l → t ≡ numbered s c place slots words indices
-      → t ≡ storedNews ws c place slots words indices l
+  stored-built : {s t : List ℕ} → k ≡ 0 → isNone l ≡ true → s ≡ withMethods ws c l → t ≡ numbered s c place slots words m indices
+      → t ≡ storedNews ws c place slots words statics indices l
   unfolding stored withMethods
-  stored-built e h f g = g ∙ rw (f, ← kind) (simp (eq-eqb k 0 e) (rw h))
+  stored-built e h f g = g ∙ rw (sum, f, ← kind) (simp (eq-eqb k 0 e) (rw h))
 
-  stored-other : {s t : List ℕ} → k ≢ 0 → s ≡ withMethods ws c l → t ≡ numbered s c place slots words indices
-      → t ≡ storedNews ws c place slots words indices l
+  stored-other : {s t : List ℕ} → k ≢ 0 → s ≡ withMethods ws c l → t ≡ numbered s c place slots words m indices
+      → t ≡ storedNews ws c place slots words statics indices l
   unfolding stored withMethods
-  stored-other e f g = g ∙ rw (f, ← kind) (simp (ne-eqb k 0 e))
+  stored-other e f g = g ∙ rw (sum, f, ← kind) (simp (ne-eqb k 0 e))
 
   pub stored-methods : {s t : List ℕ} {z : Bool} → isNone l ≡ z → (eqb k 0 && not z) ≡ false → s ≡ withMethods ws c l
-      → t ≡ numbered s c place slots words indices → t ≡ storedNews ws c place slots words indices l
+      → t ≡ numbered s c place slots words m indices → t ≡ storedNews ws c place slots words statics indices l
   stored-methods {z = z} e h f g =
       by (eqb k 0)
       (λ q. stored-built (eqb-true k 0 q) (e ∙ not-false z (rw q at h)) f g)

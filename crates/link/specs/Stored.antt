@@ -20,26 +20,26 @@ membersPlan ws c new = record { table = []; indices = []; newMethods = methodsOf
 -- ---- the class words
 
 -- the record and the indices of the class's own fields, where they now stand
-unfoldable pub numbered : List ℕ → ℕ → ℕ → ℕ → ℕ → List ℕ → List ℕ
-numbered ws c place slots words indices =
-    putIndices (fieldsAt ws) (classFirstField ws c) indices (linkedRecord ws c place slots words)
+unfoldable pub numbered : List ℕ → ℕ → ℕ → ℕ → ℕ → ℕ → List ℕ → List ℕ
+numbered ws c place slots words statics indices =
+    putIndices (fieldsAt ws) (classFirstField ws c) indices (linkedRecord ws c place slots words statics)
 
 unfoldable pub withMethods : List ℕ → ℕ → List New → List ℕ
 withMethods ws c new = cond (isNone new) ws (methodsGrown ws c new)
 
-unfoldable pub stored : List ℕ → ℕ → ℕ → ℕ → ℕ → List ℕ → List New → List New → List ℕ
-stored ws c place slots words indices methods fields =
+unfoldable pub stored : List ℕ → ℕ → ℕ → ℕ → ℕ → ℕ → List ℕ → List New → List New → List ℕ
+stored ws c place slots words statics indices methods fields =
     cond (isNone fields)
-    (numbered (withMethods ws c methods) c place slots words indices)
-    (linkedRecord (fieldsGrown ws c indices fields) c place slots words)
+    (numbered (withMethods ws c methods) c place slots words statics indices)
+    (linkedRecord (fieldsGrown ws c indices fields) c place slots words statics)
 
-abbrev pub storedNews : List ℕ → ℕ → ℕ → ℕ → ℕ → List ℕ → List New → List ℕ
-storedNews ws c place slots words indices new = stored ws c place slots words indices (methodsOf ws c new) (fieldsOf ws c new)
+abbrev pub storedNews : List ℕ → ℕ → ℕ → ℕ → ℕ → ℕ → List ℕ → List New → List ℕ
+storedNews ws c place slots words statics indices new = stored ws c place slots words statics indices (methodsOf ws c new) (fieldsOf ws c new)
 
 -- ---- rows 14 and 15, then the effect, of a table by the words of its n slots
 
-unfoldable pub finished : List ℕ → ℕ → List ℕ → List ℕ → List ℕ → ℕ → ℕ → List ℕ → List New → Outcome
-finished ws c area stubs slots n words indices new =
+unfoldable pub finished : List ℕ → ℕ → List ℕ → List ℕ → List ℕ → ℕ → ℕ → ℕ → List ℕ → List New → Outcome
+finished ws c area stubs slots n words statics indices new =
     cond (listsFull ws c (membersPlan ws c new))
     (refusedCall 14 ws area)
     (cond (noRoom area stubs n || setShort ws c (membersPlan ws c new))
@@ -48,7 +48,7 @@ finished ws c area stubs slots n words indices new =
       refusal = 0;
       first = nextFree area;
       second = n;
-      set = storedNews ws c (nextFree area) n words indices new;
+      set = storedNews ws c (nextFree area) n words statics indices new;
       area = tableWritten area c slots n stubs;
     }))
 

@@ -1,30 +1,50 @@
 // `link`: rows 3 to 15 in the table's order, and what an accepted link leaves in the class words and the area.
 use area::Answer;
 ghost use mathlib.Core.Path.{_≡_};
-ghost use Rattle.linking.specs.Link.{linkedRecord, listsFull, setShort, linkDef};
+ghost use Rattle.linking.specs.Link.{newStatics, linkedRecord, listsFull, setShort, linkDef};
 ghost use Rattle.growth.specs.News.{news, named};
 ghost use Rattle.link.specs.Stored.{membersPlan, numbered, withMethods, storedNews, finished, Fitting, Texts, Accepted};
 ghost use Rattle.area.specs.Area.{outcome};
 
-// Stores what a link answers in class c's record: its place and slot count and, unless the class is generated, its instance words.
-fn record_link(set: &mut [u32], c: u32, place: u32, slots: u32, words: u32)
-    ensures { λ _. ⌜ now (set .exit) ≡ linkedRecord (now (set .entry)) c place slots words ⌝ }
+// The static words that a link gives class c, unless it is generated.
+fn new_statics(set: &[u32], text: &[u8], c: u32) -> u32
+    ensures { λ r. ⌜ r ≡ newStatics (now (set .entry)) (now (text .entry)) c ⌝ }
+{
+    if class_sheet::class_kind(set, c) == 0 {
+        return field::static_words(set, text, c);
+    }
+    0
+}
+
+// Stores what a link answers in class c's record: its place and slot count and, unless the class is generated, its instance words and static
+// words.
+fn record_link(set: &mut [u32], c: u32, place: u32, slots: u32, words: u32, statics: u32)
+    ensures { λ _. ⌜ now (set .exit) ≡ linkedRecord (now (set .entry)) c place slots words statics ⌝ }
 {
     let kind = class_sheet::class_kind(set, c);
     class_sheet::put_class_table_place(set, c, place);
     class_sheet::put_class_slot_count(set, c, slots);
     if kind != 1 {
         class_sheet::put_class_instance_words(set, c, words);
+        class_sheet::put_class_static_words(set, c, statics);
     }
 }
 
 // Stores the record, and the indices of the class's own fields.
-fn store_indices(set: &mut [u32], c: u32, place: u32, slots: u32, words: u32, indices: &[u32])
-    ensures { λ _. ⌜ now (set .exit) ≡ numbered (now (set .entry)) c place slots words (now (indices .entry)) ⌝ }
+fn store_indices(
+    set: &mut [u32],
+    c: u32,
+    place: u32,
+    slots: u32,
+    words: u32,
+    statics: u32,
+    indices: &[u32],
+)
+    ensures { λ _. ⌜ now (set .exit) ≡ numbered (now (set .entry)) c place slots words statics (now (indices .entry)) ⌝ }
 {
     let at = class_sheet::fields_at(set);
     let first = class_sheet::class_first_field(set, c);
-    record_link(set, c, place, slots, words);
+    record_link(set, c, place, slots, words, statics);
     growth::put_indices(set, at, first, indices);
 }
 
@@ -62,15 +82,16 @@ fn store_link<'a>(
     flags: &[u32],
     lasts: &[u32],
 )
-    ensures { λ _. ⌜ now (set .exit) ≡ storedNews (now (set .entry)) c place slots words (now (indices .entry)) (news (now (set .entry)) (now (text .entry)) (now (abi .entry)) (now (labels .entry)) (now (refs .entry)) (now (flags .entry)) (now (lasts .entry))) ⌝ }
+    ensures { λ _. ⌜ now (set .exit) ≡ storedNews (now (set .entry)) c place slots words (newStatics (now (set .entry)) (now (text .entry)) c) (now (indices .entry)) (news (now (set .entry)) (now (text .entry)) (now (abi .entry)) (now (labels .entry)) (now (refs .entry)) (now (flags .entry)) (now (lasts .entry))) ⌝ }
 {
+    let statics = new_statics(set, text, c);
     if (class_sheet::class_kind(set, c) == 0) & (refs.len() != 0) {
         growth::grow_fields(set, c, indices, text, abi, labels, refs, flags, lasts);
-        record_link(set, c, place, slots, words);
+        record_link(set, c, place, slots, words, statics);
         return;
     }
     store_methods(set, c, text, abi, labels, refs, flags, lasts);
-    store_indices(set, c, place, slots, words, indices);
+    store_indices(set, c, place, slots, words, statics, indices);
 }
 
 // Row 14: whether the list that grows, or the text, would exceed its limit.
@@ -136,7 +157,7 @@ fn finish_link<'a>(
     flags: &[u32],
     lasts: &[u32],
 ) -> Answer
-    ensures { λ r. ⌜ outcome r (now (set .exit)) (now (area .exit)) ≡ finished (now (set .entry)) c (now (area .entry)) (now (stubs .entry)) (now (slots .entry)) n words (now (indices .entry)) (news (now (set .entry)) (now (text .entry)) (now (abi .entry)) (now (labels .entry)) (now (refs .entry)) (now (flags .entry)) (now (lasts .entry))) ⌝ }
+    ensures { λ r. ⌜ outcome r (now (set .exit)) (now (area .exit)) ≡ finished (now (set .entry)) c (now (area .entry)) (now (stubs .entry)) (now (slots .entry)) n words (newStatics (now (set .entry)) (now (text .entry)) c) (now (indices .entry)) (news (now (set .entry)) (now (text .entry)) (now (abi .entry)) (now (labels .entry)) (now (refs .entry)) (now (flags .entry)) (now (lasts .entry))) ⌝ }
 {
     if lists_full(set, c, text, abi, labels, refs) {
         return Answer::Refused(14);
@@ -264,7 +285,7 @@ fn link_fitting<'a>(
 
 // Links the class. The answer is the place of its table in the area, where the class number and the slots follow, and the number of its
 // slots; or the row that refuses. The table goes to the area's next free word, and word 0 of the area moves past it. The class's record
-// gets place, slot count and, unless it is generated, instance words; its fields get their indices; ABI fields and compiler methods that
+// gets place, slot count and, unless it is generated, instance words and static words; its fields get their indices; ABI fields and compiler methods that
 // it lacks are added. Rows 3 to 5 are judged anew, and a refused link writes nothing. Nothing of this is left to the program; where the specification
 // is silent, docs/DECISIONS.md has the reading.
 pub fn link(set: &mut [u32], abi: &[u32], class: u32, area: &mut [u32], stubs: &[u32]) -> Answer

@@ -6,7 +6,7 @@ use mathlib.Core.List.{List, [], _∷_, _++_}
 use lib.ListN.{length, take, drop, replicate}
 use Rattle.words.specs.Lists.{listFrom}
 use Rattle.descriptor.specs.Bytes.{text}
-use Rattle.class_sheet.specs.ClassSheet.{classInstanceWords, classTablePlace, classSlotCount, textOf, methodName, methodFlags, methodTarget, fieldIndex}
+use Rattle.class_sheet.specs.ClassSheet.{classInstanceWords, classTablePlace, classSlotCount, classStaticWords, textOf, methodName, methodFlags, methodTarget, fieldIndex}
 use Rattle.abi_sheet.specs.AbiSheet.{abiTextOf}
 use Rattle.linking.specs.Chain.{ownMethods, ownFields}
 use Rattle.linking.specs.Set.{packed}
@@ -52,6 +52,7 @@ pub record Numbers : Type 0 where
   pub words : ℕ
   pub place : ℕ
   pub slots : ℕ
+  pub statics : ℕ
 
 pub record Class : Type 0 where
   pub name : String
@@ -63,7 +64,7 @@ pub record Class : Type 0 where
 
 abbrev pub unlinked : ℕ → ℕ → ℕ → ℕ → ℕ → Numbers
 unlinked parent flags kind state words =
-    record { parent = parent; flags = flags; kind = kind; state = state; words = words; place = 0; slots = 0 }
+    record { parent = parent; flags = flags; kind = kind; state = state; words = words; place = 0; slots = 0; statics = 0 }
 
 -- a built class: name, parent, methods, fields
 abbrev pub built : String → ℕ → List Member → List Member → Class
@@ -113,6 +114,7 @@ linkedAt place slots c =
       words = n .words;
       place = place;
       slots = slots;
+      statics = n .statics;
     })
     c
 
@@ -128,6 +130,23 @@ having flags state words c =
       words = words;
       place = n .place;
       slots = n .slots;
+      statics = n .statics;
+    })
+    c
+
+-- with these static words
+abbrev pub bringing : ℕ → Class → Class
+bringing statics c =
+    renumbered
+    (λ n. record {
+      parent = n .parent;
+      flags = n .flags;
+      kind = n .kind;
+      state = n .state;
+      words = n .words;
+      place = n .place;
+      slots = n .slots;
+      statics = statics;
     })
     c
 
@@ -200,7 +219,7 @@ classesWords at m f i w (c ∷ cs) =
     ++ (c .numbers .parent ∷ c .numbers .flags ∷ c .numbers .kind ∷ m ∷ length (c .methods) ∷ f ∷ length (c .fields) ∷ i
     ∷ length (c .interfaces) ∷ c .numbers .state ∷ c .numbers .words ∷ [])
     ++ compiledWords w (c .compiled)
-    ++ (c .numbers .place ∷ c .numbers .slots ∷ [])
+    ++ (c .numbers .place ∷ c .numbers .slots ∷ c .numbers .statics ∷ [])
     ++ classesWords (at + length (text (c .name))) (m + length (c .methods)) (f + length (c .fields)) (i + length (c .interfaces))
     (w + length (compiledSlots (c .compiled))) cs
 
@@ -377,6 +396,11 @@ methodsOf c d = membersFrom (d .set) (textOf (d .set)) (ownMethods (d .set) c)
 -- its instance words
 unfoldable pub wordsOf : ℕ → Lent → ℕ
 wordsOf c d = classInstanceWords (d .set) c
+
+-- static words of the classes
+unfoldable pub staticsOf : List ℕ → Lent → List ℕ
+staticsOf [] d = []
+staticsOf (c ∷ cs) d = classStaticWords (d .set) c ∷ staticsOf cs d
 
 -- the words of its slots
 unfoldable pub tableOf : ℕ → Lent → List ℕ

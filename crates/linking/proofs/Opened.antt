@@ -25,18 +25,18 @@ use Rattle.linking.specs.Vtable.{ownFixed, findByIndex, readEntry, readS
 use Rattle.linking.specs.Vtable.{fixedOf, relayStep, relayed, extended, inheritedTable, putMethod, addMethod, addMethods, buildMethods}
 use Rattle.linking.specs.Vtable.{methodEntries, buildInterfaceMethods, slotWords}
 use Rattle.linking.specs.Fields.{runtimeEnd, ownRuntime, runtimeWords, numberField, numberFields, declaresField, addedFields, raised}
-use Rattle.linking.specs.Fields.{builtWords, tooManyWords, addWidth, declaredWords, standFrom, generatedRefusal, movedIndex, indicesPlus}
+use Rattle.linking.specs.Fields.{builtWords, tooManyWords, addStatic, staticWords, addWidth, declaredWords, standFrom, generatedRefusal, movedIndex, indicesPlus}
 use Rattle.linking.specs.Fields.{generatedIndices}
 use Rattle.linking.specs.Compiler.{holds, ownerState, isEmptied, viewFrom, nativeView, compilerTargets, signatureSources, isDeclared, addNamed}
 use Rattle.linking.specs.Compiler.{addedFrom, addedMethods, nameOf, descriptorOf, flagsOf, targetOf, classMethods, entryTarget, matchTarget}
 use Rattle.linking.specs.Compiler.{compilerEntry, compilerEntries, sameSignature, hasSlot, appendMethod, entryMethods, compilerTable}
 use Rattle.linking.specs.Set.{putIndices, newRecords, newText, packed, inserted, overlaid, grownMethods, grownFields, sectionFull, grownEnd}
 use Rattle.linking.specs.Link.{noClass, badArray, badClass, endsBelow, badArea, withinSlots, newFieldsOf, builtTable, planBuilt, generatedTable}
-use Rattle.linking.specs.Link.{generatedMethods, planGenerated, planArray, plan, newWords, listsFull, setShort, noRoom, writeAt, linkedArea}
+use Rattle.linking.specs.Link.{generatedMethods, planGenerated, planArray, plan, newWords, newStatics, listsFull, setShort, noRoom, writeAt, linkedArea}
 use Rattle.linking.specs.Link.{linkedRecord, linkedWords, finishLink, linkDef}
 use Rattle.linking.specs.Ask.{walk, ownImplementation, implementation, dispatchEntries, askedArea, buildNode, badAsk, askDef}
 use Rattle.linking.specs.Whose.{firstDeclared, declaredByTarget, declaredByIndex, readDeclared, slotClass}
-use Rattle.linking.proofs.Assemble.{call, answers, after, indicesOf, methodsOf, wordsOf, tableOf, classesOf}
+use Rattle.linking.proofs.Assemble.{call, answers, after, indicesOf, methodsOf, wordsOf, staticsOf, tableOf, classesOf}
 
 unfoldable pub opened : ℕ
 unfolding allOf table listFrom find firstFound allFound position fold keep some leWord byteOf inside textByte textOfWords nameAt sameBytes printable
@@ -49,12 +49,12 @@ unfolding allOf table listFrom find firstFound allFound position fold keep some 
     ownMethod abiNamed abiSlots abiFields slotIndex fixedFieldIndex slotIs vtableIndex slotAt fieldIs fixedField classSize givenWords classAbi
     chainAbi fixedIndex minimumSize ownFixed findByIndex readEntry readSlot tableEntries parentEntries entryIs slotOf entryIsOther fixedOf relayStep
     relayed extended inheritedTable putMethod addMethod addMethods buildMethods methodEntries buildInterfaceMethods slotWords runtimeEnd ownRuntime
-    runtimeWords numberField numberFields declaresField addedFields raised builtWords tooManyWords addWidth declaredWords standFrom generatedRefusal
-    movedIndex indicesPlus generatedIndices holds ownerState isEmptied viewFrom nativeView compilerTargets signatureSources isDeclared addNamed
+    runtimeWords numberField numberFields declaresField addedFields raised builtWords tooManyWords addStatic staticWords addWidth declaredWords standFrom
+    generatedRefusal movedIndex indicesPlus generatedIndices holds ownerState isEmptied viewFrom nativeView compilerTargets signatureSources isDeclared addNamed
     addedFrom addedMethods nameOf descriptorOf flagsOf targetOf classMethods entryTarget matchTarget compilerEntry compilerEntries sameSignature
     hasSlot appendMethod entryMethods compilerTable putIndices newRecords newText packed inserted overlaid grownMethods grownFields sectionFull
     grownEnd noClass badArray badClass endsBelow badArea withinSlots newFieldsOf builtTable planBuilt generatedTable generatedMethods planGenerated
-    planArray plan newWords listsFull setShort noRoom writeAt linkedArea linkedRecord linkedWords finishLink linkDef walk ownImplementation
+    planArray plan newWords newStatics listsFull setShort noRoom writeAt linkedArea linkedRecord linkedWords finishLink linkDef walk ownImplementation
     implementation dispatchEntries askedArea buildNode badAsk askDef firstDeclared declaredByTarget declaredByIndex readDeclared slotClass call answers
-    after indicesOf methodsOf wordsOf tableOf classesOf
+    after indicesOf methodsOf wordsOf staticsOf tableOf classesOf
 opened = 0

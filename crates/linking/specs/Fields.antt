@@ -118,6 +118,15 @@ module _ (ws text abi labels : List ℕ) (own : Found) where
   unfoldable pub tooManyWords : ℕ → Bool
   tooManyWords c = ltb 65535 (builtWords c) || ltb 65535 (numberFields c .runtime)
 
+-- ---- static words: "the sum of the static field widths", over the class's own fields
+
+module _ (ws text : List ℕ) where
+  unfoldable pub addStatic : ℕ → ℕ → ℕ
+  addStatic n f = cond (isStatic (fieldFlags ws f)) (n + fieldWidth ws text f) n
+
+  unfoldable pub staticWords : ℕ → ℕ
+  staticWords c = fold addStatic 0 (ownFields ws c)
+
 -- ---- "Generated: base = total minus own words. All absolute: nothing written. All relative: base added."
 
 module _ (ws text : List ℕ) where

@@ -7,13 +7,13 @@ use lib.Dec.{eqb, leb, ltb}
 use Rattle.words.specs.Folds.{allOf}
 use Rattle.words.specs.declared.Found.{Found}
 use Rattle.text.specs.Text.{sameBytes}
-use Rattle.class_sheet.specs.ClassSheet.{classCount, methodCount, fieldCount, textOf, classParent, classFlags, classKind, classFirstField, classMethodCount, classFieldCount, classCompilerTable, classTablePlace, classSlotCount, className, fieldsAt, putClassInstanceWords, putClassTablePlace, putClassSlotCount}
+use Rattle.class_sheet.specs.ClassSheet.{classCount, methodCount, fieldCount, textOf, classParent, classFlags, classKind, classFirstField, classMethodCount, classFieldCount, classCompilerTable, classTablePlace, classSlotCount, className, fieldsAt, putClassInstanceWords, putClassTablePlace, putClassSlotCount, putClassStaticWords}
 use Rattle.abi_sheet.specs.AbiSheet.{abiTextOf, abiFieldName, abiFieldDescriptor}
 use Rattle.set_rules.specs.SetRules.{setRefusal}
 use Rattle.linking.specs.Chain.{parentOf, isInterface}
 use Rattle.linking.specs.Abi.{classAbi, fixedFieldIndex}
 use Rattle.linking.specs.Vtable.{Entry, Built, built, refused, parentEntries, buildMethods, buildInterfaceMethods, slotWords}
-use Rattle.linking.specs.Fields.{numberFields, addedFields, builtWords, tooManyWords, generatedRefusal, generatedIndices}
+use Rattle.linking.specs.Fields.{numberFields, addedFields, builtWords, tooManyWords, generatedRefusal, generatedIndices, staticWords}
 use Rattle.linking.specs.Compiler.{New, addedMethods, compilerTable}
 use Rattle.linking.specs.Set.{putIndices, newText, grownMethods, grownFields, sectionFull, grownEnd}
 
@@ -65,7 +65,8 @@ badArea ws area =
 
 -- ---- rows 8 to 13: what a link comes to before anything is written
 
--- the table, the class's new indices, and the members to add; of methods and fields at most one kind grows. (Its instance words: `newWords`.)
+-- the table, the class's new indices, and the members to add; of methods and fields at most one kind grows. (Its instance words: `newWords`; its static words:
+-- `newStatics`.)
 pub record Plan : Type 0 where
   pub table : List Entry
   pub indices : List ℕ
@@ -142,6 +143,10 @@ module _ (ws text abi labels area : List ℕ) where
   unfoldable pub newWords : ℕ → ℕ
   newWords c = cond (eqb (classKind ws c) 0) (builtWords ws text abi labels (classAbi ws text abi labels c) c) 0
 
+-- "linking puts there the sum of the static field widths for a built class, 0 for an array class; a generated class brings its own"
+unfoldable pub newStatics : List ℕ → List ℕ → ℕ → ℕ
+newStatics ws text c = cond (eqb (classKind ws c) 0) (staticWords ws text c) 0
+
 -- ---- rows 14 and 15
 
 abbrev pub isNone : List New → Bool
@@ -173,15 +178,15 @@ unfoldable pub linkedArea : List ℕ → ℕ → List Entry → List ℕ → Lis
 linkedArea area c T stubs =
     set (writeAt area (nextFree area) (c ∷ (slotWords stubs 0 T ++ (0 ∷ [])))) 0 (nextFree area + length T + 2)
 
--- "Linking sets table place and slot count, its answer, and, unless generated, instance words; never link state."
-unfoldable pub linkedRecord : List ℕ → ℕ → ℕ → ℕ → ℕ → List ℕ
-linkedRecord ws c place slots words =
+-- "Linking sets table place and slot count, its answer, and, unless generated, instance words; never link state." Static words are as those.
+unfoldable pub linkedRecord : List ℕ → ℕ → ℕ → ℕ → ℕ → ℕ → List ℕ
+linkedRecord ws c place slots words statics =
     let placed : List ℕ = putClassSlotCount (putClassTablePlace ws c place) c slots in
-    cond (eqb (classKind ws c) 1) placed (putClassInstanceWords placed c words)
+    cond (eqb (classKind ws c) 1) placed (putClassStaticWords (putClassInstanceWords placed c words) c statics)
 
-unfoldable pub linkedWords : List ℕ → ℕ → ℕ → ℕ → Plan → List ℕ
-linkedWords ws c place words p =
-    let recorded : List ℕ = linkedRecord ws c place (length (p .table)) words in
+unfoldable pub linkedWords : List ℕ → ℕ → ℕ → ℕ → ℕ → Plan → List ℕ
+linkedWords ws c place words statics p =
+    let recorded : List ℕ = linkedRecord ws c place (length (p .table)) words statics in
     cond (isNone (p .newFields))
     (let numbered : List ℕ = putIndices (fieldsAt ws) (classFirstField ws c) (p .indices) recorded in
     cond (isNone (p .newMethods)) numbered (grownMethods ws c (p .newMethods) numbered))
@@ -211,7 +216,7 @@ finishLink ws abi c area stubs p =
       refusal = 0;
       first = nextFree area;
       second = length (p .table);
-      set = linkedWords ws c (nextFree area) (newWords ws (textOf ws) abi (abiTextOf abi) area c) p;
+      set = linkedWords ws c (nextFree area) (newWords ws (textOf ws) abi (abiTextOf abi) area c) (newStatics ws (textOf ws) c) p;
       area = linkedArea area c (p .table) stubs;
     }))
 

@@ -20,7 +20,7 @@ use Rattle.linking.specs.Vtable.{Entry, Built, built, refused, slotWords, paren
 use Rattle.linking.specs.Compiler.{New}
 use Rattle.linking.specs.Abi.{classAbi}
 use Rattle.linking.specs.Fields.{numberFields, addedFields, tooManyWords, generatedRefusal, generatedIndices}
-use Rattle.linking.specs.Link.{nextFree, Plan, Planned, planned, unplanned, onTable, withinSlots, newFieldsOf, builtTable, generatedTable, planBuilt, planGenerated, planArray, plan, generatedMethods, linkedArea, newWords, Outcome, linkDef, writeAt}
+use Rattle.linking.specs.Link.{nextFree, Plan, Planned, planned, unplanned, onTable, withinSlots, newFieldsOf, builtTable, generatedTable, planBuilt, planGenerated, planArray, plan, generatedMethods, linkedArea, newWords, newStatics, Outcome, linkDef, writeAt}
 use Rattle.calls.proofs.Area.{linked-length}
 use Rattle.linking.proofs.Plans.{plans}
 use Rattle.calls.proofs.Rows.{Refused, Accepted, link-cases}
@@ -142,7 +142,8 @@ module _ (ws abi : List ℕ) (b : Bounded ws) (c : ℕ) (area stubs : List ℕ) 
         | inl e ↦ rw (← e) none-short
         | inr e ↦ rw (← e) (news-short ws (textOf ws) abi (abiTextOf abi) (valid-bounded ws (v .0)) (v .1) area c (k .1))
       ] in
-      let l = link-leaves ws (v .0) c (nextFree area) (newWords ws (textOf ws) abi (abiTextOf abi) area c) p k short (omega (arith, v .0 .class c k .fields)) in
+      let l = link-leaves ws (v .0) c (nextFree area) (newWords ws (textOf ws) abi (abiTextOf abi) area c) (newStatics ws (textOf ws) c)
+      p k short (omega (arith, v .0 .class c k .fields)) in
       let w = a .room .free in
       let f = a .lent .some in
       let t = a .lent .within in

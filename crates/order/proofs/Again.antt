@@ -12,8 +12,9 @@ use borrow.Author.Tests.{eq-eqb, ne-eqb, le-ltb, le-leb}
 use Rattle.words.specs.Lists.{numbers, some}
 use Rattle.words.proofs.Bools.{by, and-both}
 use Rattle.words.proofs.FoldLaws.{all-ext, all-if}
-use Rattle.class_sheet.specs.ClassSheet.{classCount, interfaceCount, interfaceWord, classParent, tablePlaceWord, slotCountWord}
-use Rattle.class_rules.specs.ClassRules.{classFits, unlinked, allUnlinked, interfaceNames}
+use Rattle.class_sheet.specs.ClassSheet.{classCount, interfaceCount, interfaceWord, classParent, kindWord, tablePlaceWord, slotCountWord, staticWordsWord}
+use Rattle.class_rules.specs.ClassRules.{classFits, fresh, allFresh, interfaceNames}
+use Rattle.class_rules.proofs.Laws.{fresh-same}
 use Rattle.renumber.specs.Renumber.{placed, orderOf, renumbered, renumberForm, strayParent, namesClasses, returnsFrom, returns, cyclic, renumberRefusal, renumberDef}
 use Rattle.renumber.proofs.Stop.{positive, some-none}
 use Rattle.order.specs.Order.{Orderable, Falling, accepted}
@@ -57,18 +58,19 @@ module _ (ws : List ℕ) (ok : Orderable ws) where
   abbrev new : List ℕ
   new = renumbered ws (orderOf ws)
 
-  unlinked-new : allUnlinked new ≡ allUnlinked ws
-  unfolding unlinked
-  unlinked-new =
+  fresh-new : allFresh new ≡ allFresh ws
+  fresh-new =
       rw (count ws ok 0 (omega arith))
-      (all-ext (classCount ws) (λ i. unlinked new (i + 1)) (λ i. unlinked ws (getD (orderOf ws) i 0))
+      (all-ext (classCount ws) (λ i. fresh new (i + 1)) (λ i. fresh ws (getD (orderOf ws) i 0))
       (λ i h.
-      simp (word-at ws ok i tablePlaceWord h (omega arith) (λ e. omega arith), word-at ws ok i slotCountWord h (omega arith) (λ e. omega arith)))
-      ∙ all-order ws ok (unlinked ws))
+      fresh-same new ws (i + 1) (getD (orderOf ws) i 0) (word-at ws ok i kindWord h (omega arith) (λ e. omega arith))
+      (word-at ws ok i tablePlaceWord h (omega arith) (λ e. omega arith)) (word-at ws ok i slotCountWord h (omega arith) (λ e. omega arith))
+      (word-at ws ok i staticWordsWord h (omega arith) (λ e. omega arith)))
+      ∙ all-order ws ok (fresh ws))
 
   form-new : renumberForm new ≡ true
   unfolding renumberForm
-  form-new = rw (fits-new ws ok, unlinked-new) (and-both (classFits ws) (allUnlinked ws) (formed ws ok) .1)
+  form-new = rw (fits-new ws ok, fresh-new) (and-both (classFits ws) (allFresh ws) (formed ws ok) .1)
 
   falling-new : Falling new
   falling-new c k = parent-below ws ok c (k .0, rw (count ws ok 0 (omega arith)) at (k .1))

@@ -1,4 +1,4 @@
--- What words that 3, 4 and 19 do not refuse have: room for their content, unlinked classes, parents and interface words that name classes, and a whole order.
+-- What words that 3, 4 and 19 do not refuse have: room for their content, fresh classes, parents and interface words that name classes, and a whole order.
 -- Assumes nothing.
 use mathlib.Core.Path.{_≡_, refl, sym, _∙_}
 use mathlib.Core.Logic.{inl, inr, ⊎-elim}
@@ -13,7 +13,7 @@ use lib.Dec.{eqb, leb, ltb}
 use borrow.Author.Tests.{eqb-true, eqb-false, leb-true, ltb-true, ltb-false, le-ltb, not-false}
 use Rattle.words.proofs.Bools.{by, and-both, passed}
 use Rattle.class_sheet.specs.ClassSheet.{classCount, interfaceCount, contentEnd, interfaceWord, classParent}
-use Rattle.class_rules.specs.ClassRules.{classLimits, classFits, allUnlinked}
+use Rattle.class_rules.specs.ClassRules.{classLimits, classFits, allFresh}
 use Rattle.set_rules.specs.Valid.{IsClass}
 use Rattle.renumber.specs.Renumber.{orderOf, renumberForm, namesClasses, cyclic, renumberRefusal, renumberDef}
 use Rattle.renumber.specs.Places.{Named, Before}
@@ -58,7 +58,7 @@ module _ (ws : List ℕ) (ok : Orderable ws) where
   pub fits : contentEnd ws ≤ length ws
   unfolding renumberForm classFits
   fits =
-      leb-true _ _ (and-both (classLimits ws) (leb (contentEnd ws) (length ws)) (and-both (classFits ws) (allUnlinked ws) (rows .form) .0) .1)
+      leb-true _ _ (and-both (classLimits ws) (leb (contentEnd ws) (length ws)) (and-both (classFits ws) (allFresh ws) (rows .form) .0) .1)
 
   pub formed : renumberForm ws ≡ true
   formed = rows .form

@@ -17,7 +17,7 @@ use Rattle.text.proofs.Laws.{same-is, same-refl}
 use Rattle.class_sheet.specs.ClassSheet.{classCountNumber, compilerCountNumber, compilerSlotsWord, compilerTableWord, fieldCountNumber, fieldCountWord, firstFieldWord, firstInterfaceWord, firstMethodWord, flagsWord, instanceWordsWord, interfaceCountNumber, interfaceCountWord, kindWord, linkStateWord, methodCountNumber, methodCountWord, nameLengthWord, nameStartWord, slotCountWord, tablePlaceWord, textLengthNumber, parentWord, countsWidth, classWidth, memberWidth, countAt, classCount, methodCount, fieldCount, interfaceCount, classWord, methodWord, fieldWord, interfaceWord, textOf, classParent, classFirstMethod, classMethodCount, classFirstField, classFieldCount, className}
 use Rattle.apart.specs.Apart.{apart, methodsApart, fieldsApart, classesApart, apartBefore}
 use Rattle.apart.proofs.Laws.{apart-is, apart-if}
-use Rattle.class_rules.specs.ClassRules.{classLimits, classFits, allUnlinked, classNumbers, classLists, classRecord, methodRecord, fieldRecord, interfaceNames, classRecords}
+use Rattle.class_rules.specs.ClassRules.{classLimits, classFits, allFresh, classNumbers, classLists, classRecord, methodRecord, fieldRecord, interfaceNames, classRecords}
 use Rattle.set_rules.specs.SetRules.{methodTyped, fieldTyped, classDescriptors}
 use Rattle.set_rules.specs.Valid.{IsClass}
 use Rattle.renumber.specs.Renumber.{orderOf, newNumber, renumbered, renumberForm}
@@ -119,7 +119,7 @@ module _ (ws : List ℕ) (ok : Orderable ws) where
         end-same ws l (fits ws ok) (distinct ws ok) (whole ws ok),
         length-same ws l (fits ws ok) (distinct ws ok) (whole ws ok),
       )
-      (and-both (classFits ws) (allUnlinked ws) (formed ws ok) .0)
+      (and-both (classFits ws) (allFresh ws) (formed ws ok) .0)
 
   -- ---- single records
 

@@ -4,7 +4,7 @@ use mathlib.Core.Path.{_≡_, sym, _∙_}
 use mathlib.Core.Logic.{_≢_, _↔_}
 use mathlib.Core.Bool.{Bool, true, false, cond, not}
 use mathlib.Core.List.{List, _++_}
-use Prim.Native.Nat.{ℕ, _+_, _*_, _≤_}
+use Prim.Native.Nat.{ℕ, _+_, _*_, _≤_, _<_}
 use native.Mathlib.Omega.{arith}
 use lib.ListN.{length, drop}
 use lib.Dec.{eqb, leb, ltb}
@@ -13,9 +13,9 @@ use Rattle.words.proofs.Bools.{by, and-both, and-4, passed}
 use Rattle.words.proofs.FoldLaws.{all-ext}
 use Rattle.block.specs.Block.{blockCount, sheetWords, leastFit}
 use Rattle.text.specs.Text.{zeroRest}
-use Rattle.class_sheet.specs.ClassSheet.{classCountNumber, tablePlaceWord, slotCountWord, classCount, textLength, textAt, contentEnd, textOf}
+use Rattle.class_sheet.specs.ClassSheet.{classWidth, classCountNumber, kindWord, tablePlaceWord, slotCountWord, staticWordsWord, classCount, classWord, textLength, textAt, contentEnd, textOf}
 use Rattle.class_sheet.proofs.Sections.{count-kept, class-kept}
-use Rattle.class_rules.specs.ClassRules.{classLimits, classFits, unlinked, allUnlinked, classForm}
+use Rattle.class_rules.specs.ClassRules.{classLimits, classFits, fresh, allFresh, classForm}
 use Rattle.class_rules.proofs.Laws as class
 use Rattle.set_rules.specs.SetRules.{classRefusal}
 use Rattle.set_rules.proofs.Kept.{class-fits-kept}
@@ -29,18 +29,18 @@ unfolding classFits
 fitted ws l e = rw (l, e)
 
 form-kept : (ws rest : List ℕ) → classForm ws ≡ true → renumberForm (ws ++ rest) ≡ true
-unfolding classForm leastFit renumberForm unlinked
+unfolding classForm leastFit renumberForm
 form-kept ws rest h =
-    let p = and-4 (classLimits ws) (leastFit (contentEnd ws) (length ws)) (zeroRest ws (4 * textAt ws + textLength ws)) (allUnlinked ws) h in
+    let p = and-4 (classLimits ws) (leastFit (contentEnd ws) (length ws)) (zeroRest ws (4 * textAt ws + textLength ws)) (allFresh ws) h in
     let fit : classFits ws ≡ true = fitted ws (p .0) (and-both (leb (contentEnd ws) (length ws)) (ltb (length ws) (contentEnd ws + 127)) (p .1) .0) in
     let end : contentEnd ws ≤ length ws = class.fits ws fit .1 in
     rw (class-fits-kept ws rest fit, count-kept ws rest end classCountNumber (omega arith))
-    (all-ext (classCount ws) (λ i. unlinked (ws ++ rest) (i + 1)) (λ i. unlinked ws (i + 1))
-    (λ i k.
-    simp (
-      class-kept ws rest end (i + 1) tablePlaceWord (omega arith) (omega arith) (omega arith),
-      class-kept ws rest end (i + 1) slotCountWord (omega arith) (omega arith) (omega arith),
-    ))
+    (all-ext (classCount ws) (λ i. fresh (ws ++ rest) (i + 1)) (λ i. fresh ws (i + 1))
+    (λ i l.
+    let word : (k : ℕ) → k < classWidth → classWord (ws ++ rest) (i + 1) k ≡ classWord ws (i + 1) k =
+    λ k b. class-kept ws rest end (i + 1) k (omega arith) (omega arith) b in
+    class.fresh-same (ws ++ rest) ws (i + 1) (i + 1) (word kindWord (omega arith)) (word tablePlaceWord (omega arith)) (word slotCountWord (omega arith))
+    (word staticWordsWord (omega arith)))
     ∙ p .3)
 
 -- a ladder of numbers that are not m

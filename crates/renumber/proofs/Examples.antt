@@ -7,16 +7,19 @@ use Rattle.words.specs.Lists.{listFrom, find, position, some}
 use Rattle.words.specs.Rows.{joined, cut}
 use Rattle.class_sheet.specs.ClassSheet.{classCount, countAt, classWord, interfaceWord, methodsAt, fieldsAt, interfacesAt, compilersAt, textAt, contentEnd}
 use Rattle.class_sheet.specs.Sections.{laidOut, sectionsBy}
-use Rattle.class_rules.specs.ClassRules.{classLimits, classFits, unlinked, interfaceNames}
+use Rattle.class_rules.specs.ClassRules.{classLimits, classFits, unlinked, staticsClean, fresh, interfaceNames}
 use Rattle.renumber.specs.Renumber.{Outcome, placed, ready, nextClass, orderFrom, orderOf, newNumber, movedRecord, renumbered, renumberForm, strayParent, namesClasses, returnsFrom, returns, cyclic, renumberRefusal, renumberDef}
 
--- a record with a parent, a list of interface words and a slot count; and one with a parent alone
+-- a record with a parent, a list of interface words and a slot count; one with a parent alone; and one with a kind and static words
 abbrev class : ℕ → ℕ → ℕ → ℕ → List ℕ
 class parent first count slots =
-    0 ∷ 0 ∷ parent ∷ 0 ∷ 0 ∷ 0 ∷ 0 ∷ 0 ∷ 0 ∷ first ∷ count ∷ 0 ∷ 0 ∷ 0 ∷ 0 ∷ 0 ∷ slots ∷ []
+    0 ∷ 0 ∷ parent ∷ 0 ∷ 0 ∷ 0 ∷ 0 ∷ 0 ∷ 0 ∷ first ∷ count ∷ 0 ∷ 0 ∷ 0 ∷ 0 ∷ 0 ∷ slots ∷ 0 ∷ []
 
 abbrev under : ℕ → List ℕ
 under parent = class parent 0 0 0
+
+abbrev bringing : ℕ → ℕ → List ℕ
+bringing kind statics = 0 ∷ 0 ∷ 0 ∷ 0 ∷ kind ∷ 0 ∷ 0 ∷ 0 ∷ 0 ∷ 0 ∷ 0 ∷ 0 ∷ 0 ∷ 0 ∷ 0 ∷ 0 ∷ 0 ∷ statics ∷ []
 
 -- classes and interface words, and two words after the content
 abbrev setOf : List (List ℕ) → List ℕ → List ℕ
@@ -57,14 +60,17 @@ pub record Rows : Type 0 where
   pub stray : renumberDef (parents (1 ∷ 3 ∷ [])) (9 ∷ 9 ∷ []) ≡ refused 4 (parents (1 ∷ 3 ∷ [])) (9 ∷ 9 ∷ [])
   pub stray-short : renumberDef (parents (5 ∷ [])) [] ≡ refused 4 (parents (5 ∷ [])) []
   pub unnamed : renumberDef (setOf [] (1 ∷ [])) [] ≡ refused 4 (setOf [] (1 ∷ [])) []
-  -- 3 before 4, and 15 last
+  -- 3 before 4
   pub linked : renumberDef (setOf (class 9 0 0 1 ∷ []) []) (9 ∷ []) ≡ refused 3 (setOf (class 9 0 0 1 ∷ []) []) (9 ∷ [])
+  -- 3 of static words of a built and of an array class, but not of another kind
+  pub statics : map (λ kind. renumberDef (setOf (bringing kind 1 ∷ []) []) (9 ∷ []) .refusal) (0 ∷ 1 ∷ 2 ∷ 3 ∷ []) ≡ 3 ∷ 0 ∷ 3 ∷ 0 ∷ []
+  -- 15 last
   pub short : renumberDef (parents (2 ∷ 0 ∷ [])) (9 ∷ []) ≡ refused 15 (parents (2 ∷ 0 ∷ [])) (9 ∷ [])
 
 pub rows : Rows
 unfolding allOf listFrom find position some joined cut countAt classWord interfaceWord methodsAt fieldsAt interfacesAt compilersAt textAt contentEnd
-    laidOut sectionsBy classLimits classFits unlinked interfaceNames placed ready nextClass orderFrom orderOf newNumber movedRecord renumbered
-    renumberForm strayParent namesClasses returnsFrom returns cyclic renumberRefusal renumberDef
+    laidOut sectionsBy classLimits classFits unlinked staticsClean fresh interfaceNames placed ready nextClass orderFrom orderOf newNumber movedRecord
+    renumbered renumberForm strayParent namesClasses returnsFrom returns cyclic renumberRefusal renumberDef
 rows = record {
   anew = refl;
   smallest = refl;
@@ -77,5 +83,6 @@ rows = record {
   stray-short = refl;
   unnamed = refl;
   linked = refl;
+  statics = refl;
   short = refl;
 }

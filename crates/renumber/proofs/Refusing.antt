@@ -12,7 +12,7 @@ use Rattle.words.specs.Folds.{allOf}
 use Rattle.words.proofs.Bools.{by, and-both, passed}
 use Rattle.class_sheet.specs.ClassSheet.{classLimit, classCount, interfaceCount, contentEnd}
 use Rattle.class_rules.proofs.Laws.{fits}
-use Rattle.class_rules.specs.ClassRules.{classFits, allUnlinked, interfaceNames}
+use Rattle.class_rules.specs.ClassRules.{classFits, allFresh, interfaceNames}
 use Rattle.renumber.specs.Renumber.{orderOf, renumberForm, strayParent, namesClasses, cyclic, renumberRefusal}
 use Rattle.renumber.specs.Steps.{formRefusal, Complete}
 use Rattle.renumber.proofs.Stop.{stops}
@@ -25,7 +25,7 @@ module _ (ws : List ℕ) {f : Bool} (fit : f ≡ classFits ws) where
   unfolding formRefusal renumberForm
   form-unfit h = rw (← fit, not-true f h)
 
-module _ (ws : List ℕ) {f u : Bool} (fit : f ≡ classFits ws) (fits : not f ≡ false) (new : u ≡ allUnlinked ws) where
+module _ (ws : List ℕ) {f u : Bool} (fit : f ≡ classFits ws) (fits : not f ≡ false) (new : u ≡ allFresh ws) where
   pub form-linked : not u ≡ true → 3 ≡ formRefusal ws
   unfolding formRefusal renumberForm
   form-linked h = rw (← fit, not-false f fits, ← new, h)
@@ -67,7 +67,7 @@ module _ (ws : List ℕ) (room : ℕ) {row : ℕ} (form : row ≡ formRefusal ws
     pub form-fits : (classCount ws ≤ classLimit) × (contentEnd ws ≤ length ws)
     unfolding renumberForm
     form-fits =
-        let f = fits ws (and-both (classFits ws) (allUnlinked ws) (form-passed .0) .0) in
+        let f = fits ws (and-both (classFits ws) (allFresh ws) (form-passed .0) .0) in
         (f .0 .classes, f .1)
 
     -- after the order is made: k classes are placed

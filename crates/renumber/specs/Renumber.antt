@@ -12,7 +12,7 @@ use Rattle.words.specs.declared.Found.{Found}
 use Rattle.words.specs.declared.Found.the-variants.{At, Nothing}
 use Rattle.class_sheet.specs.ClassSheet.{parentWord, classCount, interfaceCount, classParent}
 use Rattle.class_sheet.specs.Sections.{Sections, laidOut, sectionsOf}
-use Rattle.class_rules.specs.ClassRules.{classFits, allUnlinked, interfaceNames}
+use Rattle.class_rules.specs.ClassRules.{classFits, allFresh, interfaceNames}
 use Rattle.renumber.specs.declared.Renumbered.{Renumbered}
 use Rattle.renumber.specs.declared.Renumbered.the-variants.{Classes, Refused}
 
@@ -92,9 +92,10 @@ renumbered ws l =
 
 -- ---- what is turned away
 
--- "3, first, as for a link or if a table place or slot count is not 0" does not hold
+-- "3, first, as for a link or if a table place or slot count is not 0" does not hold; "row 3, in .. ticket 3's step .. also take[s] a nonzero value in
+-- an unlinked built or array class" for static words
 unfoldable pub renumberForm : List ℕ → Bool
-renumberForm ws = classFits ws && allUnlinked ws
+renumberForm ws = classFits ws && allFresh ws
 
 -- "a parent number exceeds the count", of class c
 unfoldable pub strayParent : List ℕ → ℕ → Bool

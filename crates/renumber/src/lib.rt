@@ -140,7 +140,7 @@ fn form_refusal(ws: &[u32]) -> u32
     if !class_rules::fits_ok(ws) {
         return BAD_FORM;
     }
-    if !class_rules::all_unlinked(ws) {
+    if !class_rules::all_fresh(ws) {
         return BAD_FORM;
     }
     if !(parents_ok(ws) & class_rules::interfaces_ok(ws)) {

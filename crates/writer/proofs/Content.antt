@@ -17,9 +17,9 @@ use Rattle.words.proofs.Lists.{skip}
 use Rattle.block.specs.Block.{leastFit}
 use Rattle.block.proofs.Laws.{blocks-least, least-blocks}
 use Rattle.text.specs.Text.{textByte, zeroAt, zeroRest}
-use Rattle.class_sheet.specs.ClassSheet.{classCountNumber, compilerCountNumber, fieldCountNumber, interfaceCountNumber, methodCountNumber, textLengthNumber, countsWidth, tablePlaceWord, slotCountWord, classCount, textLength, countAt, methodsAt, fieldsAt, interfacesAt, compilersAt, textAt, contentEnd, textOf}
+use Rattle.class_sheet.specs.ClassSheet.{classCountNumber, compilerCountNumber, fieldCountNumber, interfaceCountNumber, methodCountNumber, textLengthNumber, countsWidth, kindWord, tablePlaceWord, slotCountWord, staticWordsWord, classCount, textLength, countAt, methodsAt, fieldsAt, interfacesAt, compilersAt, textAt, contentEnd, textOf}
 use Rattle.class_sheet.proofs.Sections as kept
-use Rattle.class_rules.specs.ClassRules.{classLimits, classFits, unlinked, allUnlinked, classForm}
+use Rattle.class_rules.specs.ClassRules.{classLimits, classFits, fresh, allFresh, classForm}
 use Rattle.class_rules.proofs.Laws as class
 use Rattle.set_rules.specs.SetRules.{classRefusal}
 use Rattle.set_rules.proofs.Kept.{class-fits-kept, class-records-kept, class-descriptors-kept}
@@ -82,15 +82,17 @@ module _ (ws rest : List ℕ) (fits : classFits ws ≡ true) where
   refusal-longer =
       rw (kept.text-kept ws rest end, class-records-kept ws rest fits (textOf ws), class-descriptors-kept ws rest fits (textOf ws))
 
-  unlinked-longer-at : (c : ℕ) → 1 ≤ c → c ≤ classCount ws → unlinked (ws ++ rest) c ≡ unlinked ws c
-  unfolding unlinked
-  unlinked-longer-at c l h = rw (kept.class-kept ws rest end c tablePlaceWord l h (omega arith), kept.class-kept ws rest end c slotCountWord l h (omega arith))
+  fresh-longer-at : (c : ℕ) → 1 ≤ c → c ≤ classCount ws → fresh (ws ++ rest) c ≡ fresh ws c
+  fresh-longer-at c l h =
+      class.fresh-same (ws ++ rest) ws c c (kept.class-kept ws rest end c kindWord l h (omega arith))
+      (kept.class-kept ws rest end c tablePlaceWord l h (omega arith)) (kept.class-kept ws rest end c slotCountWord l h (omega arith))
+      (kept.class-kept ws rest end c staticWordsWord l h (omega arith))
 
-  pub unlinked-longer : allUnlinked (ws ++ rest) ≡ allUnlinked ws
-  unlinked-longer =
+  pub fresh-longer : allFresh (ws ++ rest) ≡ allFresh ws
+  fresh-longer =
       rw (kept.count-kept ws rest end classCountNumber (omega arith))
-      (all-ext (classCount ws) (λ i. unlinked (ws ++ rest) (i + 1)) (λ i. unlinked ws (i + 1))
-      (λ i k. unlinked-longer-at (i + 1) (omega arith) (omega arith)))
+      (all-ext (classCount ws) (λ i. fresh (ws ++ rest) (i + 1)) (λ i. fresh ws (i + 1))
+      (λ i k. fresh-longer-at (i + 1) (omega arith) (omega arith)))
 
   pub end-longer : contentEnd (ws ++ rest) ≡ contentEnd ws
   end-longer = kept.end-kept ws rest end
@@ -187,11 +189,11 @@ module _ (ws : List ℕ) (fits : classFits ws ≡ true) where
       ∙ sym (refusal-longer content (drop (contentEnd ws) ws) content-fits)
       ∙ ap (λ (x : List ℕ). classRefusal x (textOf x)) whole
 
-  padded-unlinked : allUnlinked (paddedContent ws) ≡ allUnlinked ws
-  padded-unlinked =
-      unlinked-longer content padding content-fits
-      ∙ sym (unlinked-longer content (drop (contentEnd ws) ws) content-fits)
-      ∙ ap (λ (x : List ℕ). allUnlinked x) whole
+  padded-fresh : allFresh (paddedContent ws) ≡ allFresh ws
+  padded-fresh =
+      fresh-longer content padding content-fits
+      ∙ sym (fresh-longer content (drop (contentEnd ws) ws) content-fits)
+      ∙ ap (λ (x : List ℕ). allFresh x) whole
 
   padded-text-end : 4 * textAt (paddedContent ws) + textLength (paddedContent ws) ≡ 4 * textAt ws + textLength ws
   padded-text-end =
@@ -210,19 +212,19 @@ module _ (ws : List ℕ) (fits : classFits ws ≡ true) where
   pub padded-form : storable ws ≡ true → classForm (paddedContent ws) ≡ true
   unfolding storable classForm
   padded-form h =
-      let p = and-both (allUnlinked ws) (zeroRest content (4 * textAt ws + textLength ws)) h in
+      let p = and-both (allFresh ws) (zeroRest content (4 * textAt ws + textLength ws)) h in
       let z : zeroRest (paddedContent ws) (4 * textAt ws + textLength ws) ≡ true =
       zero-same content (paddedContent ws) _ (λ i. sym (padded-at content (127 * blocksOf ws - contentEnd ws) i)) (p .1) in
-      rw (padded-limits, padded-least, padded-text-end, z, padded-unlinked) (p .0)
+      rw (padded-limits, padded-least, padded-text-end, z, padded-fresh) (p .0)
 
   pub form-padded : classForm (paddedContent ws) ≡ true → storable ws ≡ true
   unfolding storable classForm
   form-padded h =
       let p = and-4 (classLimits (paddedContent ws)) (leastFit (contentEnd (paddedContent ws)) (length (paddedContent ws)))
-      (zeroRest (paddedContent ws) (4 * textAt (paddedContent ws) + textLength (paddedContent ws))) (allUnlinked (paddedContent ws)) h in
+      (zeroRest (paddedContent ws) (4 * textAt (paddedContent ws) + textLength (paddedContent ws))) (allFresh (paddedContent ws)) h in
       let z : zeroRest content (4 * textAt ws + textLength ws) ≡ true =
       zero-same (paddedContent ws) content _ (λ i. padded-at content (127 * blocksOf ws - contentEnd ws) i) (rw padded-text-end at (p .2)) in
-      rw (sym padded-unlinked ∙ p .3, z)
+      rw (sym padded-fresh ∙ p .3, z)
 
   pub padded-rows : storable ws ≡ true → classRefusal ws (textOf ws) ≡ 0 → classRows (paddedContent ws) ≡ 0
   unfolding classRows

@@ -13,7 +13,7 @@ use Rattle.block.proofs.PackLaws.{packed-is}
 use Rattle.text.specs.Text.{zeroRest}
 use Rattle.class_sheet.specs.ClassSheet.{textLength, methodsAt, fieldsAt, interfacesAt, compilersAt, textAt, contentEnd, textOf}
 use Rattle.class_sheet.proofs.Laws.{content-within}
-use Rattle.class_rules.specs.ClassRules.{classFits, allUnlinked}
+use Rattle.class_rules.specs.ClassRules.{classFits, allFresh}
 use Rattle.class_rules.proofs.Laws as class
 use Rattle.set_rules.specs.SetRules.{classRefusal}
 use Rattle.writer.specs.Writer.{Outcome, contentOf, blocksOf, linkRows, storable, writeRefusal, writeClassSheet}
@@ -36,11 +36,11 @@ link-passed ws e = let p = passed (not (classFits ws)) 3 _ (omega arith) e in (n
 -- ---- row 17
 
 pub storable-is : (ws : List ℕ) {x e : ℕ} {p : List ℕ} {a z : Bool} → x ≡ 4 * textAt ws + textLength ws → e ≡ contentEnd ws
-    → p ≡ take e (drop 0 ws) → a ≡ allUnlinked ws → z ≡ zeroRest p x → (a && z) ≡ storable ws
+    → p ≡ take e (drop 0 ws) → a ≡ allFresh ws → z ≡ zeroRest p x → (a && z) ≡ storable ws
 unfolding storable
 storable-is ws f g q a z = rw (a, z, q, f, g)
 
--- ---- the blocks that the content takes: 6 to 11,590 words
+-- ---- the blocks that the content takes: 6 to 11,654 words
 
 pub content-some : (ws : List ℕ) → 6 ≤ contentEnd ws
 unfolding contentEnd textAt compilersAt interfacesAt fieldsAt methodsAt

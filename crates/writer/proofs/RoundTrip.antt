@@ -22,7 +22,7 @@ use Rattle.block.proofs.PackLaws.{length-bytes, bytes-same}
 use Rattle.block.proofs.RoundTrip.{check-back, content-back, sheet-again, content-small}
 use Rattle.text.specs.Text.{textByte, zeroRest}
 use Rattle.class_sheet.specs.ClassSheet.{blockLimit, textLength, textAt, contentEnd, textOf}
-use Rattle.class_rules.specs.ClassRules.{classLimits, classFits, allUnlinked, classForm}
+use Rattle.class_rules.specs.ClassRules.{classLimits, classFits, allFresh, classForm}
 use Rattle.set_rules.specs.SetRules.{classRefusal}
 use Rattle.set_rules.proofs.Kept.{class-fits-kept}
 use Rattle.sheet.specs.Sheet.{blockRefusal, sheetRefusal, readSheet, classRows, classSheetRefusal, readClassSheet}
@@ -31,7 +31,7 @@ use Rattle.writer.specs.Writer.{contentOf, blocksOf, storable, writeRefu
 use Rattle.writer.specs.RoundTrip.{paddedContent, blocksWritten, sheetWritten, RoundTrip}
 use Rattle.writer.proofs.Laws.{Passed, few-blocks, write-passed, write-accepts}
 use Rattle.writer.proofs.Content.{content-length, content-longer, length-padded, padded-at, padded-rows, rows-padded}
-use Rattle.writer.proofs.Content.{zero-each, zero-same, refusal-longer, unlinked-longer, end-longer, text-end-longer}
+use Rattle.writer.proofs.Content.{zero-each, zero-same, refusal-longer, fresh-longer, end-longer, text-end-longer}
 
 -- ---- writings and readings that are not refused
 
@@ -169,10 +169,10 @@ module _ (bs out : List ℕ) (small : AreBytes bs) (e : classSheetRefusal bs (le
       let p = passed (not (classForm ws)) 3 _ (omega arith) (sheet-passed bs (length out) e .1) in (not-false _ (p .0), p .1)
 
   formed : (classLimits ws ≡ true) × (leastFit (contentEnd ws) (length ws) ≡ true) × (zeroRest ws (4 * textAt ws + textLength ws) ≡ true)
-      × (allUnlinked ws ≡ true)
+      × (allFresh ws ≡ true)
   unfolding classForm
   formed =
-      and-4 (classLimits ws) (leastFit (contentEnd ws) (length ws)) (zeroRest ws (4 * textAt ws + textLength ws)) (allUnlinked ws) (passed-rows .0)
+      and-4 (classLimits ws) (leastFit (contentEnd ws) (length ws)) (zeroRest ws (4 * textAt ws + textLength ws)) (allFresh ws) (passed-rows .0)
 
   words-length : length ws ≡ 127 * blockCount bs
   unfolding sheetWords
@@ -215,7 +215,7 @@ module _ (bs out : List ℕ) (small : AreBytes bs) (e : classSheetRefusal bs (le
   unfolding storable
   left-storable =
       rw (
-        unlinked-longer ws rest fits,
+        fresh-longer ws rest fits,
         left-content,
         text-end-longer ws rest fits,
         formed .3,

@@ -7,7 +7,7 @@ use lib.Dec.{eqb, ltb}
 use Rattle.block.specs.Block.{blocksFor, sheetBytes}
 use Rattle.text.specs.Text.{zeroRest}
 use Rattle.class_sheet.specs.ClassSheet.{textLength, textAt, contentEnd, textOf}
-use Rattle.class_rules.specs.ClassRules.{classFits, allUnlinked}
+use Rattle.class_rules.specs.ClassRules.{classFits, allFresh}
 use Rattle.set_rules.specs.SetRules.{classRefusal}
 use Rattle.writer.specs.declared.Written.{Written}
 use Rattle.writer.specs.declared.Written.the-variants.{Blocks, Refused}
@@ -41,9 +41,10 @@ blocksOf ws = blocksFor (contentEnd ws)
 unfoldable pub linkRows : List ℕ → ℕ
 linkRows ws = cond (not (classFits ws)) 3 (classRefusal ws (textOf ws))
 
--- 17 does not refuse: "if any class has a nonzero table place or slot count or a nonzero byte follows the text in its last word"
+-- 17 does not refuse: "if any class has a nonzero table place or slot count or a nonzero byte follows the text in its last word"; it "also take[s] a
+-- nonzero value in an unlinked built or array class" for static words
 unfoldable pub storable : List ℕ → Bool
-storable ws = allUnlinked ws && zeroRest (contentOf ws) (4 * textAt ws + textLength ws)
+storable ws = allFresh ws && zeroRest (contentOf ws) (4 * textAt ws + textLength ws)
 
 -- "17, after them [..]; 18, last, if the lent bytes are too few": the number that refuses where `room` bytes are lent, or 0
 unfoldable pub writeRefusal : List ℕ → ℕ → ℕ

@@ -20,13 +20,13 @@ fn link_rows(set: &[u32]) -> u32
     set_rules::class_refusal(set, text::name_at(&text, 0, class_sheet::text_length(set)))
 }
 
-// Row 17: whether each class is unlinked, and the bytes after the text in its last word are 0.
+// Row 17: whether each class is as a sheet may bring it, and the bytes after the text in its last word are 0.
 fn is_storable(set: &[u32]) -> bool
     ensures { λ r. ⌜ r ≡ storable (now (set .entry)) ⌝ }
 {
     let text_end = 4 * class_sheet::text_at(set) + words::wide(class_sheet::text_length(set));
     let content = words::word_part(set, 0, class_sheet::content_end(set));
-    class_rules::all_unlinked(set) & text::zero_rest(content, text_end)
+    class_rules::all_fresh(set) & text::zero_rest(content, text_end)
 }
 
 // Rows 3, 4, 5, 17 and 18, where `room` bytes are lent: the number that refuses, or 0.

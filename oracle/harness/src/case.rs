@@ -82,7 +82,7 @@ fn show_set(f: &mut Formatter<'_>, set: &Set, lent: usize) -> fmt::Result {
         };
         writeln!(
             f,
-            "class {} {} {kind} parent {} flags {:#x} link state {} words {} compiler {:?} place {} slots {}",
+            "class {} {} {kind} parent {} flags {:#x} link state {} words {} compiler {:?} place {} slots {} statics {}",
             position + 1,
             text(class.span(class_word::NAME)),
             class.get(class_word::PARENT),
@@ -92,6 +92,7 @@ fn show_set(f: &mut Formatter<'_>, set: &Set, lent: usize) -> fmt::Result {
             class.span(class_word::COMPILER),
             class.get(class_word::PLACE),
             class.get(class_word::SLOTS),
+            class.get(class_word::STATIC_WORDS),
         )?;
         let lists = [("method", &set.methods, class_word::METHODS), ("field", &set.fields, class_word::FIELDS)];
         for (what, section, word) in lists {

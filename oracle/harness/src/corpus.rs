@@ -3,6 +3,7 @@
 
 pub mod answers;
 mod format;
+pub mod widened;
 
 use crate::buckets::Counts;
 use crate::case::{Call, Case};

@@ -7,6 +7,7 @@ use std::collections::HashSet;
 
 use crate::case::{Call, Case};
 use crate::model::parts::{AbiRecord, AbiSheet, ClassSheet, Entry, eligible, reading, text_of_abi_words, text_of_class_words};
+use crate::sheet::{class_word, class_word_at};
 use crate::side::Answer;
 
 /// A premise of demand 3.
@@ -81,13 +82,13 @@ pub fn judge(case: &Case, answers: &[Answer], area: &[u32], dropped: Option<Prem
             _ => None,
         })
         .collect();
-    if linked.is_empty() || (1..=case.set[0] as usize).any(|class| case.set[6 + 17 * class - 2] != 0) {
+    if linked.is_empty() || (1..=case.set[0]).any(|class| case.set[class_word_at(class, class_word::PLACE)] != 0) {
         return Ok(());
     }
     // The sheet at the list's start, but for the places and slot counts that were answered.
     let mut words = case.set.clone();
     for (class, answer) in &linked {
-        let at = 6 + 17 * *class as usize - 2;
+        let at = class_word_at(*class, class_word::PLACE);
         words[at..at + 2].copy_from_slice(&[answer.first, answer.second]);
     }
     let (text, abi_text) = (text_of_class_words(&words), text_of_abi_words(&case.abi));

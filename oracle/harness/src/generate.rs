@@ -5,6 +5,7 @@ mod members;
 mod memory;
 mod spoil;
 mod spoilers;
+mod statics;
 mod themes;
 
 use crate::case::Case;
@@ -17,6 +18,7 @@ pub use spoil::spoil_names;
 pub fn case(seed: u64, number: u64) -> Case {
     let mut random = Random::for_case(seed, number);
     let mut case = themes::case(&mut random);
+    statics::fill(&mut Random::for_case(seed.rotate_left(32), number), &mut case);
     if random.chance(14) {
         spoil::spoil(&mut random, &mut case);
     }

@@ -198,6 +198,7 @@ fn written_set(words: &[u32], mut set: Set, class: u32, linked: &Linked, place: 
     if let Some(instance_words) = linked.instance_words {
         record.0[class_word::INSTANCE_WORDS] = instance_words;
     }
+    record.0[class_word::STATIC_WORDS] = linked.static_words;
     let grown_methods = write_list(&mut set.methods, &mut set.text, record.span(class_word::METHODS), &linked.methods);
     let grown_fields = write_list(&mut set.fields, &mut set.text, record.span(class_word::FIELDS), &linked.fields);
     for (word, list) in [(class_word::METHODS, grown_methods), (class_word::FIELDS, grown_fields)] {

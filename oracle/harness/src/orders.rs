@@ -7,7 +7,7 @@ use crate::case::Case;
 use crate::oracle::Oracle;
 use crate::random::Random;
 use crate::readings::{ReadingCounts, unlinked};
-use crate::sheet::{Set, class_word};
+use crate::sheet::{ClassRecord, Set, class_word};
 use crate::side::{Answer, Linker};
 
 /// Class words to renumber, and the number of list words lent.
@@ -54,7 +54,9 @@ pub fn random(random: &mut Random, case: &Case) -> Order {
     let any = |random: &mut Random| if random.chance(80) { random.below(classes + 2) } else { random.pick(&[0, 65, u32::MAX]) };
     if classes > 0 && random.chance(30) {
         let class = random.below(classes) as usize;
-        let word = random.pick(&[class_word::PARENT, class_word::PARENT, class_word::PARENT, class_word::PLACE, class_word::SLOTS]);
+        const WORDS: [usize; 6] =
+            [class_word::PARENT, class_word::PARENT, class_word::PARENT, class_word::PLACE, class_word::SLOTS, class_word::STATIC_WORDS];
+        let word = random.pick(&WORDS);
         set.classes[class].0[word] = any(random);
     }
     if !set.interfaces.is_empty() && random.chance(10) {
@@ -115,6 +117,7 @@ pub fn observe(order: &Order, answer: Answer, list: &[u32], counts: &mut Reading
         answer.refusal == row && set.classes.iter().any(|class| is_such(class.get(word)))
     };
     let (classes, is_some) = (set.classes.len() as u32, |word: u32| word != 0);
+    let is_counted = |class: &ClassRecord| class.span(class_word::PLACE) == (0, 0) && !class.is_untouched();
     let parents: Vec<u32> = set.classes.iter().map(|class| class.get(class_word::PARENT)).collect();
     for (bucket, reached) in [
         ("order: kept", answer.refusal == 0 && list.is_sorted()),
@@ -123,6 +126,7 @@ pub fn observe(order: &Order, answer: Answer, list: &[u32], counts: &mut Reading
         ("order: words after the content", answer.refusal == 0 && order.set.len() > set.content()),
         ("order: a table place alone", any(3, class_word::PLACE, &is_some) && !any(3, class_word::SLOTS, &is_some)),
         ("order: a slot count alone", any(3, class_word::SLOTS, &is_some) && !any(3, class_word::PLACE, &is_some)),
+        ("order: static words", answer.refusal == 3 && set.classes.iter().any(is_counted)),
         ("order: a parent above the classes", any(4, class_word::PARENT, &|parent| parent > classes)),
         ("order: an interface word that names no class", answer.refusal == 4 && parents.iter().all(|&parent| parent <= classes)),
         ("order: a class its own parent", answer.refusal == 19 && (1..).zip(&parents).any(|(class, &parent)| class == parent)),

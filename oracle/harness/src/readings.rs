@@ -9,7 +9,7 @@ use crate::oracle::Oracle;
 use crate::orders;
 use crate::random::Random;
 use crate::references;
-use crate::sheet::{Abi, Set, blocks, class_word};
+use crate::sheet::{Abi, Set, blocks, class_word, class_word_at};
 use crate::side::{Answer, Linker};
 use crate::writings;
 
@@ -37,6 +37,7 @@ const BUCKETS: &[&str] = &[
     "damage: a nonzero byte after the text",
     "damage: a table place",
     "damage: a slot count",
+    "damage: static words",
     "damage: none",
     "argument words given",
     "argument words refused by row 5",
@@ -50,6 +51,7 @@ const BUCKETS: &[&str] = &[
     "classes not renumbered, by row 4",
     "classes not renumbered, by row 19",
     "classes not renumbered, by row 15",
+    "order: static words",
     "order: kept",
     "order: changed",
     "order: list words after the classes",
@@ -72,7 +74,9 @@ const BUCKETS: &[&str] = &[
     "class set not written, by row 18",
     "writing: a table place alone",
     "writing: a slot count alone",
+    "writing: static words alone",
     "writing: a nonzero byte after the text",
+    "writing: a generated class's static words",
     "writing: words after the content",
     "writing: bytes after the blocks",
     "reference words listed",
@@ -205,12 +209,15 @@ pub(crate) fn unlinked(words: &[u32]) -> Option<Vec<u32>> {
     for class in &mut set.classes {
         class.0[class_word::PLACE] = 0;
         class.0[class_word::SLOTS] = 0;
+        if matches!(class.get(class_word::KIND), 0 | 2) {
+            class.0[class_word::STATIC_WORDS] = 0;
+        }
     }
     Some(set.encode())
 }
 
 /// The number of kinds of damage; this one is none.
-const UNDAMAGED: u32 = 12;
+const UNDAMAGED: u32 = 13;
 
 /// A sheet to read: its bytes, and the number of words lent.
 pub struct Reading {
@@ -250,10 +257,15 @@ fn damaged(random: &mut Random, mut content: Vec<u32>, is_class_sheet: bool, dam
             *content.last_mut().expect("there is text") |= 0x0100_0000;
             "damage: a nonzero byte after the text"
         }
-        7 | 8 if classes > 0 && content.len() >= 6 + 17 * classes as usize => {
-            let class = random.below(classes) as usize;
-            content[6 + 17 * class + if damage == 7 { 15 } else { 16 }] = random.pick(&[1, 7, u32::MAX]);
-            if damage == 7 { "damage: a table place" } else { "damage: a slot count" }
+        7 | 8 | 12 if classes > 0 && content.len() >= class_word_at(classes + 1, 0) => {
+            let class = random.between(1, classes);
+            let (word, name) = match damage {
+                7 => (class_word::PLACE, "damage: a table place"),
+                8 => (class_word::SLOTS, "damage: a slot count"),
+                _ => (class_word::STATIC_WORDS, "damage: static words"),
+            };
+            content[class_word_at(class, word)] = random.pick(&[1, 7, u32::MAX]);
+            name
         }
         9 if !content.len().is_multiple_of(127) => {
             let end = content.len().next_multiple_of(127);

@@ -3,9 +3,12 @@
 
 use std::ops::Range;
 
+/// The words of a class record.
+pub const CLASS_WORDS: usize = 18;
+
 /// A class record, word by word.
 #[derive(Clone, Copy, Debug, PartialEq, Eq)]
-pub struct ClassRecord(pub [u32; 17]);
+pub struct ClassRecord(pub [u32; CLASS_WORDS]);
 
 /// Names of a class record's words.
 pub mod class_word {
@@ -21,6 +24,7 @@ pub mod class_word {
     pub const COMPILER: usize = 13;
     pub const PLACE: usize = 15;
     pub const SLOTS: usize = 16;
+    pub const STATIC_WORDS: usize = 17;
 }
 
 impl ClassRecord {
@@ -41,6 +45,18 @@ impl ClassRecord {
     pub fn is_linked(&self) -> bool {
         self.get(class_word::PLACE) != 0
     }
+
+    /// Whether linking has not written it: no table place, no slot count, and no static words but a generated class's own. Of a kind that
+    /// there is not, nothing is asked of the static words.
+    pub fn is_untouched(&self) -> bool {
+        let is_counted = matches!(self.get(class_word::KIND), 0 | 2) && self.get(class_word::STATIC_WORDS) != 0;
+        self.span(class_word::PLACE) == (0, 0) && !is_counted
+    }
+}
+
+/// The index of a word of class `number`'s record in class words.
+pub fn class_word_at(number: u32, word: usize) -> usize {
+    6 + CLASS_WORDS * (number as usize - 1) + word
 }
 
 /// A method or field record: name, descriptor, flags, target or index.
@@ -132,7 +148,11 @@ impl Set {
             last: record[5],
         };
         Some(Self {
-            classes: words.take(17 * classes)?.chunks_exact(17).map(|record| ClassRecord(record.try_into().unwrap())).collect(),
+            classes: words
+                .take(CLASS_WORDS * classes)?
+                .chunks_exact(CLASS_WORDS)
+                .map(|record| ClassRecord(record.try_into().unwrap()))
+                .collect(),
             methods: words.take(6 * methods)?.chunks_exact(6).map(member).collect(),
             fields: words.take(6 * fields)?.chunks_exact(6).map(member).collect(),
             interfaces: words.take(interfaces)?.to_vec(),
@@ -157,7 +177,7 @@ impl Set {
 
     /// The number of content words.
     pub fn content(&self) -> usize {
-        let records = 17 * self.classes.len() + 6 * self.methods.len() + 6 * self.fields.len();
+        let records = CLASS_WORDS * self.classes.len() + 6 * self.methods.len() + 6 * self.fields.len();
         6 + records + self.interfaces.len() + self.compiler.len() + self.text.len().div_ceil(4)
     }
 

@@ -12,6 +12,7 @@ mod links;
 mod lists;
 mod lookups;
 mod sheets;
+mod statics;
 mod tables;
 
 use crate::case::{Call, Case};
@@ -27,6 +28,7 @@ pub fn rows() -> Vec<Row> {
         links::rows(),
         areas::rows(),
         fields::rows(),
+        statics::rows(),
         lookups::rows(),
         tables::rows(),
         compiled::rows(),
@@ -108,10 +110,11 @@ pub fn minus(n: u32) -> u32 {
 /// What is seen after the calls.
 #[derive(Clone)]
 enum Left {
-    /// A class's table, the indices of its fields, its instance words, and name, flags and target of its methods.
+    /// A class's table, the indices of its fields, its instance words, and name, flags and target of its methods; all classes' static words.
     Table(u32, Vec<u32>),
     Indices(u32, Vec<u32>),
     Words(u32, u32),
+    Statics(Vec<u32>),
     Methods(u32, Vec<(String, u32, u32)>),
     /// The area, with zeros after these words; the class words; some of them from a place on.
     Area(Vec<u32>),
@@ -179,6 +182,11 @@ impl Row {
         self.left(Left::Words(class, words))
     }
 
+    /// The static words of every class.
+    pub fn statics(self, words: &[u32]) -> Self {
+        self.left(Left::Statics(words.to_vec()))
+    }
+
     pub fn methods(self, class: u32, methods: &[(&str, u32, u32)]) -> Self {
         self.left(Left::Methods(class, methods.iter().map(|&(name, flags, target)| (name.to_owned(), flags, target)).collect()))
     }
@@ -220,6 +228,7 @@ fn seen(left: &Left, state: &State) -> Result<(), String> {
         }
         Left::Indices(class, indices) => same(indices, &set().fields_of(*class).iter().map(|field| field.last).collect::<Vec<_>>()),
         Left::Words(class, words) => same(&[*words], &[set().class(*class).get(class_word::INSTANCE_WORDS)]),
+        Left::Statics(words) => same(words, &set().classes.iter().map(|class| class.get(class_word::STATIC_WORDS)).collect::<Vec<_>>()),
         Left::Methods(class, methods) => {
             let set = set();
             let found = set.methods_of(*class).iter().map(|method| (set.part(method.name).to_owned(), method.flags, method.last));

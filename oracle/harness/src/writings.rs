@@ -5,7 +5,7 @@ use crate::case::Case;
 use crate::oracle::Oracle;
 use crate::random::Random;
 use crate::readings::{ReadingCounts, unlinked};
-use crate::sheet::{Set, class_word};
+use crate::sheet::{ClassRecord, Set, class_word, class_word_at};
 use crate::side::{Answer, Linker};
 
 /// Class words to write, and the number of bytes lent.
@@ -28,9 +28,9 @@ pub fn random(random: &mut Random, case: &Case) -> Writing {
     let content = Set::decode(&set).map_or(set.len(), |set| set.content());
     let classes = set.first().map_or(0, |&classes| classes.min(64));
     match random.below(10) {
-        word @ 0..2 if classes > 0 && set.len() >= 6 + 17 * classes as usize => {
-            let word = if word == 0 { class_word::PLACE } else { class_word::SLOTS };
-            set[6 + 17 * random.below(classes) as usize + word] = random.pick(&[1, 7, 1024, u32::MAX]);
+        word @ 0..2 if classes > 0 && set.len() >= class_word_at(classes + 1, 0) => {
+            let word = if word == 0 { class_word::PLACE } else { random.pick(&[class_word::SLOTS, class_word::STATIC_WORDS]) };
+            set[class_word_at(random.between(1, classes), word)] = random.pick(&[1, 7, 1024, u32::MAX]);
         }
         2 if content > 6 && set.len() >= content && set[5] % 4 != 0 => set[content - 1] |= 1 << random.between(8 * (set[5] % 4), 31),
         3 | 4 => set.extend((0..random.between(1, 300)).map(|word| word ^ 0x5A)),
@@ -59,11 +59,16 @@ pub fn observe(writing: &Writing, answer: Answer, counts: &mut ReadingCounts) {
         row => format!("class set not written, by row {row}"),
     });
     let Some(set) = Set::decode(&writing.set) else { return };
-    let places: Vec<(u32, u32)> = set.classes.iter().map(|class| class.span(class_word::PLACE)).collect();
+    let has = |word: usize| set.classes.iter().any(|class| class.get(word) != 0);
+    let is_counted = set.classes.iter().any(|class| class.span(class_word::PLACE) == (0, 0) && !class.is_untouched());
+    let (has_place, has_slots) = (has(class_word::PLACE), has(class_word::SLOTS));
+    let unstorable = |alone: bool| answer.refusal == 17 && alone;
     for (bucket, reached) in [
-        ("writing: a table place alone", answer.refusal == 17 && places.iter().all(|&(_, slots)| slots == 0)),
-        ("writing: a slot count alone", answer.refusal == 17 && places.iter().all(|&(place, _)| place == 0)),
-        ("writing: a nonzero byte after the text", answer.refusal == 17 && places.iter().all(|&place| place == (0, 0))),
+        ("writing: a table place alone", unstorable(has_place && !has_slots && !is_counted)),
+        ("writing: a slot count alone", unstorable(has_slots && !has_place && !is_counted)),
+        ("writing: static words alone", unstorable(is_counted && !has_place && !has_slots)),
+        ("writing: a nonzero byte after the text", unstorable(set.classes.iter().all(ClassRecord::is_untouched))),
+        ("writing: a generated class's static words", answer.refusal == 0 && has(class_word::STATIC_WORDS)),
         ("writing: words after the content", answer.refusal == 0 && writing.set[set.content()..].iter().any(|&word| word != 0)),
         ("writing: bytes after the blocks", answer.refusal == 0 && writing.lent > 512 * answer.first as usize),
     ] {

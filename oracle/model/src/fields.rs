@@ -19,6 +19,8 @@ pub struct BuiltFields<'a> {
     pub instance_words: u64,
     /// The runtime words of the chain with this class.
     pub runtime_words: u64,
+    /// "the sum of the static field widths": where the static indices have counted to.
+    pub static_words: u64,
 }
 
 /// The fields of a built class, numbered "in this order: its fixed ABI index; if the ABI
@@ -63,7 +65,7 @@ pub fn built_fields<'a>(sheet: &ClassSheet, abi: &AbiSheet<'a>, class: u32) -> B
         // "... and raise the running word."
         running = running.max(u64::from(fixed.index) + width(fixed.descriptor));
     }
-    BuiltFields { indices, added, instance_words: abi_words.map_or(running, u64::from), runtime_words: runtime }
+    BuiltFields { indices, added, instance_words: abi_words.map_or(running, u64::from), runtime_words: runtime, static_words }
 }
 
 /// "The runtime count starts as the largest, over the parent chain's instance fields with

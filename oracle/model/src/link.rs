@@ -14,8 +14,9 @@ use super::{Because, refuse};
 struct Linked {
     /// The table's slot targets, 0 where a stub stands in.
     targets: Vec<u32>,
-    /// The class record's new instance words, "unless generated".
+    /// The class record's new instance words and static words, "unless generated".
     instance_words: Option<u32>,
+    static_words: Option<u32>,
     /// The new word index of each declared field.
     indices: Option<Vec<u32>>,
     added_fields: Vec<NewRecord>,
@@ -120,13 +121,15 @@ fn prepare_built(sheet: &ClassSheet, abi: &AbiSheet, class: u32, area: &[u32]) -
     Ok(Linked {
         targets: targets(&table),
         instance_words: Some(fields.instance_words as u32),
+        static_words: Some(fields.static_words as u32),
         added_fields: added.collect(),
         indices: Some(fields.indices),
         added_methods: Vec::new(),
     })
 }
 
-/// "Generated without a compiler table: `build_methods`, interface or not."
+/// "Generated without a compiler table: `build_methods`, interface or not." "a generated class
+/// brings its own" static words
 fn prepare_generated(sheet: &ClassSheet, abi: &AbiSheet, class: u32, area: &[u32]) -> Result<Linked, Refused> {
     let indices = generated_fields(sheet, class)?;
     let (table, added) = match sheet.compiler_table_of(class) {
@@ -139,13 +142,28 @@ fn prepare_generated(sheet: &ClassSheet, abi: &AbiSheet, class: u32, area: &[u32
         flags: method.flags,
         last: method.target,
     });
-    Ok(Linked { targets: targets(&table), instance_words: None, indices, added_fields: Vec::new(), added_methods: added.collect() })
+    Ok(Linked {
+        targets: targets(&table),
+        instance_words: None,
+        static_words: None,
+        indices,
+        added_fields: Vec::new(),
+        added_methods: added.collect(),
+    })
 }
 
-/// "Array: the parent's entries." "An array class has 0" instance words.
+/// "Array: the parent's entries." "An array class has 0" instance words, and "0 for an array
+/// class" static words.
 fn prepare_array(sheet: &ClassSheet, abi: &AbiSheet, class: u32, area: &[u32]) -> Linked {
     let table = parent_entries(sheet, abi, area, class);
-    Linked { targets: targets(&table), instance_words: Some(0), indices: None, added_fields: Vec::new(), added_methods: Vec::new() }
+    Linked {
+        targets: targets(&table),
+        instance_words: Some(0),
+        static_words: Some(0),
+        indices: None,
+        added_fields: Vec::new(),
+        added_methods: Vec::new(),
+    }
 }
 
 fn targets(table: &[Entry]) -> Vec<u32> {
@@ -245,13 +263,16 @@ fn lacks_room(slots: usize, area: &[u32], stubs: &[u32]) -> bool {
 }
 
 /// "Linking sets table place and slot count, its answer, and, unless generated, instance
-/// words; never link state."
+/// words" and static words; "never link state."
 fn write_set(set: &mut [u32], class: u32, place: u32, linked: &Linked, grown: Option<(Grown, usize)>) {
     let at = ClassSheet::class_at(class);
     set[at + record::PLACE] = place;
     set[at + record::SLOTS] = linked.targets.len() as u32;
     if let Some(words) = linked.instance_words {
         set[at + record::INSTANCE_WORDS] = words;
+    }
+    if let Some(words) = linked.static_words {
+        set[at + record::STATIC_WORDS] = words;
     }
     match grown {
         Some((grown, content)) => write_grown(set, at, linked, &grown, content),

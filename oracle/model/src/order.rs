@@ -16,7 +16,7 @@ pub fn read_unordered_sheet(bytes: &[u8], words: &mut [u32]) -> Result<u32, Refu
 
 /// "a step on such words that renumbers the classes"; answers their number.
 pub fn renumber_classes(set: &mut [u32], list: &mut [u32]) -> Result<u32, Refused> {
-    // "Turned away: 3, first, as for a link or if a table place or slot count is not 0"
+    // "Turned away: 3, first, as for a link or if a table place or slot count is not 0"; static words as in reading
     refuse(3, !fits(class_content(set), set))?;
     let sheet = ClassSheet { words: set, text: &[] };
     unlinked(&sheet)?;

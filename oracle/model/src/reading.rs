@@ -2,7 +2,7 @@
 
 use super::refuse;
 use super::rules::{abi_descriptors_hold, abi_records_keep_the_rules, class_descriptors_hold, class_records_keep_the_rules};
-use super::sheets::{AbiSheet, ClassSheet, abi_content, class_content, text_of_abi_words, text_of_class_words};
+use super::sheets::{ARRAY, AbiSheet, BUILT, Class, ClassSheet, abi_content, class_content, text_of_abi_words, text_of_class_words};
 use super::why::Refused;
 
 /// "blocks of 512 bytes, 128 little-endian u32 words"
@@ -22,9 +22,16 @@ pub fn read_class_sheet(bytes: &[u8], words: &mut [u32]) -> Result<u32, Refused>
     Ok(fill(&read, words))
 }
 
-/// Row 3: "a table place or slot count not 0".
+/// Row 3: "a nonzero table place or slot count", and static words, "a nonzero value in an
+/// unlinked built or array class".
 pub fn unlinked(sheet: &ClassSheet) -> Result<(), Refused> {
-    refuse(3, sheet.classes().any(|class| class.place != 0 || class.slots != 0))
+    refuse(3, sheet.classes().any(|class| is_linked_or_counted(&class)))
+}
+
+/// What a set does not hold before its first link. A class of another kind brings its static words.
+pub fn is_linked_or_counted(class: &Class) -> bool {
+    let is_counted = matches!(class.kind, BUILT | ARRAY) && class.static_words != 0;
+    class.place != 0 || class.slots != 0 || is_counted
 }
 
 /// Reads an ABI sheet into `words`; answers the words filled, 127 a block.

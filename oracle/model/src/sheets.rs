@@ -6,8 +6,8 @@ pub const CLASS_LIMITS: [u32; 6] = [64, 512, 512, 256, 2048, 8192];
 /// ABI sheet: "four counts (classes ≤ 64, slots ≤ 512, fields ≤ 256, text bytes ≤ 8,192)".
 pub const ABI_LIMITS: [u32; 4] = [64, 512, 256, 8192];
 
-/// "Class record, 17 words"
-pub const CLASS_WORDS: usize = 17;
+/// "Class record, 18 words"
+pub const CLASS_WORDS: usize = 18;
 /// "Method and field records, 6 words"
 pub const MEMBER_WORDS: usize = 6;
 /// "Class, 8 words"
@@ -18,7 +18,8 @@ pub const ABI_RECORD_WORDS: usize = 5;
 /// "name start, name length, parent number (0 none), access flags, kind (0 built, 1
 /// generated, 2 array), first method, method count, first field, field count, first
 /// interface word, interface count, link state, instance words, compiler table (0 none,
-/// else first word counted from 1), compiler slots, table place (0 unlinked), slot count"
+/// else first word counted from 1), compiler slots, table place (0 unlinked), slot count,
+/// static words"
 pub mod record {
     pub const FIRST_METHOD: usize = 5;
     pub const METHOD_COUNT: usize = 6;
@@ -27,6 +28,7 @@ pub mod record {
     pub const INSTANCE_WORDS: usize = 12;
     pub const PLACE: usize = 15;
     pub const SLOTS: usize = 16;
+    pub const STATIC_WORDS: usize = 17;
 }
 
 pub const BUILT: u32 = 0;
@@ -58,6 +60,7 @@ pub struct Class {
     pub compiler_slots: u32,
     pub place: u32,
     pub slots: u32,
+    pub static_words: u32,
 }
 
 /// One method or field record's words: "name start and length, descriptor start and length,
@@ -158,6 +161,7 @@ impl<'a> ClassSheet<'a> {
             compiler_slots,
             place,
             slots,
+            static_words,
         ] = self.words[at..at + CLASS_WORDS].try_into().unwrap();
         Class {
             name_start,
@@ -177,6 +181,7 @@ impl<'a> ClassSheet<'a> {
             compiler_slots,
             place,
             slots,
+            static_words,
         }
     }
 

@@ -1,6 +1,6 @@
 //! Writing a class sheet's blocks: rows 3 to 5 as for a link, 17 and 18.
 
-use super::reading::{BLOCK_BYTES, BLOCK_CONTENT};
+use super::reading::{BLOCK_BYTES, BLOCK_CONTENT, is_linked_or_counted};
 use super::refuse;
 use super::rules::{class_descriptors_hold, class_records_keep_the_rules, fits};
 use super::sheets::{ClassSheet, class_content, text_of_class_words};
@@ -15,8 +15,9 @@ pub fn write_class_sheet(set: &[u32], bytes: &mut [u8]) -> Result<u32, Refused> 
     refuse(4, !class_records_keep_the_rules(&sheet))?;
     refuse(5, !class_descriptors_hold(&sheet))?;
     let content = &set[..class_content(set).expect("row 3 holds")];
-    // "17, after them, if any class has a nonzero table place or slot count or a nonzero byte follows the text in its last word"
-    let is_linked = sheet.classes().any(|class| class.place != 0 || class.slots != 0);
+    // "17, after them, if any class has a nonzero table place or slot count or a nonzero byte follows the text in its last word";
+    // static words, "a nonzero value in an unlinked built or array class", too
+    let is_linked = sheet.classes().any(|class| is_linked_or_counted(&class));
     let after_the_text = if text.len().is_multiple_of(4) { 0 } else { content[content.len() - 1] >> (8 * (text.len() % 4)) };
     refuse(17, is_linked || after_the_text != 0)?;
     // "18, last, if the lent bytes are too few"

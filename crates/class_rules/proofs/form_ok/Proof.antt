@@ -18,7 +18,7 @@ returns-3 c =
     let at-limits-ok : tie.After-limits-ok = search in
     form-rest _ (at-limits-ok .limits-ok .ensures) (at-if2 .before .content-end .ensures .0)
     (not-false _ (at-if2 .before .before .if1 .left)) (at-if2 .if2 .left) (omega arith) (c .before .zero-rest .ensures)
-    (c .all-unlinked .ensures)
+    (c .all-fresh .ensures)
 
 pub form-ok-spec : {M : Type 1} → statement M
 form-ok-spec =

@@ -11,7 +11,7 @@ returns-2 : tie.Need-returns-2
 returns-2 c =
     let at-set-short : tie.After-set-short = search in
     let at-lists-full : tie.After-lists-full = search in
-    finish-short _ _ _ _ _ _ _ _ _ _ _ _ _ _ (at-lists-full .lists-full .ensures) (at-set-short .before .before .if1 .left)
+    finish-short _ _ _ _ _ _ _ _ _ _ _ _ _ _ _ (at-lists-full .lists-full .ensures) (at-set-short .before .before .if1 .left)
     (c .before .no-room .ensures) (at-set-short .set-short .ensures) (c .if2 .taken)
 
 returns-3 : tie.Need-returns-3
@@ -20,7 +20,7 @@ returns-3 c =
     let at-if2 : tie.Else2 = search in
     let at-set-short : tie.After-set-short = search in
     let at-lists-full : tie.After-lists-full = search in
-    finish-done _ _ _ _ _ _ _ _ _ _ _ _ _ _ (at-lists-full .lists-full .ensures) (at-set-short .before .before .if1 .left)
+    finish-done _ _ _ _ _ _ _ _ _ _ _ _ _ _ _ (at-lists-full .lists-full .ensures) (at-set-short .before .before .if1 .left)
     (at-if2 .before .no-room .ensures) (at-set-short .set-short .ensures) (at-if2 .if2 .left)
     (at-write-table .before .before .word-at .ensures) (c .before .before .store-link .ensures) (at-write-table .write-table .ensures)
 

@@ -12,8 +12,9 @@ returns c =
     let at-grow-fields : tie.After-grow-fields = search in
     let at-class-kind : tie.After-class-kind = search in
     let t = and-both _ _ (at-grow-fields .before .before .if1 .taken) in
-    stored-fields _ _ _ _ _ _ _ (at-class-kind .class-kind .ensures) (eqb-true _ _ (t .0)) (news-is _ _ _ _ _ _ _ ∙ not-true _ (t .1))
-    (at-grow-fields .grow-fields .ensures) (c .before .before .record-link .ensures)
+    let at-new-statics : tie.After-new-statics = search in
+    stored-fields _ _ _ _ _ _ _ _ (at-class-kind .class-kind .ensures) (at-new-statics .new-statics .ensures) (eqb-true _ _ (t .0))
+    (news-is _ _ _ _ _ _ _ ∙ not-true _ (t .1)) (at-grow-fields .grow-fields .ensures) (c .before .before .record-link .ensures)
 
 returns-2 : tie.Need-returns-2
 returns-2 c = search (news-is, stored-methods)
@@ -22,6 +23,7 @@ pub store-link-spec : {M : Type 1} → statement M
 store-link-spec =
     tie.close
     (tie.spec
+    (λ c κs. search needs)
     (λ c κs. search needs)
     (λ c κs. search needs)
     (λ c κs. search needs)

@@ -9,7 +9,7 @@ returns : tie.Need-returns
 returns c =
     let ended : tie.After-content-end = search in
     let part : tie.After-word-part = search in
-    storable-is _ (omega arith) (ended .content-end .ensures .0) (part .word-part .ensures) (c .before .all-unlinked .ensures) (c .zero-rest .ensures)
+    storable-is _ (omega arith) (ended .content-end .ensures .0) (part .word-part .ensures) (c .before .all-fresh .ensures) (c .zero-rest .ensures)
 
 pub is-storable-spec : {M : Type 1} → statement M
 is-storable-spec =

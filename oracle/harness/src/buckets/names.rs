@@ -51,6 +51,13 @@ buckets! {
     LinkedSlotCount = "link overwrites a slot count without a place",
     StateKept = "a linked class keeps a nonzero link state",
 
+    StaticsCounted = "static words: a built class's sum",
+    StaticsOverwritten = "static words: a built class's are overwritten",
+    StaticsArray = "static words: an array class's become 0",
+    StaticsBrought = "static words: a generated class keeps its own",
+    StaticsUnread = "static words: a generated class keeps more than the Rust is handed",
+    StaticsOther = "static words: another class's stay",
+
     FieldNoAbi = "built: no ABI entry",
     FieldStatic = "built: static field",
     FieldStaticWide = "built: static field of 2 words",

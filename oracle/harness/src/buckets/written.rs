@@ -1,6 +1,7 @@
 //! The buckets that the end of a link reaches: what is written, and rows 14 and 15.
 
 use crate::model::parts::{built_fields, eligible};
+use crate::sheet::{class_word, class_word_at};
 
 use super::{Bucket, Hits, View, hit};
 
@@ -50,13 +51,25 @@ pub fn accepted(view: &View, class: u32, hits: &mut Hits) {
         }
     }
     hit(hits, Bucket::StubZeroTarget, record.kind != 2 && sheet.methods_of(class).any(|method| eligible(&method) && method.target == 0));
+    statics(view, class, hits);
     growth(view, hits);
+}
+
+fn statics(view: &View, class: u32, hits: &mut Hits) {
+    let record = view.sheet.class(class);
+    let (before, after) = (record.static_words, view.step.after.set[class_word_at(class, class_word::STATIC_WORDS)]);
+    hit(hits, Bucket::StaticsCounted, record.kind == 0 && after != 0);
+    hit(hits, Bucket::StaticsOverwritten, record.kind == 0 && before != 0 && after != before);
+    hit(hits, Bucket::StaticsArray, record.kind == 2 && before != 0);
+    hit(hits, Bucket::StaticsBrought, record.kind == 1 && before != 0);
+    hit(hits, Bucket::StaticsUnread, record.kind == 1 && before > 4096);
+    hit(hits, Bucket::StaticsOther, view.sheet.classes().zip(1..).any(|(other, number)| number != class && other.static_words != 0));
 }
 
 fn growth(view: &View, hits: &mut Hits) {
     let (before, after) = (&view.step.before.set, &view.step.after.set);
     let content = |words: &[u32]| {
-        6 + 17 * words[0] as usize + 6 * (words[1] + words[2]) as usize + (words[3] + words[4] + words[5].div_ceil(4)) as usize
+        class_word_at(words[0] + 1, 0) + 6 * (words[1] + words[2]) as usize + (words[3] + words[4] + words[5].div_ceil(4)) as usize
     };
     let (old, new) = (content(before), content(after));
     let text_junk = before[5] % 4 != 0 && before[old - 1] >> (8 * (before[5] % 4)) != 0;

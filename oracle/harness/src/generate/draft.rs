@@ -25,6 +25,7 @@ pub struct ClassDraft {
     pub compiler: Option<Vec<u32>>,
     pub place: u32,
     pub slots: u32,
+    pub static_words: u32,
 }
 
 #[derive(Clone, Debug, Default)]
@@ -155,6 +156,7 @@ impl Draft {
                 slots,
                 class.place,
                 class.slots,
+                class.static_words,
             ]));
         }
         set.text = text.bytes;

@@ -10,7 +10,7 @@ use wipi_types::lgt::java::{
     LgtJavaClassMethod,
 };
 
-use crate::sheet::{MemberRecord, Set, class_word};
+use crate::sheet::{ClassRecord, MemberRecord, Set, class_word};
 
 /// How a class lies in memory.
 pub enum Form<'a> {
@@ -87,11 +87,21 @@ pub fn lay_out(
         ptr_fields,
         ptr_class_fields,
         unk14: 0,
-        static_field_word_count: 0,
+        static_field_word_count: static_words(class),
     };
     write_generic(core, ptr_descriptor, descriptor)?;
     write_generic(core, ptr_raw, LgtJavaClass { unk1: ptr_linked_table, unk2: 0, ptr_descriptor })?;
     Ok(JavaClassDefinition::from_raw(ptr_raw, core))
+}
+
+/// The most static words that the Rust is handed. It allocates as many for a generated class, and from about 2^30 on its count of bytes is
+/// cut to 32 bits: above this nothing of them is compared (docs/DIFFERENCES.md).
+pub const MOST_STATIC_WORDS: u32 = 4096;
+
+/// The static words that the Rust is handed of a class: its own, or 0 where they are too many.
+fn static_words(class: &ClassRecord) -> u32 {
+    let words = class.get(class_word::STATIC_WORDS);
+    if words <= MOST_STATIC_WORDS { words } else { 0 }
 }
 
 /// A zero-terminated string.

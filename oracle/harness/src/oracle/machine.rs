@@ -16,7 +16,7 @@ use wie_util::{WieError, read_generic, write_generic};
 use crate::sheet::{Abi, Set, class_word};
 
 use super::Watch;
-use super::layout::{Form, lay_out, words};
+use super::layout::{Form, MOST_STATIC_WORDS, lay_out, words};
 
 /// A method or field as the Rust left it. Only added ones have their name and descriptor.
 pub struct Member {
@@ -32,6 +32,8 @@ pub struct Linked {
     pub table: Vec<u32>,
     /// The record's new instance words; none for a generated class.
     pub instance_words: Option<u32>,
+    /// The record's new static words, as the Rust's descriptor has them after the link.
+    pub static_words: u32,
     pub methods: Vec<Member>,
     pub fields: Vec<Member>,
 }
@@ -215,6 +217,7 @@ impl Machine {
         assert_eq!(self.word(ptr_table), definition.ptr_raw, "a table begins with its class");
         assert_eq!(self.word(ptr_table + 4 * (slots + 1)), 0, "a table ends with an empty list");
 
+        let brought = set.class(class).get(class_word::STATIC_WORDS);
         let declared = set.methods_of(class).len();
         let methods = definition.methods().unwrap().into_iter().enumerate().map(|(position, method)| Member {
             name: if position < declared { String::new() } else { method.name().into_owned() },
@@ -232,6 +235,7 @@ impl Machine {
         Linked {
             table: (1..=slots).map(|slot| self.word(ptr_table + 4 * slot)).collect(),
             instance_words: (!is_generated).then_some(u32::from(descriptor.instance_field_word_count)),
+            static_words: if is_generated && brought > MOST_STATIC_WORDS { brought } else { descriptor.static_field_word_count },
             methods: methods.collect(),
             fields: fields.collect(),
         }

@@ -6,7 +6,7 @@ use wie_core_arm::{Allocator, ArmCore};
 use wie_util::{ByteWrite, read_generic, write_generic};
 use wipi_types::lgt::java::{LgtJavaClass, LgtJavaClassDescriptor};
 
-use crate::sheet::{ClassRecord, MemberRecord, Set, class_word};
+use crate::sheet::{CLASS_WORDS, ClassRecord, MemberRecord, Set, class_word};
 
 use super::layout::{Form, lay_out};
 
@@ -62,7 +62,7 @@ impl Bitmaps {
 
 /// The class `R` with the field `f` of type `I`.
 fn class() -> Set {
-    let mut record = ClassRecord([0; 17]);
+    let mut record = ClassRecord([0; CLASS_WORDS]);
     record.0[class_word::NAME + 1] = 1;
     record.0[class_word::KIND] = 1;
     record.0[class_word::FIELDS + 1] = 1;

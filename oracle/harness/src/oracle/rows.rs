@@ -38,14 +38,14 @@ pub fn read_class_sheet(bytes: &[u8], words: &mut [u32]) -> Result<u32, u32> {
 fn unlinked_words(bytes: &[u8], lent: usize) -> Result<(Vec<u32>, Set), u32> {
     let content = block_words(bytes, 92, lent)?;
     let set = Set::decode(&content).ok_or(3u32)?;
-    if blocks(&set.encode()) != bytes || is_linked(&set) {
+    if blocks(&set.encode()) != bytes || !is_untouched(&set) {
         return Err(3);
     }
     Ok((content, set))
 }
 
-fn is_linked(set: &Set) -> bool {
-    set.classes.iter().any(|class| class.span(class_word::PLACE) != (0, 0))
+fn is_untouched(set: &Set) -> bool {
+    set.classes.iter().all(ClassRecord::is_untouched)
 }
 
 /// Reads a class sheet's blocks, rows 1 to 3.
@@ -57,7 +57,7 @@ pub fn read_unordered_sheet(bytes: &[u8], words: &mut [u32]) -> Result<u32, u32>
 
 /// Renumbers the classes: a heap holds those whose parent is placed. Rows 3, 4, 19 (the heap runs empty too early) and 15.
 pub fn renumber_classes(words: &mut [u32], list: &mut [u32]) -> Result<u32, u32> {
-    let mut set = Set::decode(words).filter(|set| !is_linked(set)).ok_or(3u32)?;
+    let mut set = Set::decode(words).filter(is_untouched).ok_or(3u32)?;
     let classes = set.classes.len() as u32;
     let parents: Vec<u32> = set.classes.iter().map(|class| class.get(class_word::PARENT)).collect();
     if parents.iter().any(|parent| !(0..=classes).contains(parent)) || set.interfaces.iter().any(|number| !(1..=classes).contains(number)) {
@@ -118,7 +118,7 @@ pub fn write_class_sheet(words: &[u32], bytes: &mut [u8]) -> Result<u32, u32> {
         return Err(5);
     }
     let content = set.encode();
-    if !words.starts_with(&content) || is_linked(&set) {
+    if !words.starts_with(&content) || !is_untouched(&set) {
         return Err(17);
     }
     let written = blocks(&content);

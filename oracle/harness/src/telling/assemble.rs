@@ -80,6 +80,11 @@ impl ClassDraft {
         Self { flags, link_state, instance_words, ..self }
     }
 
+    /// With these static words, whatever its kind.
+    pub fn bringing(self, static_words: u32) -> Self {
+        Self { static_words, ..self }
+    }
+
     pub fn implementing(self, interfaces: &[u32]) -> Self {
         Self { interfaces: interfaces.to_vec(), ..self }
     }
@@ -169,8 +174,8 @@ pub fn class_words(classes: &[ClassDraft]) -> Vec<u32> {
         let head = [name.0, name.1, class.parent, class.flags, class.kind];
         let lists = [method_list.0, method_list.1, field_list.0, field_list.1, interface_list.0, interface_list.1];
         let table = [class.compiler.as_ref().map_or(0, |_| table.0 + 1), table.1];
-        let tail = [class.link_state, class.instance_words, table[0], table[1], class.place, class.slots];
-        set.classes.push(ClassRecord([&head[..], &lists, &tail].concat().try_into().expect("17 words")));
+        let tail = [class.link_state, class.instance_words, table[0], table[1], class.place, class.slots, class.static_words];
+        set.classes.push(ClassRecord([&head[..], &lists, &tail].concat().try_into().expect("18 words")));
         set.interfaces.extend(&class.interfaces);
         set.compiler.extend(slots);
     }

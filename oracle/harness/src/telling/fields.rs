@@ -76,7 +76,7 @@ pub fn rows() -> Vec<Row> {
             ),
             &[link(1)],
         )
-        .set(&[1, 0, 1, 0, 0, 3, 0, 1, 0, 1, 1, 0, 0, 0, 1, 0, 0, 3, 3, 0, 0, 1, 2, 1, 1, 2, 1, 0, 2, 4814919]),
+        .set(&[1, 0, 1, 0, 0, 3, 0, 1, 0, 1, 1, 0, 0, 0, 1, 0, 0, 3, 3, 0, 0, 1, 2, 0, 1, 1, 2, 1, 0, 2, 4814919]),
         // two fields of one signature: a running word each, or both the fixed index
         row("same-running", lent(&[built("C", 0, &[], &[field("x", "I", 0), field("x", "I", 0)])], &[]), &[link(1)]).indices(1, &[0, 1]),
         row(

@@ -7,7 +7,7 @@ use crate::sheet::{MemberRecord, Set};
 
 /// The words of one class C's record with `first` and `count` of its fields, instance words and table place.
 fn record_c(first: u32, count: u32, words: u32, place: u32) -> Vec<u32> {
-    vec![0, 1, 0, 1, 0, 0, 0, first, count, 0, 0, 0, words, 0, 0, place, 0]
+    vec![0, 1, 0, 1, 0, 0, 0, first, count, 0, 0, 0, words, 0, 0, place, 0, 0]
 }
 
 /// An ABI entry of a class C with a field n, an I; and the class.
@@ -60,12 +60,12 @@ pub fn rows() -> Vec<Row> {
         // bytes after the grown text in its last word are 0, words after the content stay
         row(
             "grown-text",
-            lent(&[plain("C", 0)], &[abi("C", &[], &[fixed("n", "I", 0)])]).on_set(23, &[2882400067, 7, 7, 7, 7, 7, 7, 7]),
+            lent(&[plain("C", 0)], &[abi("C", &[], &[fixed("n", "I", 0)])]).on_set(24, &[2882400067, 7, 7, 7, 7, 7, 7, 7]),
             &[link(1)],
         )
         .set(&[&[1, 0, 1, 0, 0, 3][..], &record_c(0, 1, 1, 1), &[1, 1, 2, 1, 2, 0, 4812355, 7]].concat()),
         // where nothing grows the junk stays
-        row("kept-junk", lent(&[plain("C", 0)], &[]).on_set(23, &[2882400067, 7]), &[link(1)])
+        row("kept-junk", lent(&[plain("C", 0)], &[]).on_set(24, &[2882400067, 7]), &[link(1)])
             .set(&[&[1, 0, 0, 0, 0, 1][..], &record_c(0, 0, 0, 1), &[2882400067, 7]].concat()),
         // a list that grows is copied whole, though it ends its section; the new indices stand in the copy, the old record is left; two records
         // are added, their texts `nI` and `kJ` after `CxI`, flags 2
@@ -81,9 +81,9 @@ pub fn rows() -> Vec<Row> {
         // methods grow likewise, and the sections after them move up
         row("methods-copied", grown_methods(), &[link(1)])
             .set(&[
-                2, 4, 1, 1, 2, 16, 0, 1, 0, 1, 1, 1, 3, 0, 0, 0, 1, 3, 0, 1, 2, 1, 3, 1, 1, 0, 1, 0, 1, 0, 0, 1, 1, 0, 0, 0, 0, 0, 0, 0, 2,
-                1, 3, 3, 1, 5, 2, 1, 3, 3, 1, 5, 8, 1, 9, 3, 1, 8, 12, 1, 13, 3, 1, 9, 6, 1, 7, 1, 0, 4, 1, 8, 9, 678052689, 1232623145,
-                1445537899, 1445537900, 0, 0,
+                2, 4, 1, 1, 2, 16, 0, 1, 0, 1, 1, 1, 3, 0, 0, 0, 1, 3, 0, 1, 2, 1, 3, 0, 1, 1, 0, 1, 0, 1, 0, 0, 1, 1, 0, 0, 0, 0, 0, 0, 0,
+                0, 2, 1, 3, 3, 1, 5, 2, 1, 3, 3, 1, 5, 8, 1, 9, 3, 1, 8, 12, 1, 13, 3, 1, 9, 6, 1, 7, 1, 0, 4, 1, 8, 9, 678052689,
+                1232623145, 1445537899, 1445537900, 0, 0,
             ])
             .table(1, &[8, 9, 5]),
         // a list that is not the section's first: the records of the section
@@ -92,12 +92,12 @@ pub fn rows() -> Vec<Row> {
             lent(&[built("C", 0, &[], &[field("y", "J", 1)]), having_field("D", 0, 7)], &[abi("D", &[], &[fixed("n", "I", 3)])]).spare(12),
             &[link(2)],
         )
-        .set_part(40, &[2, 1, 3, 1, 0, 1, 4, 1, 5, 1, 0, 7, 4, 1, 5, 1, 0, 0, 6, 1, 7, 1, 2, 3]),
+        .set_part(42, &[2, 1, 3, 1, 0, 1, 4, 1, 5, 1, 0, 7, 4, 1, 5, 1, 0, 0, 6, 1, 7, 1, 2, 3]),
         row(
             "later-methods",
             lent(&[having_method("C", 0, "a", 5), compiled("Q", 0, &[method("j", 6)], &[8])], &[fixing("Q", "k", 0)]).spare(13),
             &[link(2)],
         )
-        .set_part(40, &[2, 1, 3, 3, 1, 5, 6, 1, 7, 3, 1, 6, 6, 1, 7, 3, 1, 6, 10, 1, 11, 3, 1, 8]),
+        .set_part(42, &[2, 1, 3, 3, 1, 5, 6, 1, 7, 3, 1, 6, 6, 1, 7, 3, 1, 6, 10, 1, 11, 3, 1, 8]),
     ]
 }

@@ -3,7 +3,7 @@
 use super::assemble::*;
 use super::{Row, lent, link, row};
 use crate::generate::ClassDraft;
-use crate::sheet::class_word;
+use crate::sheet::{CLASS_WORDS, class_word};
 
 /// The refusal of a link of the one class, with a word of its record changed.
 fn record_word(name: &'static str, word: usize, value: u32, refusal: u32) -> Row {
@@ -22,14 +22,15 @@ pub fn rows() -> Vec<Row> {
     let no_abi = |words: &[u32]| super::Lent { abi: words.to_vec(), ..lent(&[plain("C", 0)], &[]) };
     vec![
         // rows run over both sheets: a bad descriptor (5) in one and an index above its limit (4) in the other
-        row("row-4-of-either", lent(&[a_method()], &[fixing("C", "a", 1024)]).with_word(6 + 17 + 3, 2), &[link(1)]).answers(&[(4, 0, 0)]),
-        row("row-5", lent(&[a_method()], &[fixing("C", "a", 1)]).with_word(6 + 17 + 3, 2), &[link(1)]).answers(&[(5, 0, 0)]),
+        row("row-4-of-either", lent(&[a_method()], &[fixing("C", "a", 1024)]).with_word(6 + CLASS_WORDS + 3, 2), &[link(1)])
+            .answers(&[(4, 0, 0)]),
+        row("row-5", lent(&[a_method()], &[fixing("C", "a", 1)]).with_word(6 + CLASS_WORDS + 3, 2), &[link(1)]).answers(&[(5, 0, 0)]),
         // a slice too short for the counts; words after the content may be anything
         row("three-abi-words", no_abi(&[0; 3]), &[link(1)]).answers(&[(3, 0, 0)]),
         row("four-abi-words", no_abi(&[0; 4]), &[link(1)]).answers(&[(0, 1, 0)]),
         row("no-class-words", lent(&[plain("C", 0)], &[]).on_set(0, &[]), &[link(1)]).answers(&[(3, 0, 0)]),
-        row("words-after", lent(&[plain("C", 0)], &[]).on_set(24, &[7; 2000]), &[link(1)]).answers(&[(0, 1, 0)]),
-        row("text-cut", lent(&[plain("C", 0)], &[]).on_set(23, &[]), &[link(1)]).answers(&[(3, 0, 0)]),
+        row("words-after", lent(&[plain("C", 0)], &[]).on_set(25, &[7; 2000]), &[link(1)]).answers(&[(0, 1, 0)]),
+        row("text-cut", lent(&[plain("C", 0)], &[]).on_set(24, &[]), &[link(1)]).answers(&[(3, 0, 0)]),
         row("classes-65", lent(&[], &[]).on_set(0, &[65, 0, 0, 0, 0, 0]), &[link(1)]).answers(&[(3, 0, 0)]),
         // sums do not wrap at 2^32; an empty list starts inside its section, or at its end
         record_word("method-list-at-top", class_word::METHODS, u32::MAX, 4),
@@ -40,8 +41,12 @@ pub fn rows() -> Vec<Row> {
         record_word("slots-without-place", class_word::SLOTS, 1025, 0),
         // records and interface words in no list are judged too
         row("unowned-record", lent(&[a_method()], &[]).with_word(6 + class_word::METHODS + 1, 0), &[link(1)]).answers(&[(0, 1, 0)]),
-        row("bad-unowned-record", lent(&[a_method()], &[]).with_word(6 + class_word::METHODS + 1, 0).with_word(6 + 17 + 1, 0), &[link(1)])
-            .answers(&[(4, 0, 0)]),
+        row(
+            "bad-unowned-record",
+            lent(&[a_method()], &[]).with_word(6 + class_word::METHODS + 1, 0).with_word(6 + CLASS_WORDS + 1, 0),
+            &[link(1)],
+        )
+        .answers(&[(4, 0, 0)]),
         row(
             "loose-interface-word",
             lent(&[plain("C", 0).implementing(&[0])], &[]).with_word(6 + class_word::INTERFACES + 1, 0),
@@ -49,11 +54,11 @@ pub fn rows() -> Vec<Row> {
         )
         .answers(&[(4, 0, 0)]),
         // lists may touch, and an empty one may lie inside another's; they may not overlap. ABI lists may
-        row("empty-list-within", two_lists().with_word(6 + 17 + class_word::METHODS, 1), &[link(1), link(2)])
+        row("empty-list-within", two_lists().with_word(6 + CLASS_WORDS + class_word::METHODS, 1), &[link(1), link(2)])
             .answers(&[(0, 1, 2), (0, 5, 0)]),
         row(
             "lists-overlap",
-            two_lists().with_word(6 + 17 + class_word::METHODS, 1).with_word(6 + 17 + class_word::METHODS + 1, 1),
+            two_lists().with_word(6 + CLASS_WORDS + class_word::METHODS, 1).with_word(6 + CLASS_WORDS + class_word::METHODS + 1, 1),
             &[link(1)],
         )
         .answers(&[(4, 0, 0)]),

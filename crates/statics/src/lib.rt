@@ -1,0 +1,1 @@
+// What holds of static words: this crate has no code, only specs/ and proofs/.
