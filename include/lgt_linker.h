@@ -279,7 +279,9 @@ static inline const char *lgt_refusal_text(uint32_t refusal)
                "that each parent number and each interface word is that of a class of the sheet (a parent may be 0).";
     case LGT_REFUSED_DESCRIPTOR:
         return "Write the descriptor as the JVM Specification has it: a field's is one type such as `I`, `[J` or "
-               "`Ljava/lang/String;`; a method's is its parameters in parentheses and then its result, such as `(IJ)V`.";
+               "`Ljava/lang/String;`; a method's is its parameters in parentheses and then its result, such as `(IJ)V`. A "
+               "method has at most 255 words of arguments, two for each J and D and one for the receiver unless it is "
+               "static; a slot of the ABI sheet counts as an instance method.";
     case LGT_REFUSED_CLASS:
         return "Ask for a class that is in the set, from 1 to the number of classes, and not yet linked; link its "
                "parent first. An array class has no methods or fields and the parent `java/lang/Object`. For an "
@@ -415,8 +417,8 @@ uint32_t lgt_interface_dispatch_table(const uint32_t *set, size_t set_len, const
 /*
  * Counts the words of a method's arguments by its descriptor. Of the flags only 0x0008, static, counts: without it the
  * receiver takes a word.
- * Answers: answer[0], the words. Leaves nothing else written.
- * Refuses by 5.
+ * Answers: answer[0], the words, at most 255. Leaves nothing else written.
+ * Refuses by 5, also above 255 words.
  */
 LGT_MUST_USE
 uint32_t lgt_argument_words(const uint8_t *descriptor, size_t descriptor_len, uint32_t flags, uint64_t answer[1]);

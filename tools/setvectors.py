@@ -79,14 +79,16 @@ def accepted(layout, name, about, made):
 # ---- clauses that a reading has too: the words of its vectors
 
 def shared(layout):
-    """For each clause the first two sheets that a reading refuses by it, and the first and the last accepted neighbour."""
+    """For each clause the first two sheets that a reading refuses by it, and the first and the last accepted neighbour; of argument words all."""
     for row, clause in count_clauses(layout) + record_clauses(layout):
         bad, good = sheetvectors.cover[layout.name, row, clause]
-        for name in bad[:2]:
+        if not clause.endswith("argument words"):
+            bad, good = bad[:2], [good[0], good[-1]]
+        for name in bad:
             found = {(f.row, f.clause) for f in faults(layout, sheetvectors.vectors[name], sheetvectors.lent_words(name))}
             if (3, "blocks: enough") not in found:  # a count that no block holds is under counts_and_fit
                 refused(layout, row, stem(name), clause, content(layout, name), also=found)
-        for name in (good[0], good[-1]):
+        for name in good:
             accepted(layout, stem(name), [(row, clause)], content(layout, name))
 
 
@@ -260,15 +262,23 @@ def arguments():
     counted("high-byte", 8, b"(\x80)V", None)
     counted("zero-byte-after", 8, b"()V\0", None)
     counted("blank-before", 8, b" ()V", None)
-    # No limit: neither 255 words (JVMS 4.3.3) nor 255 bytes (a sheet's part).
+    # At most 255 words (JVMS 4.3.3), the receiver's among them; no limit of 255 bytes (a sheet's part).
     for letter, each in (("I", 1), ("J", 2)):
-        for count in (127, 128, 255, 256, 300):
-            counted(f"{count}-{letter.lower()}", 0, f"({letter * count})V".encode(), 1 + each * count)
-    counted("300-j-static", 8, b"(" + b"J" * 300 + b")V", 600)
-    counted("300-classes", 8, b"(" + b"La/J;" * 300 + b")D", 300)
+        for count in (127, 128, 254, 255, 256, 300):
+            for static in (0, 1):
+                words = 1 - static + each * count
+                counted(f"{count}-{letter.lower()}{'-static' * static}", 8 * static, f"({letter * count})V".encode(), words if words <= 255 else None)
+    for name, flags, words in (("", 0, None), ("-static", 8, 255), ("-all-flags", 0xFFFFFFFF, 255), ("-all-but-8", 0xFFFFFFF7, None)):
+        counted(f"127-j-i{name}", flags, b"(" + b"J" * 127 + b"I)V", words)
+        counted(f"i-127-d{name}", flags, b"(I" + b"D" * 127 + b")V", words)
+    counted("127-arrays", 0, b"(" + b"[J" * 127 + b")V", 128)
+    counted("255-classes", 8, b"(" + b"La/J;" * 255 + b")D", 255)
+    counted("255-classes-instance", 0, b"(" + b"La/J;" * 255 + b")D", None)
+    counted("300-classes", 8, b"(" + b"La/J;" * 300 + b")D", None)
     counted("300-i-and-void", 8, b"(" + b"I" * 300 + b"V)V", None)
-    counted("20000-j", 0, b"(" + b"J" * 20000 + b")V", 40001)
-    counted("20000-j-no-close", 0, b"(" + b"J" * 20000, None)
+    for static in (0, 1):
+        counted(f"20000-j{'-static' * static}", 8 * static, b"(" + b"J" * 20000 + b")V", None)
+        counted(f"20000-j-no-close{'-static' * static}", 8 * static, b"(" + b"J" * 20000, None)
     counted("3000-dimensions", 8, b"(" + b"[" * 3000 + b"J)V", 1)
     counted("10000-byte-name", 8, b"(L" + b"J" * 10000 + b";)V", 1)
 

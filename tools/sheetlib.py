@@ -220,8 +220,12 @@ def spot(word, byte=0):
 
 # ---- descriptors: JVMS 4.3.2 and 4.3.3, names by 4.2
 
+ARGUMENT_LIMIT = 255  # most words of a method's arguments, the receiver's among them
+STATIC = 0x0008  # the flag of a method without a receiver
+
+
 class Broken(Exception):
-    """A descriptor that the grammar does not derive: where, which rule, what is wrong."""
+    """A descriptor that breaks JVMS 4.3: where, which rule, what is wrong."""
 
     def __init__(self, at, rule, what):
         super().__init__(what)
@@ -233,7 +237,7 @@ GRAMMAR_RULES = {
               "unqualified name", "end"),
     "method": ("opening parenthesis", "closing parenthesis", "FieldType", "VoidDescriptor",
                "ComponentType", "ObjectType", "identifier", "unqualified name",
-               "ReturnDescriptor", "end"),
+               "ReturnDescriptor", "end", "at most 255 argument words"),
 }
 
 
@@ -294,23 +298,34 @@ def end(bs, at):
         raise Broken(at, "end", f"{shown(bs[at:])} stands after the descriptor's end")
 
 
-def descriptor_fault(grammar, bs):
-    """None, or the Broken that says where a descriptor leaves its grammar."""
+def read_method(bs, flags):
+    """Reads the descriptor of a method with these flags; answers its argument words: J and D two, one for the receiver unless static."""
+    words, over = 0 if flags & STATIC else 1, None
+    for start, _ in read_method_descriptor(bs):
+        words += 2 if bs[start] in b"JD" else 1
+        if words > ARGUMENT_LIMIT and over is None:
+            over = start
+    if over is not None:
+        receiver = "" if flags & STATIC else ", one of them the receiver's"
+        raise Broken(over, "at most 255 argument words", f"the arguments take {words} words{receiver}, and a method has at most {ARGUMENT_LIMIT}")
+    return words
+
+
+def descriptor_fault(grammar, bs, flags=0):
+    """None, or the Broken that says where a descriptor, of a method with these flags, breaks its rules."""
     try:
-        (read_method_descriptor if grammar == "method" else read_field_descriptor)(bytes(bs))
+        read_method(bytes(bs), flags) if grammar == "method" else read_field_descriptor(bytes(bs))
     except Broken as broken:
         return broken
     return None
 
 
 def argument_words(bs, flags):
-    """(0, words) of a method descriptor: J and D two, one for the receiver unless static; or (5, 0)."""
+    """(0, words) of the descriptor of a method with these flags, or (5, 0)."""
     try:
-        parameters = read_method_descriptor(bytes(bs))
+        return 0, read_method(bytes(bs), flags)
     except Broken:
         return 5, 0
-    words = sum(2 if bs[start] in b"JD" else 1 for start, _ in parameters)
-    return 0, words + (0 if flags & 0x0008 else 1)
 
 
 def shown(bs):
@@ -686,7 +701,9 @@ def row_5(sheet):
             if start + sheet.get(section.name, i, "descriptor length") > len(sheet.text):
                 continue  # row 4 has it
             bs = sheet.part(section.name, i, "descriptor")
-            broken = descriptor_fault(section.grammar, bs)
+            # A method goes by its own flags. A slot of the ABI sheet counts as an instance method: its fifth word is an index.
+            flags = sheet.get("method", i, "flags") if section.name == "method" else 0
+            broken = descriptor_fault(section.grammar, bs, flags)
             if broken:
                 k = start + broken.at
                 yield Fault(5, f"{section.name} descriptor: {broken.rule}",

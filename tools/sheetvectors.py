@@ -723,7 +723,7 @@ end                  after-class                ()La;;      ()La/a;
 
 GOOD = {
     "field": [f"base-type-{c}:{c}" for c in "BCDFIJSZ"] + ["254-dimensions:" + "[" * 254 + "I", "named:Ljava/lang/String;"],
-    "method": ["every-type:(BCDFIJSZ[ILa;)[[J", "252-parameters:(" + "J" * 252 + ")V", "250-dimensions:(" + "[" * 250 + "I)[I"],
+    "method": ["every-type:(BCDFIJSZ[ILa;)[[J", "252-parameters:(" + "I" * 252 + ")V", "250-dimensions:(" + "[" * 250 + "I)[I"],
 }
 
 
@@ -743,6 +743,64 @@ def row_5(layout):
             accepted(layout, f"{section.name}-{name}-mended", [(5, clause)], described(mended))
         for name, value in (one.split(":") for one in GOOD[section.grammar]):
             accepted(layout, f"{section.name}-{name}", [(5, f"{section.name} descriptor: FieldType")], described(value))
+        if section.grammar == "method":
+            row_5_words(layout, section)
+
+
+# ---- row 5: at most 255 argument words, J and D two, one for the receiver unless static; ABI slots count as instance methods
+
+PARAMETERS = {
+    # parameters: words
+    "126-j-2-i": "J" * 126 + "II",  # 254
+    "127-j": "J" * 127,  # 254
+    "127-j-i": "J" * 127 + "I",  # 255
+    "i-127-d": "I" + "D" * 127,  # 255
+    "128-j": "J" * 128,  # 256
+    "252-j": "J" * 252,  # 504, of 255 bytes
+    "126-arrays": "[J" * 126,  # 126, of 255 bytes
+    "class-and-126-j": "LJ;" + "J" * 126,  # 253
+}
+
+
+def row_5_words(layout, section):
+    """Parameters of a member by its fifth word: flags, of which 0x0008 takes the receiver away, or an index, which counts for nothing."""
+    clause, file, number = f"{section.name} descriptor: at most 255 argument words", section.name, last_number(layout, section.name)
+    word, numbers = section.words[4], (1, 9, 0x0400, 0x0409) if layout is CLASS_SHEET else (0, 8, 9)
+    for name, parameters in PARAMETERS.items():
+        words = sum(2 if p in "JD" else 1 for p in parameters.replace("[J", "A").replace("LJ;", "L"))
+        for n in numbers:
+            static = layout is CLASS_SHEET and n & 0x0008
+            sheet = but(renamed(BASE[layout], file, number, "descriptor", f"({parameters})V".encode()), file, number, **{word: n})
+            if words + (not static) > 255:
+                refused(layout, 5, f"{file}-{name}-{word}-{n}", clause, sheet)
+            else:
+                accepted(layout, f"{file}-{name}-{word}-{n}", [(5, clause)], sheet)
+    # Row 4 goes before: 253 parameters are 256 bytes.
+    for letter, also in (("I", []), ("J", [(5, clause)])):
+        refused(layout, 4, f"{file}-253-{letter.lower()}", f"{file} descriptor: at most 255 bytes",
+                renamed(BASE[layout], file, number, "descriptor", f"({letter * 253})V".encode()), also=also)
+    # A record in no class's list.
+    loose = Sheet(layout, text=b"m(" + b"J" * 127 + b"I)V")
+    loose.records[file] = [[0, 1, 1, 131, 0] + [0] * (section.width() - 5)]
+    refused(layout, 5, f"{file}-unowned-127-j-i", clause, loose)
+    accepted(layout, f"{file}-unowned-127-j", [(5, clause)], but(renamed(loose, file, 0, "descriptor", b"(" + b"J" * 127 + b")V"), file, 0))
+    if layout is CLASS_SHEET:
+        accepted(layout, f"{file}-unowned-127-j-i-static", [(5, clause)], but(loose, file, 0, flags=9))
+        row_5_shared(clause)
+
+
+def row_5_shared(clause):
+    """One descriptor part of two methods, and a constructor, which has a receiver."""
+    for name, size, descriptor in (("127-j-i", 131, b"(" + b"J" * 127 + b"I)V"), ("127-j", 130, b"(" + b"J" * 127 + b")V")):
+        for first, second in ((9, 1), (1, 9), (9, 9), (0x0409, 9)):
+            sheet = renamed(but(CLASSES, "method", 0, flags=first), "method", 0, "descriptor", descriptor)
+            sheet = but(sheet, "method", 1, flags=second, descriptor_start=len(sheet.text) - size, descriptor_length=size)
+            if name == "127-j-i" and 1 in (first, second):
+                refused(CLASS_SHEET, 5, f"method-shared-{name}-{first}-{second}", clause, sheet)
+            else:
+                accepted(CLASS_SHEET, f"method-shared-{name}-{first}-{second}", [(5, clause)], sheet)
+    made = renamed(renamed(CLASSES, "method", 0, "name", b"<init>"), "method", 0, "descriptor", b"(" + b"J" * 127 + b"I)V")
+    refused(CLASS_SHEET, 5, "method-constructor-127-j-i", clause, made)
 
 
 # ---- two faults of different rows: the lower row is answered

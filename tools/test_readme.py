@@ -107,8 +107,8 @@ class Pages(unittest.TestCase):
         """docs/EDITS.md names each must-fail edit, and no other."""
         page = contents("docs/EDITS.md")
         named = set()
-        for cell in re.findall(r"`[a-z_]+/[a-z_]+`(?:, `[a-z_]+`)*", page):
-            crate, *labels = re.findall(r"[a-z_]+", cell)
+        for cell in re.findall(r"`[a-z0-9_]+/[a-z0-9_]+`(?:, `[a-z0-9_]+`)*", page):
+            crate, *labels = re.findall(r"[a-z0-9_]+", cell)
             named.update(f"{crate}/{label}" for label in labels)
         kept = {f"{path.split('/')[-3]}/{os.path.basename(path)[:-5]}" for path in glob.glob(os.path.join(ROOT, "crates", "*", "must-fail", "*.edit"))}
         self.assertEqual(kept - named, set())
@@ -116,8 +116,8 @@ class Pages(unittest.TestCase):
 
     def test_crates(self):
         """docs/ARCHITECTURE.md has a row for each crate."""
-        rows = set(re.findall(r"^\| `([a-z_]+)` \|", contents("docs/ARCHITECTURE.md"), re.M))
-        self.assertEqual(rows, set(re.findall(r"^([a-z_]+):", contents("crates.txt"), re.M)))
+        rows = set(re.findall(r"^\| `([a-z0-9_]+)` \|", contents("docs/ARCHITECTURE.md"), re.M))
+        self.assertEqual(rows, set(re.findall(r"^([a-z0-9_]+):", contents("crates.txt"), re.M)))
 
     def test_definitions(self):
         """Every definition that docs/SENTENCES.md names stands in a file of specs/."""

@@ -302,10 +302,13 @@ class Descriptors(unittest.TestCase):
             self.agree(bs)
 
     def test_argument_words(self):
-        """The examples of docs/SPECIFICATION.md, and any bytes and flags."""
+        """The examples of docs/SPECIFICATION.md, any bytes and flags, and the limit of 255 words."""
+        longs = "(" + "J" * 127 + "I)V"
         for text, flags, want in (("(IJ)V", 1, (0, 4)), ("(IJ)V", 9, (0, 3)), ("(V)V", 1, (5, 0)), ("", 0, (5, 0)),
                                   ("()V", 0xFFFFFFF7, (0, 1)), ("()V", TOP, (0, 0)), ("([J[[DLa;D)J", 0, (0, 6)),
-                                  ("(" + "J" * 200 + ")V", 8, (0, 400)), ("(" + "[" * 3000 + "I)V", 8, (0, 1))):
+                                  (longs, 8, (0, 255)), (longs, 0, (5, 0)), (longs, TOP, (0, 255)), (longs, TOP - 8, (5, 0)),
+                                  ("(" + "J" * 127 + ")V", 0, (0, 255)), ("(" + "J" * 128 + ")V", 8, (5, 0)), ("(" + "[J" * 127 + ")V", 0, (0, 128)),
+                                  ("(" + "I" * 254 + ")V", 0, (0, 255)), ("(" + "I" * 255 + ")V", 0, (5, 0)), ("(" + "[" * 3000 + "I)V", 8, (0, 1))):
             self.assertEqual(sheetlib.argument_words(text.encode(), flags), want, text[:20])
         self.assertEqual(sheetlib.argument_words(b"(L\x80\xff;)V", 8), (0, 1))
 
@@ -505,8 +508,15 @@ class OpenPoints(unittest.TestCase):
     def test_grammar(self):
         for descriptor, want in (("L(;", 0), ("L<;", 0), ("LV;", 0), ("[V", 5), ("V", 5), ("[" * 254 + "I", 0), ("La//b;", 5)):
             self.assertEqual(row(form(f"class A\n field x {descriptor} 0\n")), want)
-        for descriptor, want in (("(V)V", 5), ("(L);)V", 0), ("(" + "J" * 252 + ")V", 0), ("()", 5)):
+        for descriptor, want in (("(V)V", 5), ("(L);)V", 0), ("(" + "I" * 252 + ")V", 0), ("()", 5)):
             self.assertEqual(row(form(f"class A\n method m {descriptor} 0\n")), want)
+        # 255 argument words, the receiver's among them: a method by its own flags, a slot as an instance method whatever its index.
+        longs = "(" + "J" * 127 + "I)V"
+        for flags, want in (("1", 5), ("9", 0), ("0x409", 0)):
+            self.assertEqual(row(form(f"class A\n method m {longs} 0 flags {flags}\n")), want)
+        for index in (0, 8):
+            self.assertEqual(row(form(f"abi class A\n slot m {longs} {index}\n")), 5)
+            self.assertEqual(row(form(f"abi class A\n slot m {longs.replace('I', '')} {index}\n")), 0)
 
     def test_unused_text(self):
         made = form("class A\n")
@@ -869,6 +879,8 @@ classes.txt: 3 faults, nothing was written (--anyway writes it)
                 ("abi-r4-slot-index-1024", "slot 2 `k` `()I`: index at byte"),
                 ("class-r4-class-name-last-0x7f", "byte 5 of its name, byte"),
                 ("class-r5-field-void", "field 2 `z` `V`: byte 0 of its descriptor, byte"),
+                ("class-r5-method-127-j-i-flags-1", "the arguments take 256 words, one of them the receiver's, and a method has at most 255"),
+                ("class-r5-method-128-j-flags-9", "the arguments take 256 words, and a method has at most 255"),
                 ("abi-r5-slot-no-result", "slot 2 `k` `()`: byte 2 of its descriptor")):
             wanted = re.match(r"\w+-r(\d)", name).group(1)
             status, out, _ = sheet("check", self.file(name + ".bin", vectors.vectors[name + ".bin"]))

@@ -242,17 +242,21 @@ pub fn interface_dispatch_table(
     accepted(row, Asked { place: answer[0], nodes: answer[1] })
 }
 
-/// The words that a call's arguments take by a method's descriptor and flags: a receiver unless static (0x0008), then the parameters.
+/// The words that a call's arguments take by a method's descriptor and flags, at most 255: a receiver unless static (0x0008), then the
+/// parameters, J and D two each.
 ///
 /// # Errors
 ///
-/// Refusal 5: the descriptor is no method descriptor.
+/// Refusal 5: the descriptor is no method descriptor, or takes more than 255 words.
 ///
 /// ```
 /// use lgt_linker::{Refusal, argument_words};
 /// assert_eq!(argument_words(b"(IJ)V", 0), Ok(4));
 /// assert_eq!(argument_words(b"(IJ)V", 8), Ok(3));
 /// assert_eq!(argument_words(b"(V)V", 0), Err(Refusal::Descriptor));
+/// let longs = format!("({}I)V", "J".repeat(127));
+/// assert_eq!(argument_words(longs.as_bytes(), 8), Ok(255));
+/// assert_eq!(argument_words(longs.as_bytes(), 0), Err(Refusal::Descriptor)); // 256 with the receiver
 /// ```
 pub fn argument_words(descriptor: &[u8], flags: u32) -> Result<u64, Refusal> {
     let mut answer = [0];

@@ -113,9 +113,10 @@ const REFUSALS: &[Row] = &[
     Row {
         number: 5,
         refusal: Refusal::Descriptor,
-        wrong: "a descriptor is not one of the JVM Specification's",
+        wrong: "a descriptor is not one of the JVM Specification's, or a method has more than 255 words of arguments",
         mend: "Write the descriptor as the JVM Specification has it: a field's is one type such as `I`, `[J` or `Ljava/lang/String;`; a \
-         method's is its parameters in parentheses and then its result, such as `(IJ)V`.",
+         method's is its parameters in parentheses and then its result, such as `(IJ)V`. A method has at most 255 words of arguments, \
+         two for each J and D and one for the receiver unless it is static; a slot of the ABI sheet counts as an instance method.",
     },
     Row {
         number: 6,

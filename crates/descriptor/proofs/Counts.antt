@@ -63,7 +63,7 @@ method-begins d = omega (arith, parameters-begin (d .parameters) (resultSpelling
 
 -- ---- they are at most two for each byte
 
-byte-small : (b : ℕ) → byteWidth b ≤ 2
+pub byte-small : (b : ℕ) → byteWidth b ≤ 2
 unfolding byteWidth
 byte-small b = by (eqb b 74 || eqb b 68) (λ e. rw e (omega arith)) (λ e. rw e (omega arith))
 

@@ -1,16 +1,18 @@
--- Two descriptors with their derivations: what the grammar spells; and the width of bytes that are no descriptor, which no call shows.
--- Descriptors are counted and refused by `judge`'s vectors. Assumes nothing.
+-- Two descriptors with their derivations: what the grammar spells; the width of bytes that are no descriptor, which no call shows; and
+-- descriptors at the limit of argument words, with and without a receiver. `judge`'s vectors count and refuse more. Assumes nothing.
 use mathlib.Core.Path.{_≡_, refl}
 use mathlib.Core.Bool.{So}
-use mathlib.Core.List.{[], _∷_}
-use Prim.Native.Nat.{ℕ}
-use Rattle.words.specs.Lists.{some}
+use mathlib.Core.List.{List, [], _∷_, _++_}
+use Prim.Native.Nat.{ℕ, zero, suc}
+use Prim.Native.String.{String}
+use Rattle.words.specs.Lists.{fold, some}
 use Rattle.descriptor.specs.Bytes.{byte, text, isBaseByte, isNameByte}
 use Rattle.descriptor.specs.Grammar.{UnqualifiedName, I, J, L, base, object, array, of, component, FieldDescriptor, field, parameter}
 use Rattle.descriptor.specs.Grammar.{«V», void, MethodDescriptor, nameBytes, nameSpelling, restSpelling, classSpelling, baseByte}
 use Rattle.descriptor.specs.Grammar.{objectSpelling, typeSpelling, fieldSpelling, parameterSpelling, parametersSpelling}
 use Rattle.descriptor.specs.Grammar.{voidSpelling, resultSpelling, methodSpelling}
-use Rattle.descriptor.specs.Words.{byteWidth, width}
+use Rattle.descriptor.specs.Machine.{fieldNext, methodNext, isMethodDescriptor}
+use Rattle.descriptor.specs.Words.{byteWidth, width, begunWords, begunFrom, isMethod, counted, refused, argumentAnswer}
 
 -- ( I J ) V, and [ L a / b ;
 abbrev pub int-long-void : MethodDescriptor
@@ -35,3 +37,51 @@ unfolding isBaseByte isNameByte some width byteWidth methodSpelling parametersSp
     parameterSpelling resultSpelling voidSpelling fieldSpelling typeSpelling
     baseByte objectSpelling classSpelling restSpelling nameSpelling nameBytes array-of-a-b letter
 rows = record { method = refl; class = refl; any-width = refl; no-width = refl }
+
+-- ---- at the limit
+
+abbrev times : ℕ → List ℕ → List ℕ
+times zero p = []
+times (suc n) p = p ++ times n p
+
+-- ( p n times, then q ) V
+abbrev pub parameters : ℕ → String → String → List ℕ
+parameters n p q = byte "(" ∷ (times n (text p) ++ (text q ++ text ")V"))
+
+-- 255 words, and 256 with the receiver's
+abbrev pub longs-int : List ℕ
+longs-int = parameters 127 "J" "I"
+
+pub record Limits : Type 0 where
+  pub longs-128-static : argumentAnswer (parameters 128 "J" "") 8 ≡ refused
+  pub longs-int-static : argumentAnswer longs-int 8 ≡ counted 255
+  pub longs-int-instance : argumentAnswer longs-int 0 ≡ refused
+  pub longs-127-instance : argumentAnswer (parameters 127 "J" "") 0 ≡ counted 255
+  pub longs-127-static : argumentAnswer (parameters 127 "J" "") 8 ≡ counted 254
+  pub ints-254-instance : argumentAnswer (parameters 254 "I" "") 0 ≡ counted 255
+  pub ints-255-instance : argumentAnswer (parameters 255 "I" "") 0 ≡ refused
+  pub ints-255-static : argumentAnswer (parameters 255 "I" "") 8 ≡ counted 255
+  pub ints-256-static : argumentAnswer (parameters 256 "I" "") 8 ≡ refused
+  -- an array is one word, of longs too
+  pub arrays : argumentAnswer (parameters 127 "[J" "") 0 ≡ counted 128
+  -- only the bit 0x0008 counts
+  pub all-flags : argumentAnswer longs-int 0xFFFFFFFF ≡ counted 255
+  pub all-but-static : argumentAnswer longs-int 0xFFFFFFF7 ≡ refused
+
+pub limits : Limits
+unfolding argumentAnswer isMethod isMethodDescriptor methodNext fieldNext isBaseByte isNameByte some fold begunFrom begunWords byteWidth
+limits =
+    record {
+      longs-128-static = refl;
+      longs-int-static = refl;
+      longs-int-instance = refl;
+      longs-127-instance = refl;
+      longs-127-static = refl;
+      ints-254-instance = refl;
+      ints-255-instance = refl;
+      ints-255-static = refl;
+      ints-256-static = refl;
+      arrays = refl;
+      all-flags = refl;
+      all-but-static = refl;
+    }

@@ -1,6 +1,7 @@
 pub mod Counts
 pub mod Examples
 pub mod Fields
+pub mod Limit
 pub mod Machines
 pub mod Meaning
 pub mod Names

@@ -1,17 +1,21 @@
 -- The definitions a step at a time, in the shapes in which the functions meet them. Assumes nothing.
-use mathlib.Core.Path.{_≡_, sym, ap, _∙_}
-use mathlib.Core.Bool.{Bool, true, false}
+use mathlib.Core.Path.{_≡_, refl, sym, ap, _∙_}
+use mathlib.Core.Bool.{Bool, true, false, not, _&&_}
 use mathlib.Core.List.{List}
-use Prim.Native.Nat.{ℕ, _+_, _%_, _^_, _≤_, _<_}
+use Prim.Native.Nat.{ℕ, _+_, _≤_, _<_}
 use native.Mathlib.Numerals.{add-one}
 use native.Mathlib.Omega.{arith}
+use lib.Dec.{leb}
 use lib.ListN.{length, getD, drop, drop-of-length-le}
 use lib.Seq.{drop-cons}
+use borrow.Author.Tests.{not-true, not-false}
 use Rattle.descriptor.specs.declared.FieldState.{FieldState}
 use Rattle.descriptor.specs.declared.MethodState.{MethodState}
 use Rattle.descriptor.specs.declared.MethodState.the-variants.{Begin, Returned}
 use Rattle.descriptor.specs.Machine.{fieldNext, methodNext, isMethodDescriptor}
-use Rattle.descriptor.specs.Words.{receiverWords, begunWords, begunFrom, counted, refused, argumentAnswer}
+use Rattle.descriptor.specs.Words.{receiverWords, argumentLimit, begunWords, begunFrom, isMethod, capped, cappedFrom, counted, refused}
+use Rattle.descriptor.specs.Words.{argumentAnswer}
+use Rattle.descriptor.proofs.Limit.{parts, short-within, capped-exact, capped-within}
 
 -- ---- a step of the method machine in the return type
 
@@ -19,37 +23,47 @@ pub returned-next : {q : MethodState} {p r : FieldState} (b : ℕ) → r ≡ fie
 unfolding methodNext
 returned-next b e f = rw (e, f)
 
--- ---- the words that begin, from i on
+-- ---- the words counted, from i on
 
-unfoldable pub begunAt : MethodState → List ℕ → ℕ → ℕ
-begunAt q s i = begunFrom q (drop i s)
+unfoldable pub cappedAt : ℕ → MethodState → List ℕ → ℕ → ℕ
+cappedAt n q s i = cappedFrom n q (drop i s)
 
-pub begun-start : (s : List ℕ) → (0 + begunAt Begin s 0) % 2 ^ 64 ≡ begunFrom Begin s % 2 ^ 64
-unfolding begunAt
-begun-start s = omega arith
+pub capped-start : (s : List ℕ) → cappedAt 0 Begin s 0 ≡ cappedFrom 0 Begin s
+unfolding cappedAt
+capped-start s = refl
 
-module _ (q : MethodState) (s : List ℕ) (i : ℕ) where
-  begun-more : i < length s → begunAt q s i ≡ begunWords q (getD s i 0) + begunAt (methodNext q (getD s i 0)) s (i + 1)
-  unfolding begunAt begunFrom
-  begun-more h = rw (add-one, drop-cons s i 0 h)
+module _ (n : ℕ) (q : MethodState) (s : List ℕ) (i : ℕ) where
+  pub capped-turn : {x w m k : ℕ} {p : MethodState} → i < length s → x ≡ getD s i 0 → w ≡ begunWords q x → m ≡ capped n w
+      → p ≡ methodNext q x → cappedAt n q s i ≡ k → cappedAt m p s (i + 1) ≡ k
+  unfolding cappedAt cappedFrom
+  capped-turn h e f g r v = rw (g, f, r, e) (rw (drop-cons s i 0 h, ← add-one) at v)
 
-  pub begun-turn : (n : ℕ) {x w m k : ℕ} {p : MethodState} → i < length s → x ≡ getD s i 0 → w ≡ begunWords q x
-      → m ≡ (n + w) % 2 ^ 64 → p ≡ methodNext q x
-      → (n + begunAt q s i) % 2 ^ 64 ≡ k → (m + begunAt p s (i + 1)) % 2 ^ 64 ≡ k
-  begun-turn n h e f g r v = rw (r, e) (omega (arith, begun-more h, rw e at f))
-
-  pub begun-end : {n k : ℕ} → length s ≤ i → n < 2 ^ 64 → (n + begunAt q s i) % 2 ^ 64 ≡ k → n ≡ k
-  unfolding begunAt begunFrom
-  begun-end h l v = let z : begunFrom q (drop i s) ≡ 0 = rw (drop-of-length-le s h) in omega arith
+  pub capped-end : {k : ℕ} → length s ≤ i → cappedAt n q s i ≡ k → n ≡ k
+  unfolding cappedAt cappedFrom
+  capped-end h v = rw (drop-of-length-le s h) at v
 
 -- ---- the answers
 
-module _ (s : List ℕ) {b : Bool} where
-  pub argument-counted : (flags : ℕ) {r p n : ℕ} → b ≡ isMethodDescriptor s → b ≡ true → r ≡ receiverWords flags
-      → p ≡ begunFrom Begin s % 2 ^ 64 → n ≡ (r + p) % 2 ^ 64 → counted n ≡ argumentAnswer s flags
-  unfolding argumentAnswer
-  argument-counted flags e t f g h = rw (sym e ∙ t) (ap counted (omega arith))
+module _ (s : List ℕ) (flags : ℕ) where
+  pub no-grammar : {b : Bool} → b ≡ isMethodDescriptor s → not b ≡ true → false ≡ isMethod flags s
+  unfolding isMethod
+  no-grammar e t = rw (sym e ∙ not-true _ t)
 
-  pub argument-refused : (flags : ℕ) → b ≡ isMethodDescriptor s → b ≡ false → refused ≡ argumentAnswer s flags
+  pub short-method : {b : Bool} → b ≡ isMethodDescriptor s → not b ≡ false → length s ≤ 127 → true ≡ isMethod flags s
+  short-method e t l = sym (short-within s flags (sym e ∙ not-false _ t) l)
+
+  pub counted-method : {b : Bool} {r p : ℕ} → b ≡ isMethodDescriptor s → not b ≡ false → r ≡ receiverWords flags → p ≡ cappedFrom 0 Begin s
+      → leb (r + p) argumentLimit ≡ isMethod flags s
+  unfolding isMethod
+  counted-method e t f g = rw (f, g, sym e ∙ not-false _ t) (capped-within s (receiverWords flags))
+
+  pub argument-refused : {b : Bool} → b ≡ isMethod flags s → not b ≡ true → refused ≡ argumentAnswer s flags
   unfolding argumentAnswer
-  argument-refused flags e t = rw (sym e ∙ t)
+  argument-refused e t = rw (sym e ∙ not-true _ t)
+
+  pub argument-counted : {b : Bool} {r p : ℕ} → b ≡ isMethod flags s → not b ≡ false → r ≡ receiverWords flags → p ≡ cappedFrom 0 Begin s
+      → counted (r + p) ≡ argumentAnswer s flags
+  unfolding argumentAnswer
+  argument-counted e t f g =
+      let h : isMethod flags s ≡ true = sym e ∙ not-false _ t in
+      rw (f, g, h, capped-exact s (omega (arith, parts s flags h)))

@@ -1,13 +1,14 @@
 -- The words of fields and arguments: of a derivation, as the Specification counts them, and as the functions compute them from the
 -- bytes. Assumes nothing.
-use Prim.Native.Nat.{ℕ, _+_, _-_, _/_, _%_, _^_}
+use Prim.Native.Nat.{ℕ, _+_, _-_, _/_, _%_, _≤_}
+use mathlib.Core.Path.{_≡_}
 use mathlib.Core.Bool.{Bool, false, not, _&&_, _||_, cond}
 use mathlib.Core.List.{List, [], _∷_}
-use lib.Dec.{eqb}
+use lib.Dec.{eqb, leb, ltb}
 use lib.ListN.{getD}
 use Rattle.descriptor.specs.Bytes.{byte}
 use Rattle.descriptor.specs.Grammar.{BaseType, B, C, D, F, I, J, S, Z, FieldType, base, object, array, FieldDescriptor, field}
-use Rattle.descriptor.specs.Grammar.{ParameterDescriptor, parameter, MethodDescriptor}
+use Rattle.descriptor.specs.Grammar.{ParameterDescriptor, parameter, MethodDescriptor, methodSpelling}
 use Rattle.descriptor.specs.Machine.{fieldDone, methodNext, isMethodDescriptor}
 use Rattle.descriptor.specs.declared.MethodState.{MethodState}
 use Rattle.descriptor.specs.declared.MethodState.the-variants.{Begin, Parameters, Return, Returned}
@@ -49,6 +50,14 @@ receiverWords flags = 1 - flags / 8 % 2
 unfoldable pub argumentWords : MethodDescriptor → ℕ → ℕ
 argumentWords d flags = receiverWords flags + parametersWords (d .parameters)
 
+abbrev pub argumentLimit : ℕ
+argumentLimit = 255
+
+-- "A method descriptor is valid only if it represents method parameters with a total length of 255 or less, where that length includes the
+-- contribution for this in the case of instance or interface method invocations" (JVMS 4.3.3)
+abbrev pub ValidDescriptor : ℕ → List ℕ → Type 0
+ValidDescriptor flags s = (d : MethodDescriptor) × (methodSpelling d ≡ s) × (argumentWords d flags ≤ argumentLimit)
+
 -- ---- the words of bytes
 
 -- the words of a value whose descriptor begins with b
@@ -75,7 +84,19 @@ unfoldable pub begunFrom : MethodState → List ℕ → ℕ
 begunFrom q [] = 0
 begunFrom q (b ∷ s) = begunWords q b + begunFrom (methodNext q b) s
 
--- ---- what the functions answer: a refusal, 0 for none and 5 where the bytes are no descriptor, and words modulo 2^64, 0 where refused
+-- the bytes are a method descriptor by 4.3.3, limit and all, of a method with these flags
+unfoldable pub isMethod : ℕ → List ℕ → Bool
+isMethod flags s = isMethodDescriptor s && leb (receiverWords flags + begunFrom Begin s) argumentLimit
+
+-- the same words counted on from n, in numbers that stay small on any bytes: above the limit nothing more is counted
+unfoldable pub capped : ℕ → ℕ → ℕ
+capped n w = cond (ltb argumentLimit n) n (n + w)
+
+unfoldable pub cappedFrom : ℕ → MethodState → List ℕ → ℕ
+cappedFrom n q [] = n
+cappedFrom n q (b ∷ s) = cappedFrom (capped n (begunWords q b)) (methodNext q b) s
+
+-- ---- what the functions answer: a refusal, 0 for none and 5 where the bytes are no method descriptor by 4.3.3, and words, 0 where refused
 
 pub record Answer : Type 0 where
   pub refusal : ℕ
@@ -92,4 +113,4 @@ answer (Count n) = counted n
 answer Refused = refused
 
 unfoldable pub argumentAnswer : List ℕ → ℕ → Answer
-argumentAnswer s flags = cond (isMethodDescriptor s) (counted ((receiverWords flags + begunFrom Begin s) % 2 ^ 64)) refused
+argumentAnswer s flags = cond (isMethod flags s) (counted (receiverWords flags + begunFrom Begin s)) refused

@@ -1,7 +1,6 @@
 // Descriptors of fields and methods, JVMS 4.2, 4.3.2 and 4.3.3: whether bytes are one, and the words that it stands for. Every
 // function takes any bytes. specs/Grammar.antt has the grammar, and specs/Meaning.antt says what the definitions cited here mean.
 ghost use mathlib.Core.Path.{_≡_};
-ghost use Prim.Native.Nat.{_%_, _^_};
 ghost use lib.Dec.{eqb};
 ghost use Rattle.words.specs.Lists.{some};
 ghost use Rattle.descriptor.specs.Bytes.{isBaseByte, isNameByte};
@@ -20,7 +19,9 @@ ghost use Rattle.descriptor.specs.Words.{
   width,
   betweenParameters,
   begunWords,
-  begunFrom,
+  isMethod,
+  capped,
+  cappedFrom,
   answer,
   argumentAnswer,
 };
@@ -44,7 +45,10 @@ enum MethodState {
     Returned(FieldState),
 }
 
-// The words of a descriptor, modulo 2^64, or that the bytes are no descriptor, which is refusal 5.
+// The most words that the arguments of a method take, its receiver among them.
+const ARGUMENT_LIMIT: u64 = 255;
+
+// The words of a method's arguments, or that the bytes are no descriptor of one, which is refusal 5.
 pub enum DescriptorWords {
     Count(u64),
     Refused,
@@ -272,8 +276,8 @@ fn method_inside(q: MethodState) -> bool
     }
 }
 
-// Whether the bytes are a method descriptor. Any bytes are taken, and only the grammar counts: there is no limit on argument words.
-pub fn is_method_descriptor(s: &[u8]) -> bool
+// Whether the grammar has the bytes as a method descriptor. Any bytes are taken; the limit on argument words is `is_method`'s.
+fn is_method_descriptor(s: &[u8]) -> bool
     ensures { λ r. ⌜ r ≡ isMethodDescriptor (now (s .entry)) ⌝ }
 {
     let mut q = MethodState::Begin;
@@ -325,16 +329,26 @@ fn begun_words(q: MethodState, b: u8) -> u32
     0
 }
 
-// The words of the parameters of a method descriptor, modulo 2^64.
+// n words and w more. Above the limit nothing more is counted, so that no count wraps.
+fn capped(n: u64, w: u32) -> u64
+    ensures { λ r. ⌜ r ≡ capped n w ⌝ }
+{
+    if ARGUMENT_LIMIT < n {
+        return n;
+    }
+    n + w as u64
+}
+
+// The words of the parameters of a method descriptor, counted until they are above the limit.
 fn parameter_words(s: &[u8]) -> u64
-    ensures { λ r. ⌜ r ≡ begunFrom MethodState.Begin (now (s .entry)) % 2 ^ 64 ⌝ }
+    ensures { λ r. ⌜ r ≡ cappedFrom 0 MethodState.Begin (now (s .entry)) ⌝ }
 {
     let mut q = MethodState::Begin;
     let mut n: u64 = 0;
     let mut i: usize = 0;
     while i < s.len() {
         let b = words::byte_at(s, i);
-        n = std::num::wrapping_add_u64(n, begun_words(q, b) as u64);
+        n = capped(n, begun_words(q, b));
         q = method_next(q, b);
         i += 1;
     }
@@ -348,17 +362,29 @@ fn receiver_words(flags: u32) -> u64
     (1 - flags / 8 % 2) as u64
 }
 
-// The words of a method's arguments, the receiver's among them, or refusal 5 where the bytes are no method descriptor. Where the papers
-// are silent: any bytes are taken; the words are counted modulo 2^64, which fewer than 2^63 bytes cannot reach; and any flags are
-// taken, of which only the bit 0x0008, static, counts.
+// Whether the bytes are the descriptor of a method with these flags: the grammar has them, and the arguments, the receiver's word among
+// them, take at most 255 words. A descriptor of up to 127 bytes, two words a byte at most, needs no counting. Any bytes are taken, and
+// any flags, of which only the bit 0x0008, static, counts.
+pub fn is_method(s: &[u8], flags: u32) -> bool
+    ensures { λ r. ⌜ r ≡ isMethod flags (now (s .entry)) ⌝ }
+{
+    if !is_method_descriptor(s) {
+        return false;
+    }
+    if s.len() <= 127 {
+        return true;
+    }
+    receiver_words(flags) + parameter_words(s) <= ARGUMENT_LIMIT
+}
+
+// The words of a method's arguments, the receiver's among them, at most 255, or refusal 5 where the bytes are no descriptor of a method
+// with these flags. Any bytes and flags are taken, as by `is_method`.
 pub fn argument_words(s: &[u8], flags: u32) -> DescriptorWords
     ensures { λ r. ⌜ answer r ≡ argumentAnswer (now (s .entry)) flags ⌝ }
 {
-    if is_method_descriptor(s) {
-        return DescriptorWords::Count(std::num::wrapping_add_u64(
-            receiver_words(flags),
-            parameter_words(s),
-        ));
+    if !is_method(s, flags) {
+        return DescriptorWords::Refused;
     }
-    DescriptorWords::Refused
+    let words = receiver_words(flags) + parameter_words(s);
+    DescriptorWords::Count(words)
 }

@@ -2,44 +2,34 @@
 -- that it adds have names of methods that were there, or of ABI slots. Assumes nothing.
 use mathlib.Core.Path.{_≡_, refl, sym, ap, _∙_}
 use mathlib.Core.Logic.{_≢_}
-use mathlib.Core.Bool.{true, false, cond, _||_}
-use mathlib.Core.List.{List, [], _∷_, _++_, List·Memᴰ}
-use Prim.Native.Nat.{ℕ, zero, suc, _+_, _-_, _≤_, _<_}
+use mathlib.Core.List.{List}
+use Prim.Native.Nat.{ℕ, _+_, _-_, _≤_, _<_}
 use native.Mathlib.Omega.{arith}
-use lib.ListN.{length, getD, take, drop, length-take}
+use lib.ListN.{length}
 use lib.Dec.{eqb, ltb}
 use borrow.Author.Tests.{eqb-true, eqb-false, ltb-true, ltb-false}
-use Rattle.words.specs.Lists.{listFrom, numbers, andThen, firstFound, consFound, allFound}
-use Rattle.words.specs.declared.Found.{Found}
-use Rattle.words.specs.declared.Found.the-variants.{At, Nothing}
+use Rattle.words.specs.declared.Found.the-variants.{At}
 use Rattle.words.proofs.Bools.{by}
-use Rattle.words.proofs.ListLaws.{by-found, found-by, find-member, find-within, numbers-within, getD-list-from, length-list-from}
-use Rattle.text.specs.Text.{nameAt, sameBytes}
-use Rattle.class_sheet.specs.ClassSheet.{nameLengthWord, descriptorLengthWord, className, classWidth, firstMethodWord, methodCountWord, firstFieldWord, fieldCountWord, slotCountWord, classCount, methodCount, fieldCount, contentEnd, classNameLength, classFirstMethod, classMethodCount, classFirstField, classFieldCount, classCompilerTable, interfaceWord, classTablePlace, classSlotCount, methodNameLength, methodDescriptorLength, classWord, methodWord, textOf, methodLimit}
+use Rattle.words.proofs.ListLaws.{by-found, found-by}
+use Rattle.class_sheet.specs.ClassSheet.{nameLengthWord, descriptorLengthWord, classWidth, firstMethodWord, methodCountWord, firstFieldWord, fieldCountWord, slotCountWord, classCount, methodCount, fieldCount, contentEnd, classNameLength, classFirstMethod, classMethodCount, classFirstField, classSlotCount, methodNameLength, methodDescriptorLength, classWord}
 use Rattle.words.specs.Rows.{rowWord}
 use Rattle.class_sheet.specs.Sections.{Sections, Formed, laidOut, sectionsOf, withClasses, withFields}
 use Rattle.class_sheet.proofs.Sections.{formed-of, class-of, method-of, class-count, method-count, class-word, method-word}
-use Rattle.abi_sheet.specs.AbiSheet.{abiClassCount, abiClassName, abiSlotCount, abiSlotNameLength, abiSlotDescriptorLength, abiClassFirstSlot, abiClassSlotCount, abiTextOf, abiSlotLimit}
+use Rattle.abi_sheet.specs.AbiSheet.{abiSlotCount, abiSlotNameLength, abiSlotDescriptorLength}
 use Rattle.set_rules.specs.Valid.{IsClass, Valid, ValidAbi}
-use Rattle.linking.proofs.ChainLaws.{chain-within, own-target-member, own-method-member, parent-within}
-use Rattle.linking.specs.Chain.{onFound, listCount, ownMethods, ownInterfaces, parentOf, chain, ownTarget, findByTarget}
-use Rattle.linking.specs.Abi.{abiNamed, abiSlots, slotIndex, slotAt, classAbi, chainAbi}
-use Rattle.linking.specs.Vtable.{Entry, empty, ownFixed, findByIndex, readEntry, readSlot, tableEntries, parentEntries}
-use Rattle.linking.specs.Compiler.{New, noNew, isEmptied, viewFrom, nativeView, fromMethod, fromSlot, signatureSources, isDeclared, addNamed, addFrom, addedFrom, addedMethods, compilerTargets}
+use Rattle.linking.specs.Chain.{chain}
+use Rattle.linking.specs.Abi.{slotAt, classAbi}
+use Rattle.linking.specs.Vtable.{readEntry}
+use Rattle.linking.specs.Compiler.{New}
 use Rattle.linking.specs.Link.{Plan, isNone, generatedMethods, linkedWords}
 use Rattle.linking.specs.Grown.{methodsGrowing, fieldsGrowing, recordRows, rowIndices, linkedSections}
+use Rattle.linking.proofs.Added.{EachNew, not-found, read-room, slot-room, generated-each}
 use Rattle.linking.proofs.Grown.{rows-indices, formed-methods-growing, formed-fields-growing}
 use Rattle.linking.proofs.Appended.{relisting, length-relisting, class-kept, word-kept}
 use Rattle.linking.proofs.MethodsBack.{methods-count, old-method, copied-method, new-method, other-class, own-word, own-first, own-count}
 use Rattle.linking.proofs.LinkedSections.{lies-of, linked-laid, length-record, record-word, record-class, record-slots, formed-recorded}
 use Rattle.lines.specs.Lines.{ownSlot, fixedSlot}
 use Rattle.lines.proofs.Lengths.{Short, name-few}
-
--- a class's ABI entry is a class of the ABI sheet
-class-abi-room : (ws text abi labels : List ℕ) (c a : ℕ) → classAbi ws text abi labels c ≡ At a → a < abiClassCount abi
-unfolding classAbi abiNamed
-class-abi-room ws text abi labels c a e =
-    omega (arith, find-within (λ k. sameBytes (abiClassName abi labels k) (className ws text c)) 0 (abiClassCount abi) a e)
 
 -- a method or an ABI slot whose name and descriptor are short
 abbrev pub ShortMethod : List ℕ → ℕ → Type 0
@@ -53,14 +43,7 @@ abbrev pub ShortNew : New → Type 0
 ShortNew x = (length (x .name) ≤ 255) × (length (x .descriptor) ≤ 255)
 
 abbrev pub ShortNews : List New → Type 0
-ShortNews xs = (j : ℕ) → j < length xs → ShortNew (getD xs j noNew)
-
-none-short : ShortNews []
-none-short j h = absurd (omega arith)
-
-more-short : (x : New) (xs : List New) → ShortNew x → ShortNews xs → ShortNews (x ∷ xs)
-more-short x xs p q zero h = p
-more-short x xs p q (suc j) h = q j (omega arith)
+ShortNews xs = EachNew ShortNew xs
 
 pub record Bounded (ws : List ℕ) : Type 0 where
   pub list : (d : ℕ) → IsClass ws d → classFirstMethod ws d + classMethodCount ws d ≤ methodCount ws
@@ -76,55 +59,15 @@ valid-bounded ws v = record {
 
 -- ---- what Reading finds, and what an ABI entry fixes, is short
 
-not-found : {X : Type 0} {m : ℕ} → Nothing ≡ At m → X
-not-found e = absurd (let z : _≡_ {A = ℕ} 0 1 = cc in omega arith)
-
--- what is found along a list that is itself found
-found-cons : {P : Type 0} (f : Found) (g : ℕ → Found) (rest : List ℕ) (s : ℕ) → ((a : ℕ) → f ≡ At a → g a ≡ At s → P)
-    → (firstFound g rest ≡ At s → P) → firstFound g (consFound f rest) ≡ At s → P
-unfolding firstFound
-found-cons (At a) g rest s h k e = by-found (g a) (λ n p. h a refl (p ∙ (rw p at e))) (λ p. k (rw p at e))
-found-cons Nothing g rest s h k e = k e
-
-found-all : {P : Type 0} (f g : ℕ → Found) (xs : List ℕ) (s : ℕ) → ((x a : ℕ) → f x ≡ At a → g a ≡ At s → P)
-    → firstFound g (allFound f xs) ≡ At s → P
-unfolding allFound firstFound
-found-all f g [] s h e = not-found e
-found-all f g (x ∷ xs) s h e = found-cons (f x) g (allFound f xs) s (h x) (found-all f g xs s h) e
-
 module _ (ws text abi labels : List ℕ) (b : Bounded ws) (v : ValidAbi abi) where
-  own-short : (d m : ℕ) → IsClass ws d → List·Memᴰ m (ownMethods ws d) → ShortMethod ws m
-  unfolding ownMethods
-  own-short d m k h =
-      let w = numbers-within (classFirstMethod ws d) (listCount (classFirstMethod ws d) (classMethodCount ws d) methodLimit) m h in
-      b .method m (omega (arith, b .list d k))
-
-  fixed-short : (i d m : ℕ) → IsClass ws d → ownFixed ws text abi labels i d ≡ At m → ShortMethod ws m
-  unfolding ownFixed
-  fixed-short i d m k e =
-      by-found (andThen (classAbi ws text abi labels d) (slotAt abi i))
-      (λ s q. own-short d m k (own-method-member ws text _ _ d m (rw q at e)))
-      (λ q. not-found (rw q at e))
-
   pub read-short : (c i w m : ℕ) → c ≤ classCount ws → readEntry ws text abi labels c i w .method ≡ At m → ShortMethod ws m
-  unfolding readEntry findByTarget findByIndex
-  read-short c i w m h e =
-      by-found (findByTarget ws c w)
-      (λ k q.
-      found-by (ownTarget ws w) (chain ws c) m
-      (λ d t r. let z = chain-within ws c d t in own-short d m (omega arith, omega arith) (own-target-member ws w d m r)) (q ∙ (rw q at e)))
-      (λ q.
-      found-by (ownFixed ws text abi labels i) (chain ws c) m
-      (λ d t r. let z = chain-within ws c d t in fixed-short i d m (omega arith, omega arith) r) (rw q at e))
+  read-short c i w m h e = b .method m (read-room ws text abi labels (b .list) c i w m h e)
+
+  short-slot : (s : ℕ) → s < abiSlotCount abi → ShortSlot abi s
+  short-slot s h = let x = v .slot s h in (x .name .short, x .descriptor .short)
 
   slot-short : (i a s d : ℕ) → classAbi ws text abi labels d ≡ At a → slotAt abi i a ≡ At s → ShortSlot abi s
-  unfolding slotAt abiSlots
-  slot-short i a s d e f =
-      let n = class-abi-room ws text abi labels d a e in
-      let t = find-member (λ k. eqb (slotIndex abi k) i) (abiSlots abi a) s f in
-      let w = numbers-within (abiClassFirstSlot abi a) (listCount (abiClassFirstSlot abi a) (abiClassSlotCount abi a) abiSlotLimit) s t in
-      let x = v .slot s (omega (arith, v .class a n .slots)) in
-      (x .name .short, x .descriptor .short)
+  slot-short i a s d e f = short-slot s (slot-room ws text abi labels (λ a k. v .class a k .slots) i a s d e f)
 
   own-slot-short : (i d s : ℕ) → ownSlot ws text abi labels i d ≡ At s → ShortSlot abi s
   unfolding ownSlot
@@ -142,74 +85,11 @@ module _ (ws text abi labels : List ℕ) (b : Bounded ws) (v : ValidAbi abi) whe
 
   -- ---- the methods that a link adds
 
-  named-short : (c : ℕ) (x : New) (xs : List New) → ShortNew x → ShortNews xs → ShortNews (addNamed ws text abi labels c x xs)
-  unfolding addNamed
-  named-short c x xs p q = by (isDeclared ws text abi labels c x) (λ e. rw e q) (λ e. rw e (more-short x xs p q))
-
-  source-short : (c i s : ℕ) → firstFound (slotAt abi i) (signatureSources ws text abi labels c) ≡ At s → ShortSlot abi s
-  unfolding signatureSources
-  source-short c i s e =
-      found-cons (classAbi ws text abi labels c) (slotAt abi i) (allFound (λ k. classAbi ws text abi labels (interfaceWord ws k)) (ownInterfaces ws c)) s
-      (λ a q r. slot-short i a s c q r)
-      (λ g. found-all (λ k. classAbi ws text abi labels (interfaceWord ws k)) (slotAt abi i) (ownInterfaces ws c) s
-      (λ k a q r. slot-short i a s (interfaceWord ws k) q r) g)
-      e
-
-  from-short : (c i target : ℕ) (method : Found) (xs : List New) → ((m : ℕ) → method ≡ At m → ShortMethod ws m) → ShortNews xs
-      → ShortNews (addFrom ws text abi labels c i target method xs)
-  from-short c i target method xs f h =
-      by-found method
-      (λ m e.
-      let p = f m e in
-      rw e (named-short c (fromMethod ws text abi labels m target) xs (name-few text _ _ (p .0), name-few text _ _ (p .1)) h))
-      (λ e.
-      rw e
-      (by-found (firstFound (slotAt abi i) (signatureSources ws text abi labels c))
-      (λ s q.
-      let p = source-short c i s q in
-      rw q (named-short c (fromSlot ws text abi labels s target) xs (name-few labels _ _ (p .0), name-few labels _ _ (p .1)) h))
-      (λ q. rw q h)))
-
-  -- a view whose known entries hold short methods
-  abbrev ShortView : List Entry → Type 0
-  ShortView view = (i m : ℕ) → getD view i empty .method ≡ At m → ShortMethod ws m
-
-  added-short : (c : ℕ) (view : List Entry) → ShortView view → (i : ℕ) (ts : List ℕ) → ShortNews (addedFrom ws text abi labels c view i ts)
-  unfolding addedFrom
-  added-short c view h i [] = none-short
-  added-short c view h i (t ∷ ts) =
-      let g = added-short c view h (i + 1) ts in
-      by (eqb t 0 || eqb t (getD view i empty .word)) (λ e. rw e g)
-      (λ e. rw e (from-short c i t (getD view i empty .method) (addedFrom ws text abi labels c view (i + 1) ts) (h i) g))
-
-  view-short : (abis : List ℕ) (j : ℕ) (es : List Entry) → ShortView es → ShortView (viewFrom ws text abi labels abis j es)
-  unfolding viewFrom
-  view-short abis j [] h i m e = h i m e
-  view-short abis j (x ∷ es) h zero m e =
-      by (isEmptied ws text abi labels abis j x) (λ q. not-found (rw q at e)) (λ q. h 0 m (rw q at e))
-  view-short abis j (x ∷ es) h (suc i) m e = view-short abis (j + 1) es (λ k. h (suc k)) i m e
-
-  entries-short : (area : List ℕ) (c i n : ℕ) → c ≤ classCount ws → ShortView (listFrom (readSlot ws text abi labels area c) i n)
-  unfolding listFrom readSlot
-  entries-short area c i zero h j m e = not-found e
-  entries-short area c i (suc n) h zero m e = read-short c i _ m h e
-  entries-short area c i (suc n) h (suc j) m e = entries-short area c (i + 1) n h j m e
-
-  parent-short : (area : List ℕ) (c : ℕ) → c ≤ classCount ws → ShortView (parentEntries ws text abi labels area c)
-  unfolding parentEntries tableEntries
-  parent-short area c h =
-      let w = parent-within ws c in
-      by (eqb (parentOf ws c) 0) (λ q. rw q (λ i m e. not-found e)) (λ q. rw q (entries-short area (parentOf ws c) 0 _ (omega arith)))
-
   pub news-short : (area : List ℕ) (c : ℕ) → c ≤ classCount ws → ShortNews (generatedMethods ws text abi labels area c)
-  unfolding generatedMethods addedMethods nativeView
-  news-short area c h =
-      by (eqb (classCompilerTable ws c) 0) (λ q. rw q none-short)
-      (λ q.
-      rw q
-      (added-short c (nativeView ws text abi labels area c)
-      (view-short (chainAbi ws text abi labels (parentOf ws c)) 0 (parentEntries ws text abi labels area c) (parent-short area c h)) 0
-      (compilerTargets ws text abi labels c)))
+  news-short =
+      generated-each ws text abi labels (b .list) (λ a k. v .class a k .slots) ShortNew
+      (λ m target h. let p = b .method m h in (name-few text _ _ (p .0), name-few text _ _ (p .1)))
+      (λ s target h. let p = short-slot s h in (name-few labels _ _ (p .0), name-few labels _ _ (p .1)))
 
 -- ---- the same on sections
 

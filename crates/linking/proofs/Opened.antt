@@ -7,7 +7,7 @@ use Rattle.words.specs.Words.{leWord, byteOf, inside}
 use Rattle.text.specs.Text.{textByte, textOfWords, nameAt, sameBytes, printable, partOk}
 use Rattle.descriptor.specs.Bytes.{isBaseByte, isNameByte}
 use Rattle.descriptor.specs.Machine.{fieldNext, isFieldDescriptor, methodNext, isMethodDescriptor}
-use Rattle.descriptor.specs.Words.{byteWidth, width, begunWords, begunFrom, argumentAnswer}
+use Rattle.descriptor.specs.Words.{byteWidth, width, begunWords, begunFrom, isMethod, argumentAnswer}
 use Rattle.class_sheet.specs.ClassSheet.{countAt, methodsAt, fieldsAt, interfacesAt, compilersAt, textAt, contentEnd, classWord, methodWord}
 use Rattle.class_sheet.specs.ClassSheet.{fieldWord, interfaceWord, compilerWord}
 use Rattle.abi_sheet.specs.AbiSheet.{abiCountAt, abiSlotsAt, abiFieldsAt, abiTextAt, abiContentEnd, abiClassWord, abiSlotWord, abiFieldWord}
@@ -40,8 +40,8 @@ use Rattle.linking.proofs.Assemble.{call, answers, after, indicesOf, me
 
 unfoldable pub opened : ℕ
 unfolding allOf table listFrom find firstFound allFound position fold keep some leWord byteOf inside textByte textOfWords nameAt sameBytes printable
-    partOk isBaseByte isNameByte fieldNext isFieldDescriptor methodNext isMethodDescriptor byteWidth width begunWords begunFrom argumentAnswer countAt
-    methodsAt fieldsAt interfacesAt compilersAt textAt contentEnd classWord methodWord fieldWord interfaceWord compilerWord abiCountAt abiSlotsAt
+    partOk isBaseByte isNameByte fieldNext isFieldDescriptor methodNext isMethodDescriptor byteWidth width begunWords begunFrom isMethod argumentAnswer
+    countAt methodsAt fieldsAt interfacesAt compilersAt textAt contentEnd classWord methodWord fieldWord interfaceWord compilerWord abiCountAt abiSlotsAt
     abiFieldsAt abiTextAt abiContentEnd abiClassWord abiSlotWord abiFieldWord classLimits classFits compilerOk classNumbers classLists classRecord
     methodFlagsOk methodRecord fieldRecord interfaceNames apart methodsApart fieldsApart classesApart apartBefore classRecords abiLimits abiFits
     abiClassRecord abiSlotRecord abiFieldRecord abiRecords methodTyped fieldTyped classDescriptors abiSlotTyped abiFieldTyped abiDescriptors setFits

@@ -201,7 +201,7 @@ module _ (ws : List ℕ) (ok : Orderable ws) where
 
   method-typed : (text : List ℕ) (m : ℕ) → m < methodCount ws → methodTyped new text m ≡ methodTyped ws text m
   unfolding methodTyped
-  method-typed text m h = simp (method m 2 h (omega arith), method m 3 h (omega arith))
+  method-typed text m h = simp (method m 2 h (omega arith), method m 3 h (omega arith), method m 4 h (omega arith))
 
   field-typed : (text : List ℕ) (f : ℕ) → f < fieldCount ws → fieldTyped new text f ≡ fieldTyped ws text f
   unfolding fieldTyped

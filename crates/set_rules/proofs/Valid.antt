@@ -16,8 +16,9 @@ use Rattle.words.proofs.FoldLaws.{all-each, all-if}
 use Rattle.words.proofs.Laws.{inside-is}
 use Rattle.text.specs.Text.{nameAt, printable, partOk, sameBytes}
 use Rattle.text.proofs.Laws.{printable-each, printable-all, same-is, same-refl}
-use Rattle.descriptor.specs.Grammar.{FieldDerivation, MethodDerivation}
-use Rattle.descriptor.specs.Machine.{isFieldDescriptor, isMethodDescriptor}
+use Rattle.descriptor.specs.Grammar.{FieldDerivation}
+use Rattle.descriptor.specs.Machine.{isFieldDescriptor}
+use Rattle.descriptor.specs.Words.{ValidDescriptor, isMethod}
 use Rattle.descriptor.proofs.Meaning.{meaning}
 use Rattle.class_sheet.specs.ClassSheet.{classLimit, methodLimit, fieldLimit, interfaceLimit, compilerLimit, textLimit, classCount, methodCount, fieldCount, interfaceCount, compilerCount, textLength, contentEnd, textOf, interfaceWord, classNameStart, classNameLength, classParent, classFlags, classKind, classFirstMethod, classMethodCount, classFirstField, classFieldCount, classFirstInterface, classInterfaceCount, classLinkState, classInstanceWords, classCompilerTable, classCompilerSlots, classTablePlace, classSlotCount, className, methodNameStart, methodNameLength, methodDescriptorStart, methodDescriptorLength, methodFlags, methodDescriptor, fieldNameStart, fieldNameLength, fieldDescriptorStart, fieldDescriptorLength, fieldFlags, fieldDescriptor}
 use Rattle.abi_sheet.specs.AbiSheet.{abiClassLimit, abiSlotLimit, abiFieldLimit, abiTextLimit, abiClassCount, abiSlotCount, abiFieldCount, abiTextLength, abiContentEnd, abiTextOf, abiClassNameStart, abiClassNameLength, abiClassTableSizePlusOne, abiClassInstanceWordsPlusOne, abiClassFirstSlot, abiClassSlotCount, abiClassFirstField, abiClassFieldCount, abiSlotNameStart, abiSlotNameLength, abiSlotDescriptorStart, abiSlotDescriptorLength, abiSlotIndex, abiSlotDescriptor, abiFieldNameStart, abiFieldNameLength, abiFieldDescriptorStart, abiFieldDescriptorLength, abiFieldIndex, abiFieldDescriptor}
@@ -174,9 +175,9 @@ module _ (text : List ℕ) (typed : List ℕ → Bool) (Derived : List ℕ → T
       reads (nameAt text start len) .1 (v .derivation),
     )
 
--- the descriptors' tests are the grammar
-method-exact : (s : List ℕ) → (isMethodDescriptor s ≡ true) ↔ MethodDerivation s
-method-exact s = (meaning .method-sound s, meaning .method-complete s)
+-- the descriptors' tests are the Specification's
+method-exact : (flags : ℕ) (s : List ℕ) → (isMethod flags s ≡ true) ↔ ValidDescriptor flags s
+method-exact flags s = (meaning .valid-sound s flags, meaning .valid-complete s flags)
 
 field-exact : (s : List ℕ) → (isFieldDescriptor s ≡ true) ↔ FieldDerivation s
 field-exact s = (meaning .field-sound s, meaning .field-complete s)
@@ -184,11 +185,11 @@ field-exact s = (meaning .field-sound s, meaning .field-complete s)
 module _ (ws : List ℕ) where
   method-is : (m : ℕ) → methodRecord ws (textOf ws) m ≡ true → methodTyped ws (textOf ws) m ≡ true → ValidMethod ws m
   unfolding methodRecord methodTyped
-  method-is m h t = member-is _ _ _ _ _ method-exact flags-exact _ _ _ _ _ h t
+  method-is m h t = member-is _ _ _ _ _ (method-exact _) flags-exact _ _ _ _ _ h t
 
   method-ok : (m : ℕ) → ValidMethod ws m → (methodRecord ws (textOf ws) m ≡ true) × (methodTyped ws (textOf ws) m ≡ true)
   unfolding methodRecord methodTyped
-  method-ok m v = member-ok _ _ _ _ _ method-exact flags-exact _ _ _ _ _ v
+  method-ok m v = member-ok _ _ _ _ _ (method-exact _) flags-exact _ _ _ _ _ v
 
   field-is : (f : ℕ) → fieldRecord ws (textOf ws) f ≡ true → fieldTyped ws (textOf ws) f ≡ true → ValidField ws f
   unfolding fieldRecord fieldTyped
@@ -354,11 +355,11 @@ module _ (abi : List ℕ) where
 
   abi-slot-is : (s : ℕ) → abiSlotRecord abi (abiTextOf abi) s ≡ true → abiSlotTyped abi (abiTextOf abi) s ≡ true → ValidAbiSlot abi s
   unfolding abiSlotRecord abiSlotTyped
-  abi-slot-is s h t = member-is _ _ _ _ _ method-exact (le-exact 1023) _ _ _ _ _ h t
+  abi-slot-is s h t = member-is _ _ _ _ _ (method-exact 0) (le-exact 1023) _ _ _ _ _ h t
 
   abi-slot-ok : (s : ℕ) → ValidAbiSlot abi s → (abiSlotRecord abi (abiTextOf abi) s ≡ true) × (abiSlotTyped abi (abiTextOf abi) s ≡ true)
   unfolding abiSlotRecord abiSlotTyped
-  abi-slot-ok s v = member-ok _ _ _ _ _ method-exact (le-exact 1023) _ _ _ _ _ v
+  abi-slot-ok s v = member-ok _ _ _ _ _ (method-exact 0) (le-exact 1023) _ _ _ _ _ v
 
   abi-field-is : (f : ℕ) → abiFieldRecord abi (abiTextOf abi) f ≡ true → abiFieldTyped abi (abiTextOf abi) f ≡ true → ValidAbiField abi f
   unfolding abiFieldRecord abiFieldTyped

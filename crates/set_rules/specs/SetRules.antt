@@ -4,16 +4,18 @@ use Prim.Native.Nat.{ℕ}
 use mathlib.Core.Bool.{Bool, cond, not, _&&_}
 use mathlib.Core.List.{List}
 use Rattle.words.specs.Folds.{allOf}
-use Rattle.descriptor.specs.Machine.{isFieldDescriptor, isMethodDescriptor}
-use Rattle.class_sheet.specs.ClassSheet.{methodCount, fieldCount, methodDescriptor, fieldDescriptor, textOf}
+use Rattle.descriptor.specs.Machine.{isFieldDescriptor}
+use Rattle.descriptor.specs.Words.{isMethod}
+use Rattle.class_sheet.specs.ClassSheet.{methodCount, fieldCount, methodFlags, methodDescriptor, fieldDescriptor, textOf}
 use Rattle.abi_sheet.specs.AbiSheet.{abiSlotCount, abiFieldCount, abiSlotDescriptor, abiFieldDescriptor, abiTextOf}
 use Rattle.class_rules.specs.ClassRules.{classFits, classRecords}
 use Rattle.abi_rules.specs.AbiRules.{abiFits, abiRecords}
 
--- ---- row 5: "a descriptor breaks JVMS 4.3.2 (field) or 4.3.3 (method); only the grammar counts, class names by 4.2"
+-- ---- row 5: "a descriptor breaks JVMS 4.3.2 (field) or 4.3.3 (method); only the grammar counts, class names by 4.2"; "JVMS 4.3.3 allows
+-- at most 255 words, with one for the receiver of an instance method, and J and D as two. ABI slots count as instance methods"
 
 unfoldable pub methodTyped : List ℕ → List ℕ → ℕ → Bool
-methodTyped ws text m = isMethodDescriptor (methodDescriptor ws text m)
+methodTyped ws text m = isMethod (methodFlags ws m) (methodDescriptor ws text m)
 
 unfoldable pub fieldTyped : List ℕ → List ℕ → ℕ → Bool
 fieldTyped ws text f = isFieldDescriptor (fieldDescriptor ws text f)
@@ -23,7 +25,7 @@ unfoldable pub classDescriptors : List ℕ → List ℕ → Bool
 classDescriptors ws text = allOf (methodCount ws) (methodTyped ws text) && allOf (fieldCount ws) (fieldTyped ws text)
 
 unfoldable pub abiSlotTyped : List ℕ → List ℕ → ℕ → Bool
-abiSlotTyped abi text s = isMethodDescriptor (abiSlotDescriptor abi text s)
+abiSlotTyped abi text s = isMethod 0 (abiSlotDescriptor abi text s)
 
 unfoldable pub abiFieldTyped : List ℕ → List ℕ → ℕ → Bool
 abiFieldTyped abi text f = isFieldDescriptor (abiFieldDescriptor abi text f)

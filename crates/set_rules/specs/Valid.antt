@@ -5,7 +5,8 @@ use mathlib.Core.List.{List}
 use Prim.Native.Nat.{ℕ, _+_, _-_, _/_, _%_, _≤_, _<_}
 use lib.ListN.{length, getD}
 use Rattle.text.specs.Text.{nameAt}
-use Rattle.descriptor.specs.Grammar.{FieldDerivation, MethodDerivation}
+use Rattle.descriptor.specs.Grammar.{FieldDerivation}
+use Rattle.descriptor.specs.Words.{ValidDescriptor}
 use Rattle.class_sheet.specs.ClassSheet.{classLimit, methodLimit, fieldLimit, interfaceLimit, compilerLimit, textLimit, classCount, methodCount, fieldCount, interfaceCount, compilerCount, textLength, contentEnd, textOf, interfaceWord, classNameStart, classNameLength, classParent, classFlags, classKind, classFirstMethod, classMethodCount, classFirstField, classFieldCount, classFirstInterface, classInterfaceCount, classLinkState, classInstanceWords, classCompilerTable, classCompilerSlots, classTablePlace, classSlotCount, className, methodNameStart, methodNameLength, methodDescriptorStart, methodDescriptorLength, methodFlags, methodDescriptor, fieldNameStart, fieldNameLength, fieldDescriptorStart, fieldDescriptorLength, fieldFlags, fieldDescriptor}
 use Rattle.abi_sheet.specs.AbiSheet.{abiClassLimit, abiSlotLimit, abiFieldLimit, abiTextLimit, abiClassCount, abiSlotCount, abiFieldCount, abiTextLength, abiContentEnd, abiTextOf, abiClassNameStart, abiClassNameLength, abiClassTableSizePlusOne, abiClassInstanceWordsPlusOne, abiClassFirstSlot, abiClassSlotCount, abiClassFirstField, abiClassFieldCount, abiSlotNameStart, abiSlotNameLength, abiSlotDescriptorStart, abiSlotDescriptorLength, abiSlotIndex, abiSlotDescriptor, abiFieldNameStart, abiFieldNameLength, abiFieldDescriptorStart, abiFieldDescriptorLength, abiFieldIndex, abiFieldDescriptor}
 
@@ -17,7 +18,7 @@ pub record Part (text : List ℕ) (start len : ℕ) : Type 0 where
   pub printable : (i : ℕ) → i < len → (33 ≤ getD text (start + i) 0) × (getD text (start + i) 0 ≤ 126)
 
 -- a record with a name, a descriptor and a number: a method or a field of a class sheet, a slot or a field of an ABI sheet. `Derived` is
--- the grammar of its descriptor, `Within` the rule for its number.
+-- the rule for its descriptor, `Within` the rule for its number.
 pub record ValidMember (text : List ℕ) (Derived : List ℕ → Type 0) (Within : ℕ → Type 0) (nameStart nameLength start len n : ℕ) : Type 0 where
   pub name : Part text nameStart nameLength
   pub descriptor : Part text start len
@@ -49,8 +50,8 @@ MethodFlags f = (f < 8192) × (f / 512 % 2 ≡ 0)
 
 abbrev pub ValidMethod : List ℕ → ℕ → Type 0
 ValidMethod ws m =
-    ValidMember (textOf ws) MethodDerivation MethodFlags (methodNameStart ws m) (methodNameLength ws m) (methodDescriptorStart ws m)
-    (methodDescriptorLength ws m) (methodFlags ws m)
+    ValidMember (textOf ws) (ValidDescriptor (methodFlags ws m)) MethodFlags (methodNameStart ws m) (methodNameLength ws m)
+    (methodDescriptorStart ws m) (methodDescriptorLength ws m) (methodFlags ws m)
 
 abbrev pub ValidField : List ℕ → ℕ → Type 0
 ValidField ws f =
@@ -86,9 +87,10 @@ pub record ValidAbiClass (abi : List ℕ) (a : ℕ) : Type 0 where
   pub slots : abiClassFirstSlot abi a + abiClassSlotCount abi a ≤ abiSlotCount abi
   pub fields : abiClassFirstField abi a + abiClassFieldCount abi a ≤ abiFieldCount abi
 
+-- a slot counts as an instance method
 abbrev pub ValidAbiSlot : List ℕ → ℕ → Type 0
 ValidAbiSlot abi s =
-    ValidMember (abiTextOf abi) MethodDerivation (λ n. n ≤ 1023) (abiSlotNameStart abi s) (abiSlotNameLength abi s)
+    ValidMember (abiTextOf abi) (ValidDescriptor 0) (λ n. n ≤ 1023) (abiSlotNameStart abi s) (abiSlotNameLength abi s)
     (abiSlotDescriptorStart abi s) (abiSlotDescriptorLength abi s) (abiSlotIndex abi s)
 
 abbrev pub ValidAbiField : List ℕ → ℕ → Type 0

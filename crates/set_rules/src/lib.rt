@@ -8,17 +8,27 @@ ghost use Rattle.set_rules.specs.Known.{isDescriptor, isKnown, Known, re
 ghost use Rattle.set_rules.specs.SetRules.{classDescriptors, abiDescriptors, classRefusal, abiRefusal, setFits, recordsRefusal, setRefusal};
 
 // The most bytes that a text has, and so where its parts may start. Many records share a descriptor: `known`, a byte for each start, has one
-// more than the length of a part that starts there and was found to be a descriptor, so that it is read but once.
+// more than the length of a part that starts there and was found to be a descriptor for every record of the kind, so that it is read but
+// once.
 const STARTS: usize = class_sheet::TEXT_LIMIT as usize;
 
-// Whether the bytes are a descriptor: a method's, or else a field's.
-fn is_descriptor(method: bool, s: &[u8]) -> bool
-    ensures { λ r. ⌜ r ≡ isDescriptor method (now (s .entry)) ⌝ }
+// The kinds of records with descriptors: methods of a class sheet, slots of an ABI sheet, and fields of either.
+enum Members {
+    Methods,
+    Slots,
+    Fields,
+}
+
+// Whether the bytes are a descriptor for a record of the kind whose number, its fifth word, is n: of a method n is the flags, and a slot
+// counts as an instance method, whatever its index.
+fn is_descriptor(kind: Members, n: u32, s: &[u8]) -> bool
+    ensures { λ r. ⌜ r ≡ isDescriptor kind n (now (s .entry)) ⌝ }
 {
-    if method {
-        return descriptor::is_method_descriptor(s);
+    match kind {
+        Members::Methods => descriptor::is_method(s, n),
+        Members::Slots => descriptor::is_method(s, 0),
+        Members::Fields => descriptor::is_field_descriptor(s),
     }
-    descriptor::is_field_descriptor(s)
 }
 
 // Whether `known` has, at the part's start, one more than its length.
@@ -28,27 +38,29 @@ fn is_known(known: &[u8], start: u32, len: u32) -> bool
     words::byte_at(known, words::wide(start)) as usize == words::wide(len) + 1
 }
 
-// Whether the part of the text is a descriptor. It is read only where it is not known to be one; a descriptor of up to 254 bytes is
-// known from then on.
-fn part_typed(method: bool, text: &[u8], start: u32, len: u32, known: &mut [u8]) -> bool
-    requires { ⌜ Known method (now text) (now known) ⌝ }
-    ensures is { λ r. ⌜ r ≡ isDescriptor method (nameAt (now (text .entry)) start len) ⌝ }
-    ensures kept { λ _. ⌜ Known method (now (text .entry)) (now (known .exit)) ⌝ }
+// Whether the part of the text is a descriptor for a record whose number is n. It is read only where it is not known to be one; a
+// descriptor of up to 254 bytes that is good for an instance method, and so for any, is known from then on.
+fn part_typed(kind: Members, n: u32, text: &[u8], start: u32, len: u32, known: &mut [u8]) -> bool
+    requires { ⌜ Known kind (now text) (now known) ⌝ }
+    ensures is { λ r. ⌜ r ≡ isDescriptor kind n (nameAt (now (text .entry)) start len) ⌝ }
+    ensures kept { λ _. ⌜ Known kind (now (text .entry)) (now (known .exit)) ⌝ }
 {
     if is_known(known, start, len) {
         return true;
     }
-    let typed = is_descriptor(method, text::name_at(text, start, len));
-    if typed & (len < 255) {
+    if !is_descriptor(kind, 0, text::name_at(text, start, len)) {
+        return is_descriptor(kind, n, text::name_at(text, start, len));
+    }
+    if len < 255 {
         words::put_byte(known, words::wide(start), (len % 255 + 1) as u8);
     }
-    typed
+    true
 }
 
 // Whether each of n records from word `first` on has a descriptor. One that ends past the words has none: its length is 0.
-fn records_typed(method: bool, ws: &[u32], first: usize, width: usize, n: u32, text: &[u8]) -> bool
+fn records_typed(kind: Members, ws: &[u32], first: usize, width: usize, n: u32, text: &[u8]) -> bool
     requires { ⌜ (first < 2 ^ 38) × (width ≤ memberWidth) ⌝ }
-    ensures { λ r. ⌜ r ≡ allOf n (recordTyped method (now (ws .entry)) first width (now (text .entry))) ⌝ }
+    ensures { λ r. ⌜ r ≡ allOf n (recordTyped kind (now (ws .entry)) first width (now (text .entry))) ⌝ }
 {
     let mut known = [0u8; STARTS];
     let mut at = first;
@@ -59,7 +71,8 @@ fn records_typed(method: bool, ws: &[u32], first: usize, width: usize, n: u32, t
         }
         let start = ws[at + text::DESCRIPTOR_START];
         let len = ws[at + text::DESCRIPTOR_LENGTH];
-        if !part_typed(method, text, start, len, &mut known) {
+        let number = words::word_at(ws, at + text::NUMBER);
+        if !part_typed(kind, number, text, start, len, &mut known) {
             return false;
         }
         at += width;
@@ -74,10 +87,25 @@ fn class_descriptors_ok(ws: &[u32], text: &[u8]) -> bool
 {
     let methods = class_sheet::methods_at(ws);
     let count = class_sheet::method_count(ws);
-    let methods_ok = records_typed(true, ws, methods, class_sheet::MEMBER_WIDTH, count, text);
+    let methods_ok = records_typed(
+        Members::Methods,
+        ws,
+        methods,
+        class_sheet::MEMBER_WIDTH,
+        count,
+        text,
+    );
     let fields = class_sheet::fields_at(ws);
     let count = class_sheet::field_count(ws);
-    methods_ok & records_typed(false, ws, fields, class_sheet::MEMBER_WIDTH, count, text)
+    methods_ok
+        & records_typed(
+            Members::Fields,
+            ws,
+            fields,
+            class_sheet::MEMBER_WIDTH,
+            count,
+            text,
+        )
 }
 
 // Row 5 for an ABI sheet.
@@ -86,10 +114,25 @@ fn abi_descriptors_ok(abi: &[u32], text: &[u8]) -> bool
 {
     let slots = abi_sheet::slots_at(abi);
     let count = abi_sheet::slot_count(abi);
-    let slots_ok = records_typed(true, abi, slots, abi_sheet::MEMBER_WIDTH, count, text);
+    let slots_ok = records_typed(
+        Members::Slots,
+        abi,
+        slots,
+        abi_sheet::MEMBER_WIDTH,
+        count,
+        text,
+    );
     let fields = abi_sheet::fields_at(abi);
     let count = abi_sheet::field_count(abi);
-    slots_ok & records_typed(false, abi, fields, abi_sheet::MEMBER_WIDTH, count, text)
+    slots_ok
+        & records_typed(
+            Members::Fields,
+            abi,
+            fields,
+            abi_sheet::MEMBER_WIDTH,
+            count,
+            text,
+        )
 }
 
 // Rows 4 and 5 for a class sheet: the number that refuses, or 0.

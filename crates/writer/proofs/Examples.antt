@@ -10,6 +10,7 @@ use Rattle.block.specs.Block.{blocksFor, checkWord, packedWord, blockByte, shee
 use Rattle.text.specs.Text.{textByte, textOfWords, zeroAt, zeroRest, nameAt, printable, partOk}
 use Rattle.descriptor.specs.Bytes.{isBaseByte}
 use Rattle.descriptor.specs.Machine.{fieldNext, methodNext, isMethodDescriptor}
+use Rattle.descriptor.specs.Words.{isMethod}
 use Rattle.class_sheet.specs.ClassSheet.{countAt, methodsAt, fieldsAt, interfacesAt, compilersAt, textAt, contentEnd, classWord, methodWord}
 use Rattle.class_rules.specs.ClassRules.{classLimits, classFits, unlinked, staticsClean, fresh, compilerOk, classNumbers}
 use Rattle.class_rules.specs.ClassRules.{classLists, classRecord, methodFlagsOk, methodRecord, classRecords}
@@ -65,7 +66,7 @@ pub record Rows : Type 0 where
 pub rows : Rows
 unfolding writeRefusal linkRows storable writeClassSheet classFits classLimits unlinked staticsClean fresh compilerOk classNumbers classLists
     classRecord classRecords classRefusal classDescriptors apartBefore countAt methodsAt fieldsAt interfacesAt compilersAt textAt contentEnd classWord methodWord
-    methodFlagsOk methodRecord methodTyped isMethodDescriptor methodNext fieldNext isBaseByte fold some
+    methodFlagsOk methodRecord methodTyped isMethod isMethodDescriptor methodNext fieldNext isBaseByte fold some
     textByte textOfWords zeroAt zeroRest nameAt printable partOk byteOf inside sumOf allOf table
     blocksFor checkWord packedWord blockByte sheetBytes
 rows =

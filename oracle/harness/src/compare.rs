@@ -43,12 +43,16 @@ pub fn compare(
     let mut before = State { set: case.set.clone(), area: case.area.clone() };
     let mut expected = before.clone();
     let mut found = before.clone();
+    let mut descriptors_held = false;
     for (number, &call) in case.calls.iter().enumerate() {
         let oracle_answer = perform(oracle, case, call, &mut expected);
         let other_answer = perform(other, case, call, &mut found);
-        if let Some(difference) = difference(&before, oracle_answer, &expected, other_answer, &found) {
+        let difference = difference(&before, oracle_answer, &expected, other_answer, &found)
+            .or_else(|| (descriptors_held && oracle_answer.refusal == 5).then(|| "row 5 refuses what a link left".to_owned()));
+        if let Some(difference) = difference {
             return Err(Box::new(Disagreement { call: number, oracle: oracle_answer, other: other_answer, difference }));
         }
+        descriptors_held |= oracle_answer.refusal == 0 || oracle_answer.refusal > 5;
         observe(&Step { case, call, before: &before, answer: oracle_answer, after: &expected });
         if oracle_answer.refusal == 0 {
             before.set.clone_from(&expected.set);

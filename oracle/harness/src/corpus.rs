@@ -25,6 +25,8 @@ const LOOKED_AT: u64 = 60_000;
 /// How many readings and descriptors are stored.
 const READINGS: u64 = 120;
 const DESCRIPTORS: u64 = 400;
+/// The bytes of a stored reading, at most: a block more than any sheet has.
+const READING_BYTES: usize = 93 * 512;
 /// The words of a small case, at most.
 const SMALL: usize = 1_000;
 
@@ -104,10 +106,11 @@ fn build(
         write_case(&mut writer, oracle, case, &mut counts, *spoil);
     }
     let mut random = Random::new(seed);
-    for number in 0..readings {
-        let reading = readings::reading(&mut random, &generate::case(seed, number));
-        longest.reading(&reading);
-        write_reading(&mut writer, oracle, &reading, spoil && number + 1 == readings);
+    let drawn = (0..).map(|number| readings::reading(&mut random, &generate::case(seed, number)));
+    let stored: Vec<_> = drawn.filter(|reading| reading.bytes.len() <= READING_BYTES).take(readings as usize).collect();
+    for (number, reading) in (1..).zip(&stored) {
+        longest.reading(reading);
+        write_reading(&mut writer, oracle, reading, spoil && number == readings);
     }
     for number in 0..descriptors {
         write_descriptor(&mut writer, oracle, &mut random, spoil && number + 1 == descriptors);

@@ -12,6 +12,7 @@ use crate::case::Case;
 use crate::random::Random;
 
 pub use draft::{AbiClassDraft, AbiMemberDraft, ClassDraft, Draft, MemberDraft, Shape};
+pub use members::of_words;
 pub use spoil::spoil_names;
 
 /// Case `number` of the run with `seed`.

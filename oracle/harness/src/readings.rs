@@ -41,6 +41,9 @@ const BUCKETS: &[&str] = &[
     "damage: none",
     "argument words given",
     "argument words refused by row 5",
+    "argument words: 254 given",
+    "argument words: 255 given",
+    "argument words: 256 refused",
     "class sheet read loosely",
     "class sheet read loosely alone",
     "class sheet refused loosely by row 1",
@@ -163,6 +166,14 @@ pub fn compare(
     let (descriptor, flags) = descriptor(random);
     let (oracle_answer, other_answer) = (oracle.argument_words(&descriptor, flags), other.argument_words(&descriptor, flags));
     counts.hit(if oracle_answer == Answer::refused(5) { "argument words refused by row 5" } else { "argument words given" });
+    match (oracle_answer.refusal, oracle_answer.first) {
+        (0, 254) => counts.hit("argument words: 254 given"),
+        (0, 255) => counts.hit("argument words: 255 given"),
+        (5, _) if flags & 0x0008 == 0 && oracle.argument_words(&descriptor, 8) == Answer::accepted(255, 0) => {
+            counts.hit("argument words: 256 refused")
+        }
+        _ => {}
+    }
     if oracle_answer != other_answer {
         let text = descriptor.escape_ascii();
         return Err(format!("argument words of {text:?} with flags {flags:#x}: oracle {oracle_answer:?}, other {other_answer:?}"));
@@ -326,9 +337,15 @@ fn descriptor_bytes(random: &mut Random) -> Vec<u8> {
         return (0..length).map(|_| random.pick(b"()VIJL;/[.aD\xFF")).collect();
     }
     let mut descriptor = b"(".to_vec();
-    let most = if random.chance(3) { 260 } else { 6 };
-    for _ in 0..random.below(most) {
-        descriptor.extend_from_slice(random.pick(&TYPES).as_bytes());
+    match random.below(100) {
+        // at the limit of argument words
+        0..5 => {
+            let words = random.between(252, 257) as usize;
+            let longs = random.below(words as u32 / 2 + 1) as usize;
+            descriptor.extend([vec![random.pick(b"JD"); longs], vec![random.pick(b"IZ"); words - 2 * longs]].concat());
+        }
+        5..8 => (0..random.below(260)).for_each(|_| descriptor.extend_from_slice(random.pick(&TYPES).as_bytes())),
+        _ => (0..random.below(6)).for_each(|_| descriptor.extend_from_slice(random.pick(&TYPES).as_bytes())),
     }
     descriptor.push(b')');
     let result = if random.chance(50) { "V" } else { random.pick(&TYPES) };

@@ -3,6 +3,7 @@
 //! model (tests/telling.rs) and, as a stored corpus, on the proved linker (crates/corpus).
 
 mod areas;
+mod arguments;
 mod asks;
 pub mod assemble;
 mod compiled;
@@ -35,6 +36,7 @@ pub fn rows() -> Vec<Row> {
         growth::rows(),
         asks::rows(),
         lists::rows(),
+        arguments::rows(),
     ]
     .concat()
 }

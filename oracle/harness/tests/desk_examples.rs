@@ -44,6 +44,9 @@ fn argument_words_by_descriptor() {
     assert_eq!(argument_words(b"(IJ)V", 0), Ok(4));
     assert_eq!(argument_words(b"(IJ)V", 8), Ok(3));
     assert_eq!(argument_words(b"(V)V", 0), Err(5));
+    let longs = format!("({}I)V", "J".repeat(127));
+    assert_eq!(argument_words(longs.as_bytes(), 8), Ok(255));
+    assert_eq!(argument_words(longs.as_bytes(), 0), Err(5));
 }
 
 #[test]

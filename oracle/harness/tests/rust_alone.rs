@@ -52,7 +52,12 @@ impl Bench {
             fields: fields.iter().map(field).collect(),
             access_flags: ClassAccessFlags::PUBLIC,
         };
-        self.core.set_stubs(methods.iter().map(|&(_, target)| target), &[]);
+        self.register(proto, methods.iter().map(|&(_, target)| target))
+    }
+
+    /// The class of a proto, its methods with these targets.
+    fn register(&mut self, proto: JavaClassProto<()>, targets: impl Iterator<Item = u32>) -> Result<JavaClassDefinition, WieError> {
+        self.core.set_stubs(targets, &[]);
         let (core, jvm) = (&mut self.core.clone(), &self.jvm);
         let class = JAVA_ABI::with(&self.abi, || run(JavaClassDefinition::new(core, jvm, proto, Box::new(()), JavaSvcFunctions)))?;
         self.jvm.register(class.clone());
@@ -146,6 +151,26 @@ fn it_has_no_limit_on_slots() {
     let mut bench = Bench::new(vec![JavaClassAbi { vtable_size: Some(1024), ..abi("C", &[]) }]);
     let class = bench.build("C", None, &[("a", 5)], &[]).unwrap();
     assert_eq!(class.descriptor().unwrap().vtable_count, 1025);
+}
+
+#[test]
+fn it_has_no_limit_on_argument_words() {
+    let longs = JavaMethodProto {
+        name: "k".to_owned(),
+        descriptor: format!("({})V", "J".repeat(128)),
+        access_flags: MethodAccessFlags::from_bits_truncate(8),
+        body: NoBody::default(),
+    };
+    let proto = JavaClassProto {
+        name: "C",
+        parent_class: None,
+        interfaces: Vec::new(),
+        methods: vec![longs],
+        fields: Vec::new(),
+        access_flags: ClassAccessFlags::PUBLIC,
+    };
+    let class = Bench::new(Vec::new()).register(proto, std::iter::once(5)).unwrap();
+    assert_eq!(class.descriptor().unwrap().vtable_count, 0);
 }
 
 #[test]

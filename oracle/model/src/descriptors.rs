@@ -5,18 +5,19 @@ pub fn is_field_descriptor(bytes: &[u8]) -> bool {
     field_type(bytes) == Some(bytes.len())
 }
 
-/// MethodDescriptor: `(` {ParameterDescriptor} `)` ReturnDescriptor, whole.
-pub fn is_method_descriptor(bytes: &[u8]) -> bool {
-    parameter_words(bytes).is_some()
+/// A method's descriptor by 4.3.3, limit and all.
+pub fn is_method_descriptor(bytes: &[u8], flags: u32) -> bool {
+    argument_words(bytes, flags).is_ok()
 }
 
-/// `(IJ)V` instance: 4 argument words; static: 3. `(V)V`: 5.
+/// `(IJ)V` instance: 4 argument words; static: 3. `(V)V`: 5. "at most 255 words, with one for the receiver of an instance method"
 pub fn argument_words(descriptor: &[u8], flags: u32) -> Result<u32, u32> {
     let receiver = u32::from(flags & 0x0008 == 0);
-    parameter_words(descriptor).map(|words| receiver + words).ok_or(5)
+    parameter_words(descriptor).map(|words| receiver + words).filter(|&words| words <= 255).ok_or(5)
 }
 
-/// The words of a method descriptor's parameters, J and D two each, or nothing if it is none.
+/// MethodDescriptor: `(` {ParameterDescriptor} `)` ReturnDescriptor, whole: the words of its parameters, J and D two each, or nothing if
+/// it is none.
 fn parameter_words(bytes: &[u8]) -> Option<u32> {
     let mut rest = bytes.strip_prefix(b"(")?;
     let mut words = 0;

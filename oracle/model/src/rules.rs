@@ -72,16 +72,16 @@ pub fn abi_records_keep_the_rules(sheet: &AbiSheet) -> bool {
         && (0..fields).all(|field| keeps(sheet.field_at(field), 4095))
 }
 
-/// Row 5 of a class sheet: "a descriptor breaks JVMS 4.3.2 (field) or 4.3.3 (method)".
+/// Row 5 of a class sheet: "a descriptor breaks JVMS 4.3.2 (field) or 4.3.3 (method)". Each method goes by its own flags.
 pub fn class_descriptors_hold(sheet: &ClassSheet) -> bool {
-    sheet.methods().all(|method| is_method_descriptor(sheet.part(method.descriptor_start, method.descriptor_length)))
+    sheet.methods().all(|method| is_method_descriptor(sheet.part(method.descriptor_start, method.descriptor_length), method.flags))
         && sheet.fields().all(|field| is_field_descriptor(sheet.part(field.descriptor_start, field.descriptor_length)))
 }
 
-/// Row 5 of an ABI sheet.
+/// Row 5 of an ABI sheet: "ABI slots count as instance methods".
 pub fn abi_descriptors_hold(sheet: &AbiSheet) -> bool {
     let descriptor = |at: usize| sheet.part(sheet.words[at + 2], sheet.words[at + 3]);
-    (0..sheet.words[1]).all(|slot| is_method_descriptor(descriptor(sheet.slot_at(slot))))
+    (0..sheet.words[1]).all(|slot| is_method_descriptor(descriptor(sheet.slot_at(slot)), 0))
         && (0..sheet.words[2]).all(|field| is_field_descriptor(descriptor(sheet.field_at(field))))
 }
 

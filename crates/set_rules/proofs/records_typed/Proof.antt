@@ -16,12 +16,12 @@ use Rattle.set_rules.proofs.records_typed.Statement.{statement}
 use Rattle.set_rules.proofs.records_typed.Tie as tie
 
 abbrev Inv-loop : tie.InvT-loop
-Inv-loop method ws first width n text known₀ at₀ i₀ known at i =
-    (i ≤ n) × (allOf i (recordTyped method ws first width text) ≡ true) × Known method text known × (length known ≡ textLimit)
+Inv-loop kind ws first width n text known₀ at₀ i₀ known at i =
+    (i ≤ n) × (allOf i (recordTyped kind ws first width text) ≡ true) × Known kind text known × (length known ≡ textLimit)
     × (at ≡ first + width * i) × (at ≤ first + memberWidth * i)
 
 abbrev μ-loop : tie.MeasureT-loop
-μ-loop method ws first width n text known₀ at₀ i₀ known at i = n - i
+μ-loop kind ws first width n text known₀ at₀ i₀ known at i = n - i
 
 loop-holds : tie.Need-loop-holds Inv-loop μ-loop
 loop-holds c = (omega arith, all-none _, known-none textLimit _ _, omega arith, omega arith, omega arith)
@@ -64,6 +64,8 @@ records-typed-spec =
     (λ c. search needs)
     (λ c. search needs)
     (λ c. search needs)
+    (λ c. search needs)
+    (λ c κs. search needs)
     (λ c. search needs)
     part-typed-requires
     returns-2

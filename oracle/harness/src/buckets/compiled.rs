@@ -1,5 +1,6 @@
 //! The buckets that a compiler table reaches.
 
+use crate::model::argument_words;
 use crate::model::parts::{AbiClass, Entry, Method, eligible, fixed_index, native_view, reading};
 
 use super::links::abi_classes;
@@ -63,6 +64,12 @@ pub fn compiler_table(view: &View, class: u32, compiled: &[u32], hits: &mut Hits
                 hits.push(Bucket::Added);
                 hit(hits, Bucket::AddedTwice, added.iter().any(|method| method.has_signature(named.0, named.1)));
                 hit(hits, Bucket::AddedToEmpty, declared.is_empty());
+                let (bucket, flags) = match of_view {
+                    None => (Bucket::AddedSlot255, 1),
+                    Some(method) if method.flags & 0x0008 != 0 => (Bucket::AddedStatic255, method.flags),
+                    Some(method) => (Bucket::AddedWords255, method.flags),
+                };
+                hit(hits, bucket, argument_words(named.1, flags) == Ok(255));
                 added.push(Method { name: named.0, descriptor: named.1, flags: 1, target, owner: class });
             }
         }

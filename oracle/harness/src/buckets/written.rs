@@ -1,5 +1,6 @@
 //! The buckets that the end of a link reaches: what is written, and rows 14 and 15.
 
+use crate::model::argument_words;
 use crate::model::parts::{built_fields, eligible};
 use crate::sheet::{class_word, class_word_at};
 
@@ -32,6 +33,7 @@ pub fn accepted(view: &View, class: u32, hits: &mut Hits) {
     hit(hits, Bucket::Methods512, sheet.method_count() == 512);
     hit(hits, Bucket::Fields512, sheet.field_count() == 512);
     hit(hits, Bucket::Text8192, sheet.text.len() == 8192);
+    argument_limit(view, hits);
     let start = view.step.case.area.first().copied();
     hit(hits, Bucket::AcceptedByHand, start != Some(1) && (1..=sheet.class_count()).any(|class| sheet.is_linked(class)));
 
@@ -118,4 +120,16 @@ pub fn row_15(view: &View, class: u32, hits: &mut Hits) {
     hit(hits, Bucket::Row15StubsUnneeded, view.stubs.len() < slots && !needed);
     hit(hits, Bucket::Row15Area, free < slots + 2);
     hit(hits, Bucket::Row15Set, view.stubs.len() >= slots && free >= slots + 2);
+}
+
+/// Methods and ABI slots at the limit of argument words.
+fn argument_limit(view: &View, hits: &mut Hits) {
+    let words = |part: &[u8], flags| argument_words(part, flags).ok();
+    for method in view.sheet.methods() {
+        let words = words(view.sheet.part(method.descriptor_start, method.descriptor_length), method.flags);
+        hit(hits, Bucket::Words254, words == Some(254));
+        hit(hits, if method.flags & 0x0008 == 0 { Bucket::Words255 } else { Bucket::Static255 }, words == Some(255));
+    }
+    let mut slots = view.abi.classes().flat_map(|class| view.abi.slots_of(class));
+    hit(hits, Bucket::Slot255, slots.any(|slot| words(slot.descriptor, 0) == Some(255)));
 }

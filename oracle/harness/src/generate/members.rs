@@ -49,6 +49,11 @@ const METHOD_DESCRIPTORS: [&str; 6] = ["()V", "(I)V", "(IJ)V", "([[DLp/A;)[Lp/B;
 const FIELD_NAMES: [&str; 6] = ["x", "x[", "z", "count", "w", "serialNumber"];
 const FIELD_DESCRIPTORS: [&str; 8] = ["I", "J", "D", "[I", "[J", "Ljava/lang/String;", "LD;", "S"];
 
+/// A method descriptor of so many parameter words, in as few bytes as there are.
+pub fn of_words(words: u32) -> String {
+    format!("({}{})V", "J".repeat(words as usize / 2), "I".repeat(words as usize % 2))
+}
+
 /// The first word of an ordinary stub list.
 pub const FIRST_STUB: u32 = 0xF000_0000;
 

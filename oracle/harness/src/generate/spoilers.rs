@@ -3,6 +3,7 @@
 use crate::random::Random;
 use crate::sheet::{Abi, MemberRecord, Set, class_word};
 
+use super::members::of_words;
 use super::spoil::Spoiler::{self, Abi as OfAbi, AbiWords, Set as OfSet, SetWords};
 
 /// Every spoiler with its name, which begins with the row that it leads to.
@@ -276,6 +277,55 @@ pub const SPOILERS: &[(&str, Spoiler)] = &[
             on_abi_field(random, abi, |_, abi, at| abi.fields[at].descriptor = append(&mut abi.text, descriptor))
         }),
     ),
+    (
+        "5 method of 256 argument words and more",
+        OfSet(|random, set| {
+            let more = random.pick(&[0, 0, 0, 1, 248]);
+            on_member(random, set, true, |_, text, member| {
+                member.descriptor = append(text, &of_words(parameters(255, member.flags) + 1 + more))
+            })
+        }),
+    ),
+    (
+        "5 a descriptor shared by a static and an instance method",
+        OfSet(|random, set| {
+            set.methods.len() >= 2 && {
+                let first = random.below(set.methods.len() as u32) as usize;
+                let second = (first + random.between(1, set.methods.len() as u32 - 1) as usize) % set.methods.len();
+                let shared = append(&mut set.text, &of_words(255));
+                (set.methods[first].descriptor, set.methods[second].descriptor) = (shared, shared);
+                set.methods[first].flags |= 0x0008;
+                set.methods[second].flags &= !0x0008;
+                true
+            }
+        }),
+    ),
+    (
+        "5 ABI slot of 256 argument words and more",
+        OfAbi(|random, abi| {
+            let (words, index) = (random.pick(&[255, 255, 256, 504]), random.pick(&[0, 8, 9]));
+            on_abi_slot(random, abi, |_, abi, at| {
+                abi.slots[at].descriptor = append(&mut abi.text, &of_words(words));
+                abi.slots[at].index = index;
+            })
+        }),
+    ),
+    (
+        "kept: 254 argument words",
+        OfSet(|random, set| {
+            on_member(random, set, true, |_, text, member| member.descriptor = append(text, &of_words(parameters(254, member.flags))))
+        }),
+    ),
+    (
+        "kept: 255 argument words",
+        OfSet(|random, set| {
+            on_member(random, set, true, |_, text, member| member.descriptor = append(text, &of_words(parameters(255, member.flags))))
+        }),
+    ),
+    (
+        "kept: ABI slot of 255 argument words",
+        OfAbi(|random, abi| on_abi_slot(random, abi, |_, abi, at| abi.slots[at].descriptor = append(&mut abi.text, &of_words(254)))),
+    ),
     ("kept: class flags at the limit", OfSet(|random, set| set_class_word(random, set, class_word::FLAGS, 0xFFFF))),
     ("kept: link state at the limit", OfSet(|random, set| set_class_word(random, set, class_word::LINK_STATE, 0xFFFF))),
     ("kept: instance words at the limit", OfSet(|random, set| set_class_word(random, set, class_word::INSTANCE_WORDS, 0xFFFF))),
@@ -450,6 +500,11 @@ fn push_interface(set: &mut Set, number: u32) -> bool {
 fn append(text: &mut Vec<u8>, part: &str) -> (u32, u32) {
     text.extend_from_slice(part.as_bytes());
     ((text.len() - part.len()) as u32, part.len() as u32)
+}
+
+/// The parameter words of a method with so many argument words: its receiver takes one, unless it is static.
+fn parameters(words: u32, flags: u32) -> u32 {
+    if flags & 0x0008 == 0 { words - 1 } else { words }
 }
 
 fn on_abi_class(random: &mut Random, abi: &mut Abi, change: impl Fn(&mut Random, &mut Abi, usize)) -> bool {

@@ -4,7 +4,7 @@ use crate::case::{Call, Case};
 use crate::random::Random;
 
 use super::draft::{AbiClassDraft, AbiMemberDraft, ClassDraft, Draft, MemberDraft, Shape};
-use super::members::{Knobs, Members};
+use super::members::{Knobs, Members, of_words};
 use super::memory;
 
 const SMALL: Knobs = Knobs {
@@ -38,7 +38,8 @@ const SMALL: Knobs = Knobs {
 /// A case of a theme drawn at random.
 pub fn case(random: &mut Random) -> Case {
     match random.below(1000) {
-        0..400 => plain(random, SMALL, 400),
+        0..390 => plain(random, SMALL, 400),
+        390..400 => long_arguments(random),
         400..510 => plain(random, Knobs { abi: 80, abi_slots: 5, abi_fields: 3, parents: 90, chains: 85, generated: 10, ..SMALL }, 400),
         510..620 => plain(random, Knobs { generated: 70, compiler_tables: 85, compiler_slots: 9, abi: 50, parents: 90, ..SMALL }, 400),
         620..670 => {
@@ -446,6 +447,39 @@ fn wide_classes(random: &mut Random) -> Case {
     }
     draft.shape = Shape { shares_text: true, slack: 400, ..Shape::default() };
     finish(random, draft, 6000, 1024, 4)
+}
+
+/// Methods, ABI slots and compiler tables that add methods, at the limit of argument words: 253 and 254 parameter words, of a static method
+/// 255. Half the time a compiler slot makes a method known, and a child's table adds one of its signature and one by an ABI slot.
+fn long_arguments(random: &mut Random) -> Case {
+    let mut draft = draft(random, Knobs { generated: 60, compiler_tables: 85, abi: 60, parents: 90, faults: 0, ..SMALL });
+    let words = random.between(253, 254);
+    for method in draft.classes.iter_mut().flat_map(|class| &mut class.methods).filter(|method| method.descriptor == "(I)V") {
+        method.flags |= if random.chance(30) { 0x0008 } else { 0 };
+        method.descriptor = of_words(if method.flags & 0x0008 != 0 && random.chance(70) { 255 } else { words });
+    }
+    for slot in draft.abi.iter_mut().flat_map(|class| &mut class.slots).filter(|slot| slot.descriptor == "(I)V") {
+        slot.descriptor = of_words(words);
+    }
+    if random.chance(50) {
+        let parent = draft.classes.len() as u32 + 1;
+        let flags = random.pick(&[9, 0x0409, 1, 0x0401]);
+        let method = MemberDraft { name: "long".to_owned(), descriptor: of_words(254 + flags / 8 % 2), flags, last: 5 };
+        let class = |name: &str, parent, methods, table| ClassDraft {
+            name: name.to_owned(),
+            parent,
+            kind: 1,
+            link_state: 3,
+            methods,
+            compiler: Some(table),
+            ..ClassDraft::default()
+        };
+        draft.classes.extend([class("LongParent", 0, vec![method], vec![5]), class("LongChild", parent, Vec::new(), vec![8, 9])]);
+        let slots = vec![AbiMemberDraft { name: "longer".to_owned(), descriptor: of_words(254), index: 1 }];
+        draft.abi.push(AbiClassDraft { name: "LongChild".to_owned(), slots, ..AbiClassDraft::default() });
+    }
+    draft.shape = Shape { slack: 600, ..shape(random) };
+    finish(random, draft, 400, 64, 8)
 }
 
 /// Compiler tables and ABI entries that add members by the hundred.

@@ -6,12 +6,15 @@ pub fn is_field(descriptor: &[u8]) -> bool {
     take_type(&mut bytes).is_some() && bytes.next().is_none()
 }
 
-/// Whether the bytes are one method descriptor.
-pub fn is_method(descriptor: &[u8]) -> bool {
-    argument_words(descriptor, 0).is_some()
+/// The most argument words of a method, its receiver's among them (4.3.3).
+const MOST_WORDS: u32 = 255;
+
+/// Whether the bytes are the descriptor of a method with these flags.
+pub fn is_method(descriptor: &[u8], flags: u32) -> bool {
+    argument_words(descriptor, flags).is_some()
 }
 
-/// The argument words of a method, or nothing if the bytes are no method descriptor.
+/// The argument words of a method, or nothing if the bytes are no descriptor of it.
 pub fn argument_words(descriptor: &[u8], flags: u32) -> Option<u32> {
     let mut bytes = descriptor.iter();
     let mut words = if flags & 0x0008 == 0 { 1 } else { 0 };
@@ -20,6 +23,9 @@ pub fn argument_words(descriptor: &[u8], flags: u32) -> Option<u32> {
     }
     while bytes.as_slice().first()? != &b')' {
         words += take_type(&mut bytes)?;
+        if words > MOST_WORDS {
+            return None;
+        }
     }
     bytes.next();
     match bytes.as_slice() {

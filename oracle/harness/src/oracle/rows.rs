@@ -206,12 +206,12 @@ fn abi_follows_row_4(abi: &Abi) -> bool {
 }
 
 fn set_follows_row_5(set: &Set) -> bool {
-    set.methods.iter().all(|method| descriptors::is_method(set.part(method.descriptor).as_bytes()))
+    set.methods.iter().all(|method| descriptors::is_method(set.part(method.descriptor).as_bytes(), method.flags))
         && set.fields.iter().all(|field| descriptors::is_field(set.part(field.descriptor).as_bytes()))
 }
 
 fn abi_follows_row_5(abi: &Abi) -> bool {
-    abi.slots.iter().all(|slot| descriptors::is_method(abi.part(slot.descriptor).as_bytes()))
+    abi.slots.iter().all(|slot| descriptors::is_method(abi.part(slot.descriptor).as_bytes(), 0))
         && abi.fields.iter().all(|field| descriptors::is_field(abi.part(field.descriptor).as_bytes()))
 }
 
