@@ -2,9 +2,9 @@
  * The LGT class linker, proved in Rattle (crates/lgt_linker). Link with liblgt_linker.a: `rt staticlib lgt_linker` makes it in
  * target/staticlib, `make install PREFIX=..` installs it with this header and a pkg-config file.
  *
- * What it needs. x86-64 Linux; memcpy and memset, and nothing else: no allocation, no system call. Of the stack at most 142,344
+ * What it needs. x86-64 Linux; memcpy and memset, and nothing else: no allocation, no system call. Of the stack at most 157,224
  * bytes were measured (docs/PERFORMANCE.md): give a thread that calls it LGT_STACK_BYTES. A thread of musl's default size,
- * 128 KiB, is too small for a link. Frames are probed page by page, so a stack that is too short ends in its guard page
+ * 128 KiB, is too small for a link or a conversion back. Frames are probed page by page, so a stack that is too short ends in its guard page
  * and not in other memory.
  *
  * What every function answers. The returned number is 0 (LGT_ACCEPTED) if the call is accepted, else that of its refusal
@@ -79,6 +79,9 @@
 #define LGT_REFUSED_SHEET_ROOM 18u
 /* a class that is its own ancestor; it is judged between 4 and 15 */
 #define LGT_REFUSED_RING 19u
+/* a class sheet that the old form cannot hold: static words of a generated class other than its static field widths; it is judged
+   between 5 and 18 */
+#define LGT_REFUSED_LOST_STATICS 23u
 /* fewer bytes of a reference bitmap than its instance words take */
 #define LGT_REFUSED_BITMAP_BYTES 24u
 /* a list lent for reference words that is shorter than their count */
@@ -170,7 +173,8 @@
  *                                                     0 in a sheet; a generated class brings any
  *
  * Sheets of 17-word records, made before there were static words, are another form, and cannot be told from these: no byte marks the
- * form. Mostly they are refused here by 3 or 4, but some are accepted and say something else. Keep the two apart.
+ * form. Mostly a reading refuses them by 3 or 4, but some are accepted and say something else. Keep the two apart;
+ * lgt_widen_class_sheet makes an old sheet one of these.
  */
 #define LGT_CLASS_NAME_START 0
 #define LGT_CLASS_NAME_LENGTH 1
@@ -321,11 +325,16 @@ static inline const char *lgt_refusal_text(uint32_t refusal)
         return "Store the set as it was before its first link, with every table place and slot count 0, and the static "
                "words of every built or array class, and with zeros in the bytes that follow the text in its last word.";
     case LGT_REFUSED_SHEET_ROOM:
-        return "Lend 512 bytes for each block that the sheet takes, 127 words of content a block: 47,104 bytes are "
-               "enough for every set.";
+        return "Lend 512 bytes for each block of the sheet that is written, 127 words of content a block: 47,104 "
+               "bytes are enough for every sheet. One of 17-word class records can take a block more with 18 words "
+               "a record.";
     case LGT_REFUSED_RING:
         return "A class is its own ancestor: mend the parent numbers of the classes in the ring, which `tools/sheet "
                "order` names, so that each chain of parents ends at a class without one.";
+    case LGT_REFUSED_LOST_STATICS:
+        return "The old form cannot hold this class's static words: a generated class of a sheet with 17-word class "
+               "records has the sum of its static field widths, J and D two words and others one. Give it that sum, "
+               "or keep the sheet in the new form.";
     case LGT_REFUSED_BITMAP_BYTES:
         return "Lend the whole bitmap, a byte for each 8 instance words.";
     case LGT_REFUSED_REFERENCE_LIST:
@@ -362,6 +371,32 @@ uint32_t lgt_read_abi_sheet(const uint8_t *bytes, size_t bytes_len, uint32_t *wo
  */
 LGT_MUST_USE
 uint32_t lgt_write_class_sheet(const uint32_t *set, size_t set_len, uint8_t *bytes, size_t bytes_len, uint32_t answer[1]);
+
+/*
+ * Makes a class sheet of the old form, with 17-word class records, one of the new form, with 18: the blocks that lgt_read_class_sheet
+ * reads and lgt_write_class_sheet writes. A generated class gets the sum of its static field widths (J and D two, others one) as its
+ * static words, every other class 0, as a link counts them. `bytes` is only read.
+ * The form of a sheet cannot be seen from its bytes: the caller says by the function that it calls which form `bytes` has. A sheet
+ * converted twice can be accepted and say something else, so keep the old file and write to another.
+ * Answers: answer[0], the number of blocks, as few as hold the content: as many as `bytes` has or one more.
+ * Leaves: all LGT_BLOCK_BYTES bytes of each of those blocks written, from the front of `out`, every byte after them as it was.
+ * lgt_narrow_class_sheet of just those blocks gives the bytes of the old sheet back.
+ * Refuses by 1 to 5, as a reading of the old form does, and 18. LGT_CLASS_BYTES bytes are never refused by 18. No words are lent, so
+ * 1 is of the bytes alone. An old sheet whose classes come in any order, a child before its parent, is refused by 4: there is no
+ * loose conversion.
+ */
+LGT_MUST_USE
+uint32_t lgt_widen_class_sheet(const uint8_t *bytes, size_t bytes_len, uint8_t *out, size_t out_len, uint32_t answer[1]);
+
+/*
+ * Makes a class sheet of the new form one of the old, for a terminal that reads no other; the static words are dropped.
+ * Answers and leaves as lgt_widen_class_sheet, which gives the bytes of the new sheet back: the blocks are as many as `bytes` has or
+ * one fewer.
+ * Refuses by 1 to 5, as lgt_read_class_sheet does, by 23 where a generated class has other static words than it would get on the way
+ * forward, and by 18. LGT_CLASS_BYTES bytes are never refused by 18.
+ */
+LGT_MUST_USE
+uint32_t lgt_narrow_class_sheet(const uint8_t *bytes, size_t bytes_len, uint8_t *out, size_t out_len, uint32_t answer[1]);
 
 /*
  * Reads a class sheet whose classes come in any order, a child before its parent, as lgt_read_class_sheet does, but judges

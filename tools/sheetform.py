@@ -494,6 +494,11 @@ def unshown(line, word):
     return bytes(int(p[2:], 16) if len(p) > 1 else ord(p) for p in pieces)
 
 
+def render_old(sheet):
+    """A sheet of 17-word class records, for the eye: the text that makes its widened sheet says more."""
+    return "# a class sheet of 17-word class records: `sheet widen` makes it one that can be read\n" + render_raw(sheet)
+
+
 def render_raw(sheet):
     out = [f"sheet {'abi' if sheet.layout is ABI_SHEET else 'classes'} raw"]
     for section in sheet.layout.sections:

@@ -1,5 +1,5 @@
-"""Sheets: the layouts as data, the block form, and a judge of rows 1 to 5, of the
-writer's rows and of the order of classes.
+"""Sheets: the layouts as data, the block form, a judge of rows 1 to 5, of the writer's
+rows and of the order of classes, and class sheets of one form made ones of the other.
 
 The judge is written from docs/SPECIFICATION.md ("What a call answers", "Sheets") and the
 readings in docs/DECISIONS.md, not from the Rattle code, so that each can show the
@@ -90,7 +90,7 @@ def class_layout(name, record):
 
 
 CLASS_SHEET = class_layout("class", OLD_RECORD + ("static words",))
-# The form before the eighteenth word, which no entry reads any more. Bytes do not tell the two apart, so nothing here guesses: a caller
+# The form before the eighteenth word, which only the converter reads. Bytes do not tell the two apart, so nothing here guesses: a caller
 # says which layout it means (docs/DECISIONS.md).
 OLD_CLASS_SHEET = class_layout("old", OLD_RECORD)
 
@@ -107,7 +107,7 @@ ABI_SHEET = Layout("abi", 51, (
             parts=SIGNATURE, most=(("index", 4095),), grammar="field"),
 ))
 
-BUILT, ARRAY = 0, 2
+BUILT, GENERATED, ARRAY = 0, 1, 2
 # What is 0 in every class of a set before it is linked, the static words in a built or array class alone.
 ZERO_UNLINKED = ("table place", "slot count", "static words")
 STATICS = "static words: zero in a built or array class"
@@ -428,10 +428,89 @@ def writing_faults(words, room):
     for i in range(len(sheet.text), len(text)):
         if text[i]:
             yield Fault(17, "bytes after the text: zero", f"byte {i - len(sheet.text)} after the text in its last word is {text[i]}, not 0")
-    need = len(blocks(content))
+    yield from room_faults(sheet, room)
+
+
+# ---- class sheets of 17 words a record made ones of 18, and back
+
+def static_sum(sheet, i):
+    """"The sum of its static field widths": over the class's own fields with 0x0008, J and D two words, others one."""
+    first, count = sheet.get("class", i, "first field"), sheet.get("class", i, "field count")
+    own = range(len(sheet.records["field"]))[first:first + count]
+    return sum(2 if sheet.part("field", f, "descriptor") in (b"J", b"D") else 1 for f in own if sheet.get("field", f, "flags") & 0x0008)
+
+
+def is_generated(sheet, i):
+    return sheet.get("class", i, "kind") == GENERATED
+
+
+def to_new_form(sheet):
+    """A sheet of the old form in the new one: "a generated class gets the sum of its static field widths", every other class 0."""
+    made = sheet.copy()
+    made.layout = CLASS_SHEET
+    for i, record in enumerate(made.records["class"]):
+        record.append(static_sum(sheet, i) if is_generated(sheet, i) else 0)
+    return made
+
+
+def to_old_form(sheet):
+    """A sheet of the new form in the old one: each class record without its last word."""
+    made = sheet.copy()
+    made.layout = OLD_CLASS_SHEET
+    for record in made.records["class"]:
+        record.pop()
+    return made
+
+
+def widening_faults(data, room):
+    """Every fault of a sheet of the old form that is to be widened into `room` bytes: "rows 1 to 5 of the input's form", no words being lent, and "18, last, if the
+    output is too short"."""
+    yield from faults(OLD_CLASS_SHEET, data, len(data))
+    sheet = whole_sheet(OLD_CLASS_SHEET, data)
+    if sheet is not None:
+        yield from room_faults(to_new_form(sheet), room)
+
+
+def narrowing_faults(data, room):
+    """Every fault of a sheet of the new form that is to be narrowed: between the same rows "23, after them, if going back drops a generated
+    class's word that is not that sum"."""
+    yield from faults(CLASS_SHEET, data, len(data))
+    sheet = whole_sheet(CLASS_SHEET, data)
+    if sheet is None:
+        return
+    for i in range(len(sheet.records["class"])):
+        if is_generated(sheet, i) and sheet.get("class", i, "static words") != static_sum(sheet, i):
+            yield Fault(23, "static words: the sum", f"{said(sheet, 'class', i, 'static words')}, and the static fields take {static_sum(sheet, i)}",
+                        ("class", i, "static words"))
+    yield from room_faults(to_old_form(sheet), room)
+
+
+def whole_sheet(layout, data):
+    """The content of whole blocks, or None where they do not hold what their counts ask."""
+    return sheet_of(layout, block_words(data)) if data and len(data) % BLOCK_BYTES == 0 else None
+
+
+def room_faults(sheet, room):
+    need = len(sheet.blocks())
     if room < need:
         yield Fault(18, "lent bytes: enough", f"{room} bytes are lent, and {need // BLOCK_BYTES} blocks take {need}")
 
+
+def widen(data, room=None):
+    """A sheet of the old form as the blocks of the new one: (0, blocks), or (row, where)."""
+    for fault in widening_faults(data, CLASS_SHEET.most_blocks * BLOCK_BYTES if room is None else room):
+        return fault.row, fault.where
+    return 0, to_new_form(whole_sheet(OLD_CLASS_SHEET, data)).blocks()
+
+
+def narrow(data, room=None):
+    """A sheet of the new form as the blocks of the old one: (0, blocks), or (row, where)."""
+    for fault in narrowing_faults(data, CLASS_SHEET.most_blocks * BLOCK_BYTES if room is None else room):
+        return fault.row, fault.where
+    return 0, to_old_form(whole_sheet(CLASS_SHEET, data)).blocks()
+
+
+# ---- the order of classes
 
 def order_faults(words, room):
     """Every fault of class words that are to be renumbered with `room` list words: "3, first, as for a link or if a table place or slot

@@ -15,6 +15,7 @@ sys.dont_write_bytecode = True
 HERE = os.path.dirname(os.path.realpath(__file__))
 sys.path.insert(0, HERE)
 
+import convertvectors  # noqa: E402
 import ordervectors  # noqa: E402
 import setvectors  # noqa: E402
 import sheetform  # noqa: E402
@@ -26,6 +27,7 @@ from sheetlib import ABI_SHEET, CLASS_SHEET, OLD_CLASS_SHEET, WORD, Sheet, block
 
 TOP = WORD - 1
 vectors.make_all()
+convertvectors.make()
 
 
 def sheet(*args, given=""):
@@ -537,27 +539,65 @@ class OpenPoints(unittest.TestCase):
         self.assertEqual(rows, {0, 3, 4, 5})
 
 
-class OldVectors(unittest.TestCase):
-    """The class vectors of 17-word records and their answers, as they stood before the eighteenth word (tools/old-vectors): the layout of
-    the old form, which nothing reads any more, still answers the same."""
+class Forms(unittest.TestCase):
+    """Class sheets of 17-word class records made ones of 18 words, and back."""
 
-    FOLDER = os.path.join(HERE, "old-vectors")
-
-    def test_answers(self):
-        with open(os.path.join(self.FOLDER, "answers"), encoding="utf-8") as file:
-            lines = file.read().splitlines()
-        names = sorted(name for name in os.listdir(self.FOLDER) if name.endswith(".bin"))
-        self.assertEqual([line.split()[0] for line in lines], names)
+    def test_old_answers(self):
+        """The class vectors as they stood before the eighteenth word, and what the reading of that time answered (tools/old-answers), but for
+        a method of 252 longs, which row 5 refuses since it counts argument words: the old form's layout answers the same. Going forward the same row refuses, but for the clause on lent words, and what is accepted comes back."""
+        lines = convertvectors.stored_answers()
         forms = {0: 0, 3: 0}
-        for line, name in zip(lines, names):
-            with open(os.path.join(self.FOLDER, name), "rb") as file:
-                data = file.read()
+        for name, line in lines.items():
+            data = convertvectors.vectors[name]
             row, words = judge(OLD_CLASS_SHEET, data, sheetvectors.lent_words(name))
-            self.assertTrue(line.startswith(f"{name} {f'refused {row}' if row else f'accepted {words}'} "), line)
+            self.assertEqual(line[:2], ["refused", str(row)] if row else ["accepted", str(words)], name)
+            went, made = sheetlib.widen(data)
+            if row != 1 or "-lent-" not in name:
+                self.assertEqual(went, row, name)
+            if not went:
+                self.assertEqual((judge(CLASS_SHEET, made)[0], sheetlib.narrow(made)), (0, (0, data)), name)
             if not row:
                 forms[judge(CLASS_SHEET, data)[0]] += 1
         # Of these the new form refuses all by 3 but those without classes, which are the same bytes in both.
-        self.assertEqual((len(names), forms), (489, {0: 12, 3: 171}))
+        self.assertEqual((len(lines), forms), (489, {0: 12, 3: 170}))
+
+    def test_rows_by_name(self):
+        """A name tells the row, but of an old vector that lends too few words, which no converter is lent."""
+        for name, data in convertvectors.vectors.items():
+            told = int((re.match(r"(?:old|new)-(?:ok|r(\d+))-", name)[1]) or 0)
+            row = (sheetlib.widen if name.startswith("old") else sheetlib.narrow)(data)[0]
+            if "-lent-" not in name:
+                self.assertEqual(row, told, name)
+
+    def test_round_trips(self):
+        """Each class vector of reading: back and forward gives its bytes, unless a generated class has other static words than the sum."""
+        rows = {}
+        for name, data in vectors.vectors.items():
+            if not name.startswith("class") or judge(CLASS_SHEET, data)[0]:
+                continue
+            row, old = sheetlib.narrow(data)
+            rows[row] = rows.get(row, 0) + 1
+            if not row:
+                self.assertEqual(sheetlib.widen(old), (0, data), name)
+                self.assertIn(len(data) - len(old), (0, 512))
+        self.assertEqual(sorted(rows), [0, 23])
+
+    def test_lines(self):
+        """What the program prints: the call, the calls with fewer bytes lent, and the way back."""
+        made = form("class A generated\n  statics 4\n  field x J 0 flags 8\n")
+        self.assertEqual(convertvectors.answer("new-x.bin", made.blocks()),
+                         f"new-x.bin not narrowed 23 {vectors.weighed([], 93 * 512)}, lent 0 not narrowed 23 0, lent 1 not narrowed 23 7")
+        empty = Sheet(CLASS_SHEET).blocks()
+        self.assertEqual(convertvectors.answer("old-x.bin", empty),
+                         f"old-x.bin widened 1 {vectors.weighed(empty, 93 * 512)}, lent 511 not widened 18 {vectors.weighed([], 511)}, "
+                         f"lent 512 widened 1 {vectors.weighed(empty)}, lent 513 widened 1 {vectors.weighed(empty, 513)}, back narrowed 1 same")
+
+    def test_static_words(self):
+        """The sum is of a generated class's own fields with 0x0008; others get 0."""
+        text = "class A{}\n  field i I 0 flags 8\n  field j J 1 flags 0xffff\n  field d D 1 flags 9\n  field a [J 1 flags 8\n  field k J 0\nclass B generated\n"
+        for kind, words in ((" generated", 6), ("", 0), (" array", 0)):
+            new = sheetlib.to_new_form(sheetlib.to_old_form(form(text.format(kind))))
+            self.assertEqual([new.get("class", i, "static words") for i in range(2)], [words, 0])
 
 
 class Vectors(unittest.TestCase):
@@ -609,7 +649,8 @@ class Commands(unittest.TestCase):
         return path
 
     def test_help(self):
-        for args in (["--help"], ["make", "--help"], ["show", "--help"], ["check", "--help"], ["explain", "--help"], ["why", "--help"]):
+        for args in (["--help"], ["make", "--help"], ["show", "--help"], ["check", "--help"], ["explain", "--help"], ["why", "--help"],
+                     ["widen", "--help"], ["narrow", "--help"]):
             status, out, _ = sheet(*args)
             self.assertEqual(status, 0)
             self.assertIn("usage: sheet", out)
@@ -641,6 +682,35 @@ class Commands(unittest.TestCase):
         self.assertFalse(os.path.exists(text[:-4] + ".bin"))
         self.assertEqual(sheet("make", "--anyway", text)[0], 0)
         self.assertTrue(os.path.exists(text[:-4] + ".bin"))
+
+    def test_widen_narrow(self):
+        """The Card sheet in both forms; the sheet that is given is never written over."""
+        examples = os.path.join(HERE, "..", "examples", "card")
+        old, new = (os.path.join(examples, name) for name in ("old.bin", "classes.bin"))
+        out, back = (os.path.join(self.folder.name, name) for name in ("new.bin", "back.bin"))
+        self.assertEqual(sheet("widen", old, "-o", out), (0, "", ""))
+        self.assertEqual(sheet("narrow", out, "-o", back), (0, "", ""))
+        for made, stored in ((out, new), (back, old)):
+            with open(made, "rb") as made, open(stored, "rb") as stored:
+                self.assertEqual(made.read(), stored.read())
+        os.symlink(out, os.path.join(self.folder.name, "link.bin"))
+        for same in (out, os.path.join(self.folder.name, ".", "new.bin"), os.path.join(self.folder.name, "link.bin")):
+            status, told, err = sheet("narrow", out, "-o", same)
+            self.assertEqual((status, told), (2, ""))
+            self.assertIn("is the sheet that is given: write to another file", err)
+        none = os.path.join(self.folder.name, "none.bin")
+        status, told, _ = sheet("widen", out, "-o", none)
+        self.assertEqual((status, os.path.exists(none)), (1, False))
+        self.assertIn("new.bin: refused 3: ", told)
+        made = self.file("wrong.bin", form("class A generated\n  statics 4\n  field x J 0 flags 8\n").blocks())
+        status, told, _ = sheet("narrow", made, "-o", none)
+        self.assertEqual((status, os.path.exists(none)), (1, False))
+        self.assertIn("refused 23: class 1 `A`: static words at byte 92 of the file (block 1) is 4, and the static fields take 2", told)
+        self.assertEqual(sheet("widen", self.file("abi.bin", b""), "-o", none)[0], 2)
+        status, told, err = sheet("show", "--old", old)
+        self.assertEqual((status, err), (0, ""))
+        self.assertIn("\nclass 0 4 0 1 0 0 2 0 0 0 0 0 0 0 0 0 0\n", told)
+        self.assertEqual(sheet("show", "--old", new)[0], 1)
 
     def test_bad_lines(self):
         for text, line, told in (("class A\n  metod m ()V 1\n", 2, "'metod'"), ("class A\n method m ()V x\n", 2, "number"),
@@ -865,7 +935,7 @@ classes.txt: 3 faults, nothing was written (--anyway writes it)
     def test_messages(self):
         """Each row of both sheets: the number, the place and the sentence of docs/REFUSALS.md."""
         table = self.table()
-        self.assertEqual(sorted(map(int, table)), [*range(1, 20), 24, 25])
+        self.assertEqual(sorted(map(int, table)), [*range(1, 20), 23, 24, 25])
         for name, place in (
                 ("class-r1-513-bytes", "the file has 513 bytes"), ("abi-r1-no-bytes", "the file is empty"),
                 ("class-r2-check-of-block-2", "block 2: the check word at byte 1020 of the file"),

@@ -114,16 +114,16 @@ def files():
     return out
 
 
-def stored():
+def stored(crate):
     """The paths that are stored now."""
-    names = os.listdir(os.path.join(CRATE, "data")) if os.path.isdir(os.path.join(CRATE, "data")) else []
-    return {f"data/{name}" for name in names} | {f for f in ("args", "stdout") if os.path.exists(os.path.join(CRATE, f))}
+    names = os.listdir(os.path.join(crate, "data")) if os.path.isdir(os.path.join(crate, "data")) else []
+    return {f"data/{name}" for name in names} | {f for f in ("args", "stdout") if os.path.exists(os.path.join(crate, f))}
 
 
-def differences(made):
-    out = [f"{path}: stored, and not made here" for path in sorted(stored() - set(made))]
+def differences(crate, made):
+    out = [f"{path}: stored, and not made here" for path in sorted(stored(crate) - set(made))]
     for path, data in sorted(made.items()):
-        full = os.path.join(CRATE, path)
+        full = os.path.join(crate, path)
         if not os.path.exists(full):
             out.append(f"{path}: not stored")
         else:
@@ -133,12 +133,12 @@ def differences(made):
     return out
 
 
-def store(made):
-    os.makedirs(os.path.join(CRATE, "data"), exist_ok=True)
-    for path in stored() - set(made):
-        os.remove(os.path.join(CRATE, path))
+def store(crate, made):
+    os.makedirs(os.path.join(crate, "data"), exist_ok=True)
+    for path in stored(crate) - set(made):
+        os.remove(os.path.join(crate, path))
     for path, data in made.items():
-        with open(os.path.join(CRATE, path), "wb") as file:
+        with open(os.path.join(crate, path), "wb") as file:
             file.write(data)
 
 
@@ -193,9 +193,9 @@ def main():
     faulty = list(uncovered())
     made = files()
     if options.check:
-        faulty += differences(made)
+        faulty += differences(CRATE, made)
     else:
-        store(made)
+        store(CRATE, made)
         table()
     summary()
     for line in faulty:

@@ -19,7 +19,7 @@ const SIZE: usize = 1 << 20;
 const PAINT: u8 = 0xA5;
 
 /// The exported functions, in the order of `Painted`'s stacks.
-const FUNCTIONS: [&str; 11] = [
+const FUNCTIONS: [&str; 13] = [
     "lgt_read_class_sheet",
     "lgt_read_abi_sheet",
     "lgt_link",
@@ -31,6 +31,8 @@ const FUNCTIONS: [&str; 11] = [
     "lgt_read_unordered_sheet",
     "lgt_renumber_classes",
     "lgt_compare_names",
+    "lgt_widen_class_sheet",
+    "lgt_narrow_class_sheet",
 ];
 
 /// A stack whose touched bytes show.
@@ -135,6 +137,14 @@ impl Linker for Painted {
 
     fn compare_names(&mut self, a: &[u8], b: &[u8]) -> Answer {
         self.stacks[10].run(|| self.library.compare_names(a, b))
+    }
+
+    fn widen_class_sheet(&mut self, bytes: &[u8], out: &mut [u8]) -> Answer {
+        self.stacks[11].run(|| self.library.widen_class_sheet(bytes, out))
+    }
+
+    fn narrow_class_sheet(&mut self, bytes: &[u8], out: &mut [u8]) -> Answer {
+        self.stacks[12].run(|| self.library.narrow_class_sheet(bytes, out))
     }
 }
 

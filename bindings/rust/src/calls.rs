@@ -1,4 +1,4 @@
-//! The library's functions over lent slices. But for [`reference_words`], which makes its list, they allocate nothing.
+//! The library's functions over lent slices. But for [`reference_words`], which makes what it answers, they allocate nothing.
 
 use alloc::vec;
 use alloc::vec::Vec;
@@ -106,6 +106,57 @@ pub fn write_class_sheet(set: &[u32], bytes: &mut [u8]) -> Result<u32, Refusal> 
     let mut answer = [0];
     // SAFETY: both slices are whole, the written one is lent exclusively, and the answer has its word.
     let row = unsafe { sys::lgt_write_class_sheet(set.as_ptr(), set.len(), bytes.as_mut_ptr(), bytes.len(), &mut answer) };
+    accepted(row, answer[0])
+}
+
+/// Makes a class sheet of the old form, with 17-word class records, one of the new form, with 18, and answers how many blocks it has: as
+/// many as the old one or one more. A generated class gets the sum of its static field widths, every other class 0. The bytes after the
+/// blocks stay as they were. [`widen`](crate::widen) does it with memory of its own.
+///
+/// The form of a sheet cannot be seen from its bytes: a sheet converted twice can be accepted and say something else.
+///
+/// # Errors
+///
+/// Refusals 1 to 5, as a reading of the old form judges (a child before its parent is 4), and 18: too few bytes are lent, which
+/// [`CLASS_BYTES`] never are. The bytes are then as they were.
+///
+/// ```
+/// # use lgt_linker::*;
+/// let old = std::fs::read("../../examples/card/old.bin").unwrap();
+/// let mut bytes = [7; CLASS_BYTES];
+/// assert_eq!(widen_class_sheet(&old, &mut bytes), Ok(1));
+/// assert_eq!(ClassSet::read(&bytes[..512])?.class(1).unwrap().name(), "Card");
+/// assert_eq!(bytes[512..], [7; CLASS_BYTES - 512]);
+/// # Ok::<(), Refusal>(())
+/// ```
+pub fn widen_class_sheet(bytes: &[u8], out: &mut [u8]) -> Result<u32, Refusal> {
+    let mut answer = [0];
+    // SAFETY: both slices are whole, the written one is lent exclusively, and the answer has its word.
+    let row = unsafe { sys::lgt_widen_class_sheet(bytes.as_ptr(), bytes.len(), out.as_mut_ptr(), out.len(), &mut answer) };
+    accepted(row, answer[0])
+}
+
+/// Makes a class sheet of the new form one of the old likewise, for a terminal that reads no other: as many blocks or one fewer. The static
+/// words are dropped, and [`widen_class_sheet`] gives the sheet back.
+///
+/// # Errors
+///
+/// Refusals 1 to 5 as of [`read_class_sheet`], 23 where a generated class has other static words than the sum of its static field widths,
+/// then 18. The bytes are then as they were.
+///
+/// ```
+/// # use lgt_linker::*;
+/// let new = std::fs::read("../../examples/card/classes.bin").unwrap();
+/// let (mut old, mut again) = ([0; 512], [0; 512]);
+/// assert_eq!(narrow_class_sheet(&new, &mut old), Ok(1));
+/// assert_eq!(widen_class_sheet(&old, &mut again), Ok(1));
+/// assert_eq!(again[..], new);
+/// assert_eq!(narrow_class_sheet(&new, &mut old[..511]), Err(Refusal::SheetRoom));
+/// ```
+pub fn narrow_class_sheet(bytes: &[u8], out: &mut [u8]) -> Result<u32, Refusal> {
+    let mut answer = [0];
+    // SAFETY: as in `widen_class_sheet`.
+    let row = unsafe { sys::lgt_narrow_class_sheet(bytes.as_ptr(), bytes.len(), out.as_mut_ptr(), out.len(), &mut answer) };
     accepted(row, answer[0])
 }
 

@@ -1,8 +1,8 @@
 //! The proved class linker of Dautzeki, for Rust programs.
 //!
 //! Two ways to use it. Lend memory yourself: [`read_class_sheet`], [`read_abi_sheet`], [`write_class_sheet`], [`read_unordered_sheet`],
-//! [`renumber_classes`], [`link`], [`interface_dispatch_table`], [`argument_words`], [`compare_names`] and [`reference_count`] take slices
-//! and allocate nothing; [`layout`] names their words. Or let [`ClassSet`], [`AbiSheet`] and [`Area`] own it, read from sheets or made of
+//! [`renumber_classes`], [`widen_class_sheet`], [`narrow_class_sheet`], [`link`], [`interface_dispatch_table`], [`argument_words`],
+//! [`compare_names`] and [`reference_count`] take slices and allocate nothing; [`layout`] names their words. Or let [`ClassSet`], [`AbiSheet`] and [`Area`] own it, read from sheets or made of
 //! Rust values by [`SetBuilder`] and [`AbiBuilder`]:
 //!
 //! ```
@@ -33,8 +33,8 @@
 //! # Needs
 //!
 //! - x86-64 Linux, and the archive `liblgt_linker.a` (see the README); `core` and `alloc`, not `std`.
-//! - Stack: a call takes at most 142,344 bytes as measured (`docs/PERFORMANCE.md`); give a thread 256 KiB. Threads of `std` have 2 MiB.
-//!   A thread of musl's default size, 128 KiB, is too small for a link.
+//! - Stack: a call takes at most 157,224 bytes as measured (`docs/PERFORMANCE.md`); give a thread 256 KiB. Threads of `std` have 2 MiB.
+//!   A thread of musl's default size, 128 KiB, is too small for a link or a conversion back.
 
 #![no_std]
 #![deny(missing_docs)]
@@ -43,6 +43,7 @@ extern crate alloc;
 
 mod build;
 mod calls;
+mod forms;
 pub mod layout;
 mod refusal;
 mod set;
@@ -52,8 +53,10 @@ mod view;
 pub use build::{AbiBuilder, AbiClassBuilder, BuildError, ClassBuilder, SetBuilder};
 pub use calls::{
     ABI_WORDS, Asked, CLASS_BYTES, CLASS_WORDS, Compared, Linked, argument_words, compare_names, interface_dispatch_table, link,
-    read_abi_sheet, read_class_sheet, read_unordered_sheet, reference_count, reference_words, renumber_classes, write_class_sheet,
+    narrow_class_sheet, read_abi_sheet, read_class_sheet, read_unordered_sheet, reference_count, reference_words, renumber_classes,
+    widen_class_sheet, write_class_sheet,
 };
+pub use forms::{narrow, widen};
 pub use refusal::Refusal;
 pub use set::{AbiSheet, Area, ClassSet};
 pub use view::{AbiClass, AbiRow, Class, Field, Kind, Method, Slot};

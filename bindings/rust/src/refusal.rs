@@ -56,6 +56,8 @@ pub enum Refusal {
     SheetRoom,
     /// 19: a class is its own ancestor
     Ring,
+    /// 23: static words of a generated class that the old form of class sheets would lose
+    LostStatics,
     /// 24: a reference bitmap has too few bytes for its words
     BitmapBytes,
     /// 25: the lent list is shorter than the count of reference words
@@ -205,7 +207,8 @@ const REFUSALS: &[Row] = &[
         number: 18,
         refusal: Refusal::SheetRoom,
         wrong: "fewer bytes were lent than the sheet's blocks take",
-        mend: "Lend 512 bytes for each block that the sheet takes, 127 words of content a block: 47,104 bytes are enough for every set.",
+        mend: "Lend 512 bytes for each block of the sheet that is written, 127 words of content a block: 47,104 bytes are enough for \
+         every sheet. One of 17-word class records can take a block more with 18 words a record.",
     },
     Row {
         number: 19,
@@ -213,6 +216,14 @@ const REFUSALS: &[Row] = &[
         wrong: "a class is its own ancestor",
         mend: "A class is its own ancestor: mend the parent numbers of the classes in the ring, which `tools/sheet order` names, so that \
          each chain of parents ends at a class without one.",
+    },
+    Row {
+        number: 23,
+        refusal: Refusal::LostStatics,
+        wrong: "a generated class has other static words than the sum of its static field widths, which a sheet of 17-word class records \
+         cannot say",
+        mend: "The old form cannot hold this class's static words: a generated class of a sheet with 17-word class records has the sum \
+         of its static field widths, J and D two words and others one. Give it that sum, or keep the sheet in the new form.",
     },
     Row {
         number: 24,

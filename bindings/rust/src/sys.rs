@@ -7,6 +7,10 @@ unsafe extern "C" {
 
     pub fn lgt_write_class_sheet(set: *const u32, set_len: usize, bytes: *mut u8, bytes_len: usize, answer: *mut [u32; 1]) -> u32;
 
+    pub fn lgt_widen_class_sheet(bytes: *const u8, bytes_len: usize, out: *mut u8, out_len: usize, answer: *mut [u32; 1]) -> u32;
+
+    pub fn lgt_narrow_class_sheet(bytes: *const u8, bytes_len: usize, out: *mut u8, out_len: usize, answer: *mut [u32; 1]) -> u32;
+
     pub fn lgt_read_unordered_sheet(bytes: *const u8, bytes_len: usize, words: *mut u32, words_len: usize, answer: *mut [u32; 1]) -> u32;
 
     pub fn lgt_renumber_classes(set: *mut u32, set_len: usize, order: *mut u32, order_len: usize, answer: *mut [u32; 1]) -> u32;

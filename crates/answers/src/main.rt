@@ -160,7 +160,7 @@ fn next_place(f: &[u8], at: u32) -> u32 {
 }
 
 // The functions, by the kind of a call.
-const KINDS: u32 = 6;
+const KINDS: u32 = 8;
 
 const WRITE: u32 = 0;
 
@@ -173,6 +173,10 @@ const RENUMBER: u32 = 3;
 const LIST: u32 = 4;
 
 const COUNT: u32 = 5;
+
+const WIDEN: u32 = 6;
+
+const NARROW: u32 = 7;
 
 // What a call of any other kind is answered: no row has this number.
 const NO_KIND: u32 = 4294967295;
@@ -200,9 +204,9 @@ fn refused(refusal: u32) -> Answer {
     }
 }
 
-// Writes the class words into the bytes.
-fn write(set: &[u32], out: &mut [u8]) -> Answer {
-    match writer::write_class_sheet(set, out) {
+// What a writing or a conversion comes to.
+fn written(answer: writer::Written) -> Answer {
+    match answer {
         writer::Written::Blocks(n) => accepted(n, 0),
         writer::Written::Refused(row) => refused(row),
     }
@@ -250,7 +254,13 @@ fn make_call(
     second: &mut [u32],
 ) -> Answer {
     if kind == WRITE {
-        return write(words, out);
+        return written(writer::write_class_sheet(words, out));
+    }
+    if kind == WIDEN {
+        return written(convert::widen_class_sheet(bytes, out));
+    }
+    if kind == NARROW {
+        return written(convert::narrow_class_sheet(bytes, out));
     }
     if kind == COMPARE {
         return compare(bytes, out);
@@ -362,6 +372,10 @@ fn print_kind(kind: u32) {
         io::write_all(STDOUT_FILENO, b"reference_words");
     } else if kind == COUNT {
         io::write_all(STDOUT_FILENO, b"reference_count");
+    } else if kind == WIDEN {
+        io::write_all(STDOUT_FILENO, b"widen_class_sheet");
+    } else if kind == NARROW {
+        io::write_all(STDOUT_FILENO, b"narrow_class_sheet");
     } else {
         io::write_all(STDOUT_FILENO, b"no such function");
     }

@@ -10,7 +10,7 @@ ghost use Rattle.class_rules.specs.ClassRules.{classLimits, classFits, u
 const MEMBER_WIDTH: u32 = class_sheet::MEMBER_WIDTH as u32;
 
 // Whether each count is within its limit.
-fn limits_ok(ws: &[u32]) -> bool
+pub fn limits_ok(ws: &[u32]) -> bool
     ensures { λ r. ⌜ r ≡ classLimits (now (ws .entry)) ⌝ }
 {
     (class_sheet::class_count(ws) <= class_sheet::CLASS_LIMIT)

@@ -19,6 +19,7 @@ ghost use Rattle.renumber.specs.Renumber.{renumberDef};
 ghost use Rattle.renumber.specs.Renumber as renumberings;
 ghost use Rattle.writer.specs.Writer.{writeClassSheet};
 ghost use Rattle.writer.specs.Writer as writings;
+ghost use Rattle.convert.specs.Convert.{widenSheet, narrowSheet};
 ghost use Rattle.descriptor.specs.Words.{argumentAnswer};
 ghost use Rattle.references.specs.References.{readReferences, countReferences};
 ghost use Rattle.references.specs.References as bitmaps;
@@ -56,7 +57,7 @@ fn give_read(a: Read, answer: &mut [u32; 1]) -> u32
     }
 }
 
-// Hands out a writing's answer.
+// Hands out the answer of a writing or a conversion.
 fn give_written(a: Written, answer: &mut [u32; 1]) -> u32
     ensures { λ r. ⌜ ((bs : List ℕ) → writtenBy r (now (answer .exit)) bs ≡ writings.outcome a bs) ⌝ }
 {
@@ -130,6 +131,22 @@ pub extern "C" fn lgt_write_class_sheet(set: &[u32], bytes: &mut [u8], answer: &
     ensures { λ r. ⌜ writtenBy r (now (answer .exit)) (now (bytes .exit)) ≡ writeClassSheet (now (set .entry)) (now (bytes .entry)) ⌝ }
 {
     give_written(writer::write_class_sheet(set, bytes), answer)
+}
+
+// `convert::widen_class_sheet`: the answer word is the number of blocks written; the old sheet is only read.
+#[no_mangle]
+pub extern "C" fn lgt_widen_class_sheet(bytes: &[u8], out: &mut [u8], answer: &mut [u32; 1]) -> u32
+    ensures { λ r. ⌜ writtenBy r (now (answer .exit)) (now (out .exit)) ≡ widenSheet (now (bytes .entry)) (now (out .entry)) ⌝ }
+{
+    give_written(convert::widen_class_sheet(bytes, out), answer)
+}
+
+// `convert::narrow_class_sheet`: the answer word is the number of blocks written; the new sheet is only read.
+#[no_mangle]
+pub extern "C" fn lgt_narrow_class_sheet(bytes: &[u8], out: &mut [u8], answer: &mut [u32; 1]) -> u32
+    ensures { λ r. ⌜ writtenBy r (now (answer .exit)) (now (out .exit)) ≡ narrowSheet (now (bytes .entry)) (now (out .entry)) ⌝ }
+{
+    give_written(convert::narrow_class_sheet(bytes, out), answer)
 }
 
 // `sheet::read_unordered_sheet`: the answer word is the number of words filled.

@@ -1,13 +1,13 @@
 -- Laws of reading, over any limit and any rows after the first two. Assumes nothing.
-use mathlib.Core.Path.{_≡_, refl, sym, ap, _∙_}
-use mathlib.Core.Bool.{Bool, true, false, cond, not}
+use mathlib.Core.Path.{_≡_, refl, sym, _∙_}
+use mathlib.Core.Bool.{Bool, true, false, not}
 use mathlib.Core.List.{List, _++_}
-use Prim.Native.Nat.{ℕ, _+_, _*_, _-_, _/_, _%_, _^_, _≤_, _<_}
+use Prim.Native.Nat.{ℕ, _*_, _%_, _^_, _≤_, _<_}
 use native.Mathlib.Omega.{arith}
 use lib.ListN.{length, take, drop}
 use lib.Seq.{take-at}
 use lib.Dec.{eqb}
-use borrow.Author.Tests.{eq-eqb, ne-eqb, eqb-true, eqb-false, le-ltb, not-false}
+use borrow.Author.Tests.{eq-eqb, ne-eqb, eqb-true, eqb-false, not-false}
 use Rattle.words.specs.Folds.{allOf}
 use Rattle.words.proofs.Bools.{by, passed}
 use Rattle.block.specs.Block.{blockCount, sheetWords, checkOk, content, unpacked, shapeOk}
@@ -77,6 +77,18 @@ block-fits bs room limit e =
     let p = passed (not (shapeOk (length bs) room limit)) 1 _ (omega arith) e in
     shape-fits (length bs) room limit (not-false _ (p .0))
 
+module _ (limit : ℕ) (bs : List ℕ) (room : ℕ) {row : ℕ} (first : row ≡ blockRefusal bs room limit) where
+  -- the words unpacked into a slice that has room for them, handed on as their part
+  pub words-handed : row ≡ 0 → limit < 2 ^ 32 → (d : List ℕ) → 127 * limit ≤ length d → {n w : ℕ} {u p : List ℕ} → n ≡ blockCount bs % 2 ^ 32
+      → u ≡ unpacked bs n d → w ≡ n → p ≡ take (127 * w) (drop 0 u) → p ≡ sheetWords bs
+  unfolding sheetWords
+  words-handed z small d l {n = n} {u = u} {p = p} e g f i =
+      let k = block-fits bs room limit (sym first ∙ z) in
+      let b : n ≡ blockCount bs = omega arith in
+      let o : u ≡ content bs n ++ drop (127 * n) d = g ∙ unpacked-is bs n d (omega arith) in
+      let s : p ≡ content bs n = i ∙ rw (f, o) (take-at (content bs n) (drop (127 * n) d) (127 * n) (length-content bs n)) in
+      rw (← b) s
+
 -- ---- rows 1 to 5
 
 module _ (limit : ℕ) (rows : List ℕ → ℕ) (bs : List ℕ) (room : ℕ) {row : ℕ} (first : row ≡ blockRefusal bs room limit) where
@@ -84,16 +96,9 @@ module _ (limit : ℕ) (rows : List ℕ → ℕ) (bs : List ℕ) (room : ℕ) {r
   unfolding sheetRefusal
   sheet-early n = rw (← first) (simp (ne-eqb row 0 n))
 
-  -- the words unpacked into a slice that has room for them, handed on as their part
-  pub sheet-rest : row ≡ 0 → limit < 2 ^ 32 → (d : List ℕ) → 127 * limit ≤ length d → {n w r : ℕ} {u p : List ℕ} → n ≡ blockCount bs % 2 ^ 32
-      → u ≡ unpacked bs n d → w ≡ n → p ≡ take (127 * w) (drop 0 u) → r ≡ rows p → r ≡ sheetRefusal limit rows bs room
-  unfolding sheetRefusal sheetWords
-  sheet-rest z small d l {n = n} {u = u} {p = p} e g f i q =
-      let k = block-fits bs room limit (sym first ∙ z) in
-      let b : n ≡ blockCount bs = omega arith in
-      let o : u ≡ content bs n ++ drop (127 * n) d = g ∙ unpacked-is bs n d (omega arith) in
-      let s : p ≡ content bs n = i ∙ rw (f, o) (take-at (content bs n) (drop (127 * n) d) (127 * n) (length-content bs n)) in
-      q ∙ rw (← first) (simp (eq-eqb row 0 z, ← b, s))
+  pub sheet-rest : row ≡ 0 → {r : ℕ} {p : List ℕ} → p ≡ sheetWords bs → r ≡ rows p → r ≡ sheetRefusal limit rows bs room
+  unfolding sheetRefusal
+  sheet-rest z e q = q ∙ rw (← first, e) (simp (eq-eqb row 0 z))
 
 -- ---- the last step
 

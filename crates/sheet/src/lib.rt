@@ -11,7 +11,7 @@ pub enum Read {
 }
 
 // Rows 1 and 2: the number that refuses, or 0.
-fn block_refusal(bytes: &[u8], room: usize, limit: u32) -> u32
+pub fn block_refusal(bytes: &[u8], room: usize, limit: u32) -> u32
     ensures { λ r. ⌜ r ≡ blockRefusal (now (bytes .entry)) room limit ⌝ }
 {
     if !block::shape_ok(bytes, room, limit) {

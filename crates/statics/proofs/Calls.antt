@@ -22,7 +22,7 @@ use Rattle.calls.proofs.Rows.{Accepted, link-cases, ask-cases}
 use Rattle.statics.specs.Statics.{Start, After}
 use Rattle.statics.proofs.Linked.{leaves, left, more-fields, field-kept}
 
-fold-ext : (f g : ℕ → ℕ → ℕ) (xs : List ℕ) (n : ℕ) → ((k x : ℕ) → List·Memᴰ x xs → f k x ≡ g k x) → fold f n xs ≡ fold g n xs
+pub fold-ext : (f g : ℕ → ℕ → ℕ) (xs : List ℕ) (n : ℕ) → ((k x : ℕ) → List·Memᴰ x xs → f k x ≡ g k x) → fold f n xs ≡ fold g n xs
 unfolding fold
 fold-ext f g [] n h = refl
 fold-ext f g (x ∷ xs) n h = rw (h n x (List·Memᴰ·head refl)) (fold-ext f g xs (g n x) (λ k y i. h k y (List·Memᴰ·tail i)))

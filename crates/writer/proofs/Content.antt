@@ -3,20 +3,17 @@
 use mathlib.Core.Path.{_≡_, sym, ap, _∙_}
 use mathlib.Core.Bool.{true, not}
 use mathlib.Core.List.{List, _++_}
-use Prim.Native.Nat.{ℕ, _+_, _*_, _-_, _/_, _%_, _^_, _≤_, _<_}
-use native.Mathlib.Nat.{zero-div}
+use Prim.Native.Nat.{ℕ, _+_, _*_, _-_, _≤_, _<_}
 use native.Mathlib.Omega.{arith}
-use lib.ListN.{length, getD, take, drop, replicate, length-append, length-replicate, getD-replicate, take-append-drop, List·getD-append, List·getD-eq-default}
+use lib.ListN.{length, take, drop, replicate, length-append, length-replicate, take-append-drop}
 use lib.Seq.{take-at, getD-take, length-take-le}
-use lib.Dec.{leb, ltb}
-use borrow.Author.Tests.{le-leb, ltb-true, ltb-false, eq-eqb, eqb-true, not-false}
-use Rattle.words.specs.Words.{byteOf}
-use Rattle.words.proofs.Bools.{by, and-both, and-4, passed}
-use Rattle.words.proofs.FoldLaws.{all-each, all-if, all-ext}
-use Rattle.words.proofs.Lists.{skip}
+use lib.Dec.{leb}
+use borrow.Author.Tests.{le-leb, not-false}
+use Rattle.words.proofs.Bools.{and-both, and-4, passed}
+use Rattle.words.proofs.FoldLaws.{all-ext}
 use Rattle.block.specs.Block.{leastFit}
 use Rattle.block.proofs.Laws.{blocks-least, least-blocks}
-use Rattle.text.specs.Text.{textByte, zeroAt, zeroRest}
+use Rattle.text.specs.Text.{zeroRest}
 use Rattle.class_sheet.specs.ClassSheet.{classCountNumber, compilerCountNumber, fieldCountNumber, interfaceCountNumber, methodCountNumber, textLengthNumber, countsWidth, kindWord, tablePlaceWord, slotCountWord, staticWordsWord, classCount, textLength, countAt, methodsAt, fieldsAt, interfacesAt, compilersAt, textAt, contentEnd, textOf}
 use Rattle.class_sheet.proofs.Sections as kept
 use Rattle.class_rules.specs.ClassRules.{classLimits, classFits, fresh, allFresh, classForm}
@@ -27,49 +24,7 @@ use Rattle.sheet.specs.Sheet.{classRows}
 use Rattle.writer.specs.Writer.{contentOf, blocksOf, storable}
 use Rattle.writer.specs.RoundTrip.{paddedContent}
 use Rattle.writer.proofs.Laws.{content-some}
-
--- ---- zeros to the end of the words: past it there are only zeros
-
-past-byte : (ws : List ℕ) (b : ℕ) → length ws ≤ b / 4 → textByte ws b ≡ 0
-unfolding textByte byteOf
-past-byte ws b h = rw (List·getD-eq-default ws 0 h, zero-div (256 ^ (b % 4)))
-
-module _ (ws : List ℕ) (start : ℕ) where
-  pub zero-each : zeroRest ws start ≡ true → (b : ℕ) → start ≤ b → textByte ws b ≡ 0
-  unfolding zeroRest zeroAt
-  zero-each h b l =
-      by (ltb b (4 * length ws))
-      (λ t.
-      let inside = ltb-true b (4 * length ws) t in
-      let e : start + (b - start) ≡ b = omega arith in
-      eqb-true _ _ (rw e at (all-each (4 * length ws - start) (zeroAt ws start) h (b - start) (omega arith))))
-      (λ t. let outside = ltb-false b (4 * length ws) t in past-byte ws b (omega arith))
-
-  zero-all : ((b : ℕ) → start ≤ b → textByte ws b ≡ 0) → zeroRest ws start ≡ true
-  unfolding zeroRest zeroAt
-  zero-all h = all-if (4 * length ws - start) (zeroAt ws start) (λ i l. eq-eqb _ _ (h (start + i) (omega arith)))
-
--- words that are the same with zeros past their end have zeros from the same byte on
-pub zero-same : (a b : List ℕ) (start : ℕ) → ((i : ℕ) → getD a i 0 ≡ getD b i 0) → zeroRest a start ≡ true → zeroRest b start ≡ true
-unfolding textByte
-zero-same a b start same h = zero-all b start (λ k l. rw (same (k / 4)) at (zero-each a start h k l))
-
--- ---- zeros after words
-
-zeros : (n i : ℕ) → _≡_ {A = ℕ} (getD (replicate n 0) i 0) 0
-zeros n i =
-    by (ltb i n) (λ t. getD-replicate n i 0 0 (ltb-true i n t))
-    (λ t.
-    let none : List ℕ = replicate n 0 in
-    let past : length none ≤ i = omega (arith, length-replicate {A = ℕ} n 0, ltb-false i n t) in
-    List·getD-eq-default none 0 past)
-
-pub padded-at : (c : List ℕ) (n i : ℕ) → getD (c ++ replicate n 0) i 0 ≡ getD c i 0
-padded-at c n i =
-    by (ltb i (length c)) (λ t. List·getD-append c (replicate n 0) 0 i (ltb-true i (length c) t))
-    (λ t.
-    let l = ltb-false i (length c) t in
-    skip c (replicate n 0) i (i - length c) 0 (omega arith) ∙ zeros n (i - length c) ∙ sym (List·getD-eq-default c 0 l))
+use Rattle.writer.proofs.Zeros.{zero-same, padded-at}
 
 -- ---- what follows the content
 

@@ -1,37 +1,34 @@
 -- The blocks that were written are the content packed, so reading them gives it back padded with zeros; what a reading accepted is its own content
 -- padded, so writing it gives the blocks back. Assumes nothing.
-use mathlib.Core.Path.{_≡_, sym, ap, _∙_}
+use mathlib.Core.Path.{_≡_, ap, _∙_}
 use mathlib.Core.Bool.{true, not}
-use mathlib.Core.List.{List, [], _++_, append-nil, append-assoc}
+use mathlib.Core.List.{List, _++_, append-assoc}
 use mathlib.Core.Logic.{_↔_}
-use Prim.Native.Nat.{ℕ, _+_, _*_, _-_, _/_, _%_, _^_, _≤_, _<_}
+use Prim.Native.Nat.{ℕ, _+_, _*_, _-_, _≤_}
 use native.Mathlib.Omega.{arith}
 use lib.ListN.{length, getD, take, drop, length-append, length-drop, List·getD-eq-default}
-use lib.Seq.{take-at, take-append-le, getD-take, getD-drop, ext-getD}
+use lib.Seq.{take-at, take-append-le, getD-take, getD-drop}
 use lib.Dec.{eqb, ltb}
 use borrow.Author.Tests.{eqb-true, eqb-false, ltb-true, ltb-false, le-leb, not-false}
-use Rattle.words.specs.Words.{byteOf}
-use Rattle.words.specs.Folds.{allOf, table}
 use Rattle.words.proofs.Bools.{by, and-4, passed}
-use Rattle.words.proofs.Bytes.{word-of-bytes}
-use Rattle.words.proofs.FoldLaws.{all-each, all-if, length-table, getD-table}
 use Rattle.words.proofs.Lists.{skip}
-use Rattle.block.specs.Block.{AreWords, AreBytes, blockCount, checkOk, sheetWords, shapeOk, leastFit, sheetBytes}
-use Rattle.block.proofs.Laws.{length-content, shape-whole, shape-if, blocks-least, least-blocks}
-use Rattle.block.proofs.PackLaws.{length-bytes, bytes-same}
-use Rattle.block.proofs.RoundTrip.{check-back, content-back, sheet-again, content-small}
-use Rattle.text.specs.Text.{textByte, zeroRest}
+use Rattle.block.specs.Block.{AreWords, AreBytes, blockCount, sheetWords, leastFit, blocksFor, sheetBytes}
+use Rattle.block.proofs.Laws.{blocks-least}
+use Rattle.block.proofs.PackLaws.{length-bytes}
+use Rattle.text.specs.Text.{zeroRest}
 use Rattle.class_sheet.specs.ClassSheet.{blockLimit, textLength, textAt, contentEnd, textOf}
 use Rattle.class_rules.specs.ClassRules.{classLimits, classFits, allFresh, classForm}
 use Rattle.set_rules.specs.SetRules.{classRefusal}
 use Rattle.set_rules.proofs.Kept.{class-fits-kept}
-use Rattle.sheet.specs.Sheet.{blockRefusal, sheetRefusal, readSheet, classRows, classSheetRefusal, readClassSheet}
+use Rattle.sheet.specs.Sheet.{blockRefusal, readSheet, classRows, classSheetRefusal, readClassSheet}
 use Rattle.writer.specs.Writer as writer
 use Rattle.writer.specs.Writer.{contentOf, blocksOf, storable, writeRefusal, writeClassSheet}
 use Rattle.writer.specs.RoundTrip.{paddedContent, blocksWritten, sheetWritten, RoundTrip}
 use Rattle.writer.proofs.Laws.{Passed, few-blocks, write-passed, write-accepts}
-use Rattle.writer.proofs.Content.{content-length, content-longer, length-padded, padded-at, padded-rows, rows-padded}
-use Rattle.writer.proofs.Content.{zero-each, zero-same, refusal-longer, fresh-longer, end-longer, text-end-longer}
+use Rattle.writer.proofs.Blocks.{sheet-passed, blocks-count, blocks-words, blocks-rows, whole, words-length, again-blocks, again-same, again}
+use Rattle.writer.proofs.Zeros.{zero-same}
+use Rattle.writer.proofs.Content.{content-length, content-longer, padded-rows, rows-padded}
+use Rattle.writer.proofs.Content.{refusal-longer, fresh-longer, end-longer, text-end-longer}
 
 -- ---- writings and readings that are not refused
 
@@ -56,35 +53,15 @@ unfolding writeClassSheet
 write-accepted ws bs e =
     by (eqb (writeRefusal ws (length bs)) 0) (λ q. eqb-true _ _ q) (λ q. absurd (eqb-false _ _ q (rw q at e)))
 
-read-is : (bs out : List ℕ) → classSheetRefusal bs (length out) ≡ 0
+pub read-is : (bs out : List ℕ) → classSheetRefusal bs (length out) ≡ 0
     → readClassSheet bs out ≡ record { refusal = 0; words = 127 * blockCount bs; memory = sheetWords bs ++ drop (127 * blockCount bs) out }
 unfolding readClassSheet readSheet
 read-is bs out e = rw e
 
-read-accepted : (bs out : List ℕ) → (readClassSheet bs out) .refusal ≡ 0 → classSheetRefusal bs (length out) ≡ 0
+pub read-accepted : (bs out : List ℕ) → (readClassSheet bs out) .refusal ≡ 0 → classSheetRefusal bs (length out) ≡ 0
 unfolding readClassSheet readSheet
 read-accepted bs out e =
     by (eqb (classSheetRefusal bs (length out)) 0) (λ q. eqb-true _ _ q) (λ q. absurd (eqb-false _ _ q (rw q at e)))
-
--- ---- rows 1 and 2
-
-block-passed : (bs : List ℕ) (room : ℕ) → blockRefusal bs room blockLimit ≡ 0
-    → (shapeOk (length bs) room blockLimit ≡ true) × (allOf (blockCount bs) (checkOk bs) ≡ true)
-unfolding blockRefusal
-block-passed bs room e =
-    let p = passed (not (shapeOk (length bs) room blockLimit)) 1 _ (omega arith) e in
-    let q = passed (not (allOf (blockCount bs) (checkOk bs))) 2 0 (omega arith) (p .1) in
-    (not-false _ (p .0), not-false _ (q .0))
-
-block-accepts : (bs : List ℕ) (room : ℕ) → shapeOk (length bs) room blockLimit ≡ true → allOf (blockCount bs) (checkOk bs) ≡ true
-    → blockRefusal bs room blockLimit ≡ 0
-unfolding blockRefusal
-block-accepts bs room s c = rw (s, c)
-
-sheet-passed : (bs : List ℕ) (room : ℕ) → classSheetRefusal bs room ≡ 0 → (blockRefusal bs room blockLimit ≡ 0) × (classRows (sheetWords bs) ≡ 0)
-unfolding classSheetRefusal sheetRefusal
-sheet-passed bs room e =
-    by (eqb (blockRefusal bs room blockLimit) 0) (λ q. (eqb-true _ _ q, rw q at e)) (λ q. absurd (eqb-false _ _ q (rw q at e)))
 
 -- ---- the blocks of the content, read
 
@@ -100,49 +77,26 @@ module _ (ws : List ℕ) (small : AreWords ws) (fits : classFits ws ≡ true) wh
       let past : length (contentOf ws) ≤ i = omega (arith, content-length ws fits, ltb-false i (contentEnd ws) t) in
       rw (List·getD-eq-default (contentOf ws) 0 past) (omega arith))
 
-  bytes-length : length bytes ≡ 512 * blocksOf ws
-  bytes-length = length-bytes (contentOf ws) (blocksOf ws)
+  -- the blocks of its content are as many as its end asks for
+  same-blocks : blocksFor (length (contentOf ws)) ≡ blocksOf ws
+  same-blocks = ap blocksFor (content-length ws fits)
 
   bytes-count : blockCount bytes ≡ blocksOf ws
-  unfolding blockCount
-  bytes-count = omega (arith, bytes-length)
+  bytes-count = rw same-blocks at (blocks-count (contentOf ws) content-words)
 
   bytes-words : sheetWords bytes ≡ paddedContent ws
-  unfolding sheetWords
-  bytes-words =
-      let l = length-table (127 * blocksOf ws) (λ i. getD (contentOf ws) i 0) in
-      rw bytes-count
-      (rw (append-nil bytes) at (content-back (contentOf ws) content-words (blocksOf ws) [])
-      ∙ ext-getD 0 (table (127 * blocksOf ws) (λ i. getD (contentOf ws) i 0)) (paddedContent ws) (l ∙ sym (length-padded ws fits))
-      (λ i h.
-      getD-table (127 * blocksOf ws) (λ i. getD (contentOf ws) i 0) i (omega arith)
-      ∙ sym (padded-at (contentOf ws) (127 * blocksOf ws - contentEnd ws) i)))
+  bytes-words = rw (same-blocks, content-length ws fits) at (blocks-words (contentOf ws) content-words)
 
-  bytes-checked : allOf (blockCount bytes) (checkOk bytes) ≡ true
-  bytes-checked =
-      rw bytes-count
-      (all-if (blocksOf ws) (checkOk bytes)
-      (λ k l. rw (append-nil bytes) at (check-back (contentOf ws) content-words (blocksOf ws) [] k l)))
-
-  bytes-rows : (room : ℕ) → 127 * blocksOf ws ≤ room → classSheetRefusal bytes room ≡ classRows (paddedContent ws)
-  unfolding classSheetRefusal sheetRefusal
+  pub bytes-rows : (room : ℕ) → 127 * blocksOf ws ≤ room → classSheetRefusal bytes room ≡ classRows (paddedContent ws)
+  unfolding classSheetRefusal
   bytes-rows room l =
       let f = few-blocks ws fits in
-      let s : shapeOk (length bytes) room blockLimit ≡ true = rw bytes-length (shape-if (blocksOf ws) room blockLimit (f .0) (f .1) l) in
-      rw (block-accepts bytes room s bytes-checked, bytes-words)
+      rw (same-blocks, content-length ws fits) at
+      (blocks-rows (contentOf ws) content-words classRows room (omega (arith, same-blocks, f .0)) (omega (arith, same-blocks, f .1)) (omega (arith, same-blocks)))
 
 -- ---- what a reading left, written
 
--- a word whose bytes are all 0
-zero-word : (ws : List ℕ) (i : ℕ) → getD ws i 0 < 2 ^ 32 → ((r : ℕ) → r < 4 → textByte ws (4 * i + r) ≡ 0) → getD ws i 0 ≡ 0
-unfolding textByte
-zero-word ws i h z =
-    let byte : (r : ℕ) → r < 4 → byteOf (getD ws i 0) r ≡ 0 =
-    λ r l. let q : (4 * i + r) / 4 ≡ i = omega arith in let e : (4 * i + r) % 4 ≡ r = omega arith in rw (q, e) at (z r l) in
-    let w = word-of-bytes (getD ws i 0) h in
-    omega (arith, byte 0 (omega arith), byte 1 (omega arith), byte 2 (omega arith), byte 3 (omega arith))
-
-text-inside : (ws : List ℕ) → 4 * textAt ws + textLength ws ≤ 4 * contentEnd ws
+pub text-inside : (ws : List ℕ) → 4 * textAt ws + textLength ws ≤ 4 * contentEnd ws
 unfolding contentEnd
 text-inside ws = omega arith
 
@@ -153,20 +107,14 @@ module _ (bs out : List ℕ) (small : AreBytes bs) (e : classSheetRefusal bs (le
   abbrev rest : List ℕ
   rest = drop (127 * blockCount bs) out
 
-  passed-blocks : (shapeOk (length bs) (length out) blockLimit ≡ true) × (allOf (blockCount bs) (checkOk bs) ≡ true)
-  passed-blocks = block-passed bs (length out) (sheet-passed bs (length out) e .0)
-
-  whole : length bs ≡ 512 * blockCount bs
-  unfolding blockCount
-  whole = shape-whole (length bs) (length out) blockLimit (passed-blocks .0) .1
-
-  checked : (k : ℕ) → k < blockCount bs → checkOk bs k ≡ true
-  checked = all-each (blockCount bs) (checkOk bs) (passed-blocks .1)
+  rows-passed : (blockRefusal bs (length out) blockLimit ≡ 0) × (classRows ws ≡ 0)
+  unfolding classSheetRefusal
+  rows-passed = sheet-passed classRows bs (length out) e
 
   passed-rows : (classForm ws ≡ true) × (classRefusal ws (textOf ws) ≡ 0)
   unfolding classRows
   passed-rows =
-      let p = passed (not (classForm ws)) 3 _ (omega arith) (sheet-passed bs (length out) e .1) in (not-false _ (p .0), p .1)
+      let p = passed (not (classForm ws)) 3 _ (omega arith) (rows-passed .1) in (not-false _ (p .0), p .1)
 
   formed : (classLimits ws ≡ true) × (leastFit (contentEnd ws) (length ws) ≡ true) × (zeroRest ws (4 * textAt ws + textLength ws) ≡ true)
       × (allFresh ws ≡ true)
@@ -174,32 +122,18 @@ module _ (bs out : List ℕ) (small : AreBytes bs) (e : classSheetRefusal bs (le
   formed =
       and-4 (classLimits ws) (leastFit (contentEnd ws) (length ws)) (zeroRest ws (4 * textAt ws + textLength ws)) (allFresh ws) (passed-rows .0)
 
-  words-length : length ws ≡ 127 * blockCount bs
-  unfolding sheetWords
-  words-length = length-content bs (blockCount bs)
+  abbrev start : ℕ
+  start = 4 * textAt ws + textLength ws
 
   least : (contentEnd ws ≤ 127 * blockCount bs) × (blocksOf ws ≡ blockCount bs)
-  least = least-blocks (contentEnd ws) (blockCount bs) (rw words-length at (formed .1))
+  least = again-blocks bs (length out) small (rows-passed .0) (contentEnd ws) start (formed .1) (text-inside ws) (formed .2)
 
   fits : classFits ws ≡ true
   unfolding classFits
-  fits = rw (formed .0) (le-leb (contentEnd ws) (length ws) (omega (arith, words-length, least .0)))
-
-  -- past the content the words are 0
-  past-content : (i : ℕ) → contentEnd ws ≤ i → getD ws i 0 ≡ 0
-  unfolding sheetWords
-  past-content i h =
-      zero-word ws i (content-small bs small (blockCount bs) whole checked i)
-      (λ r l. zero-each ws (4 * textAt ws + textLength ws) (formed .2) (4 * i + r) (omega (arith, text-inside ws)))
+  fits = rw (formed .0) (le-leb (contentEnd ws) (length ws) (omega (arith, words-length bs (length out) small (rows-passed .0), least .0)))
 
   same : (i : ℕ) → getD ws i 0 ≡ getD (contentOf ws) i 0
-  same i =
-      by (ltb i (contentEnd ws))
-      (λ t. sym (getD-take (contentEnd ws) ws i 0 (ltb-true i (contentEnd ws) t)))
-      (λ t.
-      let l = ltb-false i (contentEnd ws) t in
-      let past : length (contentOf ws) ≤ i = omega (arith, content-length ws fits) in
-      past-content i l ∙ sym (List·getD-eq-default (contentOf ws) 0 past))
+  same = again-same bs (length out) small (rows-passed .0) (contentEnd ws) start (formed .1) (text-inside ws) (formed .2)
 
   -- the lent words that the reading left, of which the sheet's words are the front
   abbrev left : List ℕ
@@ -209,7 +143,7 @@ module _ (bs out : List ℕ) (small : AreBytes bs) (e : classSheetRefusal bs (le
   left-end = end-longer ws rest fits
 
   left-content : contentOf left ≡ contentOf ws
-  left-content = rw left-end (take-append-le (contentEnd ws) ws rest (omega (arith, words-length, least .0)))
+  left-content = rw left-end (take-append-le (contentEnd ws) ws rest (omega (arith, words-length bs (length out) small (rows-passed .0), least .0)))
 
   left-storable : storable left ≡ true
   unfolding storable
@@ -231,18 +165,18 @@ module _ (bs out : List ℕ) (small : AreBytes bs) (e : classSheetRefusal bs (le
         fits = class-fits-kept ws rest fits;
         rows = refusal-longer ws rest fits ∙ passed-rows .1;
         store = left-storable;
-        space = omega (arith, left-blocks, whole);
+        space = omega (arith, left-blocks, whole bs (length out) small (rows-passed .0));
       }
 
   left-bytes : sheetBytes (contentOf left) (blocksOf left) ≡ bs
-  unfolding sheetWords
   left-bytes =
-      rw (left-content, left-blocks, ← (bytes-same ws (contentOf ws) same (blockCount bs))) (sheet-again bs small (blockCount bs) whole checked)
+      rw (left-content, left-end)
+      (again bs (length out) small (rows-passed .0) (contentEnd ws) start (formed .1) (text-inside ws) (formed .2))
 
   left-written : (lent : List ℕ) → length bs ≤ length lent
       → writeClassSheet left lent ≡ record { refusal = 0; blocks = blockCount bs; memory = bs ++ drop (length bs) lent }
   left-written lent l =
-      write-is left lent (write-accepts left (length lent) (left-passed (length lent) l)) ∙ rw (left-bytes, left-blocks, whole)
+      write-is left lent (write-accepts left (length lent) (left-passed (length lent) l)) ∙ rw (left-bytes, left-blocks, whole bs (length out) small (rows-passed .0))
 
 -- ---- the four theorems
 

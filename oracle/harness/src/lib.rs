@@ -7,6 +7,7 @@ pub mod compare;
 pub mod corpus;
 pub mod demand3;
 pub mod drive;
+pub mod forms;
 pub mod generate;
 pub mod listings;
 pub mod names;

@@ -148,6 +148,14 @@ impl Linker for Oracle {
         rows::write_class_sheet(set, bytes).map_or_else(Answer::refused, |count| Answer::accepted(count, 0))
     }
 
+    fn widen_class_sheet(&mut self, bytes: &[u8], out: &mut [u8]) -> Answer {
+        rows::widen_class_sheet(bytes, out).map_or_else(Answer::refused, |count| Answer::accepted(count, 0))
+    }
+
+    fn narrow_class_sheet(&mut self, bytes: &[u8], out: &mut [u8]) -> Answer {
+        rows::narrow_class_sheet(bytes, out).map_or_else(Answer::refused, |count| Answer::accepted(count, 0))
+    }
+
     fn read_unordered_sheet(&mut self, bytes: &[u8], words: &mut [u32]) -> Answer {
         rows::read_unordered_sheet(bytes, words).map_or_else(Answer::refused, |count| Answer::accepted(count, 0))
     }

@@ -4,6 +4,7 @@
 use std::collections::BTreeMap;
 
 use crate::case::Case;
+use crate::forms;
 use crate::names;
 use crate::oracle::Oracle;
 use crate::orders;
@@ -82,6 +83,27 @@ const BUCKETS: &[&str] = &[
     "writing: a generated class's static words",
     "writing: words after the content",
     "writing: bytes after the blocks",
+    "class sheet widened",
+    "class sheet not widened, by row 1",
+    "class sheet not widened, by row 2",
+    "class sheet not widened, by row 3",
+    "class sheet not widened, by row 4",
+    "class sheet not widened, by row 5",
+    "class sheet not widened, by row 18",
+    "class sheet narrowed",
+    "class sheet not narrowed, by row 1",
+    "class sheet not narrowed, by row 2",
+    "class sheet not narrowed, by row 3",
+    "class sheet not narrowed, by row 4",
+    "class sheet not narrowed, by row 5",
+    "class sheet not narrowed, by row 23",
+    "class sheet not narrowed, by row 18",
+    "converting: a generated class with static fields",
+    "converting: a built class with static fields",
+    "converting: a block more",
+    "converting: a block fewer",
+    "converting: bytes after the blocks",
+    "converting: 23 where the bytes are too few, too",
     "reference words listed",
     "reference words refused by row 24",
     "reference words refused by row 25",
@@ -131,7 +153,7 @@ impl ReadingCounts {
     }
 }
 
-/// Reads the case's sheets, damaged or not, on both sides, writes its set back, renumbers it shuffled, asks for argument words and of a reference
+/// Reads the case's sheets, damaged or not, on both sides, writes its set back, makes a sheet of it one of the other form, renumbers it shuffled, asks for argument words and of a reference
 /// bitmap, and compares two names.
 /// Answers the first disagreement.
 pub fn compare(
@@ -180,6 +202,7 @@ pub fn compare(
     }
     references::compare(oracle, other, &references::random(random), counts)?;
     writings::compare(oracle, other, &writings::random(random, case), counts)?;
+    forms::compare(oracle, other, &forms::random(random, case), counts)?;
     orders::compare(oracle, other, random, case, counts)?;
     names::compare(oracle, other, &names::random(random), counts)
 }
@@ -228,7 +251,7 @@ pub(crate) fn unlinked(words: &[u32]) -> Option<Vec<u32>> {
 }
 
 /// The number of kinds of damage; this one is none.
-const UNDAMAGED: u32 = 13;
+pub(crate) const UNDAMAGED: u32 = 13;
 
 /// A sheet to read: its bytes, and the number of words lent.
 pub struct Reading {
@@ -259,7 +282,7 @@ pub fn read(side: &mut dyn Linker, reading: &Reading, words: &mut [u32]) -> Answ
 }
 
 /// The sheet's bytes, the words lent, and what was damaged.
-fn damaged(random: &mut Random, mut content: Vec<u32>, is_class_sheet: bool, damage: u32) -> (Vec<u8>, usize, &'static str) {
+pub(crate) fn damaged(random: &mut Random, mut content: Vec<u32>, is_class_sheet: bool, damage: u32) -> (Vec<u8>, usize, &'static str) {
     let most = if is_class_sheet { 92 } else { 51 };
     let text = content.get(if is_class_sheet { 5 } else { 3 }).copied().unwrap_or(0);
     let classes = if is_class_sheet { content.first().copied().unwrap_or(0).min(64) } else { 0 };

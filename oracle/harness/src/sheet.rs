@@ -3,8 +3,9 @@
 
 use std::ops::Range;
 
-/// The words of a class record.
+/// The words of a class record, and of one made before there were static words.
 pub const CLASS_WORDS: usize = 18;
+pub const OLD_CLASS_WORDS: usize = 17;
 
 /// A class record, word by word.
 #[derive(Clone, Copy, Debug, PartialEq, Eq)]
@@ -173,6 +174,43 @@ impl Set {
         words.extend(&self.compiler);
         pack_text(&mut words, &self.text);
         words
+    }
+
+    /// The sections of words of the old form, every class with static words 0.
+    pub fn decode_old(words: &[u32]) -> Option<Self> {
+        let classes = words.first().filter(|&&classes| classes <= 64)?;
+        let (front, rest) = words.split_at_checked(6 + OLD_CLASS_WORDS * *classes as usize)?;
+        let mut new = front[..6].to_vec();
+        for record in front[6..].chunks_exact(OLD_CLASS_WORDS) {
+            new.extend(record);
+            new.push(0);
+        }
+        new.extend(rest);
+        Self::decode(&new)
+    }
+
+    /// The words of the old form, without the static words.
+    pub fn encode_old(&self) -> Vec<u32> {
+        let mut words = self.encode();
+        for number in (1..=self.classes.len() as u32).rev() {
+            words.remove(class_word_at(number, class_word::STATIC_WORDS));
+        }
+        words
+    }
+
+    /// Gives each generated class the sum of its static field widths, and leaves the others.
+    pub fn bring_static_words(&mut self) {
+        for number in 0..self.classes.len() {
+            if self.classes[number].get(class_word::KIND) == 1 {
+                self.classes[number].0[class_word::STATIC_WORDS] = self.static_words(self.classes[number].span(class_word::FIELDS));
+            }
+        }
+    }
+
+    /// The sum of the widths of the static fields in a list, as far as it lies in its section.
+    fn static_words(&self, (first, count): (u32, u32)) -> u32 {
+        let fields = self.fields.iter().skip(first as usize).take(count as usize).filter(|field| field.flags & 8 != 0);
+        fields.map(|field| if matches!(self.text.get(range(field.descriptor)), Some(b"J" | b"D")) { 2 } else { 1 }).sum()
     }
 
     /// The number of content words.

@@ -43,6 +43,14 @@ impl Linker for Explained {
         Model.write_class_sheet(set, bytes)
     }
 
+    fn widen_class_sheet(&mut self, bytes: &[u8], out: &mut [u8]) -> Answer {
+        Model.widen_class_sheet(bytes, out)
+    }
+
+    fn narrow_class_sheet(&mut self, bytes: &[u8], out: &mut [u8]) -> Answer {
+        Model.narrow_class_sheet(bytes, out)
+    }
+
     fn read_unordered_sheet(&mut self, bytes: &[u8], words: &mut [u32]) -> Answer {
         Model.read_unordered_sheet(bytes, words)
     }

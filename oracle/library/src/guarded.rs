@@ -184,6 +184,14 @@ impl Linker for Guarded {
         self.read(set, bytes, &mut |library, set, bytes| library.write_class_sheet(set, bytes))
     }
 
+    fn widen_class_sheet(&mut self, bytes: &[u8], out: &mut [u8]) -> Answer {
+        self.read(bytes, out, &mut |library, bytes, out| library.widen_class_sheet(bytes, out))
+    }
+
+    fn narrow_class_sheet(&mut self, bytes: &[u8], out: &mut [u8]) -> Answer {
+        self.read(bytes, out, &mut |library, bytes, out| library.narrow_class_sheet(bytes, out))
+    }
+
     fn read_unordered_sheet(&mut self, bytes: &[u8], words: &mut [u32]) -> Answer {
         self.read(bytes, words, &mut |library, bytes, words| library.read_unordered_sheet(bytes, words))
     }

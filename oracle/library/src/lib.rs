@@ -15,6 +15,10 @@ unsafe extern "C" {
 
     fn lgt_write_class_sheet(set: *const u32, set_len: usize, bytes: *mut u8, bytes_len: usize, answer: *mut u32) -> u32;
 
+    fn lgt_widen_class_sheet(bytes: *const u8, bytes_len: usize, out: *mut u8, out_len: usize, answer: *mut u32) -> u32;
+
+    fn lgt_narrow_class_sheet(bytes: *const u8, bytes_len: usize, out: *mut u8, out_len: usize, answer: *mut u32) -> u32;
+
     fn lgt_read_unordered_sheet(bytes: *const u8, bytes_len: usize, words: *mut u32, words_len: usize, answer: *mut u32) -> u32;
 
     fn lgt_renumber_classes(set: *mut u32, set_len: usize, order: *mut u32, order_len: usize, answer: *mut u32) -> u32;
@@ -95,6 +99,14 @@ impl Linker for Library {
 
     fn write_class_sheet(&mut self, set: &[u32], bytes: &mut [u8]) -> Answer {
         answered(1, |answer| unsafe { lgt_write_class_sheet(self.read_only(set), set.len(), self.lent(bytes), bytes.len(), answer) })
+    }
+
+    fn widen_class_sheet(&mut self, bytes: &[u8], out: &mut [u8]) -> Answer {
+        answered(1, |answer| unsafe { lgt_widen_class_sheet(self.read_only(bytes), bytes.len(), self.lent(out), out.len(), answer) })
+    }
+
+    fn narrow_class_sheet(&mut self, bytes: &[u8], out: &mut [u8]) -> Answer {
+        answered(1, |answer| unsafe { lgt_narrow_class_sheet(self.read_only(bytes), bytes.len(), self.lent(out), out.len(), answer) })
     }
 
     fn read_unordered_sheet(&mut self, bytes: &[u8], words: &mut [u32]) -> Answer {

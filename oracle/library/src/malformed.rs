@@ -1,6 +1,7 @@
 //! Malformed inputs: sheets, words, areas and lengths of any kind, by the seed.
 
 use harness::case::{Call, Case};
+use harness::forms::{self, Conversion};
 use harness::generate;
 use harness::names::{self, Names};
 use harness::orders::{self, Order};
@@ -89,27 +90,46 @@ pub fn case(seed: u64, number: u64) -> Case {
 /// A malformed sheet to read: bytes of any kind, or words of any kind in blocks with true checks.
 pub fn reading(random: &mut Random, case: &Case) -> Reading {
     let mut reading = readings::reading(random, case);
+    damage_bytes(random, &mut reading.bytes, if reading.is_class_sheet { &case.set } else { &case.abi });
+    if random.chance(30) {
+        reading.lent = random.below(300) as usize;
+    }
+    reading
+}
+
+/// Makes a sheet's bytes malformed, or those of these words.
+fn damage_bytes(random: &mut Random, bytes: &mut Vec<u8>, content: &[u32]) {
     match random.below(4) {
-        0 => reading.bytes = (0..random.below(1600)).map(|_| random.word() as u8).collect(),
+        0 => *bytes = (0..random.below(1600)).map(|_| random.word() as u8).collect(),
         1 => {
-            let mut content = if reading.is_class_sheet { case.set.clone() } else { case.abi.clone() };
+            let mut content = content.to_vec();
             damage(random, &mut content, 8);
-            reading.bytes = blocks(&content);
+            *bytes = blocks(&content);
         }
-        2 => reading.bytes.truncate(random.below(reading.bytes.len() as u32 + 1) as usize),
+        2 => bytes.truncate(random.below(bytes.len() as u32 + 1) as usize),
         _ => {
             for _ in 0..random.below(4) {
-                let at = random.below(reading.bytes.len() as u32) as usize;
-                if let Some(byte) = reading.bytes.get_mut(at) {
+                let at = random.below(bytes.len() as u32) as usize;
+                if let Some(byte) = bytes.get_mut(at) {
                     *byte = random.word() as u8;
                 }
             }
         }
     }
-    if random.chance(30) {
-        reading.lent = random.below(300) as usize;
+}
+
+/// A sheet of any kind to convert, of either form, into any number of bytes.
+pub fn conversion(random: &mut Random, case: &Case) -> Conversion {
+    let mut conversion = forms::random(random, case);
+    if random.chance(40) {
+        damage_bytes(random, &mut conversion.bytes, &case.set);
     }
-    reading
+    match random.below(5) {
+        0 => conversion.lent = random.below(1600) as usize,
+        1 => conversion.lent = 0,
+        _ => {}
+    }
+    conversion
 }
 
 /// Class words of any kind to write, into any number of bytes.

@@ -5,6 +5,7 @@
 mod ask;
 mod descriptors;
 mod fields;
+mod forms;
 mod link;
 mod names;
 mod order;
@@ -22,6 +23,7 @@ use crate::why::{Refused, Why};
 
 pub use ask::ask;
 pub use descriptors::argument_words;
+pub use forms::{narrow_class_sheet, widen_class_sheet};
 pub use link::link;
 pub use names::compare_names;
 pub use order::{read_unordered_sheet, renumber_classes};
@@ -51,6 +53,14 @@ impl Linker for Model {
 
     fn write_class_sheet(&mut self, set: &[u32], bytes: &mut [u8]) -> Answer {
         answer(write_class_sheet(set, bytes).map(|blocks| (blocks, 0)))
+    }
+
+    fn widen_class_sheet(&mut self, bytes: &[u8], out: &mut [u8]) -> Answer {
+        answer(widen_class_sheet(bytes, out).map(|blocks| (blocks, 0)))
+    }
+
+    fn narrow_class_sheet(&mut self, bytes: &[u8], out: &mut [u8]) -> Answer {
+        answer(narrow_class_sheet(bytes, out).map(|blocks| (blocks, 0)))
     }
 
     fn read_unordered_sheet(&mut self, bytes: &[u8], words: &mut [u32]) -> Answer {

@@ -379,7 +379,12 @@ fn content<const N: usize>(words: &[u32], limits: [u32; N], widths: [usize; N]) 
 
 /// The length of a class sheet's content, if no count is above its limit.
 pub fn class_content(words: &[u32]) -> Option<usize> {
-    content(words, CLASS_LIMITS, [CLASS_WORDS, MEMBER_WORDS, MEMBER_WORDS, 1, 1, 0])
+    content_by(CLASS_WORDS, words)
+}
+
+/// The same of class records of so many words.
+pub fn content_by(width: usize, words: &[u32]) -> Option<usize> {
+    content(words, CLASS_LIMITS, [width, MEMBER_WORDS, MEMBER_WORDS, 1, 1, 0])
 }
 
 /// The length of an ABI sheet's content, if no count is above its limit.

@@ -4,7 +4,7 @@
 #[derive(Clone, Copy, Debug, Default, PartialEq, Eq)]
 pub struct Answer {
     pub refusal: u32,
-    /// Link: the table's place. Ask: the interface table's place. Reading: words filled. Writing: blocks. Renumbering: classes.
+    /// Link: the table's place. Ask: the interface table's place. Reading: words filled. Writing and conversion: blocks. Renumbering: classes.
     /// Argument words: their number. Reference words: their number. Names: 1 if they are the same, else 0.
     pub first: u32,
     /// Link: slots. Ask: nodes read. Names: pairs of bytes read. Else 0.
@@ -29,6 +29,10 @@ pub trait Linker {
     fn read_abi_sheet(&mut self, bytes: &[u8], words: &mut [u32]) -> Answer;
 
     fn write_class_sheet(&mut self, set: &[u32], bytes: &mut [u8]) -> Answer;
+
+    fn widen_class_sheet(&mut self, bytes: &[u8], out: &mut [u8]) -> Answer;
+
+    fn narrow_class_sheet(&mut self, bytes: &[u8], out: &mut [u8]) -> Answer;
 
     fn read_unordered_sheet(&mut self, bytes: &[u8], words: &mut [u32]) -> Answer;
 

@@ -20,7 +20,11 @@ pub fn write_class_sheet(set: &[u32], bytes: &mut [u8]) -> Result<u32, Refused> 
     let is_linked = sheet.classes().any(|class| is_linked_or_counted(&class));
     let after_the_text = if text.len().is_multiple_of(4) { 0 } else { content[content.len() - 1] >> (8 * (text.len() % 4)) };
     refuse(17, is_linked || after_the_text != 0)?;
-    // "18, last, if the lent bytes are too few"
+    put_blocks(content, bytes)
+}
+
+/// "18, last, if the lent bytes are too few"; else the blocks of these words, as few as hold them, and every byte after them as it was.
+pub fn put_blocks(content: &[u32], bytes: &mut [u8]) -> Result<u32, Refused> {
     let count = content.len().div_ceil(BLOCK_CONTENT);
     refuse(18, bytes.len() < BLOCK_BYTES * count)?;
     for (block, number) in bytes.chunks_exact_mut(BLOCK_BYTES).take(count).zip(0..) {

@@ -1,4 +1,5 @@
 -- The test of static words and kind, as in the definition. Assumes nothing.
+use mathlib.Core.Path.{refl}
 use Rattle.class_rules.specs.ClassRules.{staticsClean}
 use borrow.Author.Needs.{needs}
 use Rattle.class_rules.proofs.statics_clean.Statement.{statement}
@@ -6,7 +7,7 @@ use Rattle.class_rules.proofs.statics_clean.Tie as tie
 
 returns : tie.Need-returns
 unfolding staticsClean
-returns c = cc
+returns c = rw (c .before .class-kind .ensures, c .class-static-words .ensures) refl
 
 pub statics-clean-spec : {M : Type 1} → statement M
 statics-clean-spec = tie.close (tie.spec (λ c κs. search needs) (λ c κs. search needs) returns)

@@ -5,7 +5,8 @@
 //! functions, in the same form: what they read stands for the ABI words, what they write for the
 //! area, bytes one to a word, and a number that they take for the class (kinds 2 reference words,
 //! 3 reference count, 4 writing, 5 reading loosely, 6 renumbering, 7 and 8 reading a class and an
-//! ABI sheet, 9 argument words, 10 names, the second for the area; class words are class words).
+//! ABI sheet, 9 argument words, 10 names, the second for the area, 11 and 12 making a class sheet
+//! of the old form one of the new, and of the new one of the old; class words are class words).
 
 use std::collections::BTreeMap;
 use std::process::ExitCode;
@@ -17,7 +18,7 @@ use harness::generate;
 use harness::oracle::Oracle;
 use harness::random::Random;
 use harness::side::{Answer, Linker};
-use harness::{names, orders, readings, references, writings};
+use harness::{forms, names, orders, readings, references, writings};
 
 /// How many cases are looked at, and the most words of a slice.
 const LOOKED_AT: u64 = 30_000;
@@ -65,6 +66,8 @@ fn others(oracle: &mut Oracle, seed: u64) -> Vec<Vec<u32>> {
     kept.extend((0..).flat_map(|_| bitmap_calls(oracle, &references::random(&mut random))).filter(is_small).take(OTHERS));
     let writing = |number| writings::random(&mut random, &generate::case(seed, number));
     kept.extend((0..).map(writing).map(|writing| writing_call(oracle, &writing)).filter(is_small).take(OTHERS));
+    let conversion = |number| forms::random(&mut random, &generate::case(seed, number));
+    kept.extend((0..).map(conversion).map(|conversion| conversion_call(oracle, &conversion)).filter(is_small).take(2 * OTHERS));
     let reading = |number| readings::reading(&mut random, &generate::case(seed, number));
     kept.extend((0..).map(reading).flat_map(|reading| reading_calls(oracle, &reading)).filter(is_small).take(3 * OTHERS));
     kept.extend((0..OTHERS).map(|_| readings::descriptor(&mut random)).map(|(descriptor, flags)| {
@@ -132,6 +135,14 @@ fn writing_call(oracle: &mut Oracle, writing: &writings::Writing) -> Vec<u32> {
     let mut after = before.clone();
     let answer = oracle.write_class_sheet(&writing.set, &mut after);
     call(4, 0, answer, &writing.set, &[], &wide(&before), &wide(&after))
+}
+
+fn conversion_call(oracle: &mut Oracle, conversion: &forms::Conversion) -> Vec<u32> {
+    let before = vec![7; conversion.lent];
+    let mut after = before.clone();
+    let answer = forms::convert(oracle, conversion.is_old, &conversion.bytes, &mut after);
+    let kind = if conversion.is_old { 11 } else { 12 };
+    call(kind, 0, answer, &[], &wide(&conversion.bytes), &wide(&before), &wide(&after))
 }
 
 /// The calls of a case, with the buckets that each reaches.

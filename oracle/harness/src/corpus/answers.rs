@@ -5,6 +5,7 @@ use std::collections::{BTreeMap, BTreeSet};
 
 use super::format::{Reader, Writer};
 use crate::case::Case;
+use crate::forms;
 use crate::generate;
 use crate::names;
 use crate::oracle::Oracle;
@@ -26,7 +27,7 @@ const MOST_WORDS: usize = 12_288;
 /// What each byte and word that a call fills holds before it.
 const UNWRITTEN: u8 = 7;
 /// How the names of the buckets begin that the calls cover, but for those that only a link reaches.
-const COVERED: [&str; 11] = [
+const COVERED: [&str; 16] = [
     "class set ",
     "writing: ",
     "names: ",
@@ -38,6 +39,11 @@ const COVERED: [&str; 11] = [
     "order: ",
     "reference words ",
     "bitmap: ",
+    "class sheet widened",
+    "class sheet not widened",
+    "class sheet narrowed",
+    "class sheet not narrowed",
+    "converting: ",
 ];
 const LINKED: [&str; 3] = ["order: linked alike", "order: a class refused alike", "order: a table in another order"];
 
@@ -50,9 +56,12 @@ enum Kind {
     Renumber,
     List,
     Count,
+    Widen,
+    Narrow,
 }
 
-const KINDS: [Kind; 6] = [Kind::Write, Kind::Compare, Kind::Read, Kind::Renumber, Kind::List, Kind::Count];
+const KINDS: [Kind; 8] =
+    [Kind::Write, Kind::Compare, Kind::Read, Kind::Renumber, Kind::List, Kind::Count, Kind::Widen, Kind::Narrow];
 
 /// What a call is lent to write; of a comparison the second name.
 #[derive(Clone, Default, PartialEq)]
@@ -87,6 +96,8 @@ impl Call {
             Kind::Renumber => side.renumber_classes(&mut memory.first, &mut memory.second),
             Kind::List => side.reference_words(&self.bytes, self.number, &mut memory.first),
             Kind::Count => side.reference_count(&self.bytes, self.number),
+            Kind::Widen => side.widen_class_sheet(&self.bytes, &mut memory.bytes),
+            Kind::Narrow => side.narrow_class_sheet(&self.bytes, &mut memory.bytes),
         };
         (answer, memory)
     }
@@ -144,7 +155,7 @@ impl Stored {
 type Made = Option<(Vec<Stored>, ReadingCounts)>;
 
 /// The sorts of call.
-const SORTS: [fn(&mut Oracle, &mut Random, &Case) -> Made; 5] = [writing, comparison, reading, order, bitmap];
+const SORTS: [fn(&mut Oracle, &mut Random, &Case) -> Made; 7] = [writing, comparison, reading, order, bitmap, widening, narrowing];
 
 fn unwritten(words: usize) -> Vec<u32> {
     vec![UNWRITTEN.into(); words]
@@ -197,6 +208,23 @@ fn bitmap(oracle: &mut Oracle, random: &mut Random, _: &Case) -> Made {
     let (listed, counted) = (Stored::new(oracle, list), Stored::new(oracle, count));
     references::observe(&bitmap, listed.answer, &mut counts);
     Some((vec![listed, counted], counts))
+}
+
+fn widening(oracle: &mut Oracle, random: &mut Random, case: &Case) -> Made {
+    conversion(oracle, &forms::random(random, case)).filter(|(stored, _)| stored[0].call.kind == Kind::Widen)
+}
+
+fn narrowing(oracle: &mut Oracle, random: &mut Random, case: &Case) -> Made {
+    conversion(oracle, &forms::random(random, case)).filter(|(stored, _)| stored[0].call.kind == Kind::Narrow)
+}
+
+/// A class sheet made one of the other form.
+fn conversion(oracle: &mut Oracle, conversion: &forms::Conversion) -> Made {
+    let (kind, mut counts) = (if conversion.is_old { Kind::Widen } else { Kind::Narrow }, ReadingCounts::default());
+    let memory = Memory { bytes: vec![UNWRITTEN; conversion.lent], ..Memory::default() };
+    let stored = Stored::new(oracle, Call { bytes: conversion.bytes.clone(), ..Call::new(kind, memory) });
+    forms::observe(conversion, stored.answer, &stored.after.bytes[..512 * stored.answer.first as usize], &mut counts);
+    Some((vec![stored], counts))
 }
 
 /// What a sort gives with a case of the seed, if there is room for it.

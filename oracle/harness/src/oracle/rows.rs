@@ -121,9 +121,44 @@ pub fn write_class_sheet(words: &[u32], bytes: &mut [u8]) -> Result<u32, u32> {
     if !words.starts_with(&content) || !is_untouched(&set) {
         return Err(17);
     }
-    let written = blocks(&content);
+    put_blocks(&content, bytes)
+}
+
+/// The blocks of these words, or row 18.
+fn put_blocks(content: &[u32], bytes: &mut [u8]) -> Result<u32, u32> {
+    let written = blocks(content);
     bytes.get_mut(..written.len()).ok_or(18u32)?.copy_from_slice(&written);
     Ok(written.len() as u32 / 512)
+}
+
+/// Makes a class sheet of 17-word records one of 18: rows 1 to 5 of the old form, and 18. What the form cannot say is what its sections,
+/// decoded and encoded again, lose.
+pub fn widen_class_sheet(bytes: &[u8], out: &mut [u8]) -> Result<u32, u32> {
+    let mut set = Set::decode_old(&block_words(bytes, 92, usize::MAX)?).ok_or(3u32)?;
+    if blocks(&set.encode_old()) != bytes || !is_untouched(&set) {
+        return Err(3);
+    }
+    if !set_follows_row_4(&set) {
+        return Err(4);
+    }
+    if !set_follows_row_5(&set) {
+        return Err(5);
+    }
+    set.bring_static_words();
+    put_blocks(&set.encode(), out)
+}
+
+/// And back: rows 1 to 5 of a reading, 23 where a class would come back with other static words, and 18.
+pub fn narrow_class_sheet(bytes: &[u8], out: &mut [u8]) -> Result<u32, u32> {
+    let mut words = vec![0; 127 * 92];
+    let count = read_class_sheet(bytes, &mut words)? as usize;
+    let set = Set::decode(&words[..count]).ok_or(3u32)?;
+    let mut again = set.clone();
+    again.bring_static_words();
+    if again != set {
+        return Err(23);
+    }
+    put_blocks(&set.encode_old(), out)
 }
 
 /// Rows 1 and 2: the words of all blocks, less their checks.

@@ -10,6 +10,7 @@ use std::time::Instant;
 
 use harness::case::{Call, Case};
 use harness::compare;
+use harness::forms;
 use harness::names;
 use harness::oracle::Oracle;
 use harness::orders;
@@ -91,7 +92,7 @@ fn main() -> ExitCode {
     ExitCode::SUCCESS
 }
 
-/// A case's calls, a reading, of a class sheet loosely too, a writing, an order, a descriptor, a reference bitmap and two names.
+/// A case's calls, a reading, of a class sheet loosely too, a writing, a conversion, an order, a descriptor, a reference bitmap and two names.
 fn one(seed: u64, number: u64, oracle: &mut Oracle, guarded: &mut Guarded, counts: &mut Counts) -> Result<(), String> {
     let case = malformed::case(seed, number);
     let result = compare::compare(oracle, guarded, &case, &mut |step| {
@@ -131,6 +132,8 @@ fn one(seed: u64, number: u64, oracle: &mut Oracle, guarded: &mut Guarded, count
     counts.count("reference words", references::judge(oracle, guarded, &malformed::bitmap(&mut random))?);
     counts.count("order", orders::judge(oracle, guarded, &malformed::order(&mut random, &case))?.0);
     counts.count("writing", writings::judge(oracle, guarded, &malformed::writing(&mut random, &case))?);
+    let conversion = malformed::conversion(&mut random, &case);
+    counts.count(if conversion.is_old { "widening" } else { "narrowing" }, forms::judge(oracle, guarded, &conversion)?.0);
     counts.count("names", names::judge(oracle, guarded, &malformed::names(&mut random))?);
     Ok(())
 }

@@ -1,0 +1,1 @@
+// What holds of converted class sheets: this crate has no code, only specs/ and proofs/.

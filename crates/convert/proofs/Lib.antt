@@ -1,0 +1,4 @@
+pub mod Calls
+pub mod Forms
+pub mod Judging
+pub mod Words
