@@ -1,34 +1,41 @@
--- A method that a link adds takes its signature from a method of the sheet or from a slot of the ABI sheet: what holds of all those, with the
--- flags that it gets, holds of it (`added-each`). So its descriptor is within the limit of argument words (`added-within`). Assumes nothing.
-use mathlib.Core.Path.{_≡_, refl, _∙_}
-use mathlib.Core.Bool.{true, false, cond, _||_}
+-- A method that a link adds takes its signature from a method that the native view knows or from a slot of the ABI sheet: what holds of all
+-- those, with the flags that it gets, holds of it (`added-known`). Of a class of the set these methods are records of the sheet
+-- (`generated-each`). Of any number they are held by a class of the set, as the view is emptied of others, or have the signature of an ABI
+-- slot: so each added method is within the limit of argument words (`added-within`). Assumes nothing.
+use mathlib.Core.Path.{_≡_, refl, sym, _∙_}
+use mathlib.Core.Bool.{true, false, cond, not, _&&_, _||_, false≢true, true≢false}
 use mathlib.Core.List.{List, [], _∷_, List·Memᴰ}
 use Prim.Native.Nat.{ℕ, zero, suc, _+_, _-_, _/_, _%_, _≤_, _<_}
 use native.Mathlib.Omega.{arith}
-use lib.ListN.{length, getD}
-use lib.Dec.{eqb}
-use borrow.Author.Tests.{eqb-true}
-use Rattle.words.specs.Lists.{listFrom, numbers, andThen, firstFound, consFound, allFound}
+use lib.ListN.{length, getD, take}
+use lib.Dec.{eqb, leb, ltb}
+use borrow.Author.Tests.{eqb-true, ltb-true}
+use Rattle.words.specs.Lists.{listFrom, numbers, andThen, find, firstFound, consFound, allFound}
 use Rattle.words.specs.declared.Found.{Found}
 use Rattle.words.specs.declared.Found.the-variants.{At, Nothing}
-use Rattle.words.proofs.Bools.{by}
-use Rattle.words.proofs.ListLaws.{by-found, found-by, find-member, find-within, numbers-within}
+use Rattle.words.proofs.Bools.{by, and-both}
+use Rattle.words.proofs.ListLaws.{by-found, found-by, find-passes, find-member, find-within, numbers-within}
 use Rattle.text.specs.Text.{sameBytes}
+use Rattle.text.proofs.Laws.{same-is}
 use Rattle.descriptor.specs.Words.{receiverWords, isMethod}
 use Rattle.descriptor.proofs.Meaning.{meaning}
-use Rattle.class_sheet.specs.ClassSheet.{classCount, methodCount, classFirstMethod, classMethodCount, classCompilerTable, className, interfaceWord, methodFlags, methodDescriptor, textOf, methodLimit}
-use Rattle.abi_sheet.specs.AbiSheet.{abiClassCount, abiSlotCount, abiClassName, abiClassFirstSlot, abiClassSlotCount, abiTextOf, abiSlotLimit}
+use Rattle.class_sheet.specs.ClassSheet.{classCount, methodCount, classFirstMethod, classMethodCount, classCompilerTable, className, interfaceWord, methodFlags, methodDescriptor, methodName, textOf, classLimit, methodLimit}
+use Rattle.abi_sheet.specs.AbiSheet.{abiClassCount, abiSlotCount, abiClassName, abiSlotName, abiClassFirstSlot, abiClassSlotCount, abiSlotDescriptor, abiTextOf, abiSlotLimit}
 use Rattle.set_rules.specs.Valid.{IsClass, Valid, ValidAbi}
-use Rattle.linking.specs.Chain.{listCount, ownMethods, ownInterfaces, isAbstract, parentOf, chain, ownTarget, findByTarget}
-use Rattle.linking.specs.Abi.{abiNamed, abiSlots, slotIndex, slotAt, classAbi, chainAbi}
-use Rattle.linking.specs.Vtable.{Entry, empty, ownFixed, findByIndex, readEntry, readSlot, tableEntries, parentEntries}
-use Rattle.linking.specs.Compiler.{New, noNew, withoutAbstract, isEmptied, viewFrom, nativeView, fromMethod, fromSlot, signatureSources, isDeclared, addNamed, addFrom, addedFrom, addedMethods, compilerTargets}
+use Rattle.linking.specs.Chain.{onFound, listCount, ownMethods, ownInterfaces, isAbstract, parentOf, chain, ownTarget, findByTarget}
+use Rattle.linking.specs.Abi.{abiNamed, abiSlots, slotIndex, slotAt, slotIs, vtableIndex, fixedIndex, classAbi, chainAbi}
+use Rattle.linking.specs.Vtable.{Entry, empty, ownFixed, fixedOf, findByIndex, readEntry, readSlot, tableEntries, parentEntries}
+use Rattle.linking.specs.Compiler.{New, noNew, withoutAbstract, holds, ownerState, isEmptied, viewFrom, nativeView, fromMethod, fromSlot, signatureSources, isDeclared, addNamed, addFrom, addedFrom, addedMethods, compilerTargets}
 use Rattle.linking.specs.Link.{generatedMethods}
 use Rattle.linking.proofs.ChainLaws.{chain-within, own-target-member, own-method-member, parent-within}
 
 -- each of the members to be added
 abbrev pub EachNew : (New → Type 0) → List New → Type 0
 EachNew R xs = (j : ℕ) → j < length xs → R (getD xs j noNew)
+
+-- each method that a table knows
+abbrev EachKnown : (ℕ → Type 0) → List Entry → Type 0
+EachKnown S view = (i m : ℕ) → getD view i empty .method ≡ At m → S m
 
 pub none-new : (R : New → Type 0) → EachNew R []
 none-new R j h = absurd (omega arith)
@@ -89,23 +96,28 @@ module _ (ws text abi labels : List ℕ) (lists : (d : ℕ) → IsClass ws d →
       found-by (ownFixed ws text abi labels i) (chain ws c) m
       (λ d t r. let z = chain-within ws c d t in fixed-room i d m (omega arith, omega arith) r) (rw q at e))
 
-pub slot-room : (ws text abi labels : List ℕ) → ((a : ℕ) → a < abiClassCount abi → abiClassFirstSlot abi a + abiClassSlotCount abi a ≤ abiSlotCount abi)
-    → (i a s d : ℕ) → classAbi ws text abi labels d ≡ At a → slotAt abi i a ≡ At s → s < abiSlotCount abi
-unfolding slotAt abiSlots
-slot-room ws text abi labels slots i a s d e f =
-    let n = class-abi-room ws text abi labels d a e in
-    let t = find-member (λ k. eqb (slotIndex abi k) i) (abiSlots abi a) s f in
+-- the slots of an ABI class are records of its section
+listed-room : (abi : List ℕ) → ((a : ℕ) → a < abiClassCount abi → abiClassFirstSlot abi a + abiClassSlotCount abi a ≤ abiSlotCount abi)
+    → (a s : ℕ) → a < abiClassCount abi → List·Memᴰ s (abiSlots abi a) → s < abiSlotCount abi
+unfolding abiSlots
+listed-room abi slots a s n t =
     omega (
       arith,
       numbers-within (abiClassFirstSlot abi a) (listCount (abiClassFirstSlot abi a) (abiClassSlotCount abi a) abiSlotLimit) s t,
       slots a n,
     )
 
--- ---- each method that is added
+pub slot-room : (ws text abi labels : List ℕ) → ((a : ℕ) → a < abiClassCount abi → abiClassFirstSlot abi a + abiClassSlotCount abi a ≤ abiSlotCount abi)
+    → (i a s d : ℕ) → classAbi ws text abi labels d ≡ At a → slotAt abi i a ≡ At s → s < abiSlotCount abi
+unfolding slotAt
+slot-room ws text abi labels slots i a s d e f =
+    listed-room abi slots a s (class-abi-room ws text abi labels d a e) (find-member (λ k. eqb (slotIndex abi k) i) (abiSlots abi a) s f)
 
-module _ (ws text abi labels : List ℕ) (lists : (d : ℕ) → IsClass ws d → classFirstMethod ws d + classMethodCount ws d ≤ methodCount ws)
-    (slots : (a : ℕ) → a < abiClassCount abi → abiClassFirstSlot abi a + abiClassSlotCount abi a ≤ abiSlotCount abi) (R : New → Type 0)
-    (method : (m target : ℕ) → m < methodCount ws → R (fromMethod ws text abi labels m target))
+-- ---- each method that is added: `Source` holds of the methods that the native view knows
+
+module _ (ws text abi labels : List ℕ)
+    (slots : (a : ℕ) → a < abiClassCount abi → abiClassFirstSlot abi a + abiClassSlotCount abi a ≤ abiSlotCount abi)
+    (Source : ℕ → Type 0) (R : New → Type 0) (method : (m target : ℕ) → Source m → R (fromMethod ws text abi labels m target))
     (slot : (s target : ℕ) → s < abiSlotCount abi → R (fromSlot ws text abi labels s target)) where
   named : (c : ℕ) (x : New) (xs : List New) → R x → EachNew R xs → EachNew R (addNamed ws text abi labels c x xs)
   unfolding addNamed
@@ -120,7 +132,7 @@ module _ (ws text abi labels : List ℕ) (lists : (d : ℕ) → IsClass ws d →
       (λ k a q r. slot-room ws text abi labels slots i a s (interfaceWord ws k) q r) g)
       e
 
-  from : (c i target : ℕ) (found : Found) (xs : List New) → ((m : ℕ) → found ≡ At m → m < methodCount ws) → EachNew R xs
+  from : (c i target : ℕ) (found : Found) (xs : List New) → ((m : ℕ) → found ≡ At m → Source m) → EachNew R xs
       → EachNew R (addFrom ws text abi labels c i target found xs)
   from c i target found xs f h =
       by-found found
@@ -131,17 +143,25 @@ module _ (ws text abi labels : List ℕ) (lists : (d : ℕ) → IsClass ws d →
       (λ s q. rw q (named c (fromSlot ws text abi labels s target) xs (slot s target (source-room c i s q)) h))
       (λ q. rw q h)))
 
-  -- a view whose known entries hold methods of the sheet
-  abbrev Room : List Entry → Type 0
-  Room view = (i m : ℕ) → getD view i empty .method ≡ At m → m < methodCount ws
-
-  added-from : (c : ℕ) (view : List Entry) → Room view → (i : ℕ) (ts : List ℕ) → EachNew R (addedFrom ws text abi labels c view i ts)
+  added-from : (c : ℕ) (view : List Entry) → EachKnown Source view → (i : ℕ) (ts : List ℕ)
+      → EachNew R (addedFrom ws text abi labels c view i ts)
   unfolding addedFrom
   added-from c view h i [] = none-new R
   added-from c view h i (t ∷ ts) =
       let g = added-from c view h (i + 1) ts in
       by (eqb t 0 || eqb t (getD view i empty .word)) (λ e. rw e g)
       (λ e. rw e (from c i t (getD view i empty .method) (addedFrom ws text abi labels c view (i + 1) ts) (h i) g))
+
+  added-known : (area : List ℕ) (c : ℕ) → EachKnown Source (nativeView ws text abi labels area c)
+      → EachNew R (addedMethods ws text abi labels area c)
+  unfolding addedMethods
+  added-known area c h = added-from c (nativeView ws text abi labels area c) h 0 (compilerTargets ws text abi labels c)
+
+-- ---- of a class of the set: what its native view knows is a record of the sheet
+
+module _ (ws text abi labels : List ℕ) (lists : (d : ℕ) → IsClass ws d → classFirstMethod ws d + classMethodCount ws d ≤ methodCount ws) where
+  abbrev Room : List Entry → Type 0
+  Room = EachKnown (λ m. m < methodCount ws)
 
   view-room : (abis : List ℕ) (j : ℕ) (es : List Entry) → Room es → Room (viewFrom ws text abi labels abis j es)
   unfolding viewFrom
@@ -162,16 +182,21 @@ module _ (ws text abi labels : List ℕ) (lists : (d : ℕ) → IsClass ws d →
       let w = parent-within ws c in
       by (eqb (parentOf ws c) 0) (λ q. rw q (λ i m e. not-found e)) (λ q. rw q (entries-room area (parentOf ws c) 0 _ (omega arith)))
 
-  pub added-each : (area : List ℕ) (c : ℕ) → c ≤ classCount ws → EachNew R (addedMethods ws text abi labels area c)
-  unfolding addedMethods nativeView
-  added-each area c h =
-      added-from c (nativeView ws text abi labels area c)
-      (view-room (chainAbi ws text abi labels (parentOf ws c)) 0 (parentEntries ws text abi labels area c) (parent-room area c h)) 0
-      (compilerTargets ws text abi labels c)
+  native-room : (area : List ℕ) (c : ℕ) → c ≤ classCount ws → Room (nativeView ws text abi labels area c)
+  unfolding nativeView
+  native-room area c h =
+      view-room (chainAbi ws text abi labels (parentOf ws c)) 0 (parentEntries ws text abi labels area c) (parent-room area c h)
 
-  pub generated-each : (area : List ℕ) (c : ℕ) → c ≤ classCount ws → EachNew R (generatedMethods ws text abi labels area c)
-  unfolding generatedMethods
-  generated-each area c h = by (eqb (classCompilerTable ws c) 0) (λ q. rw q (none-new R)) (λ q. rw q (added-each area c h))
+  module _ (slots : (a : ℕ) → a < abiClassCount abi → abiClassFirstSlot abi a + abiClassSlotCount abi a ≤ abiSlotCount abi) (R : New → Type 0)
+      (method : (m target : ℕ) → m < methodCount ws → R (fromMethod ws text abi labels m target))
+      (slot : (s target : ℕ) → s < abiSlotCount abi → R (fromSlot ws text abi labels s target)) where
+    added-each : (area : List ℕ) (c : ℕ) → c ≤ classCount ws → EachNew R (addedMethods ws text abi labels area c)
+    added-each area c h =
+        added-known ws text abi labels slots (λ m. m < methodCount ws) R method slot area c (native-room area c h)
+
+    pub generated-each : (area : List ℕ) (c : ℕ) → c ≤ classCount ws → EachNew R (generatedMethods ws text abi labels area c)
+    unfolding generatedMethods
+    generated-each area c h = by (eqb (classCompilerTable ws c) 0) (λ q. rw q (none-new R)) (λ q. rw q (added-each area c h))
 
 -- ---- their descriptors
 
@@ -184,13 +209,94 @@ abstract-receiver : (flags : ℕ) → receiverWords (withoutAbstract flags) ≡ 
 abstract-receiver flags =
     by (isAbstract flags) (λ e. rw e (omega (arith, eqb-true (flags / 1024 % 2) 1 e))) (λ e. rw e)
 
--- in a set that rows 3 to 5 accept each method that is added is within the limit of argument words, by its own flags
-pub added-within : (ws abi : List ℕ) → Valid ws → ValidAbi abi → (area : List ℕ) (c : ℕ) → c ≤ classCount ws
-    → EachNew (λ x. isMethod (x .flags) (x .descriptor) ≡ true) (addedMethods ws (textOf ws) abi (abiTextOf abi) area c)
-added-within ws abi v w =
-    added-each ws (textOf ws) abi (abiTextOf abi) (λ d k. v .class d k .methods) (λ a k. w .class a k .slots)
-    (λ x. isMethod (x .flags) (x .descriptor) ≡ true)
-    (λ m target h.
-    same-receiver _ (methodFlags ws m) _ (abstract-receiver (methodFlags ws m))
-    ∙ meaning .valid-complete (methodDescriptor ws (textOf ws) m) (methodFlags ws m) (v .method m h .derivation))
-    (λ s target h. meaning .static-more _ 1 (meaning .valid-complete _ 0 (w .slot s h .derivation)))
+-- ---- of any number: what stays in a native view is held by a class of the set, or has the signature of an ABI slot
+
+found-take : {P : Type 0} (f : ℕ → Found) (n : ℕ) (xs : List ℕ) (s : ℕ) → (firstFound f xs ≡ At s → P) → firstFound f (take n xs) ≡ At s → P
+unfolding firstFound
+found-take f zero xs s h e = not-found e
+found-take f (suc n) [] s h e = not-found e
+found-take f (suc n) (x ∷ xs) s h e =
+    by-found (f x) (λ k q. h (rw q (rw q at e))) (λ q. found-take f n xs s (λ r. h (rw q r)) (rw q at e))
+
+module _ (ws abi : List ℕ) (v : Valid ws) (w : ValidAbi abi) where
+  abbrev text : List ℕ
+  text = textOf ws
+
+  abbrev labels : List ℕ
+  labels = abiTextOf abi
+
+  -- within the limit, by its own flags
+  abbrev Within : ℕ → Type 0
+  Within m = isMethod (methodFlags ws m) (methodDescriptor ws text m) ≡ true
+
+  method-within : (m : ℕ) → m < methodCount ws → Within m
+  method-within m h = meaning .valid-complete (methodDescriptor ws text m) (methodFlags ws m) (v .method m h .derivation)
+
+  slot-within : (s flags : ℕ) → s < abiSlotCount abi → isMethod flags (abiSlotDescriptor abi labels s) ≡ true
+  slot-within s flags h = meaning .static-more _ flags (meaning .valid-complete _ 0 (w .slot s h .derivation))
+
+  -- its owner's link state is 3: a class of the set holds it
+  owned-within : (m : ℕ) → eqb (ownerState ws text abi labels m) 3 ≡ true → Within m
+  unfolding ownerState holds
+  owned-within m e =
+      by-found (find (holds ws text abi labels m) (numbers 1 (classCount ws)))
+      (λ d q.
+      let r = find-within (holds ws text abi labels m) 1 (classCount ws) d q in
+      let t = and-both (leb (classFirstMethod ws d) m) (ltb m (classFirstMethod ws d + classMethodCount ws d))
+      (find-passes (holds ws text abi labels m) (numbers 1 (classCount ws)) d q) in
+      method-within m (omega (arith, ltb-true m (classFirstMethod ws d + classMethodCount ws d) (t .1), v .class d (omega arith, omega arith) .methods)))
+      (λ q. absurd (false≢true (rw q at e)))
+
+  -- its index is fixed: a slot of that ABI class has its signature
+  signed-within : (m a k : ℕ) → a < abiClassCount abi
+      → vtableIndex abi labels (methodName ws text m) (methodDescriptor ws text m) a ≡ At k → Within m
+  unfolding vtableIndex slotIs
+  signed-within m a k h e =
+      by-found (find (λ s. slotIs abi labels s (methodName ws text m) (methodDescriptor ws text m)) (abiSlots abi a))
+      (λ s q.
+      let n = listed-room abi (λ a k. w .class a k .slots) a s h (find-member _ (abiSlots abi a) s q) in
+      let r = and-both (sameBytes (abiSlotName abi labels s) (methodName ws text m)) (sameBytes (abiSlotDescriptor abi labels s) (methodDescriptor ws text m))
+      (find-passes (λ s. slotIs abi labels s (methodName ws text m) (methodDescriptor ws text m)) (abiSlots abi a) s q) in
+      rw (sym (same-is (abiSlotDescriptor abi labels s) (methodDescriptor ws text m) (r .1))) (slot-within s (methodFlags ws m) n))
+      (λ q. not-found (rw q at e))
+
+  fixed-within : (m d k : ℕ) → fixedOf ws text abi labels (chainAbi ws text abi labels d) m ≡ At k → Within m
+  unfolding fixedOf fixedIndex chainAbi
+  fixed-within m d k e =
+      found-take (vtableIndex abi labels (methodName ws text m) (methodDescriptor ws text m)) classLimit
+      (allFound (classAbi ws text abi labels) (chain ws d)) k
+      (found-all (classAbi ws text abi labels) (vtableIndex abi labels (methodName ws text m) (methodDescriptor ws text m)) (chain ws d) k
+      (λ x a q r. signed-within m a k (class-abi-room ws text abi labels x a q) r))
+      e
+
+  -- a native view knows what it has not emptied
+  kept-within : (d i : ℕ) (x : Entry) (m : ℕ) → x .method ≡ At m → isEmptied ws text abi labels (chainAbi ws text abi labels d) i x ≡ false → Within m
+  unfolding isEmptied
+  kept-within d i x m q e =
+      let f : (not (eqb (ownerState ws text abi labels m) 3)
+      && not (onFound (fixedOf ws text abi labels (chainAbi ws text abi labels d) m) (eqb i) false))
+      ≡ false = rw q at e in
+      by (eqb (ownerState ws text abi labels m) 3) (owned-within m)
+      (λ n.
+      by-found (fixedOf ws text abi labels (chainAbi ws text abi labels d) m) (λ k. fixed-within m d k)
+      (λ r. absurd (true≢false (rw (n, r) at f))))
+
+  view-within : (d i : ℕ) (es : List Entry) → EachKnown Within (viewFrom ws text abi labels (chainAbi ws text abi labels d) i es)
+  unfolding viewFrom
+  view-within d i [] j m e = not-found e
+  view-within d i (x ∷ es) zero m e =
+      by (isEmptied ws text abi labels (chainAbi ws text abi labels d) i x) (λ q. not-found (rw q at e))
+      (λ q. kept-within d i x m (rw q at e) q)
+  view-within d i (x ∷ es) (suc j) m e = view-within d (i + 1) es j m e
+
+  native-within : (area : List ℕ) (c : ℕ) → EachKnown Within (nativeView ws text abi labels area c)
+  unfolding nativeView
+  native-within area c = view-within (parentOf ws c) 0 (parentEntries ws text abi labels area c)
+
+  -- each method that is added is within the limit of argument words, by its own flags: of any number, also of one above the class count
+  pub added-within : (area : List ℕ) (c : ℕ)
+      → EachNew (λ x. isMethod (x .flags) (x .descriptor) ≡ true) (addedMethods ws text abi labels area c)
+  added-within area c =
+      added-known ws text abi labels (λ a k. w .class a k .slots) Within (λ x. isMethod (x .flags) (x .descriptor) ≡ true)
+      (λ m target h. same-receiver _ (methodFlags ws m) _ (abstract-receiver (methodFlags ws m)) ∙ h) (λ s target h. slot-within s 1 h)
+      area c (native-within area c)
