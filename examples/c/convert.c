@@ -5,11 +5,20 @@
 #include <inttypes.h>
 #include <stdio.h>
 #include <string.h>
+#include <sys/stat.h>
 
 #include "lgt_linker.h"
 
 /* A byte more than the longest sheet, so that a longer file is refused and not cut. */
 static uint8_t from[LGT_CLASS_BYTES + 1], to[LGT_CLASS_BYTES];
+
+/* Whether the two paths name one file, by another name or a link too. */
+static int same_file(const char *one, const char *other)
+{
+    struct stat a, b;
+
+    return strcmp(one, other) == 0 || (stat(one, &a) == 0 && stat(other, &b) == 0 && a.st_dev == b.st_dev && a.st_ino == b.st_ino);
+}
 
 int main(int argc, char **argv)
 {
@@ -17,7 +26,7 @@ int main(int argc, char **argv)
     size_t length;
     FILE *file;
 
-    if (argc != 4 || (strcmp(argv[1], "widen") != 0 && strcmp(argv[1], "narrow") != 0) || strcmp(argv[2], argv[3]) == 0) {
+    if (argc != 4 || (strcmp(argv[1], "widen") != 0 && strcmp(argv[1], "narrow") != 0) || same_file(argv[2], argv[3])) {
         fprintf(stderr, "usage: convert widen OLD NEW, or convert narrow NEW OLD; the two are different files\n");
         return 2;
     }
