@@ -2,7 +2,7 @@
  * The LGT class linker, proved in Rattle (crates/lgt_linker). Link with liblgt_linker.a: `rt staticlib lgt_linker` makes it in
  * target/staticlib, `make install PREFIX=..` installs it with this header and a pkg-config file.
  *
- * What it needs. x86-64 Linux; memcpy and memset, and nothing else: no allocation, no system call. Of the stack at most 157,224
+ * What it needs. x86-64 Linux; memcpy and memset, and nothing else: no allocation, no system call. Of the stack at most 157,304
  * bytes were measured (docs/PERFORMANCE.md): give a thread that calls it LGT_STACK_BYTES. A thread of musl's default size,
  * 128 KiB, is too small for a link or a conversion back. Frames are probed page by page, so a stack that is too short ends in its guard page
  * and not in other memory.
@@ -25,7 +25,7 @@
 #include <stdint.h>
 
 /* The version of this library: the file VERSION, which a test holds this line to. */
-#define LGT_LINKER_VERSION "0.3.0"
+#define LGT_LINKER_VERSION "0.4.0"
 
 /* A compiler that can warns where an answer is not looked at. */
 #if defined(__GNUC__) || defined(__clang__)
@@ -46,7 +46,7 @@
 /* a count above its limit, content that does not fit its blocks or its words, an unclean end, a table place in a sheet, or static
    words of a built or array class in it */
 #define LGT_REFUSED_SHEET_COUNTS 3u
-/* a record */
+/* a record; of a class file a name, a descriptor or a method's flags */
 #define LGT_REFUSED_RECORD 4u
 /* a descriptor */
 #define LGT_REFUSED_DESCRIPTOR 5u
@@ -68,7 +68,8 @@
 #define LGT_REFUSED_SLOT_COUNT 13u
 /* an interface method without an implementation */
 #define LGT_REFUSED_NO_IMPLEMENTATION 16u
-/* more than LGT_MOST_METHODS methods, LGT_MOST_FIELDS fields or LGT_MOST_TEXT_BYTES text bytes */
+/* more than LGT_MOST_METHODS methods, LGT_MOST_FIELDS fields or LGT_MOST_TEXT_BYTES text bytes; of a class file also lists that are too
+ * short, or a number of targets that is not that of the methods */
 #define LGT_REFUSED_SECTION_FULL 14u
 /* too few stub words, free words of the area, class words, or words of a renumbering's list */
 #define LGT_REFUSED_NO_ROOM 15u
@@ -79,6 +80,12 @@
 #define LGT_REFUSED_SHEET_ROOM 18u
 /* a class that is its own ancestor; it is judged between 4 and 15 */
 #define LGT_REFUSED_RING 19u
+/* eight bytes that do not begin a class file of major version 45 to 48; 20 to 22 are judged before 4 */
+#define LGT_REFUSED_FILE_VERSION 20u
+/* a class file that ends early, or goes on after its last attribute */
+#define LGT_REFUSED_FILE_BYTES 21u
+/* a constant pool's tag, or a reference to a class, a name or a descriptor that the pool does not have */
+#define LGT_REFUSED_CONSTANT_POOL 22u
 /* a class sheet that the old form cannot hold: static words of a generated class other than its static field widths; it is judged
    between 5 and 18 */
 #define LGT_REFUSED_LOST_STATICS 23u
@@ -111,6 +118,11 @@
 
 /* Stack for a thread that calls the library; the gate holds every call to it. */
 #define LGT_STACK_BYTES 262144
+
+/* Words that hold the fields, the methods and the text of every class file that is read. */
+#define LGT_FILE_FIELD_WORDS 3072
+#define LGT_FILE_METHOD_WORDS 3072
+#define LGT_FILE_TEXT_WORDS 2048
 
 /*
  * ---- Limits
@@ -252,6 +264,17 @@
 #define LGT_ABI_ROW_INDEX 4
 #define LGT_ABI_ROW_RECORD 5
 
+/*
+ * ---- The six words that a class file answers.
+ */
+#define LGT_FILE_NAME_LENGTH 0
+#define LGT_FILE_PARENT_LENGTH 1 /* 0 for no parent */
+#define LGT_FILE_FLAGS 2
+#define LGT_FILE_FIELDS 3
+#define LGT_FILE_METHODS 4
+#define LGT_FILE_TEXT_BYTES 5
+#define LGT_FILE_ANSWER 6
+
 #ifdef __cplusplus
 extern "C" {
 #endif
@@ -313,8 +336,10 @@ static inline const char *lgt_refusal_text(uint32_t refusal)
         return "The table would have more than 1,024 slots: take methods out of the class or its ancestors, or lower "
                "the ABI's indices or table size.";
     case LGT_REFUSED_SECTION_FULL:
-        return "The methods, fields or names that linking adds do not fit: a set holds at most 512 methods, 512 fields "
-               "and 8,192 text bytes. Take some out of the set or of the ABI sheet.";
+        return "The methods, fields or names that linking adds, or that a class file has, do not fit: a set holds at most "
+               "512 methods, 512 fields and 8,192 text bytes. Take some out of the set, the ABI sheet or the class. For a "
+               "class file lend also 6 words a field, 6 words a method, a word for each 4 text bytes, and exactly one target "
+               "for each method, as `lgt_class_file_head` counts them.";
     case LGT_REFUSED_NO_ROOM:
         return "Lend more memory: a stub word for each slot of the table, free words in the area for the table and two "
                "more, and class words for the sections that grow; for a renumbering, a list word for each class.";
@@ -331,6 +356,14 @@ static inline const char *lgt_refusal_text(uint32_t refusal)
     case LGT_REFUSED_RING:
         return "A class is its own ancestor: mend the parent numbers of the classes in the ring, which `tools/sheet "
                "order` names, so that each chain of parents ends at a class without one.";
+    case LGT_REFUSED_FILE_VERSION:
+        return "This is no class file, or not one of the versions that are read: it begins with the bytes CA FE BA BE, "
+               "and its major version is 45 to 48. Compile for 1.1 to 1.4.";
+    case LGT_REFUSED_FILE_BYTES:
+        return "The class file is cut short, or something follows its last attribute: fetch it again whole.";
+    case LGT_REFUSED_CONSTANT_POOL:
+        return "The class file's constant pool does not hold what the class uses: a tag is none of these versions', or "
+               "the class, its parent, or a member's name or descriptor refers to no constant of its kind. Compile it again.";
     case LGT_REFUSED_LOST_STATICS:
         return "The old form cannot hold this class's static words: a generated class of a sheet with 17-word class "
                "records has the sum of its static field widths, J and D two words and others one. Give it that sum, "
@@ -486,6 +519,30 @@ uint32_t lgt_reference_words(const uint8_t *bitmap, size_t bitmap_len, uint32_t 
  */
 LGT_MUST_USE
 uint32_t lgt_reference_count(const uint8_t *bitmap, size_t bitmap_len, uint32_t words, uint32_t answer[1]);
+
+/*
+ * Reads the members of a class file (JVM Specification, chapter 4) of major version 45 to 48, in the form of a set's records:
+ * the class, its parent, its fields and methods in the order of the file. Attributes are passed over, interfaces not told.
+ * `targets` has one word for each method. lgt_class_file_head says how many there are.
+ * Answers: the six words LGT_FILE_..: the lengths of the class's and the parent's name, the access flags, how many fields,
+ * methods and text bytes.
+ * Leaves in `fields` and `methods`: a record of 6 words for each, from the front; a field's word index is 0, a method's target
+ * the word of `targets`. In `text`: the class's name, the parent's, then each member's name and descriptor, fields first, four
+ * bytes a word, lowest first, and zeros after them in the last word. All words after these as they were.
+ * Refuses by 20, then by 21 or 22, whichever is met first from the front, then by 4, 5, 14. Lists of LGT_FILE_FIELD_WORDS,
+ * LGT_FILE_METHOD_WORDS and LGT_FILE_TEXT_WORDS words are never too short.
+ */
+LGT_MUST_USE
+uint32_t lgt_read_class_file(const uint8_t *bytes, size_t bytes_len, const uint32_t *targets, size_t targets_len,
+                             uint32_t *fields, size_t fields_len, uint32_t *methods, size_t methods_len, uint32_t *text,
+                             size_t text_len, uint32_t answer[6]);
+
+/*
+ * Answers the same six words without lists. Leaves nothing else written.
+ * Refuses by 20 to 22, 4, 5, and by 14 where a sheet cannot hold the class.
+ */
+LGT_MUST_USE
+uint32_t lgt_class_file_head(const uint8_t *bytes, size_t bytes_len, uint32_t answer[6]);
 
 #ifdef __cplusplus
 }

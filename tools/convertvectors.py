@@ -25,7 +25,7 @@ from sheetlib import (  # noqa: E402
     BLOCK_BYTES, CLASS_SHEET, OLD_CLASS_SHEET, STATICS, Sheet, block_words, blocks, narrow, narrowing_faults, sheet_of,
     static_sum, to_old_form, widen, widening_faults)
 from sheetvectors import ARRAY, BUILT, GENERATED, TOP, but, renamed, text_only, with_word  # noqa: E402
-from vectors import differences, store, weighed  # noqa: E402
+from vectors import differences, store, told_faults, weighed  # noqa: E402
 
 HERE = os.path.dirname(os.path.realpath(__file__))
 CRATE = os.path.join(HERE, "..", "crates", "convert_judge")
@@ -260,10 +260,7 @@ def main():
     else:
         store(CRATE, made)
     summary()
-    for line in faulty:
-        print(f"convertvectors: {line}", file=sys.stderr)
-    print(f"convertvectors: {len(vectors)}, faults {len(faulty)}")
-    return 1 if faulty else 0
+    return told_faults("convertvectors", len(vectors), faulty)
 
 
 if __name__ == "__main__":

@@ -1,4 +1,4 @@
-# Shell functions of ./list, ./judge, ./linked and tools/folder, which set `name` and `root` and source this. What rt built is used only where
+# Shell functions of ./list, ./judge, ./linked, ./members and tools/folder, which set `name` and `root` and source this. What rt built is used only where
 # it proved the very sources that stand here: target/proved/NAME holds the sums of these sources and of the file that it built.
 
 say() { printf '%s: %s\n' "$name" "$*" >&2; }
@@ -36,7 +36,7 @@ have_sheets() { # FOLDER
     [ -z "$missing" ] || exit 3
 }
 
-# ---- what rt proves and builds: the programs list and judge, the library lgt_linker
+# ---- what rt proves and builds: the programs list, judge and members, the library lgt_linker
 
 # The sum of all that a check of any crate reads.
 sources() {

@@ -18,10 +18,17 @@ from sheetlib import (
 TOP = WORD - 1
 BUILT, GENERATED, ARRAY = range(3)
 AAAA, BBBB = 0x41414141, 0x42424242  # four bytes of text
+FILL = 7  # what every lent word or byte holds before the call
 
 vectors = {}  # file name -> bytes
 good_names = {}  # (sheet, lent words, bytes) of an accepted vector -> its file name
 cover = {}  # (layout name, row, clause) -> ([refused], [accepted])
+
+
+def weighed(words, lent=0):
+    """A program's check of lent memory: each word times its place from 1, summed modulo 2^32. After the words 7s, up to those lent."""
+    n, more = len(words), max(len(words), lent)
+    return (sum(place * word for place, word in enumerate(words, 1)) + FILL * (more * (more + 1) - n * (n + 1)) // 2) % WORD
 
 
 # ---- recording a vector

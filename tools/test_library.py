@@ -23,6 +23,7 @@ sys.path.insert(0, HERE)
 
 import sheetform  # noqa: E402
 from sheetlib import ABI_SHEET, BLOCK_BYTES, BLOCK_WORDS, CLASS_SHEET  # noqa: E402
+from testlib import run  # noqa: E402
 
 STRING = r'"((?:[^"\\]|\\.)*)"'
 
@@ -30,12 +31,6 @@ STRING = r'"((?:[^"\\]|\\.)*)"'
 def contents(*path):
     with open(os.path.join(ROOT, *path), encoding="utf-8") as file:
         return file.read()
-
-
-def run(*command, **options):
-    """Status, standard output and standard error."""
-    done = subprocess.run(command, capture_output=True, text=True, check=False, **options)
-    return done.returncode, done.stdout, done.stderr
 
 
 class Header(unittest.TestCase):

@@ -19,17 +19,12 @@ sys.path.insert(0, HERE)
 import sheetform  # noqa: E402
 import sheetorder  # noqa: E402
 from sheetlib import ABI_SHEET, CLASS_SHEET, Sheet  # noqa: E402
+from testlib import run  # noqa: E402
 
 EXAMPLES = os.path.join(ROOT, "examples")
 DATA = os.path.join(ROOT, "crates", "list", "data")
 PROVED = os.path.join(ROOT, "target", "bin", "list")
 MODEL = os.path.join(ROOT, "oracle", "target", "release", "folder")
-
-
-def run(*command, **options):
-    """Status, standard output and standard error."""
-    done = subprocess.run(command, capture_output=True, check=False, **options)
-    return done.returncode, done.stdout.decode(), done.stderr.decode()
 
 
 def script(name, *words, root=ROOT, **options):

@@ -95,11 +95,20 @@ class Commands(unittest.TestCase):
             self.assertGreaterEqual(len(told(page)), least, page)
 
 
+def pages():
+    """The documents."""
+    return [*PAGES, "CHANGELOG.md", *sorted(os.path.relpath(path, ROOT) for path in glob.glob(os.path.join(ROOT, "docs", "*.md")))]
+
+
 class Pages(unittest.TestCase):
+    def test_merged(self):
+        """No document has the marks of two versions that were to be made one."""
+        for page in pages():
+            self.assertIsNone(re.search("^(<{7}|={7}|>{7})( |$)", contents(page), re.M), page)
+
     def test_links(self):
         """Every link to a file of the repository leads to one."""
-        pages = [*PAGES, "CHANGELOG.md", *sorted(os.path.relpath(path, ROOT) for path in glob.glob(os.path.join(ROOT, "docs", "*.md")))]
-        for page in pages:
+        for page in pages():
             for target in re.findall(r"\]\(([^)#:]+)(?:#[^)]*)?\)", contents(page)):
                 self.assertTrue(os.path.exists(os.path.join(ROOT, os.path.dirname(page), target)), f"{page}: {target}")
 

@@ -711,6 +711,8 @@ class Commands(unittest.TestCase):
         self.assertEqual((status, err), (0, ""))
         self.assertIn("\nclass 0 4 0 1 0 0 2 0 0 0 0 0 0 0 0 0 0\n", told)
         self.assertEqual(sheet("show", "--old", new)[0], 1)
+        for other in ("--abi", "--classes", "--raw"):
+            self.assertEqual(sheet("show", "--old", other, old)[0], 2, other)
 
     def test_bad_lines(self):
         for text, line, told in (("class A\n  metod m ()V 1\n", 2, "'metod'"), ("class A\n method m ()V x\n", 2, "number"),
@@ -935,7 +937,7 @@ classes.txt: 3 faults, nothing was written (--anyway writes it)
     def test_messages(self):
         """Each row of both sheets: the number, the place and the sentence of docs/REFUSALS.md."""
         table = self.table()
-        self.assertEqual(sorted(map(int, table)), [*range(1, 20), 23, 24, 25])
+        self.assertEqual(sorted(map(int, table)), [*range(1, 26)])
         for name, place in (
                 ("class-r1-513-bytes", "the file has 513 bytes"), ("abi-r1-no-bytes", "the file is empty"),
                 ("class-r2-check-of-block-2", "block 2: the check word at byte 1020 of the file"),

@@ -1,11 +1,12 @@
 #!/usr/bin/env python3
-"""Makes the vectors of the program `judge` and the answers that it must print.
+"""Makes the vectors of the programs `judge` and `file_judge`, and the answers that they must print.
 
-The vectors are those of sheetvectors.py (sheets to read), setvectors.py (words already
+Those of `judge` are of sheetvectors.py (sheets to read), setvectors.py (words already
 read, and descriptors whose argument words are counted), writevectors.py (sets to write),
 ordervectors.py (sets to renumber) and refvectors.py (reference bitmaps).
 The judge of sheetlib.py, written from docs/SPECIFICATION.md, gives the answers; of a bitmap
-refvectors.py does.
+refvectors.py does. Those of `file_judge` are of filevectors.py (class files), which has the answers
+of classfile.py.
 """
 
 import argparse
@@ -16,17 +17,18 @@ import sys
 sys.dont_write_bytecode = True
 sys.path.insert(0, os.path.dirname(os.path.realpath(__file__)))
 
+import filevectors  # noqa: E402
 import ordervectors  # noqa: E402
 import refvectors  # noqa: E402
 import setvectors  # noqa: E402
 import sheetvectors  # noqa: E402
 import writevectors  # noqa: E402
 from sheetlib import (  # noqa: E402
-    ABI_SHEET, BLOCK_BYTES, CLASS_SHEET, WORD, argument_words, block_words, blocks, clauses, content_words, judge, judge_loosely, judge_order,
+    ABI_SHEET, BLOCK_BYTES, CLASS_SHEET, argument_words, block_words, blocks, clauses, content_words, judge, judge_loosely, judge_order,
     judge_set, judge_writing, layout_of, link_clauses, order_clauses, renumbered, writing_clauses)
+from sheetvectors import weighed  # noqa: E402
 
-CRATE = os.path.join(os.path.dirname(os.path.realpath(__file__)), "..", "crates", "judge")
-FILL = 7  # what every lent word or byte holds before the call
+CRATES = os.path.join(os.path.dirname(os.path.realpath(__file__)), "..", "crates")
 
 vectors = {}  # file name -> bytes
 
@@ -37,17 +39,12 @@ def make_all():
     writevectors.make()
     ordervectors.make()
     refvectors.make()
+    filevectors.make()
     for module in (sheetvectors, setvectors, refvectors):
         vectors.update(module.vectors)
 
 
 # ---- what the program prints
-
-def weighed(words, lent=0):
-    """The program's check of lent memory: each word times its place from 1, summed modulo 2^32. After the words 7s, up to those lent."""
-    n, more = len(words), max(len(words), lent)
-    return (sum(place * word for place, word in enumerate(words, 1)) + FILL * (more * (more + 1) - n * (n + 1)) // 2) % WORD
-
 
 def answer(path, data):
     """The line that the program prints for a file."""
@@ -106,12 +103,12 @@ def references(data):
 # ---- the stored files
 
 def files():
-    """Every file that the crate stores, by its path there."""
+    """Every file that each of the two crates stores, by its path there."""
     names = sorted(vectors)
     out = {f"data/{name}": vectors[name] for name in names}
     out["args"] = "".join(name + "\n" for name in names).encode()
     out["stdout"] = "".join(answer(name, vectors[name]) + "\n" for name in names).encode()
-    return out
+    return {os.path.join(CRATES, "judge"): out, os.path.join(CRATES, "file_judge"): filevectors.files()}
 
 
 def stored(crate):
@@ -145,7 +142,8 @@ def store(crate, made):
 # ---- which vectors show each clause
 
 def covered():
-    """Each clause, of a reading, of a link, of the writer and of the order, with its refused vectors and their accepted neighbours."""
+    """Each clause, of a reading, of a link, of the writer, of the order and of class files, with its refused vectors and
+    their accepted neighbours."""
     for title, listed, cover in (("reading", clauses, sheetvectors.cover), ("link", link_clauses, setvectors.cover)):
         for layout in (CLASS_SHEET, ABI_SHEET):
             for row, clause in listed(layout):
@@ -155,13 +153,14 @@ def covered():
         yield f"writing, row {row}: {clause}", *writevectors.cover.get(("class", row, clause), ([], []))
     for row, clause in order_clauses():
         yield f"order, row {row}: {clause}", *ordervectors.cover.get(("class", row, clause), ([], []))
+    yield from filevectors.covered()
 
 
 def table():
     for title, bad, good in covered():
         print(title)
         for word, names in (("refused", bad), ("accepted", good)):
-            print(f"    {word:9}{' '.join(name[:-4] for name in names)}")
+            print(f"    {word:9}{' '.join(name.removesuffix('.bin') for name in names)}")
 
 
 def uncovered():
@@ -183,25 +182,35 @@ def summary():
         rows[told(name)] = rows.get(told(name), 0) + 1
     for kind in ("class", "abi", "set", "args", "refs"):
         print(f"{kind}: " + ", ".join(f"row {row} {n}" if row else f"accepted {n}" for (k, row), n in sorted(rows.items()) if k == kind))
+    groups = sorted(filevectors.groups.items())
+    print(f"class files: {', '.join(f'{name[:-4]} {len(cases)}' for name, cases in groups)}")
+
+
+def told_faults(program, counts, faulty):
+    """Tells each fault and how many there are; the program's status."""
+    for line in faulty:
+        print(f"{program}: {line}", file=sys.stderr)
+    print(f"{program}: {counts}, faults {len(faulty)}")
+    return 1 if faulty else 0
 
 
 def main():
-    parser = argparse.ArgumentParser(description="Makes crates/judge/data, args and stdout, and prints which vectors show each clause.")
+    parser = argparse.ArgumentParser(
+        description="Makes data, args and stdout of crates/judge and crates/file_judge, and prints which vectors show each clause.")
     parser.add_argument("--check", action="store_true", help="write nothing: exit 1 where a stored file differs, and say which")
     options = parser.parse_args()
     make_all()
     faulty = list(uncovered())
     made = files()
     if options.check:
-        faulty += differences(CRATE, made)
+        faulty += [line for crate, stored_there in made.items() for line in differences(crate, stored_there)]
     else:
-        store(CRATE, made)
+        for crate, stored_there in made.items():
+            store(crate, stored_there)
         table()
     summary()
-    for line in faulty:
-        print(f"vectors: {line}", file=sys.stderr)
-    print(f"vectors: {len(vectors)}, clauses {len(list(covered()))}, faults {len(faulty)}")
-    return 1 if faulty else 0
+    count = len(vectors) + sum(map(len, filevectors.groups.values()))
+    return told_faults("vectors", f"{count}, clauses {len(list(covered()))}", faulty)
 
 
 if __name__ == "__main__":

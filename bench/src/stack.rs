@@ -8,7 +8,7 @@ use harness::generate;
 use harness::oracle::Oracle;
 use harness::random::Random;
 use harness::readings::{self, ReadingCounts};
-use harness::side::{Answer, Linker};
+use harness::side::{Answer, FileAnswer, Linker};
 use library::Library;
 use library::guarded::Pages;
 
@@ -19,7 +19,7 @@ const SIZE: usize = 1 << 20;
 const PAINT: u8 = 0xA5;
 
 /// The exported functions, in the order of `Painted`'s stacks.
-const FUNCTIONS: [&str; 13] = [
+const FUNCTIONS: [&str; 15] = [
     "lgt_read_class_sheet",
     "lgt_read_abi_sheet",
     "lgt_link",
@@ -33,6 +33,8 @@ const FUNCTIONS: [&str; 13] = [
     "lgt_compare_names",
     "lgt_widen_class_sheet",
     "lgt_narrow_class_sheet",
+    "lgt_read_class_file",
+    "lgt_class_file_head",
 ];
 
 /// A stack whose touched bytes show.
@@ -145,6 +147,14 @@ impl Linker for Painted {
 
     fn narrow_class_sheet(&mut self, bytes: &[u8], out: &mut [u8]) -> Answer {
         self.stacks[12].run(|| self.library.narrow_class_sheet(bytes, out))
+    }
+
+    fn read_class_file(&mut self, bytes: &[u8], targets: &[u32], fields: &mut [u32], methods: &mut [u32], text: &mut [u32]) -> FileAnswer {
+        self.stacks[13].run(|| self.library.read_class_file(bytes, targets, fields, methods, text))
+    }
+
+    fn class_file_head(&mut self, bytes: &[u8]) -> FileAnswer {
+        self.stacks[14].run(|| self.library.class_file_head(bytes))
     }
 }
 

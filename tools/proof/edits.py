@@ -11,6 +11,7 @@ unfit for it, and shows nothing. This reads the logs that `rt` left, target/must
 It fails where one is of the last kind, or was not tried. With --list it prints the first error of each.
 """
 import glob
+import itertools
 import os
 import re
 import sys
@@ -31,9 +32,14 @@ def first_error(log):
         for line in file:
             match = ERROR.match(line)
             if match:
-                return match.groups()
+                return match[1], match[2], " ".join([match[3], *indented(file)])
             open_note = open_note or UNPROVED.match(line)
     return open_note.groups() if open_note else None
+
+
+def indented(lines):
+    """The lines that go on with what was said, as `has no field` after a record's long name."""
+    return [line.strip() for line in itertools.takewhile(lambda line: line.startswith(" "), lines)]
 
 
 def kind(said):

@@ -44,6 +44,29 @@ pub struct Compared {
     pub pairs: usize,
 }
 
+/// What a class file holds, as a reading answers it: the lengths and counts by which its lists are read.
+#[derive(Clone, Copy, Debug, PartialEq, Eq)]
+pub struct FileHead {
+    /// The bytes of the class's name, from the text's first on.
+    pub name_length: u32,
+    /// The bytes of the parent's name, which follow; 0 without a parent.
+    pub parent_length: u32,
+    /// The class's access flags.
+    pub flags: u32,
+    /// How many fields it has.
+    pub fields: u32,
+    /// How many methods it has.
+    pub methods: u32,
+    /// The bytes of all its strings, class and parent first, then each member's name and descriptor, fields first.
+    pub text_bytes: u32,
+}
+
+impl From<[u32; 6]> for FileHead {
+    fn from([name_length, parent_length, flags, fields, methods, text_bytes]: [u32; 6]) -> FileHead {
+        FileHead { name_length, parent_length, flags, fields, methods, text_bytes }
+    }
+}
+
 /// Reads a class sheet into the lent words and answers how many were filled (127 a block).
 ///
 /// # Errors
@@ -374,4 +397,75 @@ pub fn reference_count(bitmap: &[u8], words: u32) -> Result<u32, Refusal> {
     // SAFETY: the slice is whole, and the answer has its word.
     let row = unsafe { sys::lgt_reference_count(bitmap.as_ptr(), bitmap.len(), words, &mut answer) };
     accepted(row, answer[0])
+}
+
+/// Reads the members of a class file (JVM Specification, chapter 4) of major version 45 to 48 into three lists: a
+/// record of 6 words for each field and for each method ([`layout::member`](crate::layout::member)), in the file's
+/// order, and the text, four bytes a word. A field's word index is 0, a method's target the word of `targets`. Words
+/// after what is written stay. [`ClassFile`](crate::ClassFile) owns the lists.
+///
+/// # Errors
+///
+/// Refusal 20 where the bytes are no class file of these versions; 21 where it is cut or continued and 22 where its
+/// pool is wrong, as they are met from the front; then 4 and 5 of a name, a descriptor or flags, and 14 where a sheet
+/// or a list cannot hold it, or the targets are not as many as the methods, which [`class_file_head`] tells. The lists
+/// are then as they were.
+///
+/// ```
+/// # use lgt_linker::*;
+/// let bytes = std::fs::read("../../examples/supplied/Card.class").unwrap();
+/// let (mut fields, mut methods, mut text) = ([7; 12], [7; 24], [0; 32]);
+/// let head = read_class_file(&bytes, &[0x1000, 0x1010, 0x1020], &mut fields, &mut methods, &mut text)?;
+/// assert_eq!((head.name_length, head.parent_length, head.fields, head.methods), (4, 16, 1, 3));
+/// assert_eq!(text[0].to_le_bytes(), *b"Card");
+/// assert_eq!((methods[5], methods[11], methods[18]), (0x1000, 0x1010, 7)); // a target is a record's last word
+/// // three targets are asked for
+/// assert_eq!(read_class_file(&bytes, &[], &mut fields, &mut methods, &mut text), Err(Refusal::SectionFull));
+/// # Ok::<(), Refusal>(())
+/// ```
+pub fn read_class_file(
+    bytes: &[u8],
+    targets: &[u32],
+    fields: &mut [u32],
+    methods: &mut [u32],
+    text: &mut [u32],
+) -> Result<FileHead, Refusal> {
+    let mut answer = [0; 6];
+    // SAFETY: the slices are whole; the three that are written are lent exclusively, and the answer has its words.
+    let row = unsafe {
+        sys::lgt_read_class_file(
+            bytes.as_ptr(),
+            bytes.len(),
+            targets.as_ptr(),
+            targets.len(),
+            fields.as_mut_ptr(),
+            fields.len(),
+            methods.as_mut_ptr(),
+            methods.len(),
+            text.as_mut_ptr(),
+            text.len(),
+            &mut answer,
+        )
+    };
+    accepted(row, answer.into())
+}
+
+/// The same answer without lists: how many words and targets a reading takes.
+///
+/// # Errors
+///
+/// As of [`read_class_file`]; 14 only where a sheet cannot hold the class.
+///
+/// ```
+/// # use lgt_linker::*;
+/// let head = class_file_head(&std::fs::read("../../examples/supplied/Card.class").unwrap())?;
+/// assert_eq!((head.flags, head.methods), (0x21, 3));
+/// assert_eq!(class_file_head(b"PK\x03\x04\0\0\0\0"), Err(Refusal::FileVersion));
+/// # Ok::<(), Refusal>(())
+/// ```
+pub fn class_file_head(bytes: &[u8]) -> Result<FileHead, Refusal> {
+    let mut answer = [0; 6];
+    // SAFETY: the slice is whole, and the answer has its words.
+    let row = unsafe { sys::lgt_class_file_head(bytes.as_ptr(), bytes.len(), &mut answer) };
+    accepted(row, answer.into())
 }

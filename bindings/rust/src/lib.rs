@@ -2,8 +2,9 @@
 //!
 //! Two ways to use it. Lend memory yourself: [`read_class_sheet`], [`read_abi_sheet`], [`write_class_sheet`], [`read_unordered_sheet`],
 //! [`renumber_classes`], [`widen_class_sheet`], [`narrow_class_sheet`], [`link`], [`interface_dispatch_table`], [`argument_words`],
-//! [`compare_names`] and [`reference_count`] take slices and allocate nothing; [`layout`] names their words. Or let [`ClassSet`], [`AbiSheet`] and [`Area`] own it, read from sheets or made of
-//! Rust values by [`SetBuilder`] and [`AbiBuilder`]:
+//! [`compare_names`], [`reference_count`], [`read_class_file`] and [`class_file_head`] take slices and allocate nothing; [`layout`] names
+//! their words. Or let [`ClassSet`], [`AbiSheet`], [`Area`] and [`ClassFile`] own it, read from sheets and class files or made of Rust
+//! values by [`SetBuilder`] and [`AbiBuilder`]:
 //!
 //! ```
 //! use lgt_linker::{AbiBuilder, Area, ClassBuilder, SetBuilder};
@@ -33,7 +34,7 @@
 //! # Needs
 //!
 //! - x86-64 Linux, and the archive `liblgt_linker.a` (see the README); `core` and `alloc`, not `std`.
-//! - Stack: a call takes at most 157,224 bytes as measured (`docs/PERFORMANCE.md`); give a thread 256 KiB. Threads of `std` have 2 MiB.
+//! - Stack: a call takes at most 157,304 bytes as measured (`docs/PERFORMANCE.md`); give a thread 256 KiB. Threads of `std` have 2 MiB.
 //!   A thread of musl's default size, 128 KiB, is too small for a link or a conversion back.
 
 #![no_std]
@@ -43,6 +44,7 @@ extern crate alloc;
 
 mod build;
 mod calls;
+mod file;
 mod forms;
 pub mod layout;
 mod refusal;
@@ -52,10 +54,11 @@ mod view;
 
 pub use build::{AbiBuilder, AbiClassBuilder, BuildError, ClassBuilder, SetBuilder};
 pub use calls::{
-    ABI_WORDS, Asked, CLASS_BYTES, CLASS_WORDS, Compared, Linked, argument_words, compare_names, interface_dispatch_table, link,
-    narrow_class_sheet, read_abi_sheet, read_class_sheet, read_unordered_sheet, reference_count, reference_words, renumber_classes,
-    widen_class_sheet, write_class_sheet,
+    ABI_WORDS, Asked, CLASS_BYTES, CLASS_WORDS, Compared, FileHead, Linked, argument_words, class_file_head, compare_names,
+    interface_dispatch_table, link, narrow_class_sheet, read_abi_sheet, read_class_file, read_class_sheet, read_unordered_sheet,
+    reference_count, reference_words, renumber_classes, widen_class_sheet, write_class_sheet,
 };
+pub use file::{ClassFile, FileField, FileMethod};
 pub use forms::{narrow, widen};
 pub use refusal::Refusal;
 pub use set::{AbiSheet, Area, ClassSet};

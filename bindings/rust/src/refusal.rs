@@ -44,7 +44,7 @@ pub enum Refusal {
     TakenSlot,
     /// 13: more than 1,024 slots
     SlotCount,
-    /// 14: a grown section exceeds its limit
+    /// 14: a grown section, or a class file's members, exceed a limit or what was lent
     SectionFull,
     /// 15: stubs, area, class or list words too few
     NoRoom,
@@ -56,6 +56,12 @@ pub enum Refusal {
     SheetRoom,
     /// 19: a class is its own ancestor
     Ring,
+    /// 20: not a class file of major version 45 to 48
+    FileVersion,
+    /// 21: a class file that ends early, or goes on after its end
+    FileBytes,
+    /// 22: a class file's constant pool
+    ConstantPool,
     /// 23: static words of a generated class that the old form of class sheets would lose
     LostStatics,
     /// 24: a reference bitmap has too few bytes for its words
@@ -178,9 +184,10 @@ const REFUSALS: &[Row] = &[
     Row {
         number: 14,
         refusal: Refusal::SectionFull,
-        wrong: "what linking adds exceeds 512 methods, 512 fields or 8,192 text bytes",
-        mend: "The methods, fields or names that linking adds do not fit: a set holds at most 512 methods, 512 fields and 8,192 text bytes. \
-         Take some out of the set or of the ABI sheet.",
+        wrong: "what linking adds, or a class file has, exceeds 512 methods, 512 fields or 8,192 text bytes, or the lists lent for it",
+        mend: "The methods, fields or names that linking adds, or that a class file has, do not fit: a set holds at most 512 methods, 512 \
+         fields and 8,192 text bytes. Take some out of the set, the ABI sheet or the class. For a class file lend also 6 words a field, 6 \
+         words a method, a word for each 4 text bytes, and exactly one target for each method, as `lgt_class_file_head` counts them.",
     },
     Row {
         number: 15,
@@ -216,6 +223,26 @@ const REFUSALS: &[Row] = &[
         wrong: "a class is its own ancestor",
         mend: "A class is its own ancestor: mend the parent numbers of the classes in the ring, which `tools/sheet order` names, so that \
          each chain of parents ends at a class without one.",
+    },
+    Row {
+        number: 20,
+        refusal: Refusal::FileVersion,
+        wrong: "the bytes are no class file of major version 45 to 48",
+        mend: "This is no class file, or not one of the versions that are read: it begins with the bytes CA FE BA BE, and its major version \
+         is 45 to 48. Compile for 1.1 to 1.4.",
+    },
+    Row {
+        number: 21,
+        refusal: Refusal::FileBytes,
+        wrong: "the class file ends early, or something follows its last attribute",
+        mend: "The class file is cut short, or something follows its last attribute: fetch it again whole.",
+    },
+    Row {
+        number: 22,
+        refusal: Refusal::ConstantPool,
+        wrong: "the class file's constant pool has a wrong tag, or not what the class, its parent or a member refers to",
+        mend: "The class file's constant pool does not hold what the class uses: a tag is none of these versions', or the class, its parent, \
+         or a member's name or descriptor refers to no constant of its kind. Compile it again.",
     },
     Row {
         number: 23,

@@ -56,4 +56,20 @@ unsafe extern "C" {
     ) -> u32;
 
     pub fn lgt_reference_count(bitmap: *const u8, bitmap_len: usize, words: u32, answer: *mut [u32; 1]) -> u32;
+
+    pub fn lgt_read_class_file(
+        bytes: *const u8,
+        bytes_len: usize,
+        targets: *const u32,
+        targets_len: usize,
+        fields: *mut u32,
+        fields_len: usize,
+        methods: *mut u32,
+        methods_len: usize,
+        text: *mut u32,
+        text_len: usize,
+        answer: *mut [u32; 6],
+    ) -> u32;
+
+    pub fn lgt_class_file_head(bytes: *const u8, bytes_len: usize, answer: *mut [u32; 6]) -> u32;
 }

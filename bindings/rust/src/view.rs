@@ -29,13 +29,17 @@ impl<'a> Words<'a> {
 
     /// A part of the text, four bytes a word, lowest byte first.
     fn text(self, start: u32, length: u32) -> &'a str {
-        let words = &self.words[self.start(self.widths.len())..];
-        // SAFETY: a word is four bytes, any of which is a u8, and this target has the lowest first.
-        let bytes: &'a [u8] = unsafe { core::slice::from_raw_parts(words.as_ptr().cast(), size_of_val(words)) };
-        let part = start as usize..start as usize + length as usize;
-        // Row 4 has seen to it that names and descriptors are of the bytes 0x21 to 0x7E.
-        core::str::from_utf8(&bytes[part]).unwrap_or_default()
+        text_part(&self.words[self.start(self.widths.len())..], start, length)
     }
+}
+
+/// The same of the words of a text.
+pub(crate) fn text_part(words: &[u32], start: u32, length: u32) -> &str {
+    // SAFETY: a word is four bytes, any of which is a u8, and this target has the lowest first.
+    let bytes: &[u8] = unsafe { core::slice::from_raw_parts(words.as_ptr().cast(), size_of_val(words)) };
+    let part = start as usize..start as usize + length as usize;
+    // Row 4 has seen to it that names and descriptors are of the bytes 0x21 to 0x7E.
+    core::str::from_utf8(&bytes[part]).unwrap_or_default()
 }
 
 /// How a class came to be, which decides how it is linked.

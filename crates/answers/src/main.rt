@@ -1,10 +1,11 @@
 // Replays the stored calls in the files that its arguments name, each of a function that oracle/README.md lists beside the form, with what the
 // Rust's side answered. Every answer word and all lent memory are compared. Written for each file: a line for each call that differs; how the file
 // was made, how many calls there were and how many differ; then for each function how many were accepted, and how many a row refused.
-// Of a file its first 524,288 bytes count. Places in a file are words, and a word past its end is 0.
+// Of a file its first 655,360 bytes count. Places in a file are words, and a word past its end is 0.
 ghost use mathlib.Core.Path.{_≡_};
 ghost use Prim.Native.Nat.{_≤_};
 ghost use lib.ListN.{length};
+use class_members::FileRead;
 use libc::STDOUT_FILENO;
 use words::byte_at;
 use words::le_word;
@@ -18,7 +19,7 @@ use words::word_part;
 // `LGTA`, and the version of the form.
 const MAGIC: u32 = 1096042316;
 
-const VERSION: u32 = 1;
+const VERSION: u32 = 2;
 
 // The place of what the file says of how it was made, after the header.
 const BODY: u32 = 5;
@@ -99,20 +100,34 @@ fn load_bytes(bytes: &[u8], out: &mut [u8]) {
     }
 }
 
-// Puts the bytes of a slice as they are before the call.
-fn lend_bytes(f: &[u8], at: u32, out: &mut [u8]) {
-    load_bytes(stored(f, on(at, 3), wide(word(f, on(at, 1)))), out);
+// The n words that are stored from a place on, and 7s.
+fn loaded_words(f: &[u8], at: u32, n: u32) -> [u32; 12288]
+    ensures { λ r. ⌜ 12288 ≡ length r ⌝ }
+{
+    let mut words = fresh_words();
+    files::load_words(stored(f, at, 4 * wide(n)), &mut words);
+    words
 }
 
-// Puts the words of a slice as they are before the call.
-fn lend_words(f: &[u8], at: u32, out: &mut [u32]) {
-    files::load_words(stored(f, on(at, 3), 4 * wide(word(f, on(at, 1)))), out);
+// The bytes of a slice as they are before the call, and 7s.
+fn lent_bytes(f: &[u8], at: u32) -> [u8; 49152]
+    ensures { λ r. ⌜ 49152 ≡ length r ⌝ }
+{
+    let mut bytes = fresh_bytes();
+    load_bytes(stored(f, on(at, 3), wide(word(f, on(at, 1)))), &mut bytes);
+    bytes
+}
+
+// The words of a slice as they are before the call, and 7s.
+fn lent_words(f: &[u8], at: u32) -> [u32; 12288]
+    ensures { λ r. ⌜ 12288 ≡ length r ⌝ }
+{
+    loaded_words(f, on(at, 3), word(f, on(at, 1)))
 }
 
 // Whether the bytes are as the slice says that they are after the call.
 fn are_bytes(f: &[u8], at: u32, bytes: &[u8]) -> bool {
-    let mut told = fresh_bytes();
-    lend_bytes(f, at, &mut told);
+    let mut told = lent_bytes(f, at);
     load_bytes(
         stored(f, after_bytes(f, at), wide(word(f, on(at, 2)))),
         &mut told,
@@ -122,8 +137,7 @@ fn are_bytes(f: &[u8], at: u32, bytes: &[u8]) -> bool {
 
 // Whether the words are as the slice says that they are after the call.
 fn are_words(f: &[u8], at: u32, words: &[u32]) -> bool {
-    let mut told = fresh_words();
-    lend_words(f, at, &mut told);
+    let mut told = lent_words(f, at);
     files::load_words(
         stored(f, after_words(f, at), 4 * wide(word(f, on(at, 2)))),
         &mut told,
@@ -131,11 +145,11 @@ fn are_words(f: &[u8], at: u32, words: &[u32]) -> bool {
     files::is_front(words, &told)
 }
 
-// ---- calls: a kind, a number and three answer words; bytes and words to read, each after their number; then a slice of bytes to write, and two
+// ---- calls: a kind, a number and seven answer words; bytes and words to read, each after their number; then a slice of bytes to write, and three
 // of words to write.
 
 // The place of a call's bytes to read, from its own, and of its words to read.
-const HEAD: u32 = 5;
+const HEAD: u32 = 9;
 
 fn words_place(f: &[u8], at: u32) -> u32 {
     on(at, on(HEAD + 1, words_for(word(f, on(at, HEAD)))))
@@ -155,12 +169,16 @@ fn second_place(f: &[u8], at: u32) -> u32 {
     end_words(f, first_place(f, at))
 }
 
-fn next_place(f: &[u8], at: u32) -> u32 {
+fn third_place(f: &[u8], at: u32) -> u32 {
     end_words(f, second_place(f, at))
 }
 
+fn next_place(f: &[u8], at: u32) -> u32 {
+    end_words(f, third_place(f, at))
+}
+
 // The functions, by the kind of a call.
-const KINDS: u32 = 8;
+const KINDS: u32 = 10;
 
 const WRITE: u32 = 0;
 
@@ -178,29 +196,30 @@ const WIDEN: u32 = 6;
 
 const NARROW: u32 = 7;
 
+const READ_FILE: u32 = 8;
+
+const FILE_HEAD: u32 = 9;
+
 // What a call of any other kind is answered: no row has this number.
 const NO_KIND: u32 = 4294967295;
 
-// An answer's words: the refusal's number (0 if accepted), then the two result words.
+// An answer's words: the refusal's number (0 if accepted), then the six result words, of which most functions give one or two.
 struct Answer {
     refusal: u32,
-    first: u32,
-    second: u32,
+    words: [u32; 6],
 }
 
 fn accepted(first: u32, second: u32) -> Answer {
     Answer {
         refusal: 0,
-        first,
-        second,
+        words: [first, second, 0, 0, 0, 0],
     }
 }
 
 fn refused(refusal: u32) -> Answer {
     Answer {
         refusal,
-        first: 0,
-        second: 0,
+        words: [0; 6],
     }
 }
 
@@ -242,17 +261,24 @@ fn counted(answer: references::References) -> Answer {
     }
 }
 
-// Makes a call of this kind. Of the bytes and words to read, the bytes to write and two lists of words to write each function takes its own;
-// the second name is lent as bytes to write.
-fn make_call(
-    kind: u32,
-    number: u32,
-    bytes: &[u8],
-    words: &[u32],
-    out: &mut [u8],
-    first: &mut [u32],
-    second: &mut [u32],
-) -> Answer {
+// What a class file comes to.
+fn members(answer: FileRead) -> Answer {
+    match answer {
+        FileRead::Members(h) => Answer {
+            refusal: 0,
+            words: [h.name, h.parent, h.flags, h.fields, h.methods, h.text],
+        },
+        FileRead::Refused(row) => refused(row),
+    }
+}
+
+// Whether a call of this kind is lent bytes to write; a comparison is lent its second name so.
+fn takes_bytes(kind: u32) -> bool {
+    (kind == WRITE) | (kind == COMPARE) | (kind == WIDEN) | (kind == NARROW)
+}
+
+// Makes a call that is lent bytes to write.
+fn make_bytes(kind: u32, bytes: &[u8], words: &[u32], out: &mut [u8]) -> Answer {
     if kind == WRITE {
         return written(writer::write_class_sheet(words, out));
     }
@@ -262,9 +288,17 @@ fn make_call(
     if kind == NARROW {
         return written(convert::narrow_class_sheet(bytes, out));
     }
-    if kind == COMPARE {
-        return compare(bytes, out);
-    }
+    compare(bytes, out)
+}
+
+// Makes a call that is lent up to two lists of words to write.
+fn make_words(
+    kind: u32,
+    number: u32,
+    bytes: &[u8],
+    first: &mut [u32],
+    second: &mut [u32],
+) -> Answer {
     if kind == READ {
         return read(bytes, first);
     }
@@ -277,6 +311,9 @@ fn make_call(
     if kind == COUNT {
         return counted(references::reference_count(bytes, number));
     }
+    if kind == FILE_HEAD {
+        return members(class_file::class_file_head(bytes));
+    }
     refused(NO_KIND)
 }
 
@@ -287,9 +324,10 @@ const MEMORY: u32 = 2;
 
 // Whether the answer is the one of the call at a place.
 fn is_answer(f: &[u8], at: u32, answer: Answer) -> bool {
-    (answer.refusal == word(f, on(at, 2)))
-        & (answer.first == word(f, on(at, 3)))
-        & (answer.second == word(f, on(at, 4)))
+    let words = answer.words;
+    let mut told = [0u32; 6];
+    files::load_words(stored(f, on(at, 3), 24), &mut told);
+    (answer.refusal == word(f, on(at, 2))) & files::is_front(&words, &told)
 }
 
 // What a call differs in, by whether its answer and its memory are as told.
@@ -303,50 +341,70 @@ fn difference(answer: bool, memory: bool) -> u32 {
     0
 }
 
-// Makes the call at a place on the memory lent.
-fn make_stored(f: &[u8], at: u32, out: &mut [u8], first: &mut [u32], second: &mut [u32]) -> Answer {
+// The bytes to read of the call at a place.
+fn bytes_read(f: &[u8], at: u32) -> &[u8] {
     let bytes_at = on(at, HEAD);
+    stored(f, on(bytes_at, 1), wide(word(f, bytes_at)))
+}
+
+// Makes the call at a place on the memory lent.
+fn make_stored(
+    f: &[u8],
+    at: u32,
+    out: &mut [u8],
+    first: &mut [u32],
+    second: &mut [u32],
+    third: &mut [u32],
+) -> Answer {
+    let kind = word(f, at);
+    let bytes = bytes_read(f, at);
     let words_at = words_place(f, at);
-    let n = wide(word(f, words_at));
-    let mut words = fresh_words();
-    files::load_words(stored(f, on(words_at, 1), 4 * n), &mut words);
-    make_call(
-        word(f, at),
-        word(f, on(at, 1)),
-        stored(f, on(bytes_at, 1), wide(word(f, bytes_at))),
-        word_part(&words, 0, n),
-        out,
-        first,
-        second,
-    )
+    let n = word(f, words_at);
+    let words = loaded_words(f, on(words_at, 1), n);
+    let read = word_part(&words, 0, wide(n));
+    if takes_bytes(kind) {
+        return make_bytes(kind, bytes, read, out);
+    }
+    if kind == READ_FILE {
+        return members(class_file::read_class_file(bytes, read, first, second, third));
+    }
+    make_words(kind, word(f, on(at, 1)), bytes, first, second)
 }
 
 // Makes it, and answers what differs.
-fn replay_lent(f: &[u8], at: u32, out: &mut [u8], first: &mut [u32], second: &mut [u32]) -> u32 {
-    let answer = make_stored(f, at, out, first, second);
+fn replay_lent(
+    f: &[u8],
+    at: u32,
+    out: &mut [u8],
+    first: &mut [u32],
+    second: &mut [u32],
+    third: &mut [u32],
+) -> u32 {
+    let answer = make_stored(f, at, out, first, second, third);
     let memory = are_bytes(f, out_place(f, at), out)
         & are_words(f, first_place(f, at), first)
-        & are_words(f, second_place(f, at), second);
+        & are_words(f, second_place(f, at), second)
+        & are_words(f, third_place(f, at), third);
     difference(is_answer(f, at, answer), memory)
 }
 
 // Replays the call at a place on as much memory as it lends, and answers what differs.
 fn replay_call(f: &[u8], at: u32) -> u32 {
-    let mut out = fresh_bytes();
-    let mut first = fresh_words();
-    let mut second = fresh_words();
-    lend_bytes(f, out_place(f, at), &mut out);
-    lend_words(f, first_place(f, at), &mut first);
-    lend_words(f, second_place(f, at), &mut second);
+    let mut out = lent_bytes(f, out_place(f, at));
+    let mut first = lent_words(f, first_place(f, at));
+    let mut second = lent_words(f, second_place(f, at));
+    let mut third = lent_words(f, third_place(f, at));
     let out_room = room(f, out_place(f, at), MOST_BYTES);
     let first_room = room(f, first_place(f, at), MOST_WORDS);
     let second_room = room(f, second_place(f, at), MOST_WORDS);
+    let third_room = room(f, third_place(f, at), MOST_WORDS);
     replay_lent(
         f,
         at,
         &mut out[..out_room],
         &mut first[..first_room],
         &mut second[..second_room],
+        &mut third[..third_room],
     )
 }
 
@@ -376,6 +434,10 @@ fn print_kind(kind: u32) {
         io::write_all(STDOUT_FILENO, b"widen_class_sheet");
     } else if kind == NARROW {
         io::write_all(STDOUT_FILENO, b"narrow_class_sheet");
+    } else if kind == READ_FILE {
+        io::write_all(STDOUT_FILENO, b"read_class_file");
+    } else if kind == FILE_HEAD {
+        io::write_all(STDOUT_FILENO, b"class_file_head");
     } else {
         io::write_all(STDOUT_FILENO, b"no such function");
     }
@@ -480,6 +542,16 @@ fn print_end(path: &[u8], f: &[u8], at: u32) {
     }
 }
 
+// Writes how the file was made, how many calls there are and how many differ.
+fn print_sums(path: &[u8], made: &[u8], calls: u32, differ: u32) {
+    io::write_all(STDOUT_FILENO, path);
+    io::write_all(STDOUT_FILENO, b" (");
+    io::write_all(STDOUT_FILENO, made);
+    io::write_all(STDOUT_FILENO, b"): ");
+    print_count(calls, b" calls, ");
+    print_count(differ, b" differ\n");
+}
+
 // Replays the calls of a file, and writes its lines.
 fn print_calls(path: &[u8], f: &[u8]) {
     let n = word(f, 2);
@@ -487,12 +559,7 @@ fn print_calls(path: &[u8], f: &[u8]) {
     let mut counts = [0u32; (KINDS * ROWS) as usize];
     let s = replay_calls(path, f, on(on(BODY, 1), words_for(made)), n, &mut counts);
     print_end(path, f, s.at);
-    io::write_all(STDOUT_FILENO, path);
-    io::write_all(STDOUT_FILENO, b" (");
-    io::write_all(STDOUT_FILENO, stored(f, on(BODY, 1), wide(made)));
-    io::write_all(STDOUT_FILENO, b"): ");
-    print_count(n, b" calls, ");
-    print_count(s.differ, b" differ\n");
+    print_sums(path, stored(f, on(BODY, 1), wide(made)), n, s.differ);
     print_functions(&counts);
 }
 
@@ -505,10 +572,10 @@ fn is_answers(f: &[u8]) -> bool {
 }
 
 // Room for the bytes of a file that count.
-fn file_bytes() -> [u8; 524288]
-    ensures { λ r. ⌜ 524288 ≡ length r ⌝ }
+fn file_bytes() -> [u8; 655360]
+    ensures { λ r. ⌜ 655360 ≡ length r ⌝ }
 {
-    [0; 524288]
+    [0; 655360]
 }
 
 // Replays the calls in the bytes of a file.

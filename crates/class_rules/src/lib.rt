@@ -159,7 +159,7 @@ fn classes_ok(ws: &[u32], text: &[u8], clean: bool) -> bool
 }
 
 // Whether a method's flags lie within 0x1DFF.
-fn method_flags_ok(flags: u32) -> bool
+pub fn method_flags_ok(flags: u32) -> bool
     ensures { λ r. ⌜ r ≡ methodFlagsOk flags ⌝ }
 {
     (flags < 8192) & (flags / 512 % 2 == 0)

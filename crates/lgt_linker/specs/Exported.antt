@@ -10,6 +10,7 @@ use Rattle.writer.specs.Writer as writer
 use Rattle.renumber.specs.Renumber as renumber
 use Rattle.descriptor.specs.Words as descriptor
 use Rattle.references.specs.References as references
+use Rattle.class_members.specs.Members.{FileOutcome}
 
 -- "An accepted call gives 0 and its result; a refused one gives its number, zero in every other answer word": a link or an ask that
 -- returns `row` and leaves the answer words, the set and the area
@@ -48,3 +49,19 @@ comparedBy row answer = record { refusal = row; same = getD answer 0 0; pairs = 
 -- a reading of a bitmap that returns `row` and leaves the answer word and the lent list
 abbrev pub referencesBy : ℕ → List ℕ → List ℕ → references.Outcome
 referencesBy row answer list = record { refusal = row; count = getD answer 0 0; memory = list }
+
+-- a reading of a class file that returns `row` and leaves the six answer words and the lent lists
+abbrev pub fileBy : ℕ → List ℕ → List ℕ → List ℕ → List ℕ → FileOutcome
+fileBy row answer fields methods text =
+    record {
+      refusal = row;
+      name = getD answer 0 0;
+      parent = getD answer 1 0;
+      flags = getD answer 2 0;
+      fieldCount = getD answer 3 0;
+      methodCount = getD answer 4 0;
+      textLength = getD answer 5 0;
+      fields = fields;
+      methods = methods;
+      text = text;
+    }

@@ -2,6 +2,7 @@
 // set, the area or the words as that one does. What it returns is the refusal's number, 0 if the call is accepted; the other answer words
 // go into a small lent array, which is always written: zeros if the call is refused.
 use area::Answer;
+use class_members::FileRead;
 use descriptor::DescriptorWords;
 use references::References;
 use renumber::Renumbered;
@@ -23,7 +24,9 @@ ghost use Rattle.convert.specs.Convert.{widenSheet, narrowSheet};
 ghost use Rattle.descriptor.specs.Words.{argumentAnswer};
 ghost use Rattle.references.specs.References.{readReferences, countReferences};
 ghost use Rattle.references.specs.References as bitmaps;
-ghost use Rattle.lgt_linker.specs.Exported.{called, readBy, writtenBy, renumberedBy, argumentsBy, comparedBy, compareNames, referencesBy};
+ghost use Rattle.class_members.specs.Members.{readClassFile, classFileHead};
+ghost use Rattle.class_members.specs.Members as files;
+ghost use Rattle.lgt_linker.specs.Exported.{called, readBy, writtenBy, renumberedBy, argumentsBy, comparedBy, compareNames, referencesBy, fileBy};
 
 // Hands out a link's or an ask's answer.
 fn give_call(a: Answer, answer: &mut [u32; 2]) -> u32
@@ -100,6 +103,22 @@ fn give_references(a: References, answer: &mut [u32; 1]) -> u32
         }
         References::Refused(row) => {
             *answer = [0];
+            row
+        }
+    }
+}
+
+// Hands out the answer of a class file's reader.
+fn give_file(a: FileRead, answer: &mut [u32; 6]) -> u32
+    ensures { λ r. ⌜ ((fields methods text : List ℕ) → fileBy r (now (answer .exit)) fields methods text ≡ files.fileOutcome a fields methods text) ⌝ }
+{
+    match a {
+        FileRead::Members(h) => {
+            *answer = [h.name, h.parent, h.flags, h.fields, h.methods, h.text];
+            0
+        }
+        FileRead::Refused(row) => {
+            *answer = [0, 0, 0, 0, 0, 0];
             row
         }
     }
@@ -253,4 +272,31 @@ pub extern "C" fn lgt_reference_count(bitmap: &[u8], words: u32, answer: &mut [u
     ensures { λ r. ⌜ referencesBy r (now (answer .exit)) [] ≡ countReferences (now (bitmap .entry)) words ⌝ }
 {
     give_references(references::reference_count(bitmap, words), answer)
+}
+
+// `class_file::read_class_file`: the answer words are the lengths of the class's and of the parent's name, the flags, and how many fields,
+// methods and text bytes there are.
+#[no_mangle]
+pub extern "C" fn lgt_read_class_file(
+    bytes: &[u8],
+    targets: &[u32],
+    fields: &mut [u32],
+    methods: &mut [u32],
+    text: &mut [u32],
+    answer: &mut [u32; 6],
+) -> u32
+    ensures { λ r. ⌜ fileBy r (now (answer .exit)) (now (fields .exit)) (now (methods .exit)) (now (text .exit)) ≡ readClassFile (now (bytes .entry)) (now (targets .entry)) (now (fields .entry)) (now (methods .entry)) (now (text .entry)) ⌝ }
+{
+    give_file(
+        class_file::read_class_file(bytes, targets, fields, methods, text),
+        answer,
+    )
+}
+
+// `class_file::class_file_head`: the same words without lists.
+#[no_mangle]
+pub extern "C" fn lgt_class_file_head(bytes: &[u8], answer: &mut [u32; 6]) -> u32
+    ensures { λ r. ⌜ fileBy r (now (answer .exit)) [] [] [] ≡ classFileHead (now (bytes .entry)) ⌝ }
+{
+    give_file(class_file::class_file_head(bytes), answer)
 }

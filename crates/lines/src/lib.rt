@@ -73,7 +73,7 @@ fn put_column(out: &mut [u8], at: usize, part: &[u8]) -> usize
 }
 
 // Puts a word and a number.
-fn put_numbered(out: &mut [u8], at: usize, label: &[u8], n: u32) -> usize
+pub fn put_numbered(out: &mut [u8], at: usize, label: &[u8], n: u32) -> usize
     ensures { λ r. ⌜ (now (out .exit), r) ≡ put (now (out .entry), at) (now (label .entry) ++ decimal n) ⌝ }
 {
     let place = put_bytes(out, at, label);

@@ -1,9 +1,11 @@
-//! What a folder of two sheets comes to, by the model: the listing, and the reasons of what is refused.
+//! What a folder of two sheets comes to, by the model: the listing, and the reasons of what is refused. What a class
+//! file holds.
 
 use std::fmt::Write;
 
+use model::class_file::{FileRefused, class_file};
 use model::parts::{AbiSheet, ClassSheet, Entry, reading, text_of_abi_words, text_of_class_words};
-use model::why::{Refused, Why};
+use model::why::{Refused, Why, shown};
 use model::{ask, link, read_abi_sheet, read_class_sheet};
 
 // "links all in number order with 11,684 class words lent, in a fresh area of 4,096 words with 1,024 stub words, each
@@ -103,10 +105,6 @@ fn slot_name(set: &ClassSheet, abi: &AbiSheet, class: u32, index: u32, entry: &E
     fixed.map_or(("-".to_owned(), "-".to_owned()), |slot| (shown(slot.name), shown(slot.descriptor)))
 }
 
-fn shown(name: &[u8]) -> String {
-    String::from_utf8_lossy(name).into_owned()
-}
-
 /// The reason of each refusal: of the listing's links, then of the interface tables of the classes that are linked.
 pub fn reasons(abi_sheet: &[u8], class_sheet: &[u8]) -> Told {
     let mut desk = match Desk::read(abi_sheet, class_sheet) {
@@ -173,4 +171,23 @@ fn asked_interfaces(set: &ClassSheet, class: u32) -> Vec<u32> {
         }
     }
     interfaces
+}
+
+/// The class of a class file in the text form of `tools/sheet make`; method m has the target first + m * step modulo
+/// 2^32.
+pub fn members(bytes: &[u8], first: u32, step: u32) -> Result<String, FileRefused> {
+    let file = class_file(bytes)?;
+    let extends = file.parent.map_or(String::new(), |parent| format!(" extends {}", shown(parent)));
+    let mut text = format!("class {}{extends}\n  flags {}\n", shown(file.name), file.flags);
+    let mut target = first;
+    for method in &file.methods {
+        let (name, descriptor) = (shown(method.name), shown(method.descriptor));
+        writeln!(text, "  method {name} {descriptor} {target} flags {}", method.flags).expect("a string takes all");
+        target = target.wrapping_add(step);
+    }
+    for field in &file.fields {
+        let (name, descriptor) = (shown(field.name), shown(field.descriptor));
+        writeln!(text, "  field {name} {descriptor} 0 flags {}", field.flags).expect("a string takes all");
+    }
+    Ok(text)
 }

@@ -3,6 +3,7 @@
 
 pub mod buckets;
 pub mod case;
+pub mod class_files;
 pub mod compare;
 pub mod corpus;
 pub mod demand3;

@@ -1,6 +1,7 @@
 //! The oracle: the Rust judges tables, indices, lists and rows 8, 9, 11, 12 and 16; the
 //! harness itself decides the added rows, the places and how grown sections are laid out.
 
+pub mod class_files;
 mod descriptors;
 mod layout;
 mod machine;
@@ -8,7 +9,7 @@ mod references;
 mod rows;
 
 use crate::sheet::{Abi, MemberRecord, Set, class_word};
-use crate::side::{Answer, Linker};
+use crate::side::{Answer, FileAnswer, Linker};
 
 use machine::{Linked, Machine, Member};
 use references::Bitmaps;
@@ -194,6 +195,14 @@ impl Linker for Oracle {
         }
         let alike = a.iter().rev().zip(b.iter().rev()).take_while(|(x, y)| x == y).count() as u32;
         if a == b { Answer::accepted(1, alike) } else { Answer::accepted(0, alike + 1) }
+    }
+
+    fn read_class_file(&mut self, bytes: &[u8], targets: &[u32], fields: &mut [u32], methods: &mut [u32], text: &mut [u32]) -> FileAnswer {
+        class_files::call(bytes, targets, fields, methods, text).unwrap_or_else(|(row, _)| FileAnswer::refused(row))
+    }
+
+    fn class_file_head(&mut self, bytes: &[u8]) -> FileAnswer {
+        class_files::head(bytes).unwrap_or_else(|(row, _)| FileAnswer::refused(row))
     }
 }
 

@@ -4,6 +4,7 @@
 use std::collections::BTreeMap;
 
 use crate::case::Case;
+use crate::class_files;
 use crate::forms;
 use crate::names;
 use crate::oracle::Oracle;
@@ -123,12 +124,17 @@ const BUCKETS: &[&str] = &[
     "names: of more than 255 bytes",
 ];
 
+/// These, and those of class files.
+fn buckets() -> impl Iterator<Item = &'static str> {
+    BUCKETS.iter().copied().chain(class_files::BUCKETS)
+}
+
 /// Counts of readings and descriptors.
 pub struct ReadingCounts(BTreeMap<&'static str, u64>);
 
 impl Default for ReadingCounts {
     fn default() -> Self {
-        Self(BUCKETS.iter().map(|bucket| (*bucket, 0)).collect())
+        Self(buckets().map(|bucket| (bucket, 0)).collect())
     }
 }
 
@@ -143,18 +149,18 @@ impl ReadingCounts {
 
     /// Every bucket, and whether it was reached.
     pub(crate) fn buckets(&self) -> impl Iterator<Item = (&'static str, bool)> {
-        BUCKETS.iter().map(|&bucket| (bucket, self.0[bucket] > 0))
+        buckets().map(|bucket| (bucket, self.0[bucket] > 0))
     }
 
     /// The summary, and whether every bucket was reached.
     pub fn summary(&self) -> (String, bool) {
-        let lines: Vec<String> = BUCKETS.iter().map(|bucket| format!("{:>10}  {bucket}", self.0[bucket])).collect();
+        let lines: Vec<String> = buckets().map(|bucket| format!("{:>10}  {bucket}", self.0[bucket])).collect();
         (lines.join("\n"), self.0.values().all(|&count| count > 0))
     }
 }
 
 /// Reads the case's sheets, damaged or not, on both sides, writes its set back, makes a sheet of it one of the other form, renumbers it shuffled, asks for argument words and of a reference
-/// bitmap, and compares two names.
+/// bitmap, compares two names, and reads a class file.
 /// Answers the first disagreement.
 pub fn compare(
     oracle: &mut Oracle,
@@ -204,7 +210,8 @@ pub fn compare(
     writings::compare(oracle, other, &writings::random(random, case), counts)?;
     forms::compare(oracle, other, &forms::random(random, case), counts)?;
     orders::compare(oracle, other, random, case, counts)?;
-    names::compare(oracle, other, &names::random(random), counts)
+    names::compare(oracle, other, &names::random(random), counts)?;
+    class_files::compare(oracle, other, &class_files::random(random), counts)
 }
 
 /// Reads a class sheet by rows 1 to 3 alone, on both sides; `strictly` is what a reading by rows 1 to 5 answered.

@@ -172,7 +172,7 @@ impl Set {
         }
         words.extend(&self.interfaces);
         words.extend(&self.compiler);
-        pack_text(&mut words, &self.text);
+        words.extend(packed(&self.text));
         words
     }
 
@@ -280,7 +280,7 @@ impl Abi {
         for member in self.slots.iter().chain(&self.fields) {
             words.extend([member.name.0, member.name.1, member.descriptor.0, member.descriptor.1, member.index]);
         }
-        pack_text(&mut words, &self.text);
+        words.extend(packed(&self.text));
         words
     }
 
@@ -289,8 +289,9 @@ impl Abi {
     }
 }
 
-fn pack_text(words: &mut Vec<u32>, text: &[u8]) {
-    words.extend(text.chunks(4).map(|bytes| bytes.iter().rev().fold(0, |word, &byte| word << 8 | u32::from(byte))));
+/// Bytes four a word, lowest byte first, the last word filled with zeros.
+pub fn packed(bytes: &[u8]) -> Vec<u32> {
+    bytes.chunks(4).map(|part| part.iter().rev().fold(0, |word, &byte| word << 8 | u32::from(byte))).collect()
 }
 
 /// A word list as blocks of 512 bytes with their checks.

@@ -6,7 +6,7 @@ use harness::corpus::replay;
 use harness::model::parts::{ClassSheet, text_of_class_words};
 use harness::model::why::Refused;
 use harness::model::{self, Model};
-use harness::side::{Answer, Linker};
+use harness::side::{Answer, FileAnswer, Linker};
 use harness::{case::Call, generate};
 
 /// The model, with the sentence of every refusal by a row above 5 looked at.
@@ -87,6 +87,14 @@ impl Linker for Explained {
 
     fn compare_names(&mut self, a: &[u8], b: &[u8]) -> Answer {
         Model.compare_names(a, b)
+    }
+
+    fn read_class_file(&mut self, bytes: &[u8], targets: &[u32], fields: &mut [u32], methods: &mut [u32], text: &mut [u32]) -> FileAnswer {
+        Model.read_class_file(bytes, targets, fields, methods, text)
+    }
+
+    fn class_file_head(&mut self, bytes: &[u8]) -> FileAnswer {
+        Model.class_file_head(bytes)
     }
 }
 

@@ -4,9 +4,10 @@
 //! outside ends the program by a signal.
 
 use std::ffi::{c_int, c_void};
+use std::fmt::Debug;
 use std::slice;
 
-use harness::side::{Answer, Linker};
+use harness::side::{Answer, FileAnswer, Linker};
 
 use crate::Library;
 
@@ -106,68 +107,82 @@ pub struct Guarded {
     library: Library,
     first: Lent,
     second: Lent,
+    third: Lent,
     fixed: Lent,
     also_fixed: Lent,
 }
 
 impl Default for Guarded {
     fn default() -> Self {
-        Self { library: Library::default(), first: Lent::new(), second: Lent::new(), fixed: Lent::new(), also_fixed: Lent::new() }
+        Self {
+            library: Library::default(),
+            first: Lent::new(),
+            second: Lent::new(),
+            third: Lent::new(),
+            fixed: Lent::new(),
+            also_fixed: Lent::new(),
+        }
     }
 }
 
 type Sides<'a> = &'a mut dyn FnMut(&mut Library, &mut [u32], &[u32], &mut [u32], &[u32]) -> Answer;
 
-type Reads<'a, R, W> = &'a mut dyn FnMut(&mut Library, &[R], &mut [W]) -> Answer;
+type Reads<'a, R, W, A> = &'a mut dyn FnMut(&mut Library, &[R], &mut [W]) -> A;
 
 type ReadsBoth<'a, R> = &'a mut dyn FnMut(&mut Library, &[R], &[R]) -> Answer;
+
+/// Makes a call with either guard. Both must give the same: the answer, and what was written.
+fn twice<A: Debug + PartialEq, W: PartialEq>(mut once: impl FnMut(Guard) -> (A, W)) -> (A, W) {
+    let (before, after) = (once(Guard::Before), once(Guard::After));
+    assert!(before == after, "the two placements differ: {:?} and {:?}", before.0, after.0);
+    after
+}
 
 impl Guarded {
     /// A call on two slices that may be written, `set` and `area`, and two that may not.
     fn call(&mut self, set: &mut [u32], abi: &[u32], area: &mut [u32], stubs: &[u32], make: Sides) -> Answer {
-        let mut once = |guard| {
+        let (answer, written) = twice(|guard| {
             self.library.null_where_empty = guard == Guard::Before;
             let (lent_set, lent_area) = (self.first.put(set, guard), self.second.put(area, guard));
             let (lent_abi, lent_stubs) = (self.fixed.put_fixed(abi, guard), self.also_fixed.put_fixed(stubs, guard));
             let answer = make(&mut self.library, lent_set, lent_abi, lent_area, lent_stubs);
             self.fixed.release();
             self.also_fixed.release();
-            (answer, lent_set.to_vec(), lent_area.to_vec())
-        };
-        let (before, after) = (once(Guard::Before), once(Guard::After));
-        assert!(before == after, "the two placements differ: {:?} and {:?}", before.0, after.0);
-        set.copy_from_slice(&after.1);
-        area.copy_from_slice(&after.2);
-        after.0
+            (answer, [lent_set.to_vec(), lent_area.to_vec()])
+        });
+        set.copy_from_slice(&written[0]);
+        area.copy_from_slice(&written[1]);
+        answer
     }
 
     /// A call on a slice that may not be written and one that may.
-    fn read<R: Copy + 'static, W: Copy + PartialEq + 'static>(&mut self, read: &[R], written: &mut [W], make: Reads<R, W>) -> Answer {
-        let mut once = |guard| {
+    fn read<R, W, A>(&mut self, read: &[R], written: &mut [W], make: Reads<R, W, A>) -> A
+    where
+        R: Copy + 'static,
+        W: Copy + PartialEq + 'static,
+        A: Debug + PartialEq,
+    {
+        let (answer, after) = twice(|guard| {
             self.library.null_where_empty = guard == Guard::Before;
             let (lent_read, lent_written) = (self.fixed.put_fixed(read, guard), self.first.put(written, guard));
             let answer = make(&mut self.library, lent_read, lent_written);
             self.fixed.release();
             (answer, lent_written.to_vec())
-        };
-        let (before, after) = (once(Guard::Before), once(Guard::After));
-        assert!(before == after, "the two placements differ: {:?} and {:?}", before.0, after.0);
-        written.copy_from_slice(&after.1);
-        after.0
+        });
+        written.copy_from_slice(&after);
+        answer
     }
 
     /// A call on two slices that may not be written.
     fn read_both<R: Copy + 'static>(&mut self, a: &[R], b: &[R], make: ReadsBoth<R>) -> Answer {
-        let mut once = |guard| {
+        let once = |guard| {
             self.library.null_where_empty = guard == Guard::Before;
             let answer = make(&mut self.library, self.fixed.put_fixed(a, guard), self.also_fixed.put_fixed(b, guard));
             self.fixed.release();
             self.also_fixed.release();
-            answer
+            (answer, ())
         };
-        let (before, after) = (once(Guard::Before), once(Guard::After));
-        assert!(before == after, "the two placements differ: {before:?} and {after:?}");
-        after
+        twice(once).0
     }
 }
 
@@ -222,6 +237,26 @@ impl Linker for Guarded {
 
     fn compare_names(&mut self, a: &[u8], b: &[u8]) -> Answer {
         self.read_both(a, b, &mut |library, a, b| library.compare_names(a, b))
+    }
+
+    fn read_class_file(&mut self, bytes: &[u8], targets: &[u32], fields: &mut [u32], methods: &mut [u32], text: &mut [u32]) -> FileAnswer {
+        let (answer, written) = twice(|guard| {
+            self.library.null_where_empty = guard == Guard::Before;
+            let lent = (self.first.put(fields, guard), self.second.put(methods, guard), self.third.put(text, guard));
+            let (file, lent_targets) = (self.fixed.put_fixed(bytes, guard), self.also_fixed.put_fixed(targets, guard));
+            let answer = self.library.read_class_file(file, lent_targets, lent.0, lent.1, lent.2);
+            self.fixed.release();
+            self.also_fixed.release();
+            (answer, [lent.0.to_vec(), lent.1.to_vec(), lent.2.to_vec()])
+        });
+        for (list, found) in [fields, methods, text].into_iter().zip(&written) {
+            list.copy_from_slice(found);
+        }
+        answer
+    }
+
+    fn class_file_head(&mut self, bytes: &[u8]) -> FileAnswer {
+        self.read(bytes, &mut [0u32; 0], &mut |library, bytes, _| library.class_file_head(bytes))
     }
 }
 

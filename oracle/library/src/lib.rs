@@ -5,7 +5,7 @@ pub mod malformed;
 
 use std::ptr;
 
-use harness::side::{Answer, Linker};
+use harness::side::{Answer, FileAnswer, Linker};
 
 // As include/lgt_linker.h declares them.
 unsafe extern "C" {
@@ -57,6 +57,22 @@ unsafe extern "C" {
     fn lgt_reference_count(bitmap: *const u8, bitmap_len: usize, words: u32, answer: *mut u32) -> u32;
 
     fn lgt_compare_names(a: *const u8, a_len: usize, b: *const u8, b_len: usize, answer: *mut u64) -> u32;
+
+    fn lgt_read_class_file(
+        bytes: *const u8,
+        bytes_len: usize,
+        targets: *const u32,
+        targets_len: usize,
+        fields: *mut u32,
+        fields_len: usize,
+        methods: *mut u32,
+        methods_len: usize,
+        text: *mut u32,
+        text_len: usize,
+        answer: *mut u32,
+    ) -> u32;
+
+    fn lgt_class_file_head(bytes: *const u8, bytes_len: usize, answer: *mut u32) -> u32;
 }
 
 /// What an answer array holds before a call, so that a word that is not written shows.
@@ -80,11 +96,21 @@ impl Library {
 }
 
 /// Makes a call with an answer array of `words` words, and sees that no word after them is written.
-fn answered(words: usize, call: impl FnOnce(*mut u32) -> u32) -> Answer {
-    let mut answer = [UNWRITTEN; 4];
+fn made<const ROOM: usize>(words: usize, call: impl FnOnce(*mut u32) -> u32) -> (u32, [u32; ROOM]) {
+    let mut answer = [UNWRITTEN; ROOM];
     let refusal = call(answer.as_mut_ptr());
     assert!(answer[words..].iter().all(|&word| word == UNWRITTEN), "a word after the answer is written");
-    Answer { refusal, first: answer[0], second: if words > 1 { answer[1] } else { 0 } }
+    (refusal, answer)
+}
+
+fn answered(words: usize, call: impl FnOnce(*mut u32) -> u32) -> Answer {
+    let (refusal, [first, second, _, _]) = made(words, call);
+    Answer { refusal, first, second: if words > 1 { second } else { 0 } }
+}
+
+fn file_answered(call: impl FnOnce(*mut u32) -> u32) -> FileAnswer {
+    let (refusal, [words @ .., _, _]) = made::<8>(6, call);
+    FileAnswer { refusal, words }
 }
 
 // Each call hands on whole slices of this program; none that is written overlaps another.
@@ -169,5 +195,30 @@ impl Linker for Library {
         assert_eq!(answer[2], u64::from(UNWRITTEN), "a word after the answer is written");
         let [first, second, _] = answer.map(|word| word.try_into().unwrap_or(u32::MAX));
         Answer { refusal, first, second }
+    }
+
+    fn read_class_file(&mut self, bytes: &[u8], targets: &[u32], fields: &mut [u32], methods: &mut [u32], text: &mut [u32]) -> FileAnswer {
+        let (fields_len, methods_len, text_len) = (fields.len(), methods.len(), text.len());
+        let (fields, methods, text) = (self.lent(fields), self.lent(methods), self.lent(text));
+        let (file, target_words) = (self.read_only(bytes), self.read_only(targets));
+        file_answered(|answer| unsafe {
+            lgt_read_class_file(
+                file,
+                bytes.len(),
+                target_words,
+                targets.len(),
+                fields,
+                fields_len,
+                methods,
+                methods_len,
+                text,
+                text_len,
+                answer,
+            )
+        })
+    }
+
+    fn class_file_head(&mut self, bytes: &[u8]) -> FileAnswer {
+        file_answered(|answer| unsafe { lgt_class_file_head(self.read_only(bytes), bytes.len(), answer) })
     }
 }

@@ -1,6 +1,7 @@
 //! Malformed inputs: sheets, words, areas and lengths of any kind, by the seed.
 
 use harness::case::{Call, Case};
+use harness::class_files::{self, FileCall};
 use harness::forms::{self, Conversion};
 use harness::generate;
 use harness::names::{self, Names};
@@ -189,4 +190,39 @@ pub fn names(random: &mut Random) -> Names {
         _ => {}
     }
     names
+}
+
+/// A class file with bytes of any kind, behind the eight that are asked for first or without them, or a drafted one
+/// with bytes changed; lists and targets of any number.
+pub fn class_file(random: &mut Random) -> FileCall {
+    let mut file = class_files::random(random);
+    match random.below(6) {
+        0 => {
+            const VERSION: &[u8] = b"\xCA\xFE\xBA\xBE\0\0\0\x30";
+            const POOL_BEGUN: &[u8] = b"\xCA\xFE\xBA\xBE\0\x03\0\x2D\0\x05\x01\0\x01A\x07\0\x01";
+            let front = random.pick(&[b"", VERSION, POOL_BEGUN]);
+            let length = random.below(120);
+            let letters = random.pick(&[3, 13, 256]);
+            file.bytes = front.iter().copied().chain((0..length).map(|_| random.below(letters) as u8)).collect();
+        }
+        1..3 => {
+            for _ in 0..random.between(1, 6) {
+                let at = random.below(file.bytes.len() as u32) as usize;
+                let any = random.word() as u8;
+                if let Some(byte) = file.bytes.get_mut(at) {
+                    *byte = random.pick(&[0, 1, 5, 6, 7, 0xFF, any]);
+                }
+            }
+        }
+        3 => file.bytes.truncate(random.below(file.bytes.len() as u32 + 1) as usize),
+        _ => {}
+    }
+    match random.below(8) {
+        0 => file.targets.resize(random.below(40) as usize, 7),
+        1 => (file.fields, file.methods, file.text) = (0, 0, 0),
+        2 => [file.fields, file.methods, file.text] = [40, 40, 20].map(|most| random.below(most) as usize),
+        3 if random.chance(5) => file.targets.resize(random.between(1_000, 70_000) as usize, 7),
+        _ => {}
+    }
+    file
 }

@@ -3,6 +3,7 @@
 //! the paper's table; the comments quote the paper. A refusal says what it is about (`why`).
 
 mod ask;
+pub mod class_file;
 mod descriptors;
 mod fields;
 mod forms;
@@ -18,10 +19,12 @@ mod tables;
 pub mod why;
 mod writing;
 
-use crate::side::{Answer, Linker};
+use crate::class_file::FileRefused;
+use crate::side::{Answer, FileAnswer, Linker};
 use crate::why::{Refused, Why};
 
 pub use ask::ask;
+pub use class_file::{class_file_head, read_class_file};
 pub use descriptors::argument_words;
 pub use forms::{narrow_class_sheet, widen_class_sheet};
 pub use link::link;
@@ -94,6 +97,18 @@ impl Linker for Model {
     fn compare_names(&mut self, a: &[u8], b: &[u8]) -> Answer {
         answer(Ok(compare_names(a, b)))
     }
+
+    fn read_class_file(&mut self, bytes: &[u8], targets: &[u32], fields: &mut [u32], methods: &mut [u32], text: &mut [u32]) -> FileAnswer {
+        file_answer(read_class_file(bytes, targets, fields, methods, text))
+    }
+
+    fn class_file_head(&mut self, bytes: &[u8]) -> FileAnswer {
+        file_answer(class_file_head(bytes))
+    }
+}
+
+fn file_answer(result: Result<[u32; 6], FileRefused>) -> FileAnswer {
+    result.map_or_else(|refused| FileAnswer::refused(refused.row), FileAnswer::accepted)
 }
 
 /// "An accepted call gives 0 and its result; a refused one gives its number, zero in every

@@ -3,7 +3,7 @@
 use super::fields::{built_fields, generated_fields};
 use super::rules::{row_3, rows_4_and_5};
 use super::sheets::{
-    ARRAY, AbiSheet, BUILT, CLASS_WORDS, ClassSheet, GENERATED, INTERFACE, MEMBER_WORDS, class_content, record, text_of_abi_words,
+    ARRAY, AbiSheet, BUILT, CLASS_WORDS, ClassSheet, GENERATED, INTERFACE, MEMBER_WORDS, class_content, pack, record, text_of_abi_words,
     text_of_class_words,
 };
 use super::tables::{Entry, build_interface_methods, build_methods, compiler_table, parent_entries};
@@ -301,12 +301,7 @@ fn write_grown(set: &mut [u32], at: usize, linked: &Linked, grown: &Grown, conte
     set[1] = (grown.methods.len() / MEMBER_WORDS) as u32;
     set[2] = (grown.fields.len() / MEMBER_WORDS) as u32;
     set[5] = grown.text.len() as u32;
-    let text = grown.text.chunks(4).map(|bytes| {
-        let mut word = [0; 4];
-        word[..bytes.len()].copy_from_slice(bytes);
-        u32::from_le_bytes(word)
-    });
-    let moved: Vec<u32> = grown.methods.iter().chain(&grown.fields).chain(&between).copied().chain(text).collect();
+    let moved = [&grown.methods[..], &grown.fields, &between, &pack(&grown.text)].concat();
     set[content - moved.len()..content].copy_from_slice(&moved);
 }
 

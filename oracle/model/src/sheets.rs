@@ -397,6 +397,16 @@ pub fn unpack(words: &[u32], bytes: u32) -> Vec<u8> {
     words.iter().flat_map(|word| word.to_le_bytes()).take(bytes as usize).collect()
 }
 
+/// The same in the other direction; zeros fill the last word.
+pub fn pack(bytes: &[u8]) -> Vec<u32> {
+    let word = |bytes: &[u8]| {
+        let mut word = [0; 4];
+        word[..bytes.len()].copy_from_slice(bytes);
+        u32::from_le_bytes(word)
+    };
+    bytes.chunks(4).map(word).collect()
+}
+
 /// The text bytes of class words that pass row 3.
 pub fn text_of_class_words(words: &[u32]) -> Vec<u8> {
     let content = class_content(words).expect("row 3 holds");

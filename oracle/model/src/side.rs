@@ -22,6 +22,24 @@ impl Answer {
     }
 }
 
+/// The answer to a class file: the refusal's number (0 if accepted), then the six result words: the lengths of the
+/// class's and the parent's name, the flags, fields, methods, text bytes.
+#[derive(Clone, Copy, Debug, Default, PartialEq, Eq)]
+pub struct FileAnswer {
+    pub refusal: u32,
+    pub words: [u32; 6],
+}
+
+impl FileAnswer {
+    pub fn accepted(words: [u32; 6]) -> Self {
+        Self { refusal: 0, words }
+    }
+
+    pub fn refused(refusal: u32) -> Self {
+        Self { refusal, words: [0; 6] }
+    }
+}
+
 /// One side of the comparison. All memory is lent; a refused call leaves it as it was.
 pub trait Linker {
     fn read_class_sheet(&mut self, bytes: &[u8], words: &mut [u32]) -> Answer;
@@ -49,4 +67,8 @@ pub trait Linker {
     fn reference_count(&mut self, bitmap: &[u8], words: u32) -> Answer;
 
     fn compare_names(&mut self, a: &[u8], b: &[u8]) -> Answer;
+
+    fn read_class_file(&mut self, bytes: &[u8], targets: &[u32], fields: &mut [u32], methods: &mut [u32], text: &mut [u32]) -> FileAnswer;
+
+    fn class_file_head(&mut self, bytes: &[u8]) -> FileAnswer;
 }

@@ -171,7 +171,7 @@ impl Names<'_> {
     }
 }
 
-fn shown(name: &[u8]) -> String {
+pub fn shown(name: &[u8]) -> String {
     String::from_utf8_lossy(name).into_owned()
 }
 

@@ -8,7 +8,7 @@ abbrev Inv-loop : tie.InvT-loop
 Inv-loop counts kind₀ kind = Unit {0}
 
 abbrev μ-loop : tie.MeasureT-loop
-μ-loop counts kind₀ kind = 8 - kind
+μ-loop counts kind₀ kind = 10 - kind
 
 pub print-functions-spec : {M : Type 1} → statement M
 print-functions-spec =

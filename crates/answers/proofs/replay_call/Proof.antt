@@ -15,6 +15,9 @@ slice-aggregate-replay-lent-2 c = sym (length-take-le _ _ (omega arith))
 slice-aggregate-replay-lent-3 : tie.Need-slice-aggregate-replay-lent-3
 slice-aggregate-replay-lent-3 c = sym (length-take-le _ _ (omega arith))
 
+slice-aggregate-replay-lent-4 : tie.Need-slice-aggregate-replay-lent-4
+slice-aggregate-replay-lent-4 c = sym (length-take-le _ _ (omega arith))
+
 pub replay-call-spec : {M : Type 1} → statement M
 replay-call-spec =
     tie.close
@@ -23,13 +26,11 @@ replay-call-spec =
     (λ c κs. search needs)
     (λ c κs. search needs)
     (λ c κs. search needs)
-    (λ c. search needs)
     (λ c κs. search needs)
     (λ c κs. search needs)
-    (λ c. search needs)
     (λ c κs. search needs)
     (λ c κs. search needs)
-    (λ c. search needs)
+    (λ c κs. search needs)
     (λ c κs. search needs)
     (λ c κs. search needs)
     (λ c κs. search needs)
@@ -43,5 +44,7 @@ replay-call-spec =
     slice-aggregate-replay-lent-2
     (λ c. search needs)
     slice-aggregate-replay-lent-3
+    (λ c. search needs)
+    slice-aggregate-replay-lent-4
     (λ c κs. search needs)
     (λ c. search needs))

@@ -6,7 +6,9 @@
 //! area, bytes one to a word, and a number that they take for the class (kinds 2 reference words,
 //! 3 reference count, 4 writing, 5 reading loosely, 6 renumbering, 7 and 8 reading a class and an
 //! ABI sheet, 9 argument words, 10 names, the second for the area, 11 and 12 making a class sheet
-//! of the old form one of the new, and of the new one of the old; class words are class words).
+//! of the old form one of the new, and of the new one of the old, 13 a class file, whose targets are
+//! the stubs and whose lists and six answer words stand in the area one after the other, the first
+//! two's lengths for class and interface; class words are class words).
 
 use std::collections::BTreeMap;
 use std::process::ExitCode;
@@ -18,7 +20,7 @@ use harness::generate;
 use harness::oracle::Oracle;
 use harness::random::Random;
 use harness::side::{Answer, Linker};
-use harness::{forms, names, orders, readings, references, writings};
+use harness::{class_files, forms, names, orders, readings, references, writings};
 
 /// How many cases are looked at, and the most words of a slice.
 const LOOKED_AT: u64 = 30_000;
@@ -80,7 +82,23 @@ fn others(oracle: &mut Oracle, seed: u64) -> Vec<Vec<u32>> {
         let (answer, second) = (oracle.compare_names(&a, &b), wide(&b));
         call(10, 0, answer, &[], &wide(&a), &second, &second)
     }));
+    kept.extend((0..).map(|_| class_file_call(oracle, &class_files::random(&mut random))).filter(is_small).take(5 * OTHERS));
+    kept.extend(
+        (0..).map(|_| class_file_call(oracle, &class_files::random(&mut random))).filter(|words| !is_small(words)).take(OTHERS / 4),
+    );
     kept
+}
+
+/// A class file; the lists and the answer words hold 7s before.
+fn class_file_call(oracle: &mut Oracle, file: &class_files::FileCall) -> Vec<u32> {
+    let before = vec![7; file.fields + file.methods + file.text + 6];
+    let (mut fields, mut methods, mut text) = (vec![7; file.fields], vec![7; file.methods], vec![7; file.text]);
+    let answer = oracle.read_class_file(&file.bytes, &file.targets, &mut fields, &mut methods, &mut text);
+    let head = [13, file.fields as u32, file.methods as u32, answer.refusal, 0, 0];
+    let lengths = [0, file.bytes.len(), before.len(), file.targets.len()].map(|length| length as u32);
+    let lent = [&wide(&file.bytes)[..], &before, &file.targets];
+    let after = [&fields[..], &methods, &text, &answer.words];
+    [&head[..], &lengths, &lent.concat(), &after.concat()].concat()
 }
 
 #[expect(clippy::ptr_arg, reason = "a filter")]

@@ -5,6 +5,7 @@ use std::collections::{BTreeMap, BTreeSet};
 
 use super::format::{Reader, Writer};
 use crate::case::Case;
+use crate::class_files;
 use crate::forms;
 use crate::generate;
 use crate::names;
@@ -13,12 +14,12 @@ use crate::orders;
 use crate::random::Random;
 use crate::readings::{self, ReadingCounts};
 use crate::references;
-use crate::side::{Answer, Linker};
+use crate::side::{Answer, FileAnswer, Linker};
 use crate::writings;
 
 /// "LGTA", lowest byte first.
 pub(super) const MAGIC: u32 = u32::from_le_bytes(*b"LGTA");
-const VERSION: u32 = 1;
+const VERSION: u32 = 2;
 /// How many of a seed's cases are looked at.
 const LOOKED_AT: u64 = 12_000;
 /// The most bytes and words that a call is lent.
@@ -27,7 +28,7 @@ const MOST_WORDS: usize = 12_288;
 /// What each byte and word that a call fills holds before it.
 const UNWRITTEN: u8 = 7;
 /// How the names of the buckets begin that the calls cover, but for those that only a link reaches.
-const COVERED: [&str; 16] = [
+const COVERED: [&str; 17] = [
     "class set ",
     "writing: ",
     "names: ",
@@ -44,6 +45,7 @@ const COVERED: [&str; 16] = [
     "class sheet narrowed",
     "class sheet not narrowed",
     "converting: ",
+    "file: ",
 ];
 const LINKED: [&str; 3] = ["order: linked alike", "order: a class refused alike", "order: a table in another order"];
 
@@ -58,17 +60,43 @@ enum Kind {
     Count,
     Widen,
     Narrow,
+    ReadFile,
+    FileHead,
 }
 
-const KINDS: [Kind; 8] =
-    [Kind::Write, Kind::Compare, Kind::Read, Kind::Renumber, Kind::List, Kind::Count, Kind::Widen, Kind::Narrow];
+const KINDS: [Kind; 10] = [
+    Kind::Write,
+    Kind::Compare,
+    Kind::Read,
+    Kind::Renumber,
+    Kind::List,
+    Kind::Count,
+    Kind::Widen,
+    Kind::Narrow,
+    Kind::ReadFile,
+    Kind::FileHead,
+];
 
 /// What a call is lent to write; of a comparison the second name.
 #[derive(Clone, Default, PartialEq)]
 struct Memory {
     bytes: Vec<u8>,
-    first: Vec<u32>,
-    second: Vec<u32>,
+    lists: [Vec<u32>; 3],
+}
+
+impl Memory {
+    fn bytes(bytes: Vec<u8>) -> Self {
+        Self { bytes, ..Self::default() }
+    }
+
+    fn list(list: Vec<u32>) -> Self {
+        Self { lists: [list, Vec::new(), Vec::new()], ..Self::default() }
+    }
+}
+
+/// An answer in six words, those after its two 0.
+fn six(Answer { refusal, first, second }: Answer) -> FileAnswer {
+    FileAnswer { refusal, words: [first, second, 0, 0, 0, 0] }
 }
 
 /// A call: a number that it takes, what it reads, and the memory that it is lent.
@@ -87,27 +115,30 @@ impl Call {
     }
 
     /// Makes the call on one side; answers with the memory after it.
-    fn perform(&self, side: &mut dyn Linker) -> (Answer, Memory) {
+    fn perform(&self, side: &mut dyn Linker) -> (FileAnswer, Memory) {
         let mut memory = self.memory.clone();
+        let Memory { bytes, lists: [first, second, third] } = &mut memory;
         let answer = match self.kind {
-            Kind::Write => side.write_class_sheet(&self.words, &mut memory.bytes),
-            Kind::Compare => side.compare_names(&self.bytes, &memory.bytes),
-            Kind::Read => side.read_unordered_sheet(&self.bytes, &mut memory.first),
-            Kind::Renumber => side.renumber_classes(&mut memory.first, &mut memory.second),
-            Kind::List => side.reference_words(&self.bytes, self.number, &mut memory.first),
-            Kind::Count => side.reference_count(&self.bytes, self.number),
-            Kind::Widen => side.widen_class_sheet(&self.bytes, &mut memory.bytes),
-            Kind::Narrow => side.narrow_class_sheet(&self.bytes, &mut memory.bytes),
+            Kind::Write => six(side.write_class_sheet(&self.words, bytes)),
+            Kind::Compare => six(side.compare_names(&self.bytes, bytes)),
+            Kind::Read => six(side.read_unordered_sheet(&self.bytes, first)),
+            Kind::Renumber => six(side.renumber_classes(first, second)),
+            Kind::List => six(side.reference_words(&self.bytes, self.number, first)),
+            Kind::Count => six(side.reference_count(&self.bytes, self.number)),
+            Kind::Widen => six(side.widen_class_sheet(&self.bytes, bytes)),
+            Kind::Narrow => six(side.narrow_class_sheet(&self.bytes, bytes)),
+            Kind::ReadFile => side.read_class_file(&self.bytes, &self.words, first, second, third),
+            Kind::FileHead => side.class_file_head(&self.bytes),
         };
         (answer, memory)
     }
 }
 
-/// A call with its answer and the memory after it.
+/// A call with its answer, in as many words as a class file's, and the memory after it.
 #[derive(Clone)]
 struct Stored {
     call: Call,
-    answer: Answer,
+    answer: FileAnswer,
     after: Memory,
 }
 
@@ -117,31 +148,45 @@ impl Stored {
         Self { call, answer, after }
     }
 
+    /// The answer of a function that gives no more than two words.
+    fn two(&self) -> Answer {
+        let FileAnswer { refusal, words: [first, second, ..] } = self.answer;
+        Answer { refusal, first, second }
+    }
+
+    /// The most words that are read, or lent for a list.
+    fn most_words(&self) -> usize {
+        self.after.lists.iter().map(Vec::len).fold(self.call.words.len(), usize::max)
+    }
+
     fn fits(&self) -> bool {
-        let Memory { bytes, first, second } = &self.after;
-        bytes.len() <= MOST_BYTES && [&self.call.words, first, second].iter().all(|words| words.len() <= MOST_WORDS)
+        self.after.bytes.len() <= MOST_BYTES && self.most_words() <= MOST_WORDS
     }
 
     fn write(&self, writer: &mut Writer) {
         let Self { call, answer, after } = self;
         let Call { kind, number, bytes, words, memory } = call;
-        writer.words(&[*kind as u32, *number, answer.refusal, answer.first, answer.second]);
+        writer.words(&[*kind as u32, *number, answer.refusal]);
+        writer.words(&answer.words);
         writer.plain_bytes(bytes);
         writer.plain_words(words);
         writer.byte_slice(&memory.bytes, &after.bytes, UNWRITTEN);
-        writer.word_slice(&memory.first, &after.first, UNWRITTEN.into());
-        writer.word_slice(&memory.second, &after.second, UNWRITTEN.into());
+        for (before, after) in memory.lists.iter().zip(&after.lists) {
+            writer.word_slice(before, after, UNWRITTEN.into());
+        }
     }
 
     fn read(reader: &mut Reader) -> Result<Self, String> {
-        let [kind, number, refusal, first, second] = reader.words()?;
+        let [kind, number, refusal] = reader.words()?;
+        let answer = FileAnswer { refusal, words: reader.words()? };
         let kind = *KINDS.get(kind as usize).ok_or("no such kind of call")?;
         let (bytes, words) = (reader.plain_bytes()?, reader.plain_words()?);
-        let lent = (reader.byte_slice(UNWRITTEN)?, reader.word_slice(UNWRITTEN.into())?, reader.word_slice(UNWRITTEN.into())?);
-        let ([bytes_before, bytes_after], [first_before, first_after], [second_before, second_after]) = lent;
-        let memory = Memory { bytes: bytes_before, first: first_before, second: second_before };
-        let after = Memory { bytes: bytes_after, first: first_after, second: second_after };
-        Ok(Self { call: Call { kind, number, bytes, words, memory }, answer: Answer { refusal, first, second }, after })
+        let [before, after] = reader.byte_slice(UNWRITTEN)?;
+        let (mut memory, mut after) = (Memory::bytes(before), Memory::bytes(after));
+        for list in 0..3 {
+            [memory.lists[list], after.lists[list]] = reader.word_slice(UNWRITTEN.into())?;
+        }
+        Ok(Self { call: Call { kind, number, bytes, words, memory }, answer, after })
     }
 
     fn len(&self) -> usize {
@@ -155,7 +200,8 @@ impl Stored {
 type Made = Option<(Vec<Stored>, ReadingCounts)>;
 
 /// The sorts of call.
-const SORTS: [fn(&mut Oracle, &mut Random, &Case) -> Made; 7] = [writing, comparison, reading, order, bitmap, widening, narrowing];
+const SORTS: [fn(&mut Oracle, &mut Random, &Case) -> Made; 8] =
+    [writing, comparison, reading, order, bitmap, widening, narrowing, class_file];
 
 fn unwritten(words: usize) -> Vec<u32> {
     vec![UNWRITTEN.into(); words]
@@ -163,17 +209,17 @@ fn unwritten(words: usize) -> Vec<u32> {
 
 fn writing(oracle: &mut Oracle, random: &mut Random, case: &Case) -> Made {
     let (writing, mut counts) = (writings::random(random, case), ReadingCounts::default());
-    let memory = Memory { bytes: vec![UNWRITTEN; writing.lent], ..Memory::default() };
+    let memory = Memory::bytes(vec![UNWRITTEN; writing.lent]);
     let stored = Stored::new(oracle, Call { words: writing.set.clone(), ..Call::new(Kind::Write, memory) });
-    writings::observe(&writing, stored.answer, &mut counts);
+    writings::observe(&writing, stored.two(), &mut counts);
     Some((vec![stored], counts))
 }
 
 fn comparison(oracle: &mut Oracle, random: &mut Random, _: &Case) -> Made {
     let (names, mut counts) = (names::random(random), ReadingCounts::default());
-    let memory = Memory { bytes: names.b.clone(), ..Memory::default() };
+    let memory = Memory::bytes(names.b.clone());
     let stored = Stored::new(oracle, Call { bytes: names.a.clone(), ..Call::new(Kind::Compare, memory) });
-    names::observe(&names, stored.answer, &mut counts);
+    names::observe(&names, stored.two(), &mut counts);
     Some((vec![stored], counts))
 }
 
@@ -184,29 +230,29 @@ fn reading(oracle: &mut Oracle, random: &mut Random, case: &Case) -> Made {
         return None;
     }
     let strictly = readings::read(oracle, &reading, &mut unwritten(reading.lent));
-    let memory = Memory { first: unwritten(reading.lent), ..Memory::default() };
+    let memory = Memory::list(unwritten(reading.lent));
     let stored = Stored::new(oracle, Call { bytes: reading.bytes.clone(), ..Call::new(Kind::Read, memory) });
     counts.hit(reading.damage);
-    readings::observe_loosely(strictly, stored.answer, &mut counts);
+    readings::observe_loosely(strictly, stored.two(), &mut counts);
     Some((vec![stored], counts))
 }
 
 fn order(oracle: &mut Oracle, random: &mut Random, case: &Case) -> Made {
     let (order, mut counts) = (orders::random(random, case), ReadingCounts::default());
-    let memory = Memory { first: order.set.clone(), second: unwritten(order.lent), ..Memory::default() };
+    let memory = Memory { lists: [order.set.clone(), unwritten(order.lent), Vec::new()], ..Memory::default() };
     let stored = Stored::new(oracle, Call::new(Kind::Renumber, memory));
-    orders::observe(&order, stored.answer, &stored.after.second[..stored.answer.first as usize], &mut counts);
+    orders::observe(&order, stored.two(), &stored.after.lists[1][..stored.two().first as usize], &mut counts);
     Some((vec![stored], counts))
 }
 
 /// The list, and the count without it.
 fn bitmap(oracle: &mut Oracle, random: &mut Random, _: &Case) -> Made {
     let (bitmap, mut counts) = (references::random(random), ReadingCounts::default());
-    let memory = Memory { first: unwritten(bitmap.lent), ..Memory::default() };
+    let memory = Memory::list(unwritten(bitmap.lent));
     let list = Call { number: bitmap.words, bytes: bitmap.bytes.clone(), ..Call::new(Kind::List, memory) };
     let count = Call { kind: Kind::Count, memory: Memory::default(), ..list.clone() };
     let (listed, counted) = (Stored::new(oracle, list), Stored::new(oracle, count));
-    references::observe(&bitmap, listed.answer, &mut counts);
+    references::observe(&bitmap, listed.two(), &mut counts);
     Some((vec![listed, counted], counts))
 }
 
@@ -221,10 +267,21 @@ fn narrowing(oracle: &mut Oracle, random: &mut Random, case: &Case) -> Made {
 /// A class sheet made one of the other form.
 fn conversion(oracle: &mut Oracle, conversion: &forms::Conversion) -> Made {
     let (kind, mut counts) = (if conversion.is_old { Kind::Widen } else { Kind::Narrow }, ReadingCounts::default());
-    let memory = Memory { bytes: vec![UNWRITTEN; conversion.lent], ..Memory::default() };
+    let memory = Memory::bytes(vec![UNWRITTEN; conversion.lent]);
     let stored = Stored::new(oracle, Call { bytes: conversion.bytes.clone(), ..Call::new(kind, memory) });
-    forms::observe(conversion, stored.answer, &stored.after.bytes[..512 * stored.answer.first as usize], &mut counts);
+    forms::observe(conversion, stored.two(), &stored.after.bytes[..512 * stored.two().first as usize], &mut counts);
     Some((vec![stored], counts))
+}
+
+/// A class file, with its lists and without.
+fn class_file(oracle: &mut Oracle, random: &mut Random, _: &Case) -> Made {
+    let (file, mut counts) = (class_files::random(random), ReadingCounts::default());
+    let memory = Memory { lists: [file.fields, file.methods, file.text].map(unwritten), ..Memory::default() };
+    let read = Call { bytes: file.bytes.clone(), words: file.targets.clone(), ..Call::new(Kind::ReadFile, memory) };
+    let head = Call { bytes: file.bytes.clone(), ..Call::new(Kind::FileHead, Memory::default()) };
+    let (read, headed) = (Stored::new(oracle, read), Stored::new(oracle, head));
+    class_files::observe(&file, read.answer, &mut counts);
+    Some((vec![read, headed], counts))
 }
 
 /// What a sort gives with a case of the seed, if there is room for it.
@@ -285,8 +342,7 @@ fn middling(mut calls: Vec<(usize, u64)>, count: usize) -> impl Iterator<Item = 
 
 fn write(calls: &[Stored], how: &str) -> Vec<u32> {
     let longest_bytes = calls.iter().map(|stored| stored.after.bytes.len()).max();
-    let lent_words = |stored: &Stored| stored.call.words.len().max(stored.after.first.len()).max(stored.after.second.len());
-    let longest_words = calls.iter().map(lent_words).max();
+    let longest_words = calls.iter().map(Stored::most_words).max();
     let mut writer = Writer::default();
     writer.words(&[MAGIC, VERSION, calls.len() as u32, longest_bytes.unwrap_or(0) as u32, longest_words.unwrap_or(0) as u32]);
     writer.plain_bytes(how.as_bytes());
@@ -309,12 +365,14 @@ pub fn spoiled(seed: u64) -> (Vec<u32>, Summary) {
 fn small(made: &[Stored], kind: Kind) -> &Stored {
     let is_told = |stored: &&Stored| {
         let (before, after) = (&stored.call.memory, &stored.after);
+        let Answer { refusal, first, second } = stored.two();
         let is_written = match kind {
-            Kind::Compare => stored.answer.second > 0,
+            Kind::Compare => second > 0,
+            Kind::ReadFile => before.lists.iter().all(|list| !list.is_empty()),
             _ => is_front_written(&before.bytes, &after.bytes),
         };
-        let is_listed = is_front_written(&before.first, &after.first) && is_front_written(&before.second, &after.second);
-        stored.answer.refusal == 0 && stored.answer.first > 0 && is_written && is_listed
+        let mut lists = before.lists.iter().zip(&after.lists);
+        refusal == 0 && first > 0 && is_written && lists.all(|(before, after)| is_front_written(before, after))
     };
     let calls = made.iter().filter(|stored| stored.call.kind == kind).filter(is_told);
     calls.min_by_key(|stored| stored.len()).expect("there is a small call")
@@ -334,17 +392,17 @@ fn with_spoils(told: &Stored) -> Vec<Stored> {
         calls.push(spoiled);
     };
     spoil(&|stored| stored.answer.refusal += 1);
-    spoil(&|stored| stored.answer.first += 1);
-    spoil(&|stored| stored.answer.second += 1);
+    for word in 0..6 {
+        spoil(&|stored| stored.answer.words[word] += 1);
+    }
     let (before, after) = (&told.call.memory, &told.after);
     for at in spoiled_places(&before.bytes, &after.bytes) {
         spoil(&|stored| stored.after.bytes[at] ^= 1);
     }
-    for at in spoiled_places(&before.first, &after.first) {
-        spoil(&|stored| stored.after.first[at] ^= 1);
-    }
-    for at in spoiled_places(&before.second, &after.second) {
-        spoil(&|stored| stored.after.second[at] ^= 1);
+    for list in 0..3 {
+        for at in spoiled_places(&before.lists[list], &after.lists[list]) {
+            spoil(&|stored| stored.after.lists[list][at] ^= 1);
+        }
     }
     calls
 }

@@ -1,5 +1,7 @@
 //! The corpus's words: lists in runs, changes in pairs, a sum at the end.
 
+use crate::sheet::packed;
+
 /// A run shorter than this is written out.
 const SHORTEST_RUN: usize = 4;
 
@@ -104,11 +106,6 @@ impl Writer {
         self.0.push(self.0.iter().fold(0, |sum, word| sum.wrapping_add(*word)));
         self.0
     }
-}
-
-/// Bytes four a word, lowest byte first, the last word filled with zeros.
-fn packed(bytes: &[u8]) -> Vec<u32> {
-    bytes.chunks(4).map(|part| part.iter().rev().fold(0, |word, &byte| word << 8 | u32::from(byte))).collect()
 }
 
 pub struct Reader<'a>(&'a [u32]);

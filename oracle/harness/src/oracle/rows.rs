@@ -179,11 +179,16 @@ fn block_words(bytes: &[u8], most: usize, lent: usize) -> Result<Vec<u32>, u32> 
     Ok(content)
 }
 
-/// A text part of 1 to 255 bytes, all printable.
+/// A text part that is a string.
 fn is_name(text: &[u8], (start, length): (u32, u32)) -> bool {
     let (start, length) = (start as usize, length as usize);
     let part = text.get(start..).and_then(|tail| tail.get(..length));
-    part.is_some_and(|part| !part.is_empty() && part.len() <= 255 && part.iter().all(u8::is_ascii_graphic))
+    part.is_some_and(is_string)
+}
+
+/// 1 to 255 bytes, all printable.
+pub fn is_string(bytes: &[u8]) -> bool {
+    matches!(bytes.len(), 1..=255) && bytes.iter().all(u8::is_ascii_graphic)
 }
 
 fn lies_inside(span: (u32, u32), size: usize) -> bool {

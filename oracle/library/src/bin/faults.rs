@@ -9,6 +9,7 @@ use std::sync::atomic::{AtomicU64, Ordering};
 use std::time::Instant;
 
 use harness::case::{Call, Case};
+use harness::class_files;
 use harness::compare;
 use harness::forms;
 use harness::names;
@@ -58,8 +59,12 @@ struct Counts {
 
 impl Counts {
     fn count(&mut self, what: &'static str, answer: Answer) {
+        self.count_row(what, answer.refusal);
+    }
+
+    fn count_row(&mut self, what: &'static str, row: u32) {
         self.calls += 1;
-        *self.rows.entry((what, answer.refusal)).or_default() += 1;
+        *self.rows.entry((what, row)).or_default() += 1;
     }
 }
 
@@ -92,7 +97,8 @@ fn main() -> ExitCode {
     ExitCode::SUCCESS
 }
 
-/// A case's calls, a reading, of a class sheet loosely too, a writing, a conversion, an order, a descriptor, a reference bitmap and two names.
+/// A case's calls, a reading, of a class sheet loosely too, a writing, a conversion, an order, a descriptor, a
+/// reference bitmap, two names and a class file.
 fn one(seed: u64, number: u64, oracle: &mut Oracle, guarded: &mut Guarded, counts: &mut Counts) -> Result<(), String> {
     let case = malformed::case(seed, number);
     let result = compare::compare(oracle, guarded, &case, &mut |step| {
@@ -135,6 +141,7 @@ fn one(seed: u64, number: u64, oracle: &mut Oracle, guarded: &mut Guarded, count
     let conversion = malformed::conversion(&mut random, &case);
     counts.count(if conversion.is_old { "widening" } else { "narrowing" }, forms::judge(oracle, guarded, &conversion)?.0);
     counts.count("names", names::judge(oracle, guarded, &malformed::names(&mut random))?);
+    counts.count_row("class file", class_files::judge(oracle, guarded, &malformed::class_file(&mut random))?.refusal);
     Ok(())
 }
 

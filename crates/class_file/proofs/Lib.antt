@@ -1,0 +1,4 @@
+pub mod JudgeLaws
+pub mod Laws
+pub mod ReadLaws
+pub mod WriteLaws

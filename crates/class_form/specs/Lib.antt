@@ -1,0 +1,3 @@
+pub mod Form
+pub mod Marks
+pub mod Parts

@@ -1,0 +1,5 @@
+pub mod Examples
+pub mod Placed
+pub mod OneClass
+pub mod SheetForm
+pub mod Targets

@@ -1,0 +1,12 @@
+pub mod Constants
+pub mod Derived
+pub mod Examples
+pub mod File
+pub mod Formed
+pub mod Items
+pub mod Lookup
+pub mod Outcome
+pub mod Pool
+pub mod Spelled
+pub mod Theorem
+pub mod Unique

@@ -1,0 +1,1 @@
+// What a class file yields is its own: this crate has no code, only specs/ and proofs/.

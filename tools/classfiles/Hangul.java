@@ -1,0 +1,4 @@
+/** A field whose name is in Hangul, by its number. */
+class Hangul {
+    int \uBB38;
+}
