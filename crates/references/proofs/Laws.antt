@@ -1,7 +1,7 @@
 -- The marked words of a bitmap, byte by byte: those of a byte are the ones of its highest bits, and those of a word list are the bytes' together.
 -- Assumes nothing.
 use mathlib.Core.Path.{_≡_, refl, sym, ap, _∙_}
-use mathlib.Core.Bool.{Bool, true, false, cond}
+use mathlib.Core.Bool.{Bool, true, false, cond, not}
 use mathlib.Core.List.{List, [], _∷_, _++_, append-nil, append-assoc}
 use Prim.Native.Nat.{ℕ, zero, suc, _+_, _*_, _-_, _/_, _%_, _^_, _≤_, _<_, min}
 use native.Mathlib.Omega.{arith}
@@ -10,9 +10,10 @@ use native.Mathlib.Numerals.{add-one}
 use lib.ListN.{length, getD, set, drop, length-append, length-drop}
 use lib.Seq.{drop-cons, set-at}
 use lib.Dec.{eqb}
+use lib.Bits.{bitAnd, and-high}
 use lib.Count.{ones, ones-step, ones-cat, ones-le}
-use lib.Pow.{pow-pos, split, shr-shr, shr-lt}
-use borrow.Author.Tests.{eqb-true, eqb-false, lt-ltb, le-ltb}
+use lib.Pow.{pow-pos, pow-add, shl-shr, shr-shr, shr-lt, shr-mod}
+use borrow.Author.Tests.{eqb-true, eqb-false, eq-eqb, ne-eqb, lt-ltb, le-ltb}
 use Rattle.words.specs.Folds.{sumOf}
 use Rattle.words.specs.Lists.{listFrom, numbers, keep}
 use Rattle.words.proofs.Bools.{by}
@@ -62,10 +63,37 @@ pub bit-length : (v x : ℕ) → length (cond (eqb (v % 2) 1) (x ∷ []) []) ≡
 bit-length v x =
     by (eqb (v % 2) 1) (λ e. rw e (sym (eqb-true _ _ e))) (λ e. rw e (omega (arith, eqb-false (v % 2) 1 e)))
 
+-- the bit 0x80 shifted right by k is bit 7 - k
+pub shifted-bit : (k : ℕ) → k < 8 → 0x80 / 2 ^ k ≡ 2 ^ (7 - k)
+shifted-bit k h =
+    let e : 7 - k + k ≡ 7 = omega arith in
+    let p : 0x80 ≡ 2 ^ (7 - k) * 2 ^ k = rw e at (pow-add 2 (7 - k) k) in
+    ap (λ (x : ℕ). x / 2 ^ k) p ∙ shl-shr (2 ^ (7 - k)) k
+
+-- a number has bit m
+pub bit-test : (b m : ℕ) → not (eqb (bitAnd b (2 ^ m)) 0) ≡ eqb (b / 2 ^ m % 2) 1
+bit-test b m =
+    let double : 2 ^ (1 + m) ≡ 2 * 2 ^ m = pow-add 2 1 m in
+    let one : 2 ^ (1 + m) - 2 ^ m ≡ 2 ^ m = omega arith in
+    let v : ℕ = b / 2 ^ m % 2 in
+    let a : bitAnd b (2 ^ m) ≡ v * 2 ^ m = rw one at (and-high b 1 m) in
+    by (eqb v 1)
+    (λ e.
+    let s : v * 2 ^ m ≡ 2 ^ m = rw (eqb-true v 1 e) (omega arith) in
+    let some : bitAnd b (2 ^ m) ≡ 0 → ⊥ = λ z. omega (arith, a, s, pow-pos m) in
+    rw (e, ne-eqb _ 0 some))
+    (λ e.
+    let z : v ≡ 0 = omega (arith, eqb-false v 1 e) in
+    let s : v * 2 ^ m ≡ 0 = rw z (omega arith) in
+    rw (e, eq-eqb _ 0 (a ∙ s)))
+
 -- word 8 j + k is marked by bit 7 - k of byte j
 pub marked-at : (bitmap : List ℕ) (j k : ℕ) → k < 8 → isMarked bitmap (8 * j + k) ≡ eqb (getD bitmap j 0 / 2 ^ (7 - k) % 2) 1
 unfolding isMarked
-marked-at bitmap j k h = let q : (8 * j + k) / 8 ≡ j = omega arith in let r : (8 * j + k) % 8 ≡ k = omega arith in rw (q, r)
+marked-at bitmap j k h =
+    let q : (8 * j + k) / 8 ≡ j = omega arith in
+    let r : (8 * j + k) % 8 ≡ k = omega arith in
+    rw (q, r, shifted-bit k h) (bit-test (getD bitmap j 0) (7 - k))
 
 -- the marked ones of the first k words of byte j are the ones of its k highest bits
 pub byte-marks : (bitmap : List ℕ) (j k : ℕ) → getD bitmap j 0 < 256 → k ≤ 8
@@ -88,12 +116,19 @@ pub ones-zero : ones 0 ≡ 0
 unfolding ones
 ones-zero = refl
 
--- the ones of a byte's k highest bits are those of its quotient
-pub ones-masked : (b k : ℕ) → ones (masked b k) ≡ ones (b / 2 ^ (8 - k))
+-- a byte's k highest bits are its quotient, shifted back
+pub masked-high : (b k : ℕ) → b < 256 → k ≤ 8 → masked b k ≡ b / 2 ^ (8 - k) * 2 ^ (8 - k)
 unfolding masked
-ones-masked b k =
+masked-high b k small h =
+    let e : k + (8 - k) ≡ 8 = omega arith in
+    let l : b < 2 ^ (k + (8 - k)) = rw e small in
+    (rw e at (and-high b k (8 - k))) ∙ rw (shr-mod k (8 - k) l)
+
+-- their ones are those of the quotient
+pub ones-masked : (b k : ℕ) → b < 256 → k ≤ 8 → ones (masked b k) ≡ ones (b / 2 ^ (8 - k))
+ones-masked b k small h =
     let q : ℕ = b / 2 ^ (8 - k) in
-    let e : b - b % 2 ^ (8 - k) ≡ q * 2 ^ (8 - k) + 0 = omega (arith, split b (8 - k)) in
+    let e : masked b k ≡ q * 2 ^ (8 - k) + 0 = omega (arith, masked-high b k small h) in
     rw e (ones-cat (8 - k) q 0 (pow-pos (8 - k)) ∙ none (ones q))
   where
     none : (n : ℕ) → n + ones 0 ≡ n
@@ -104,7 +139,7 @@ pub ones-kept : (b k : ℕ) → b < 256 → k ≤ 8 → ones (masked b k) ≤ k
 ones-kept b k small h =
     let e : k + (8 - k) ≡ 8 = omega arith in
     let l : b < 2 ^ (k + (8 - k)) = rw e small in
-    rw ones-masked (ones-le k (b / 2 ^ (8 - k)) (shr-lt k (8 - k) l))
+    rw (ones-masked b k small h) (ones-le k (b / 2 ^ (8 - k)) (shr-lt k (8 - k) l))
 
 -- ---- all bytes
 
@@ -144,7 +179,7 @@ ones-count bitmap n (suc j) small h =
     let before : onesBefore bitmap n j ≡ length (keep (isMarked bitmap) (numbers 0 (8 * j))) =
     rw here at (ones-count bitmap n j small (omega arith)) in
     rw
-    (next, numbers-split, keep-append, length-append, start, byte-marks bitmap j k (small j) (omega arith), ← ones-masked, ← before, one)
+    (next, numbers-split, keep-append, length-append, start, byte-marks bitmap j k (small j) (omega arith), ← (ones-masked (getD bitmap j 0) k (small j) (omega arith)), ← before, one)
     (ones-more bitmap n j)
 
 -- "shown equal": the count byte by byte is the list's length

@@ -3,10 +3,11 @@
 -- count. Bits beyond the instance words are ignored."
 use Prim.Native.Nat.{ℕ, _+_, _*_, _-_, _/_, _%_, _^_, min}
 use mathlib.Core.Logic.{_≢_}
-use mathlib.Core.Bool.{Bool, cond}
+use mathlib.Core.Bool.{Bool, cond, not}
 use mathlib.Core.List.{List, [], _++_}
 use lib.ListN.{length, getD, drop}
 use lib.Dec.{eqb, ltb}
+use lib.Bits.{bitAnd}
 use lib.Count.{ones}
 use Rattle.words.specs.Folds.{sumOf}
 use Rattle.words.specs.Lists.{numbers, keep}
@@ -15,8 +16,9 @@ use Rattle.references.specs.declared.References.the-variants.{Count, Ref
 
 -- ---- the marked words
 
+-- "byte i / 8 has the bit 0x80 shifted right by i modulo 8"
 unfoldable pub isMarked : List ℕ → ℕ → Bool
-isMarked bitmap i = eqb (getD bitmap (i / 8) 0 / 2 ^ (7 - i % 8) % 2) 1
+isMarked bitmap i = not (eqb (bitAnd (getD bitmap (i / 8) 0) (0x80 / 2 ^ (i % 8))) 0)
 
 -- of n instance words, "in rising order"
 unfoldable pub markedWords : List ℕ → ℕ → List ℕ
@@ -32,9 +34,9 @@ bytesFor n = (n + 7) / 8
 unfoldable pub keptBits : ℕ → ℕ → ℕ
 keptBits n j = min 8 (n - 8 * j)
 
--- a byte's k highest bits, and zeros below them
+-- a byte's k highest bits, and zeros below them: the mask has ones in those bits
 unfoldable pub masked : ℕ → ℕ → ℕ
-masked b k = b - b % 2 ^ (8 - k)
+masked b k = bitAnd b (256 - 2 ^ (8 - k))
 
 -- byte j without the bits "beyond the instance words"
 abbrev pub maskedByte : List ℕ → ℕ → ℕ → ℕ

@@ -29,7 +29,7 @@ fn is_marked(bitmap: &[u8], i: u32) -> bool
     ensures { λ r. ⌜ r ≡ isMarked (now (bitmap .entry)) i ⌝ }
 {
     let b = words::byte_at(bitmap, words::wide(i / 8)) as u32;
-    b / power(7 - i % 8) % 2 == 1
+    b & (0x80u32 >> (i % 8)) != 0
 }
 
 // How many bytes n words take.
@@ -62,7 +62,7 @@ fn masked_byte(b: u32, k: u32) -> u32
     requires { ⌜ k ≤ 8 ⌝ }
     ensures { λ r. ⌜ r ≡ masked b k ⌝ }
 {
-    b - b % power(8 - k)
+    b & (256 - power(8 - k))
 }
 
 // The ones of byte j that are of the n words.

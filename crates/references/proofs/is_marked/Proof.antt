@@ -1,23 +1,16 @@
 -- The definition's own test, at the byte that holds word i.
 use borrow.Author.Needs.{needs}
 use mathlib.Core.Path.{_≡_, _∙_}
-use lib.Pow.{pow-pos}
 use Rattle.references.specs.References.{isMarked}
 use Rattle.references.proofs.is_marked.Statement.{statement}
 use Rattle.references.proofs.is_marked.Tie as tie
-
-divisor : tie.Need-div-result
-divisor c = rw (c .power .ensures) (pow-pos _)
 
 returns : tie.Need-returns
 unfolding isMarked
 returns c =
     let read : tie.After-byte-at = search in
-    let shifted : tie.After-power = search in
     let place : tie.After-wide = search in
-    rw (shifted .power .ensures, read .byte-at .ensures, place .wide .ensures)
+    rw (read .byte-at .ensures, place .wide .ensures)
 
 pub is-marked-spec : {M : Type 1} → statement M
-is-marked-spec =
-    tie.close
-    (tie.spec (λ c κs. search needs) (λ c κs. search needs) (λ c. search needs) (λ c. search needs) (λ c κs. search needs) divisor returns)
+is-marked-spec = tie.close (tie.spec (λ c κs. search needs) (λ c κs. search needs) (λ c. search needs) (λ c. search needs) returns)
