@@ -60,16 +60,18 @@ telling =
 abbrev prepared : Class → Class → Lent
 prepared p g = spare 24 (lent (p ∷ g ∷ []) [])
 
+-- Card and its child VipCard, linked
+abbrev desk : Lent
+desk =
+    after
+    (lent
+    (built "Card" 0 (method "open" 4096 ∷ method "close" 4112 ∷ []) [] ∷ built "VipCard" 1 (method "close" 8192 ∷ method "mark" 8208 ∷ []) [] ∷ [])
+    [])
+    both
+
 pub record TellingClasses : Type 0 where
   -- the desk's example: 1, 1 and 1, 2, 2
-  pub cards :
-      classesOf 2
-      (after
-      (lent
-      (built "Card" 0 (method "open" 4096 ∷ method "close" 4112 ∷ []) [] ∷ built "VipCard" 1 (method "close" 8192 ∷ method "mark" 8208 ∷ []) [] ∷ [])
-      [])
-      both)
-      ≡ 1 ∷ 2 ∷ 2 ∷ []
+  pub cards : (classesOf 1 desk ≡ 1 ∷ 1 ∷ []) × (classesOf 2 desk ≡ 1 ∷ 2 ∷ 2 ∷ [])
   -- by target over the whole chain first: slot 0 is P's m, though K itself has the method that the ABI names there
   pub target-first :
       classesOf 2
@@ -104,7 +106,7 @@ pub telling-classes : TellingClasses
 unfolding opened
 telling-classes =
     record {
-      cards = refl;
+      cards = (refl, refl);
       target-first = refl;
       twice = refl;
       by-rule = refl;

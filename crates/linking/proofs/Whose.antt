@@ -24,7 +24,7 @@ use Rattle.linking.specs.Abi.{classAbi, slotAt}
 use Rattle.linking.specs.Vtable.{ownFixed, findByIndex, readEntry, readSlot}
 use Rattle.linking.specs.Compiler.{holds, ownerState}
 use Rattle.linking.specs.Ask.{ownImplementation, implementation}
-use Rattle.linking.specs.Whose.{methodOf, classOf, orDeclared, declaredIn, firstDeclared, declaredByTarget, declaredImplementation, declaredByIndex, readDeclared, slotClass, Nearest, Declares, FixedThere, Whose}
+use Rattle.linking.specs.Whose.{methodOf, classOf, orDeclared, declaredIn, firstDeclared, declaredByTarget, declaredImplementation, declaredByIndex, readDeclared, slotClass, Nearest, Declares, FixedThere, Column, unknown-slot, known-slot, Whose}
 use Rattle.linking.proofs.ChainLaws.{chain-within, own-target-member, own-method-member, own-method-is}
 
 -- ---- every answer remains
@@ -187,6 +187,19 @@ module _ (ws text abi labels : List ℕ) where
       by-declared (firstDeclared (ownTarget ws w) (chain ws c)) (λ a b q. declared-class (ownTarget ws w) ws c d m (q ∙ (rw q at e)))
       (λ q. declared-class (ownFixed ws text abi labels i) ws c d m (rw q at e))
 
+  read-declares : (c i w d m : ℕ) → readDeclared ws text abi labels c i w ≡ By d m → Declares ws c d m
+  unfolding readDeclared
+  read-declares c i w d m e =
+      by-declared (declaredByTarget ws c w)
+      (λ a b q. target-declares ws c w d m (q ∙ (rw q at e)) .0)
+      (λ q. index-declares ws text abi labels c i d m (rw q at e) .0)
+
+  column-is : (c i w : ℕ) → Column ws c (readEntry ws text abi labels c i w .method) (classOf (readDeclared ws text abi labels c i w))
+  column-is c i w =
+      by-declared (readDeclared ws text abi labels c i w)
+      (λ d m e. rw (← reading-found ws text abi labels c i w, e) (known-slot (read-declares c i w d m e)))
+      (λ e. rw (← reading-found ws text abi labels c i w, e) unknown-slot)
+
   unknown-is : (area : List ℕ) (c i : ℕ) → (slotClass ws text abi labels area c i ≡ 0) ↔ (readSlot ws text abi labels area c i .method ≡ Nothing)
   unfolding slotClass readSlot
   unknown-is area c i =
@@ -212,5 +225,6 @@ whose = record {
   by-index = index-declares;
   implements = implementation-declares;
   no-other = owner-is;
+  column = column-is;
   unknown = unknown-is;
 }

@@ -90,6 +90,11 @@ pub record FixedThere (ws text abi labels : List ℕ) (d i m : ℕ) : Type 0 whe
   pub row-is : slotAt abi i entry ≡ At row
   pub signature : methodIs ws text m (abiSlotName abi labels row) (abiSlotDescriptor abi labels row) ≡ true
 
+-- a slot's last column, where Reading finds this method along class c's chain: "0 for an unknown slot", else the class that declares the method
+pub data Column (ws : List ℕ) (c : ℕ) : Found → ℕ → Type 0 where
+  unknown-slot : Column ws c Nothing 0
+  known-slot : {d m : ℕ} → Declares ws c d m → Column ws c (At m) d
+
 pub record Whose : Type 0 where
   -- every answer remains
   pub remains : (f : ℕ → Found) (cs : List ℕ) → methodOf (firstDeclared f cs) ≡ firstFound f cs
@@ -107,6 +112,9 @@ pub record Whose : Type 0 where
   -- and no other does: it is the class whose list holds the method
   pub no-other : (ws text abi labels : List ℕ) (c d m : ℕ) → Valid ws → IsClass ws c → Declares ws c d m
       → (find (holds ws text abi labels m) (numbers 1 (classCount ws)) ≡ At d) × (ownerState ws text abi labels m ≡ classLinkState ws d)
+  -- the method that Reading finds at a slot's word and the number that the listing prints beside it belong together
+  pub column : (ws text abi labels : List ℕ) (c i w : ℕ)
+      → Column ws c (readEntry ws text abi labels c i w .method) (classOf (readDeclared ws text abi labels c i w))
   -- 0 is unknown
   pub unknown : (ws text abi labels area : List ℕ) (c i : ℕ)
       → (slotClass ws text abi labels area c i ≡ 0) ↔ (readSlot ws text abi labels area c i .method ≡ Nothing)
