@@ -15,7 +15,7 @@ use Rattle.words.proofs.Bools.{by, and-both, passed}
 use Rattle.class_sheet.specs.ClassSheet.{classCount, interfaceCount, contentEnd, interfaceWord, classParent}
 use Rattle.class_rules.specs.ClassRules.{classLimits, classFits, allFresh}
 use Rattle.set_rules.specs.Valid.{IsClass}
-use Rattle.renumber.specs.Renumber.{orderOf, renumberForm, namesClasses, cyclic, renumberRefusal, renumberDef}
+use Rattle.renumber.specs.Renumber.{orderOf, renumbered, renumberForm, namesClasses, cyclic, renumberRefusal, renumberDef}
 use Rattle.renumber.specs.Places.{Named, Before}
 use Rattle.order.specs.Order.{Orderable, Ordered}
 use Rattle.renumber.proofs.Named.{names-parents, names-interfaces}
@@ -124,11 +124,11 @@ one-order ws l o p q =
 -- ---- the list that an accepted call hands back
 
 pub handed : (ws list : List ℕ) → renumberDef ws list .refusal ≡ 0
-    → Orderable ws × (take (classCount ws) (renumberDef ws list .list) ≡ orderOf ws)
+    → Orderable ws × (take (classCount ws) (renumberDef ws list .list) ≡ orderOf ws) × (renumberDef ws list .set ≡ renumbered ws (orderOf ws))
 unfolding renumberDef
 handed ws list e =
     by (eqb (renumberRefusal ws (length list)) 0)
     (λ t.
     let ok = orderable ws (length list) (eqb-true _ _ t) in
-    (ok, rw t (take-at (orderOf ws) (drop (classCount ws) list) (classCount ws) (whole ws ok))))
+    (ok, rw t (take-at (orderOf ws) (drop (classCount ws) list) (classCount ws) (whole ws ok)), rw t))
     (λ f. absurd (eqb-false _ _ f (rw f at e)))

@@ -113,11 +113,11 @@ pub record InOrder (ws new : List ℕ) : Type 0 where
 
 pub record Order (ws : List ℕ) : Type 0 where
   -- 1 to 3. The order holds each class once, parents first, the smallest ready next; it is the only list that does, and it is the list that an
-  -- accepted call hands back.
+  -- accepted call hands back, with the words of which 5 and 6 speak.
   pub ordered : Orderable ws → Ordered ws (orderOf ws)
   pub only : (l : List ℕ) → Orderable ws → Ordered ws l → l ≡ orderOf ws
   pub handed-back : (list : List ℕ) → renumberDef ws list .refusal ≡ 0
-      → Orderable ws × (take (classCount ws) (renumberDef ws list .list) ≡ orderOf ws)
+      → Orderable ws × (take (classCount ws) (renumberDef ws list .list) ≡ orderOf ws) × (renumberDef ws list .set ≡ renumbered ws (orderOf ws))
   -- 4. 19 is the stop, and `returns` means what it says.
   pub stop : Named ws → (cyclic ws ≡ true) ↔ (length (orderOf ws) < classCount ws)
   pub returns-is : Named ws → (c : ℕ) → IsClass ws c → (returns ws c ≡ true) ↔ Returns ws c
