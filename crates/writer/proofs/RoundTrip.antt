@@ -1,7 +1,7 @@
 -- The blocks that were written are the content packed, so reading them gives it back padded with zeros; what a reading accepted is its own content
 -- padded, so writing it gives the blocks back. Assumes nothing.
-use mathlib.Core.Path.{_≡_, ap, _∙_}
-use mathlib.Core.Bool.{true, not}
+use mathlib.Core.Path.{_≡_, refl, ap, _∙_}
+use mathlib.Core.Bool.{Bool, true, false, not, _&&_}
 use mathlib.Core.List.{List, _++_, append-assoc}
 use mathlib.Core.Logic.{_↔_}
 use Prim.Native.Nat.{ℕ, _+_, _*_, _-_, _≤_}
@@ -17,12 +17,14 @@ use Rattle.block.proofs.Laws.{blocks-least}
 use Rattle.block.proofs.PackLaws.{length-bytes}
 use Rattle.text.specs.Text.{zeroRest}
 use Rattle.class_sheet.specs.ClassSheet.{blockLimit, textLength, textAt, contentEnd, textOf}
-use Rattle.class_rules.specs.ClassRules.{classLimits, classFits, allFresh, classForm}
-use Rattle.set_rules.specs.SetRules.{classRefusal}
+use Rattle.class_rules.specs.ClassRules.{classLimits, classFits, allFresh, classForm, classRecords}
+use Rattle.set_rules.specs.SetRules.{classDescriptors, classRefusal, setFits, recordsRefusal, setRefusal}
+use Rattle.set_rules.specs.Valid.{ValidAbi}
 use Rattle.set_rules.proofs.Kept.{class-fits-kept}
+use Rattle.set_rules.proofs.Valid.{abi-tests}
 use Rattle.sheet.specs.Sheet.{blockRefusal, readSheet, classRows, classSheetRefusal, readClassSheet}
 use Rattle.writer.specs.Writer as writer
-use Rattle.writer.specs.Writer.{contentOf, blocksOf, storable, writeRefusal, writeClassSheet}
+use Rattle.writer.specs.Writer.{contentOf, blocksOf, linkRows, storable, writeRefusal, writeClassSheet}
 use Rattle.writer.specs.RoundTrip.{paddedContent, blocksWritten, sheetWritten, RoundTrip}
 use Rattle.writer.proofs.Laws.{Passed, few-blocks, write-passed, write-accepts}
 use Rattle.writer.proofs.Blocks.{sheet-passed, blocks-count, blocks-words, blocks-rows, whole, words-length, again-blocks, again-same, again}
@@ -231,6 +233,25 @@ module _ (ws bs : List ℕ) (accepted : (writeClassSheet ws bs) .refusal ≡ 0) 
       (omega (arith, length-bytes (contentOf ws) (blocksOf ws)))
       ∙ getD-drop (512 * blocksOf ws) bs (i - 512 * blocksOf ws) 0 ∙ rw q)
 
+-- ---- rows 3 to 5
+
+and-true : (a : Bool) → (a && true) ≡ a
+and-true true = refl
+and-true false = refl
+
+as-for-a-link : (ws abi : List ℕ) → ValidAbi abi → linkRows ws ≡ setRefusal ws abi
+unfolding linkRows classRefusal setRefusal setFits recordsRefusal
+as-for-a-link ws abi v =
+    let t = abi-tests abi v in
+    rw (
+      t .0,
+      t .1,
+      t .2,
+      and-true (classFits ws),
+      and-true (classRecords ws (textOf ws)),
+      and-true (classDescriptors ws (textOf ws)),
+    )
+
 pub round-trip : RoundTrip
 round-trip =
     record {
@@ -239,6 +260,7 @@ round-trip =
       read-write = read-write;
       domain = domain;
       domain-blocks = λ ws room lent small fits l h. rw (bytes-rows ws small fits lent h) (domain ws room fits l);
+      as-for-a-link = as-for-a-link;
       few = few;
       rest-stays = λ ws bs a. (same-length ws bs a, rest-stays ws bs a);
     }

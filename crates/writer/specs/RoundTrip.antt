@@ -8,8 +8,10 @@ use lib.ListN.{length, getD, take, drop, replicate}
 use Rattle.block.specs.Block.{AreWords, AreBytes, blockCount, leastFit, sheetBytes}
 use Rattle.class_sheet.specs.ClassSheet.{blockLimit, contentEnd}
 use Rattle.class_rules.specs.ClassRules.{classFits}
+use Rattle.set_rules.specs.SetRules.{setRefusal}
+use Rattle.set_rules.specs.Valid.{ValidAbi}
 use Rattle.sheet.specs.Sheet.{classRows, classSheetRefusal, readClassSheet}
-use Rattle.writer.specs.Writer.{contentOf, blocksOf, writeRefusal, writeClassSheet}
+use Rattle.writer.specs.Writer.{contentOf, blocksOf, linkRows, writeRefusal, writeClassSheet}
 
 -- the content, then zeros to the end of its last block
 abbrev pub paddedContent : List ℕ → List ℕ
@@ -41,6 +43,8 @@ pub record RoundTrip : Type 0 where
       → (writeRefusal ws room ≡ 0) ↔ (classRows (paddedContent ws) ≡ 0)
   pub domain-blocks : (ws : List ℕ) (room lent : ℕ) → AreWords ws → classFits ws ≡ true → 512 * blocksOf ws ≤ room → 127 * blocksOf ws ≤ lent
       → (writeRefusal ws room ≡ 0) ↔ (classSheetRefusal (sheetBytes (contentOf ws) (blocksOf ws)) lent ≡ 0)
+  -- "3 to 5 as for a link": beside any ABI words that rows 3 to 5 accept, they refuse a link by the same number
+  pub as-for-a-link : (ws abi : List ℕ) → ValidAbi abi → linkRows ws ≡ setRefusal ws abi
   -- "The writer touches only the blocks it needs": the least number of blocks that holds the content, 92 at the most, and every byte after them stays
   pub few : (ws bs : List ℕ) → (writeClassSheet ws bs) .refusal ≡ 0
       → (1 ≤ blocksWritten ws bs) × (blocksWritten ws bs ≤ blockLimit) × (leastFit (contentEnd ws) (127 * blocksWritten ws bs) ≡ true)
