@@ -419,8 +419,9 @@ fn read_parts(
     }
 }
 
-// Reads a class file's members into three lent lists in the sheet's form, each method with its target. Words after what is written stay; a
-// refused call changes none.
+// Reads a class file's members into three lent lists in the sheet's form, each method with its target. The six words that are answered, zeros
+// after the text in its last word, and that words after what is written stay are this program's choice: the papers name no answer words, and
+// say of the lists only what fills them. A refused call changes none.
 pub fn read_class_file(
     bytes: &[u8],
     targets: &[u32],
@@ -448,7 +449,7 @@ pub fn read_class_file(
     }
 }
 
-// The six words alone, for a caller that has yet to lend lists: every row but 14 by the lists and targets.
+// The six words alone, for a caller that has yet to lend lists (the program's choice): every row but 14 by the lists and targets.
 pub fn class_file_head(bytes: &[u8]) -> FileRead
     ensures { λ r. ⌜ fileOutcome r [] [] [] ≡ classFileHead (now (bytes .entry)) ⌝ }
 {

@@ -1,5 +1,6 @@
+pub mod Answers
 pub mod Examples
-pub mod Placed
 pub mod OneClass
+pub mod Placed
 pub mod SheetForm
 pub mod Targets

@@ -164,7 +164,8 @@ readRefusal bs targets fields methods text =
 
 -- ---- what a reading answers, and what the lent lists then hold
 
--- six words: the lengths of the class's and the parent's name (0 for none), the flags, how many fields and methods, how many text bytes
+-- six words: the lengths of the class's and the parent's name (0 for none), the flags, how many fields and methods, how many text bytes. (Which words
+-- tell what is yielded is the program's choice: the request names no answer words.)
 pub record FileOutcome : Type 0 where
   pub refusal : ℕ
   pub name : ℕ
@@ -244,7 +245,7 @@ readClassFile bs targets fields methods text =
     (overlaid (packed (fileText bs targets)) text))
     (refusedBy (readRefusal bs targets fields methods text) fields methods text)
 
--- the six words alone, for a caller that has yet to lend lists: "14 by the sheet's limits alone"
+-- the six words alone, for a caller that has yet to lend lists: of 14 the sheet's limits alone. That there is such a call is the program's choice.
 unfoldable pub classFileHead : List ℕ → FileOutcome
 classFileHead bs =
     cond (eqb (fileRefusal bs []) 0) (membersBy bs [] [] [] []) (refusedBy (fileRefusal bs []) [] [] [])

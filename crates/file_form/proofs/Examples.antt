@@ -1,4 +1,4 @@
--- The request's two example files as class files, so that the types have what they are for. Assumes nothing.
+-- Two small files as class files, so that the types have what they are for. Assumes nothing.
 use mathlib.Core.Path.{_≡_, refl}
 use mathlib.Core.Logic.{inl, inr}
 use mathlib.Core.List.{List, [], _∷_, _++_}

@@ -1,4 +1,4 @@
--- "a second thin entry that answers the six words without lists": what it tells a caller of the reading that follows. `head` of proofs/Head.antt
+-- A second entry answers the six words without lists: what it tells a caller of the reading that follows. `head` of proofs/Head.antt
 -- proves it. Assumes nothing.
 use Prim.Native.Nat.{ℕ, _*_, _≤_}
 use mathlib.Core.Path.{_≡_}

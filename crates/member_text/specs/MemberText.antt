@@ -1,4 +1,4 @@
--- The text of a class file's members, "in the text form of `tools/sheet make` (`class NAME extends PARENT`, `flags N`, `method ..`, `field ..`)"; or
+-- The text of a class file's members, in the form that `tools/sheet make` reads (`class NAME extends PARENT`, `flags N`, `method ..`, `field ..`); or
 -- the row that refuses the file. Assumes nothing.
 use Prim.Native.Nat.{ℕ, _+_, _*_, _%_}
 use mathlib.Core.Bool.{cond}

@@ -125,8 +125,8 @@ pub fn reference_count(bitmap: &[u8], words: u32) -> References
     References::Count(masked_ones(bitmap, words))
 }
 
-// Puts the numbers of the marked words into the list, in rising order, and answers how many there are; words after them stay. Or 24 where the
-// bitmap has too few bytes, or 25 where the list is shorter than the count: then no word of it is written.
+// Puts the numbers of the marked words into the list, in rising order, and answers how many there are; words after them stay, which is this
+// program's choice. Or 24 where the bitmap has too few bytes, or 25 where the list is shorter than the count: then no word of it is written.
 pub fn reference_words(bitmap: &[u8], words: u32, list: &mut [u32]) -> References
     ensures is { λ r. ⌜ outcome r (now (list .exit)) ≡ readReferences (now (bitmap .entry)) words (now (list .entry)) ⌝ }
     ensures told { λ r. ⌜ Told r ⌝ }
