@@ -4,6 +4,7 @@ pub mod Examples
 pub mod File
 pub mod Formed
 pub mod Items
+pub mod Longest
 pub mod Lookup
 pub mod Outcome
 pub mod Pool

@@ -1,21 +1,24 @@
 -- The theorems on the order in which a class file is judged: each verdict from what the file comes to. Assumes nothing.
 use mathlib.Core.Path.{_≡_, refl, sym, ap, _∙_}
-use mathlib.Core.Logic.{_⊎_, inl, inr}
+use mathlib.Core.Logic.{_≢_, _⊎_, inl, inr}
 use mathlib.Core.Bool.{true, false}
 use mathlib.Core.List.{List, _∷_, _++_}
-use Prim.Native.Nat.{ℕ, _+_, _≤_, _<_}
+use Prim.Native.Nat.{ℕ, _+_, _-_, _≤_, _<_}
 use native.Mathlib.Omega.{arith}
-use lib.ListN.{length, take, length-append, length-take}
-use lib.Seq.{take-take, take-length, length-take-le, take-append-le}
-use lib.Dec.{eqb, leb}
-use borrow.Author.Tests.{eqb-true, eqb-false, eq-eqb, ne-eqb, leb-true, leb-false, le-leb, lt-leb}
+use lib.ListN.{length, getD, take, replicate, length-append, length-take, length-replicate, getD-replicate, List·getD-append, List·getD-eq-default}
+use lib.Seq.{take-take, take-length, length-take-le, take-append-le, take-append-add, getD-take}
+use lib.Dec.{eqb, leb, ltb}
+use borrow.Author.Tests.{eqb-true, eqb-false, eq-eqb, ne-eqb, leb-true, leb-false, ltb-true, ltb-false, le-leb, lt-leb}
 use Rattle.words.proofs.Bools.{by}
+use Rattle.words.proofs.Lists.{skip}
 use Rattle.class_form.specs.declared.Step.{Step}
 use Rattle.class_form.specs.declared.Step.the-variants.{To, Stop}
 use Rattle.class_form.specs.Form.{afterFile, versionOk, endRefusal, formRefusal}
-use Rattle.file_form.specs.FrontToBack.{MetAt, EndsEarly, Continues, Alone, FrontToBack}
+use Rattle.file_form.specs.Derived.{Bytes}
+use Rattle.file_form.specs.FrontToBack.{MetAt, EndsEarly, Open, Continues, Alone, FrontToBack}
 use Rattle.file_form.proofs.Outcome.{agree-less, agree-u2, agree-u4, agree-length, Held, Before, Outcome, goes, met, early}
 use Rattle.file_form.proofs.File.{file}
+use Rattle.file_form.proofs.Longest.{longest}
 
 -- ---- the first eight bytes
 
@@ -123,6 +126,86 @@ verdict bs =
     let less = leb-false 8 (length bs) t in
     ended (few bs less) (inl (λ n h. few (take n bs) (omega (arith, length-take n bs)))))
 
+-- ---- bytes that end early, with zeros after them
+
+zeros-at : (n i : ℕ) → _≡_ {A = ℕ} (getD (replicate n 0) i 0) 0
+zeros-at n i =
+    by (ltb i n) (λ t. getD-replicate n i 0 0 (ltb-true i n t))
+    (λ t.
+    let none : List ℕ = replicate n 0 in
+    let past : length none ≤ i = omega (arith, length-replicate {A = ℕ} n 0, ltb-false i n t) in
+    List·getD-eq-default none 0 past)
+
+longer-small : (bs : List ℕ) → Bytes bs → (n i : ℕ) → getD (bs ++ replicate n 0) i 0 < 256
+longer-small bs small n i =
+    by (ltb i (length bs))
+    (λ t. let l = ltb-true i (length bs) t in rw (List·getD-append bs (replicate n 0) 0 i l) (small i l))
+    (λ t.
+    let l = ltb-false i (length bs) t in
+    rw (skip bs (replicate n 0) i (i - length bs) 0 (omega arith), zeros-at n (i - length bs)) (omega arith))
+
+module _ (bs : List ℕ) (small : Bytes bs) (ends : EndsEarly bs) where
+  -- as many zeros as no file can ask for
+  abbrev many : ℕ
+  many = 8 + longest .0
+
+  abbrev zs : List ℕ
+  zs = replicate many 0
+
+  abbrev cs : List ℕ
+  cs = bs ++ zs
+
+  length-cs : length cs ≡ length bs + many
+  length-cs = length-append bs zs ∙ ap (λ (n : ℕ). length bs + n) (length-replicate {A = ℕ} many 0)
+
+  eight : 8 ≤ length cs
+  eight = omega (arith, length-cs)
+
+  some-zeros : (k : ℕ) → Bytes (take k zs)
+  some-zeros k i h =
+      let l : i < k = omega (arith, length-take k zs) in
+      rw (getD-take k zs i 0 l, zeros-at many i) (omega arith)
+
+  -- a front that is a class file is longer than bs
+  up-to : (q : ℕ) → formRefusal (take q cs) ≡ 0 → Open bs
+  up-to q e =
+      by (leb q (length bs))
+      (λ t.
+      let h = leb-true q (length bs) t in
+      absurd (let z : _≡_ {A = ℕ} 21 0 = sym (ends q h) ∙ (rw (take-append-le q bs zs h) at e) in omega arith))
+      (λ t.
+      let n : length bs + (q - length bs) ≡ q = omega (arith, leb-false q (length bs) t) in
+      let f : formRefusal (bs ++ take (q - length bs) zs) ≡ 0 = rw (← n, take-append-add bs zs (q - length bs)) at e in
+      record {
+        more = take (q - length bs) zs;
+        bytes = some-zeros (q - length bs);
+        other = λ z. let w : _≡_ {A = ℕ} 0 21 = sym f ∙ z in omega arith;
+      })
+
+  by-row : (row : ℕ) → row ≢ 21 → formRefusal cs ≡ row → Open bs
+  by-row row other e =
+      record {
+        more = zs;
+        bytes = λ i h. rw (zeros-at many i) (omega arith);
+        other = λ z. other (sym e ∙ z);
+      }
+
+  after-eight : versionOk cs ≡ true → Outcome cs 8 afterFile → Open bs
+  after-eight v (goes q low there held before) =
+      up-to q
+      (judged cs eight v q (To q) low there held (take q cs) (take-take q q cs (omega arith))
+      ∙ accepts cs eight v (take q cs) q (sym (length-take-le q cs there)))
+  after-eight v (met q low there held before) =
+      by-row 22 (λ z. omega arith) (judged cs eight v q (Stop 22) low there held cs refl)
+  after-eight v (early before) =
+      let stop : afterFile cs ≡ Stop 21 = sym (ap afterFile (take-length cs)) ∙ before (length cs) eight (omega arith) in
+      let few = longest .1 cs (longer-small bs small many) .ends stop in
+      absurd (omega (arith, few, length-cs))
+
+  goes-on : Open bs
+  goes-on =
+      by (versionOk cs) (λ v. after-eight v (file cs)) (λ v. by-row 20 (λ z. omega arith) (wrong cs eight v))
+
 -- ---- the theorems
 
 told : (bs : List ℕ) → Verdict bs → FrontToBack bs
@@ -131,6 +214,7 @@ told bs (accepted e alone) = record {
   version = λ h. absurd (omega arith);
   pool = λ h. absurd (omega arith);
   ends = λ h. absurd (omega arith);
+  unmet = goes-on bs;
   alone = λ h. alone;
 }
 told bs (version-met e at) = record {
@@ -138,6 +222,7 @@ told bs (version-met e at) = record {
   version = λ h. at;
   pool = λ h. absurd (omega arith);
   ends = λ h. absurd (omega arith);
+  unmet = goes-on bs;
   alone = λ h. absurd (omega arith);
 }
 told bs (ended e how) = record {
@@ -145,6 +230,7 @@ told bs (ended e how) = record {
   version = λ h. absurd (omega arith);
   pool = λ h. absurd (omega arith);
   ends = λ h. how;
+  unmet = goes-on bs;
   alone = λ h. absurd (omega arith);
 }
 told bs (pool-met e q at) = record {
@@ -152,6 +238,7 @@ told bs (pool-met e q at) = record {
   version = λ h. absurd (omega arith);
   pool = λ h. (q, at);
   ends = λ h. absurd (omega arith);
+  unmet = goes-on bs;
   alone = λ h. absurd (omega arith);
 }
 

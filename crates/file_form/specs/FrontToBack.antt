@@ -2,10 +2,11 @@
 -- `front-to-back` of proofs/Theorem.antt proves them. Assumes nothing.
 use Prim.Native.Nat.{ℕ, _≤_, _<_}
 use mathlib.Core.Path.{_≡_}
-use mathlib.Core.Logic.{_⊎_}
+use mathlib.Core.Logic.{_≢_, _⊎_}
 use mathlib.Core.List.{List, _∷_, _++_}
 use lib.ListN.{length, take}
 use Rattle.class_form.specs.Form.{formRefusal}
+use Rattle.file_form.specs.Derived.{Bytes}
 
 -- a row is met at q: all bytes that begin with the first q of bs have it, and what ends before q is cut short
 pub record MetAt (bs : List ℕ) (row q : ℕ) : Type 0 where
@@ -16,6 +17,12 @@ pub record MetAt (bs : List ℕ) (row q : ℕ) : Type 0 where
 -- however much of bs is there, it ends early
 abbrev pub EndsEarly : List ℕ → Type 0
 EndsEarly bs = (n : ℕ) → n ≤ length bs → formRefusal (take n bs) ≡ 21
+
+-- bytes that begin with bs and are not refused by 21
+pub record Open (bs : List ℕ) : Type 0 where
+  pub more : List ℕ
+  pub bytes : Bytes more
+  pub other : formRefusal (bs ++ more) ≢ 21
 
 -- a front of bs is a class file, and bytes continue after it
 abbrev pub Continues : List ℕ → Type 0
@@ -37,5 +44,8 @@ pub record FrontToBack (bs : List ℕ) : Type 0 where
   pub pool : formRefusal bs ≡ 22 → (q : ℕ) × MetAt bs 22 q
   -- 4. "21, if the bytes end early or continue after the last attribute": one of the two.
   pub ends : formRefusal bs ≡ 21 → EndsEarly bs ⊎ Continues bs
-  -- 5. No class file is the front of another.
+  -- 5. Of bytes that end early nothing has been met yet: with others after them they are a class file, or another row refuses them. So a front at
+  -- which 22 is met is never told 21.
+  pub unmet : Bytes bs → EndsEarly bs → Open bs
+  -- 6. No class file is the front of another.
   pub alone : formRefusal bs ≡ 0 → Alone bs
