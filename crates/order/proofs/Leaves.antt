@@ -1,7 +1,7 @@
 -- What the step leaves is in order. Row 4 tests single records and pairs of them; a pair's test asks nothing of which comes first, and the order holds each
 -- class once: so the tests of the new words are those of the old, but for the parent's place, which is earlier. Assumes nothing.
 use mathlib.Core.Path.{_≡_, refl, sym, ap, _∙_}
-use mathlib.Core.Logic.{_≢_, ⊎-elim}
+use mathlib.Core.Logic.{_≢_, _↔_, ⊎-elim}
 use mathlib.Core.Bool.{Bool, true, false, not, false≢true}
 use mathlib.Core.List.{List}
 use Prim.Native.Nat.{ℕ, _+_, _-_, _≤_, _<_}
@@ -18,8 +18,9 @@ use Rattle.class_sheet.specs.ClassSheet.{classCountNumber, compilerCountNumber,
 use Rattle.apart.specs.Apart.{apart, methodsApart, fieldsApart, classesApart, apartBefore}
 use Rattle.apart.proofs.Laws.{apart-is, apart-if}
 use Rattle.class_rules.specs.ClassRules.{classLimits, classFits, allFresh, classNumbers, classLists, classRecord, methodRecord, fieldRecord, interfaceNames, classRecords}
-use Rattle.set_rules.specs.SetRules.{methodTyped, fieldTyped, classDescriptors}
-use Rattle.set_rules.specs.Valid.{IsClass}
+use Rattle.set_rules.specs.SetRules.{methodTyped, fieldTyped, classDescriptors, setRefusal}
+use Rattle.set_rules.specs.Valid.{IsClass, ValidAbi}
+use Rattle.set_rules.proofs.Valid.{valid-class, class-tests, valid, accepted}
 use Rattle.renumber.specs.Renumber.{orderOf, newNumber, renumbered, renumberForm}
 use Rattle.renumber.specs.Places.{Before}
 use Rattle.order.specs.Order.{Orderable, looseNumbers, looseRecord, looseRecords, InOrder}
@@ -294,6 +295,15 @@ module _ (ws : List ℕ) (ok : Orderable ws) where
         all-ext (fieldCount ws) (fieldTyped new text) (fieldTyped ws text) (field-typed text),
       )
 
+  -- rows 3 to 5 of a link
+  links : (abi : List ℕ) → ValidAbi abi → classRecords new (textOf new) ≡ looseRecords ws (textOf ws)
+      → classDescriptors new (textOf new) ≡ classDescriptors ws (textOf ws)
+      → (setRefusal new abi ≡ 0) ↔ ((looseRecords ws (textOf ws) ≡ true) × (classDescriptors ws (textOf ws) ≡ true))
+  links abi v r d = (
+    λ e. let t = class-tests new (valid new abi e .0) in (sym r ∙ t .1, sym d ∙ t .2),
+    λ t. accepted new abi (valid-class new fits-new (r ∙ t .0) (d ∙ t .1)) v,
+  )
+
   pub left-in-order : InOrder ws new
   left-in-order =
       let t = text-same ws l (fits ws ok) (distinct ws ok) (whole ws ok) in
@@ -303,4 +313,5 @@ module _ (ws : List ℕ) (ok : Orderable ws) where
         fits = fits-new;
         records = rw t (rows-4 (textOf ws));
         descriptors = rw t (rows-5 (textOf ws));
+        link = λ abi v. links abi v (rw t (rows-4 (textOf ws))) (rw t (rows-5 (textOf ws)));
       }

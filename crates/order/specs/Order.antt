@@ -14,8 +14,8 @@ use Rattle.text.specs.Text.{partOk}
 use Rattle.block.specs.Block.{sheetWords}
 use Rattle.apart.specs.Apart.{apartBefore}
 use Rattle.class_rules.specs.ClassRules.{classFits, classLists, methodRecord, fieldRecord, interfaceNames, classRecords}
-use Rattle.set_rules.specs.SetRules.{classDescriptors, classRefusal}
-use Rattle.set_rules.specs.Valid.{IsClass}
+use Rattle.set_rules.specs.SetRules.{classDescriptors, classRefusal, setRefusal}
+use Rattle.set_rules.specs.Valid.{IsClass, ValidAbi}
 use Rattle.sheet.specs.Sheet.{readClassSheet, readUnorderedSheet}
 use Rattle.renumber.specs.Places.{Named, Before, Settled, up, Returns}
 use Rattle.renumber.specs.Renumber.{Outcome, orderOf, newNumber, renumbered, renumberForm, namesClasses, returns, cyclic, renumberRefusal, renumberDef}
@@ -100,14 +100,16 @@ looseRecords ws text =
     && allOf (interfaceCount ws) (interfaceNames ws)
     && allOf (classCount ws) (λ i. apartBefore ws text (i + 1))
 
--- the words `new`: parents below their children, interface words that name classes, and rows 3 to 5 of a link pass exactly if rows 4, but for the
--- order of parents, and 5 pass of ws
+-- the words `new`: parents below their children, interface words that name classes, and rows 3 to 5 of a link, beside any ABI words that they accept,
+-- pass exactly if rows 4, but for the order of parents, and 5 pass of ws
 pub record InOrder (ws new : List ℕ) : Type 0 where
   pub parent : (c : ℕ) → IsClass ws c → classParent new c < c
   pub interface : (i : ℕ) → i < interfaceCount ws → IsClass new (interfaceWord new i)
   pub fits : classFits new ≡ true
   pub records : classRecords new (textOf new) ≡ looseRecords ws (textOf ws)
   pub descriptors : classDescriptors new (textOf new) ≡ classDescriptors ws (textOf ws)
+  pub link : (abi : List ℕ) → ValidAbi abi
+      → (setRefusal new abi ≡ 0) ↔ ((looseRecords ws (textOf ws) ≡ true) × (classDescriptors ws (textOf ws) ≡ true))
 
 -- ---- the theorems, for all class words
 
