@@ -81,7 +81,7 @@ unfolding membersAt
 length-at bs lasts k [] = refl
 length-at bs lasts k (p ∷ ps) = ap suc (length-at bs lasts (k + 1) ps)
 
-member-at : (bs lasts : List ℕ) (k : ℕ) (ps : List ℕ) (m : ℕ) → m < length ps
+pub member-at : (bs lasts : List ℕ) (k : ℕ) (ps : List ℕ) (m : ℕ) → m < length ps
     → getD (membersAt bs lasts k ps) m noNew ≡ newOf bs (memberAt bs (getD ps m 0)) (getD lasts (k + m) 0)
 unfolding membersAt
 member-at bs lasts k [] m h = absurd (omega arith)

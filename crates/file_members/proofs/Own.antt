@@ -14,7 +14,7 @@ use Rattle.class_form.specs.Parts.{memberAt}
 use Rattle.class_members.specs.Members.{headPlace, fieldsPlace, methodsPlace, placesFrom, memberPlaces, fieldPlaces, methodPlaces, stringAt}
 use Rattle.class_members.specs.Members.{utf8Bytes, classBytes, fileFlags, fileName, parentIndex, fileParent, newOf, membersAt, fileFields, fileMethods}
 use Rattle.file_form.specs.Grammar.{u2Bytes, each, counted, Constant, Utf8, tagOf, infoOf, constantSpelling, Member, ClassFile}
-use Rattle.file_form.specs.Grammar.{attributeSpelling, memberSpelling, fileSpelling, IsUtf8, IsClass, MemberHolds, All, all-none, all-more, Holds}
+use Rattle.file_form.specs.Grammar.{attributeSpelling, memberSpelling, fileSpelling, IsUtf8, IsClass, MemberHolds, All, all-none, all-more, Holds, Derivation}
 use Rattle.file_form.proofs.Spelled.{Spelled, split, begins-at, whole, spelled-u2}
 use Rattle.file_form.proofs.Pool.{Constants, utf8-found, class-found}
 use Rattle.file_form.proofs.Formed.{attributes-taken, members-taken}
@@ -169,6 +169,10 @@ module _ (bs : List ℕ) (f : ClassFile) (holds : Holds f) (l : Laid bs f) where
   own-methods targets =
       rw methods-at
       (counted-own bs (f .pool) (l .pool-end) (l .has) (f .methods) targets (bodies .middle) (bodies .end) (holds .methods) (bodies .methods))
+
+pub parent-index : (bs : List ℕ) (d : Derivation bs) → parentIndex bs ≡ d .file .super
+parent-index bs d =
+    parent-is bs (d .file) (d .holds) (laid bs (d .file) (d .holds) (whole bs (fileSpelling (d .file)) (d .spells)))
 
 pub own : Own
 own bs targets d =
