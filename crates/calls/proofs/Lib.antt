@@ -6,6 +6,7 @@ pub mod View
 pub mod Build
 pub mod Runs
 pub mod Lists
+pub mod Owners
 pub mod Theorem
 pub mod Tests
 pub mod Examples

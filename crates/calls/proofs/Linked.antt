@@ -1,7 +1,7 @@
 -- What an accepted link leaves of the class words, whichever of its lists grow: its sections are those that were there, but for the class's record and
 -- what is added (`linked-left`), and each named word is read off them. Assumes nothing.
 use mathlib.Core.Path.{_≡_, sym, ap, _∙_}
-use mathlib.Core.Logic.{_≢_}
+use mathlib.Core.Logic.{_≢_, _⊎_, inl, inr, ⊎-elim}
 use mathlib.Core.Bool.{false}
 use mathlib.Core.List.{List, _++_}
 use Prim.Native.Nat.{ℕ, _+_, _-_, _≤_, _<_}
@@ -19,7 +19,7 @@ use Rattle.linking.specs.Link.{Plan, isNone, linkedWords}
 use Rattle.linking.specs.Grown.{linkedSections}
 use Rattle.linking.proofs.Names.{Bytes}
 use Rattle.linking.proofs.LinkedSections.{lies-of, linked-laid}
-use Rattle.linking.proofs.LinkedBack.{Left, linked-left, linked-still}
+use Rattle.linking.proofs.LinkedBack.{Left, linked-left, linked-still, linked-own}
 use Rattle.calls.proofs.Like.{Like}
 
 -- all records but class c's are left, which has its place and its slots
@@ -102,3 +102,21 @@ module _ (ws : List ℕ) (c place words statics : ℕ) (p : Plan) (some : 1 ≤ 
 
   pub link-leaves : Leaves ws (linkedWords ws c place words statics p) c place (length (p .table))
   link-leaves = rw (linked-laid ws fits c place words statics p some among inside methods fields) leaves
+
+  -- its method list is where it was, or begins where the section ended
+  own-list : ((classFirstMethod (laidOut g) c ≡ classFirstMethod ws c) × (classMethodCount (laidOut g) c ≡ classMethodCount ws c))
+      ⊎ (classFirstMethod (laidOut g) c ≡ methodCount ws)
+  own-list =
+      ⊎-elim
+      (λ same. inl (
+        kept c firstMethodWord some among (omega arith) (same firstMethodWord (omega arith)),
+        kept c methodCountWord some among (omega arith) (same methodCountWord (omega arith)),
+      ))
+      (λ past. inr (at-class c firstMethodWord some among (omega arith) ∙ past ∙ sym (lies-of ws fits .methods)))
+      (linked-own s (formed-of ws fits) c place words statics p some within)
+
+  pub link-own :
+      ((classFirstMethod (linkedWords ws c place words statics p) c ≡ classFirstMethod ws c)
+      × (classMethodCount (linkedWords ws c place words statics p) c ≡ classMethodCount ws c))
+      ⊎ (classFirstMethod (linkedWords ws c place words statics p) c ≡ methodCount ws)
+  link-own = rw (linked-laid ws fits c place words statics p some among inside methods fields) own-list

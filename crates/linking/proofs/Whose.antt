@@ -16,7 +16,7 @@ use Rattle.words.proofs.Bools.{by, and-both}
 use Rattle.words.proofs.ListLaws.{by-found, find-member, find-passes, numbers-within}
 use Rattle.class_sheet.specs.ClassSheet.{classCount, classFirstMethod, classMethodCount, classLinkState, classTablePlace, methodName, methodDescriptor, methodFlags, methodTarget, methodLimit}
 use Rattle.abi_sheet.specs.AbiSheet.{abiSlotName, abiSlotDescriptor}
-use Rattle.set_rules.specs.Valid.{IsClass, Valid}
+use Rattle.set_rules.specs.Valid.{IsClass}
 use Rattle.linking.specs.declared.Declared.{Declared}
 use Rattle.linking.specs.declared.Declared.the-variants.{By, Nobody}
 use Rattle.linking.specs.Chain.{listCount, ownMethods, chain, isVirtual, methodIs, ownTarget, ownMethod, findByTarget}
@@ -24,7 +24,7 @@ use Rattle.linking.specs.Abi.{classAbi, slotAt}
 use Rattle.linking.specs.Vtable.{ownFixed, findByIndex, readEntry, readSlot}
 use Rattle.linking.specs.Compiler.{holds, ownerState}
 use Rattle.linking.specs.Ask.{ownImplementation, implementation}
-use Rattle.linking.specs.Whose.{methodOf, classOf, orDeclared, declaredIn, firstDeclared, declaredByTarget, declaredImplementation, declaredByIndex, readDeclared, slotClass, Nearest, Declares, FixedThere, Column, unknown-slot, known-slot, Whose}
+use Rattle.linking.specs.Whose.{methodOf, classOf, orDeclared, declaredIn, firstDeclared, declaredByTarget, declaredImplementation, declaredByIndex, readDeclared, slotClass, Nearest, Declares, MethodsApart, FixedThere, Column, unknown-slot, known-slot, Whose}
 use Rattle.linking.proofs.ChainLaws.{chain-within, own-target-member, own-method-member, own-method-is}
 
 -- ---- every answer remains
@@ -157,7 +157,7 @@ module _ (ws text abi labels : List ℕ) where
       let w = numbers-within (classFirstMethod ws d) (listCount (classFirstMethod ws d) (classMethodCount ws d) methodLimit) m t in
       simp (le-leb (classFirstMethod ws d) m (w .0), lt-ltb m (classFirstMethod ws d + classMethodCount ws d) (omega arith))
 
-  owner-is : (c d m : ℕ) → Valid ws → IsClass ws c → Declares ws c d m
+  owner-is : (c d m : ℕ) → MethodsApart ws → IsClass ws c → Declares ws c d m
       → (find (holds ws text abi labels m) (numbers 1 (classCount ws)) ≡ At d) × (ownerState ws text abi labels m ≡ classLinkState ws d)
   unfolding ownerState
   owner-is c d m v k e =
@@ -166,7 +166,7 @@ module _ (ws text abi labels : List ℕ) where
       let o = holds-is m d h in
       let f : find (holds ws text abi labels m) (numbers 1 (classCount ws)) ≡ At d =
       find-only (holds ws text abi labels m) 1 (classCount ws) d (omega arith) (omega arith) h
-      (λ x l g t. let y = holds-is m x t in v .methods x d m (l, omega arith) (omega arith, omega arith) (y .0) (y .1) (o .0) (o .1)) in
+      (λ x l g t. let y = holds-is m x t in v x d m (l, omega arith) (omega arith, omega arith) (y .0) (y .1) (o .0) (o .1)) in
       (f, rw f)
 
 -- ---- 0 is unknown

@@ -1,6 +1,6 @@
 -- Whose a method is: "Each chain search for a method, by target or signature, shall answer the declaring class's number together with the
 -- method, and the nearest class on the chain counts." The searches, and the theorems on them as one record. Assumes nothing.
-use Prim.Native.Nat.{ℕ, _+_}
+use Prim.Native.Nat.{ℕ, _+_, _≤_, _<_}
 use mathlib.Core.Path.{_≡_}
 use mathlib.Core.Logic.{_↔_}
 use mathlib.Core.Bool.{true}
@@ -9,9 +9,9 @@ use lib.ListN.{getD}
 use Rattle.words.specs.Lists.{numbers, find, firstFound}
 use Rattle.words.specs.declared.Found.{Found}
 use Rattle.words.specs.declared.Found.the-variants.{At, Nothing}
-use Rattle.class_sheet.specs.ClassSheet.{classCount, classLinkState, classTablePlace, methodName, methodDescriptor, methodFlags, methodTarget}
+use Rattle.class_sheet.specs.ClassSheet.{classCount, classFirstMethod, classMethodCount, classLinkState, classTablePlace, methodName, methodDescriptor, methodFlags, methodTarget}
 use Rattle.abi_sheet.specs.AbiSheet.{abiSlotName, abiSlotDescriptor}
-use Rattle.set_rules.specs.Valid.{IsClass, Valid}
+use Rattle.set_rules.specs.Valid.{IsClass}
 use Rattle.linking.specs.declared.Declared.{Declared}
 use Rattle.linking.specs.declared.Declared.the-variants.{By, Nobody}
 use Rattle.linking.specs.Chain.{ownMethods, chain, isVirtual, methodIs, ownTarget}
@@ -82,6 +82,13 @@ pub record Declares (ws : List ℕ) (c d m : ℕ) : Type 0 where
   pub along : List·Memᴰ d (chain ws c)
   pub member : List·Memᴰ m (ownMethods ws d)
 
+-- no method is in the lists of two classes: row 4 asks it of each set, and links and asks leave it so (`Owners`, crate `calls`)
+abbrev pub MethodsApart : List ℕ → Type 0
+MethodsApart ws =
+    (c d m : ℕ) → IsClass ws c → IsClass ws d
+    → classFirstMethod ws c ≤ m → m < classFirstMethod ws c + classMethodCount ws c
+    → classFirstMethod ws d ≤ m → m < classFirstMethod ws d + classMethodCount ws d → c ≡ d
+
 -- method m has the signature of the first slot row with index i in class d's ABI entry
 pub record FixedThere (ws text abi labels : List ℕ) (d i m : ℕ) : Type 0 where
   pub entry : ℕ
@@ -110,7 +117,7 @@ pub record Whose : Type 0 where
   pub implements : (ws text : List ℕ) (c k d m : ℕ) → declaredImplementation ws text c k ≡ By d m
       → Declares ws c d m × (isVirtual (methodFlags ws m) ≡ true) × (methodIs ws text m (methodName ws text k) (methodDescriptor ws text k) ≡ true)
   -- and no other does: it is the class whose list holds the method
-  pub no-other : (ws text abi labels : List ℕ) (c d m : ℕ) → Valid ws → IsClass ws c → Declares ws c d m
+  pub no-other : (ws text abi labels : List ℕ) (c d m : ℕ) → MethodsApart ws → IsClass ws c → Declares ws c d m
       → (find (holds ws text abi labels m) (numbers 1 (classCount ws)) ≡ At d) × (ownerState ws text abi labels m ≡ classLinkState ws d)
   -- the method that Reading finds at a slot's word and the number that the listing prints beside it belong together
   pub column : (ws text abi labels : List ℕ) (c i w : ℕ)
