@@ -101,7 +101,7 @@ module _ (ws : List ℕ) (accepted : classRows ws ≡ 0) where
   unfolding classRows
   split = let p = passed (not (classForm ws)) 3 _ (omega arith) accepted in (not-false _ (p .0), p .1)
 
-  four : (classLimits ws ≡ true) × (leastFit (contentEnd ws) (length ws) ≡ true) × (zeroRest ws (4 * textAt ws + textLength ws) ≡ true)
+  pub four : (classLimits ws ≡ true) × (leastFit (contentEnd ws) (length ws) ≡ true) × (zeroRest ws (4 * textAt ws + textLength ws) ≡ true)
       × (allFresh ws ≡ true)
   unfolding classForm
   four = and-4 (classLimits ws) (leastFit (contentEnd ws) (length ws)) (zeroRest ws (4 * textAt ws + textLength ws)) (allFresh ws) (split .0)

@@ -13,8 +13,9 @@ use Rattle.words.proofs.Bools.{by, passed}
 use Rattle.block.specs.Block.{AreBytes, blockCount, sheetWords, checkOk, shapeOk, blocksFor, sheetBytes}
 use Rattle.block.proofs.Laws.{length-content, least-blocks}
 use Rattle.class_sheet.specs.ClassSheet as layout
-use Rattle.class_sheet.specs.ClassSheet.{blockLimit, classCount, textOf}
-use Rattle.class_rules.specs.ClassRules.{classRecords}
+use Rattle.class_sheet.specs.ClassSheet.{blockLimit, classCount, contentEnd, textOf}
+use Rattle.class_rules.specs.ClassRules.{classRecords, classForm}
+use Rattle.class_rules.proofs.Laws as class
 use Rattle.set_rules.specs.SetRules.{classRefusal, classDescriptors}
 use Rattle.sheet.specs.Sheet.{blockRefusal, sheetRefusal, classRows, classSheetRefusal, readClassSheet}
 use Rattle.writer.specs.Writer as W
@@ -29,7 +30,7 @@ use Rattle.convert.proofs.Calls.{three, few-classes}
 use Rattle.conversion.specs.Converted.{sheetMade, Converted}
 use Rattle.conversion.proofs.Forward.{fitted, forward-fits, forward-blocks, forward-content, forward-length, forward-writing, widen-passed, no-row, roomed}
 use Rattle.conversion.proofs.Again.{made-is, forward-small, back-again}
-use Rattle.conversion.proofs.Back.{fits, old-some, forward-again}
+use Rattle.conversion.proofs.Back.{four, fits, old-some, forward-again}
 
 blocks-made : (ws out : List ℕ) → (blocksOrRow 0 ws out) .blocks ≡ blocksFor (length ws)
 unfolding blocksOrRow
@@ -122,6 +123,17 @@ module _ (bs out : List ℕ) (accepted : (narrowSheet bs out) .refusal ≡ 0) wh
       rw (narrow-passed .3) (blocks-made (narrowed (sheetWords bs)) out) in
       omega (arith, z, blocks, narrowed-length (sheetWords bs) (fits (sheetWords bs) class-rows), old-some (sheetWords bs))
 
+  back-few : ((narrowSheet bs out) .blocks ≤ blockCount bs) × (blockCount bs ≤ (narrowSheet bs out) .blocks + 1)
+  unfolding narrowSheet blocksFor
+  back-few =
+      let ws : List ℕ = sheetWords bs in
+      let blocks : (narrowSheet bs out) .blocks ≡ blocksFor (length (narrowed ws)) = rw (narrow-passed .3) (blocks-made (narrowed ws) out) in
+      let four : _ = four ws class-rows in
+      let least = least-blocks (contentEnd ws) (blockCount bs) (rw (length-words bs) at (four .1)) in
+      let n : length (narrowed ws) ≡ oldEnd ws = narrowed-length ws (fits ws class-rows) in
+      let classes = class.limits ws (four .0) .classes in
+      (omega (arith, blocks, least .1, n, old-end ws), omega (arith, blocks, least .1, n, old-end ws, classes))
+
   back-forward : AreBytes bs → (lent : List ℕ) → length bs ≤ length lent
       → widenSheet (sheetMade (narrowSheet bs out)) lent ≡ record { refusal = 0; blocks = blockCount bs; memory = bs ++ drop (length bs) lent }
   unfolding narrowSheet
@@ -188,6 +200,65 @@ most bs e =
     let b = few-blocks (forward (sheetWords bs)) (forward-fits (sheetWords bs) r) in
     omega (arith, b .1, forward-blocks (sheetWords bs) r)
 
+-- ---- the rows of back
+
+class-few : (ws : List ℕ) → classRows ws ≤ 5
+unfolding classRows
+class-few ws = at-most (not (classForm ws)) 3 _ (omega arith) (records-few ws (textOf ws))
+
+back-rows : (bs : List ℕ) → newSheetRefusal bs ≤ 5
+unfolding classSheetRefusal sheetRefusal
+back-rows bs =
+    at-most (eqb (blockRefusal bs layout.sheetWords blockLimit) 0) _ _ (class-few (sheetWords bs)) (blocks-few bs layout.sheetWords blockLimit)
+
+module _ (bs out : List ℕ) where
+  back-early : 1 ≤ newSheetRefusal bs → (narrowSheet bs out) .refusal ≡ newSheetRefusal bs
+  unfolding narrowSheet narrowRefusal blocksOrRow
+  back-early h = let n : eqb (newSheetRefusal bs) 0 ≡ false = ne-eqb (newSheetRefusal bs) 0 (omega arith) in rw (n, n)
+
+  back-dropped : newSheetRefusal bs ≡ 0 → dropsStatics (sheetWords bs) ≡ true → (narrowSheet bs out) .refusal ≡ 23
+  unfolding narrowSheet narrowRefusal blocksOrRow
+  back-dropped e d = rw (e, d)
+
+  back-short : newSheetRefusal bs ≡ 0 → dropsStatics (sheetWords bs) ≡ false → length out < 512 * blocksFor (length (narrowed (sheetWords bs)))
+      → (narrowSheet bs out) .refusal ≡ 18
+  unfolding narrowSheet narrowRefusal roomRefusal blocksOrRow
+  back-short e d l = rw (e, d, lt-ltb _ _ l)
+
+  back-enough : newSheetRefusal bs ≡ 0 → dropsStatics (sheetWords bs) ≡ false → 512 * blocksFor (length (narrowed (sheetWords bs))) ≤ length out
+      → (narrowSheet bs out) .refusal ≡ 0
+  unfolding narrowSheet narrowRefusal roomRefusal blocksOrRow
+  back-enough e d l = rw (e, d, le-ltb _ _ l)
+
+  -- a row that is none of 1 to 5: the reading's accept the sheet, and it drops static words, or has no room, or has some
+  beyond : {X : Type 0} → 6 ≤ (narrowSheet bs out) .refusal
+      → (newSheetRefusal bs ≡ 0 → dropsStatics (sheetWords bs) ≡ true → X)
+      → (newSheetRefusal bs ≡ 0 → dropsStatics (sheetWords bs) ≡ false → length out < 512 * blocksFor (length (narrowed (sheetWords bs))) → X)
+      → X
+  beyond h drops short =
+      by (eqb (newSheetRefusal bs) 0)
+      (λ q.
+      let z = eqb-true (newSheetRefusal bs) 0 q in
+      by (dropsStatics (sheetWords bs)) (drops z)
+      (λ d.
+      by (ltb (length out) (512 * blocksFor (length (narrowed (sheetWords bs)))))
+      (λ t. short z d (ltb-true _ _ t))
+      (λ t. absurd (omega (arith, h, back-enough z d (ltb-false _ _ t))))))
+      (λ q. let n = eqb-false (newSheetRefusal bs) 0 q in absurd (omega (arith, h, back-early (omega arith), back-rows bs)))
+
+  back-statics : ((narrowSheet bs out) .refusal ≡ 23) ↔ ((newSheetRefusal bs ≡ 0) × (dropsStatics (sheetWords bs) ≡ true))
+  back-statics = (
+    λ e. beyond (omega arith) (λ z d. (z, d)) (λ z d l. absurd (omega (arith, e, back-short z d l))),
+    λ p. back-dropped (p .0) (p .1),
+  )
+
+  back-room : ((narrowSheet bs out) .refusal ≡ 18)
+      ↔ ((newSheetRefusal bs ≡ 0) × (dropsStatics (sheetWords bs) ≡ false) × (length out < 512 * blocksFor (length (narrowed (sheetWords bs)))))
+  back-room = (
+    λ e. beyond (omega arith) (λ z d. absurd (omega (arith, e, back-dropped z d))) (λ z d l. (z, d, l)),
+    λ p. back-short (p .0) (p .1) (p .2),
+  )
+
 pub converted : Converted
 converted = record {
   forward-back = λ bs out lent small a l. forward-back bs out a small lent l;
@@ -207,4 +278,10 @@ converted = record {
   room = room;
   enough = enough;
   most = most;
+  back-rows = back-rows;
+  back-early = back-early;
+  back-statics = back-statics;
+  back-room = back-room;
+  back-enough = back-enough;
+  back-few = back-few;
 }

@@ -2,13 +2,14 @@
 use Prim.Native.Nat.{ℕ, _+_, _*_, _-_, _≤_, _<_}
 use mathlib.Core.Path.{_≡_}
 use mathlib.Core.Logic.{_↔_, _≢_}
+use mathlib.Core.Bool.{true, false}
 use mathlib.Core.List.{List, _++_}
 use lib.ListN.{length, getD, take, drop}
 use Rattle.block.specs.Block.{AreBytes, blockCount, sheetWords, blocksFor}
 use Rattle.class_sheet.specs.ClassSheet.{countsWidth, classWidth, blockLimit, classCount, contentEnd, classWord, classStaticWords}
 use Rattle.sheet.specs.Sheet.{readClassSheet}
 use Rattle.writer.specs.Writer.{Outcome, contentOf, writeClassSheet}
-use Rattle.convert.specs.Convert.{oldWidth, oldEnd, oldSheetRefusal, widened, forward, widenSheet, narrowSheet}
+use Rattle.convert.specs.Convert.{oldWidth, oldEnd, oldSheetRefusal, widened, forward, widenSheet, dropsStatics, narrowed, newSheetRefusal, narrowSheet}
 
 -- the blocks that a call answers
 abbrev pub sheetMade : Outcome → List ℕ
@@ -49,3 +50,15 @@ pub record Converted : Type 0 where
   pub enough : (bs out : List ℕ) → oldSheetRefusal bs ≡ 0 → 512 * blocksFor (length (forward (sheetWords bs))) ≤ length out
       → (widenSheet bs out) .refusal ≡ 0
   pub most : (bs : List ℕ) → oldSheetRefusal bs ≡ 0 → blocksFor (length (forward (sheetWords bs))) ≤ blockLimit
+  -- 7. Back refuses by 1 to 5, 23 and 18 alone: by 23 exactly where a reading accepts the sheet and it has a generated class whose word is not its sum, by 18
+  -- exactly where only the room is missing; and it takes no more blocks than the new sheet has.
+  pub back-rows : (bs : List ℕ) → newSheetRefusal bs ≤ 5
+  pub back-early : (bs out : List ℕ) → 1 ≤ newSheetRefusal bs → (narrowSheet bs out) .refusal ≡ newSheetRefusal bs
+  pub back-statics : (bs out : List ℕ) → ((narrowSheet bs out) .refusal ≡ 23)
+      ↔ ((newSheetRefusal bs ≡ 0) × (dropsStatics (sheetWords bs) ≡ true))
+  pub back-room : (bs out : List ℕ) → ((narrowSheet bs out) .refusal ≡ 18)
+      ↔ ((newSheetRefusal bs ≡ 0) × (dropsStatics (sheetWords bs) ≡ false) × (length out < 512 * blocksFor (length (narrowed (sheetWords bs)))))
+  pub back-enough : (bs out : List ℕ) → newSheetRefusal bs ≡ 0 → dropsStatics (sheetWords bs) ≡ false
+      → 512 * blocksFor (length (narrowed (sheetWords bs))) ≤ length out → (narrowSheet bs out) .refusal ≡ 0
+  pub back-few : (bs out : List ℕ) → (narrowSheet bs out) .refusal ≡ 0
+      → ((narrowSheet bs out) .blocks ≤ blockCount bs) × (blockCount bs ≤ (narrowSheet bs out) .blocks + 1)
