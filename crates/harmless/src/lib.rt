@@ -1,0 +1,1 @@
+// What holds of refused calls: this crate has no code, only specs/ and proofs/.
