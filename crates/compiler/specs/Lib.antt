@@ -1,1 +1,2 @@
 pub mod Methods
+pub mod Lent

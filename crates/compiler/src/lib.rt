@@ -15,6 +15,7 @@ ghost use Rattle.linking.specs.Compiler.{compilerTable, compilerEntries, compil
 ghost use Rattle.reading.specs.Arrays.{methodOf, entriesOf};
 ghost use Rattle.growth.specs.News.{firstNews};
 ghost use Rattle.native_view.specs.Native.{below, markMethods};
+ghost use Rattle.compiler.specs.Lent.{was, after, appending, targeted, methods};
 ghost use Rattle.compiler.specs.Methods.{nameIn, descriptorIn, markSame, someSame, flagsIn, targetIn, markHas, viewTarget, matchIn, methodAt, slotsIn, methodNumber};
 
 // How many slots the table has, and how many methods are added to the class.
@@ -33,7 +34,7 @@ fn name_of<'a>(
     n: u32,
     m: u32,
 ) -> &'a [u8]
-    ensures { λ r. ⌜ now r ≡ nameIn (now (ws .entry)) (now (text .entry)) (now (abi .entry)) (now (labels .entry)) (now (refs .entry)) n m ⌝ }
+    ensures { λ r. ⌜ now r ≡ nameIn (was ws) (was text) (was abi) (was labels) (was refs) n m ⌝ }
 {
     if m < class_sheet::METHOD_LIMIT {
         return class_sheet::method_name(ws, text, m);
@@ -55,7 +56,7 @@ fn descriptor_of<'a>(
     n: u32,
     m: u32,
 ) -> &'a [u8]
-    ensures { λ r. ⌜ now r ≡ descriptorIn (now (ws .entry)) (now (text .entry)) (now (abi .entry)) (now (labels .entry)) (now (refs .entry)) n m ⌝ }
+    ensures { λ r. ⌜ now r ≡ descriptorIn (was ws) (was text) (was abi) (was labels) (was refs) n m ⌝ }
 {
     if m < class_sheet::METHOD_LIMIT {
         return class_sheet::method_descriptor(ws, text, m);
@@ -69,7 +70,7 @@ fn descriptor_of<'a>(
 
 // The flags of method m.
 fn flags_of(ws: &[u32], flags: &[u32], n: u32, m: u32) -> u32
-    ensures { λ r. ⌜ r ≡ flagsIn (now (ws .entry)) (now (flags .entry)) n m ⌝ }
+    ensures { λ r. ⌜ r ≡ flagsIn (was ws) (was flags) n m ⌝ }
 {
     if m < class_sheet::METHOD_LIMIT {
         return class_sheet::method_flags(ws, m);
@@ -79,7 +80,7 @@ fn flags_of(ws: &[u32], flags: &[u32], n: u32, m: u32) -> u32
 
 // The target of method m.
 fn target_of(ws: &[u32], lasts: &[u32], n: u32, m: u32) -> u32
-    ensures { λ r. ⌜ r ≡ targetIn (now (ws .entry)) (now (lasts .entry)) n m ⌝ }
+    ensures { λ r. ⌜ r ≡ targetIn (was ws) (was lasts) n m ⌝ }
 {
     if m < class_sheet::METHOD_LIMIT {
         return class_sheet::method_target(ws, m);
@@ -89,7 +90,7 @@ fn target_of(ws: &[u32], lasts: &[u32], n: u32, m: u32) -> u32
 
 // Whether method m has target t.
 fn target_is(ws: &[u32], lasts: &[u32], n: u32, m: u32, t: u32) -> bool
-    ensures { λ r. ⌜ r ≡ eqb (targetIn (now (ws .entry)) (now (lasts .entry)) n m) t ⌝ }
+    ensures { λ r. ⌜ r ≡ eqb (targetIn (was ws) (was lasts) n m) t ⌝ }
 {
     target_of(ws, lasts, n, m) == t
 }
@@ -97,7 +98,7 @@ fn target_is(ws: &[u32], lasts: &[u32], n: u32, m: u32, t: u32) -> bool
 // The first of `count` methods from `first` on that has target t.
 fn target_in(ws: &[u32], lasts: &[u32], n: u32, first: u32, count: u32, t: u32) -> Found
     requires { ⌜ first + count ≤ 4294967295 ⌝ }
-    ensures { λ r. ⌜ r ≡ find (λ m. eqb (targetIn (now (ws .entry)) (now (lasts .entry)) n m) t) (numbers first count) ⌝ }
+    ensures { λ r. ⌜ r ≡ find (λ m. eqb (targetIn (was ws) (was lasts) n m) t) (numbers first count) ⌝ }
 {
     let mut i: u32 = 0;
     while i < count {
@@ -111,7 +112,7 @@ fn target_in(ws: &[u32], lasts: &[u32], n: u32, first: u32, count: u32, t: u32) 
 
 // Whether the method with mark k has target t.
 fn mark_has(ws: &[u32], lasts: &[u32], n: u32, k: u32, t: u32) -> bool
-    ensures { λ r. ⌜ r ≡ markHas (now (ws .entry)) (now (lasts .entry)) n t k ⌝ }
+    ensures { λ r. ⌜ r ≡ markHas (was ws) (was lasts) n t k ⌝ }
 {
     match reading::method_of(k) {
         Found::At(m) => target_is(ws, lasts, n, m, t),
@@ -121,7 +122,7 @@ fn mark_has(ws: &[u32], lasts: &[u32], n: u32, k: u32, t: u32) -> bool
 
 // The mark of the first of `size` slots whose method has target t.
 fn view_target(ws: &[u32], lasts: &[u32], n: u32, vm: &[u32], size: u32, t: u32) -> u32
-    ensures { λ r. ⌜ methodOf r ≡ viewTarget (now (ws .entry)) (now (lasts .entry)) n (now (vm .entry)) size t ⌝ }
+    ensures { λ r. ⌜ methodOf r ≡ viewTarget (was ws) (was lasts) n (was vm) size t ⌝ }
 {
     let mut i: u32 = 0;
     while i < size {
@@ -137,7 +138,7 @@ fn view_target(ws: &[u32], lasts: &[u32], n: u32, vm: &[u32], size: u32, t: u32)
 // The mark of the first method with target t: declared, added, or of the native view's slots.
 fn match_target(ws: &[u32], lasts: &[u32], n: u32, c: u32, vm: &[u32], size: u32, t: u32) -> u32
     requires { ⌜ n ≤ 1024 ⌝ }
-    ensures { λ r. ⌜ methodOf r ≡ matchIn (now (ws .entry)) (now (lasts .entry)) n c (now (vm .entry)) size t ⌝ }
+    ensures { λ r. ⌜ methodOf r ≡ matchIn (was ws) (was lasts) n c (was vm) size t ⌝ }
 {
     let first = class_sheet::class_first_method(ws, c);
     let count = chain::method_count(ws, c);
@@ -152,7 +153,7 @@ fn match_target(ws: &[u32], lasts: &[u32], n: u32, c: u32, vm: &[u32], size: u32
 
 // The word of slot i of the compiler table, whose target is t.
 fn entry_word(vs: &[u32], size: u32, i: u32, t: u32) -> u32
-    ensures { λ r. ⌜ r ≡ cond (eqb t 0) (below (now (vs .entry)) size i) t ⌝ }
+    ensures { λ r. ⌜ r ≡ cond (eqb t 0) (below (was vs) size i) t ⌝ }
 {
     if t == 0 {
         return native_view::word_below(vs, size, i);
@@ -172,7 +173,7 @@ fn entry_mark(
     t: u32,
 ) -> u32
     requires { ⌜ n ≤ 1024 ⌝ }
-    ensures { λ r. ⌜ methodOf r ≡ methodAt (now (ws .entry)) (now (lasts .entry)) n c (now (vm .entry)) size i t ⌝ }
+    ensures { λ r. ⌜ methodOf r ≡ methodAt (was ws) (was lasts) n c (was vm) size i t ⌝ }
 {
     if t == 0 {
         return native_view::word_below(vm, size, i);
@@ -193,8 +194,8 @@ fn compiler_entries(
     ms: &mut [u32],
 ) -> u32
     requires { ⌜ (n ≤ 1024) × (1024 ≤ length (now ts)) × (1024 ≤ length (now ms)) ⌝ }
-    ensures is { λ r. ⌜ entriesOf (now (ts .exit)) (now (ms .exit)) r ≡ slotsIn (now (ws .entry)) (now (lasts .entry)) n c (now (vs .entry)) (now (vm .entry)) size r ⌝ }
-    ensures count { λ r. ⌜ r ≡ min (classCompilerSlots (now (ws .entry)) c) 1024 ⌝ }
+    ensures is { λ r. ⌜ entriesOf (after ts) (after ms) r ≡ slotsIn (was ws) (was lasts) n c (was vs) (was vm) size r ⌝ }
+    ensures count { λ r. ⌜ r ≡ min (classCompilerSlots (was ws) c) 1024 ⌝ }
 {
     let count = native_view::compiler_count(ws, c);
     let mut i: u32 = 0;
@@ -219,7 +220,7 @@ fn mark_same<'a>(
     descriptor: &[u8],
     k: u32,
 ) -> bool
-    ensures { λ r. ⌜ r ≡ markSame (now (ws .entry)) (now (text .entry)) (now (abi .entry)) (now (labels .entry)) (now (refs .entry)) n (now (name .entry)) (now (descriptor .entry)) k ⌝ }
+    ensures { λ r. ⌜ r ≡ markSame (was ws) (was text) (was abi) (was labels) (was refs) n (was name) (was descriptor) k ⌝ }
 {
     match reading::method_of(k) {
         Found::At(m) => {
@@ -243,7 +244,7 @@ fn has_slot<'a>(
     ms: &[u32],
     size: u32,
 ) -> bool
-    ensures { λ r. ⌜ r ≡ someSame (now (ws .entry)) (now (text .entry)) (now (abi .entry)) (now (labels .entry)) (now (refs .entry)) n (now (name .entry)) (now (descriptor .entry)) (now (ms .entry)) size ⌝ }
+    ensures { λ r. ⌜ r ≡ someSame (was ws) (was text) (was abi) (was labels) (was refs) n (was name) (was descriptor) (was ms) size ⌝ }
 {
     let mut i: u32 = 0;
     while i < size {
@@ -272,7 +273,7 @@ fn append_method<'a>(
     end: u32,
 ) -> u32
     requires { ⌜ (m < 4294967295) × (end < 4294967295) × (end < length (now ts)) × (end < length (now ms)) ⌝ }
-    ensures is { λ r. ⌜ entriesOf (now (ts .exit)) (now (ms .exit)) r ≡ appendMethod (now (ws .entry)) (now (text .entry)) (now (abi .entry)) (now (labels .entry)) (firstNews (now (ws .entry)) (now (text .entry)) (now (abi .entry)) (now (labels .entry)) (now (refs .entry)) (now (flags .entry)) (now (lasts .entry)) n) (entriesOf (now (ts .entry)) (now (ms .entry)) end) m ⌝ }
+    ensures is { λ r. ⌜ entriesOf (after ts) (after ms) r ≡ appending ws text abi labels refs flags lasts n (entriesOf (was ts) (was ms) end) m ⌝ }
     ensures count { λ r. ⌜ r ≤ end + 1 ⌝ }
 {
     let name = name_of(ws, text, abi, labels, refs, n, m);
@@ -316,7 +317,7 @@ fn append_methods<'a>(
     end: u32,
 ) -> u32
     requires { ⌜ (n ≤ 1024) × (end ≤ 1024) × (3584 ≤ length (now ts)) × (3584 ≤ length (now ms)) ⌝ }
-    ensures is { λ r. ⌜ entriesOf (now (ts .exit)) (now (ms .exit)) r ≡ fold (appendMethod (now (ws .entry)) (now (text .entry)) (now (abi .entry)) (now (labels .entry)) (firstNews (now (ws .entry)) (now (text .entry)) (now (abi .entry)) (now (labels .entry)) (now (refs .entry)) (now (flags .entry)) (now (lasts .entry)) n)) (entriesOf (now (ts .entry)) (now (ms .entry)) end) (ownMethods (now (ws .entry)) c ++ numbers methodLimit n) ⌝ }
+    ensures is { λ r. ⌜ entriesOf (after ts) (after ms) r ≡ fold (appending ws text abi labels refs flags lasts n) (entriesOf (was ts) (was ms) end) (ownMethods (was ws) c ++ numbers methodLimit n) ⌝ }
     ensures count { λ r. ⌜ r ≤ 2560 ⌝ }
 {
     let first = class_sheet::class_first_method(ws, c);
@@ -348,7 +349,7 @@ fn append_mark<'a>(
     end: u32,
 ) -> u32
     requires { ⌜ (end < 4294967295) × (end < length (now ts)) × (end < length (now ms)) ⌝ }
-    ensures is { λ r. ⌜ entriesOf (now (ts .exit)) (now (ms .exit)) r ≡ fold (appendMethod (now (ws .entry)) (now (text .entry)) (now (abi .entry)) (now (labels .entry)) (firstNews (now (ws .entry)) (now (text .entry)) (now (abi .entry)) (now (labels .entry)) (now (refs .entry)) (now (flags .entry)) (now (lasts .entry)) n)) (entriesOf (now (ts .entry)) (now (ms .entry)) end) (consFound (methodOf k) []) ⌝ }
+    ensures is { λ r. ⌜ entriesOf (after ts) (after ms) r ≡ fold (appending ws text abi labels refs flags lasts n) (entriesOf (was ts) (was ms) end) (consFound (methodOf k) []) ⌝ }
     ensures count { λ r. ⌜ r ≤ end + 1 ⌝ }
 {
     match reading::method_of(k) {
@@ -374,7 +375,7 @@ fn append_known<'a>(
     end: u32,
 ) -> u32
     requires { ⌜ (end + count ≤ 3584) × (3584 ≤ length (now ts)) × (3584 ≤ length (now ms)) ⌝ }
-    ensures is { λ r. ⌜ entriesOf (now (ts .exit)) (now (ms .exit)) r ≡ fold (appendMethod (now (ws .entry)) (now (text .entry)) (now (abi .entry)) (now (labels .entry)) (firstNews (now (ws .entry)) (now (text .entry)) (now (abi .entry)) (now (labels .entry)) (now (refs .entry)) (now (flags .entry)) (now (lasts .entry)) n)) (entriesOf (now (ts .entry)) (now (ms .entry)) end) (markMethods (now (known .entry)) count) ⌝ }
+    ensures is { λ r. ⌜ entriesOf (after ts) (after ms) r ≡ fold (appending ws text abi labels refs flags lasts n) (entriesOf (was ts) (was ms) end) (markMethods (was known) count) ⌝ }
     ensures count { λ r. ⌜ r ≤ end + count ⌝ }
 {
     let mut r: u32 = end;
@@ -405,7 +406,7 @@ fn append_all<'a>(
     end: u32,
 ) -> u32
     requires { ⌜ (n ≤ 1024) × (count ≤ 1024) × (end ≤ 1024) × (3584 ≤ length (now ts)) × (3584 ≤ length (now ms)) ⌝ }
-    ensures is { λ r. ⌜ entriesOf (now (ts .exit)) (now (ms .exit)) r ≡ fold (appendMethod (now (ws .entry)) (now (text .entry)) (now (abi .entry)) (now (labels .entry)) (firstNews (now (ws .entry)) (now (text .entry)) (now (abi .entry)) (now (labels .entry)) (now (refs .entry)) (now (flags .entry)) (now (lasts .entry)) n)) (entriesOf (now (ts .entry)) (now (ms .entry)) end) ((ownMethods (now (ws .entry)) c ++ numbers methodLimit n) ++ markMethods (now (known .entry)) count) ⌝ }
+    ensures is { λ r. ⌜ entriesOf (after ts) (after ms) r ≡ fold (appending ws text abi labels refs flags lasts n) (entriesOf (was ts) (was ms) end) ((ownMethods (was ws) c ++ numbers methodLimit n) ++ markMethods (was known) count) ⌝ }
     ensures count { λ r. ⌜ r ≤ 3584 ⌝ }
 {
     let r = append_methods(ws, text, abi, labels, refs, flags, lasts, n, c, ts, ms, end);
@@ -446,7 +447,7 @@ fn compiler_table<'a>(
     ms: &mut [u32],
 ) -> u32
     requires { ⌜ (n ≤ 1024) × (count ≤ 1024) × (3584 ≤ length (now ts)) × (3584 ≤ length (now ms)) ⌝ }
-    ensures is { λ r. ⌜ entriesOf (now (ts .exit)) (now (ms .exit)) r ≡ fold (appendMethod (now (ws .entry)) (now (text .entry)) (now (abi .entry)) (now (labels .entry)) (firstNews (now (ws .entry)) (now (text .entry)) (now (abi .entry)) (now (labels .entry)) (now (refs .entry)) (now (flags .entry)) (now (lasts .entry)) n)) (compilerEntries (now (ws .entry)) (now (text .entry)) (now (abi .entry)) (now (labels .entry)) (firstNews (now (ws .entry)) (now (text .entry)) (now (abi .entry)) (now (labels .entry)) (now (refs .entry)) (now (flags .entry)) (now (lasts .entry)) n) c (entriesOf (now (vs .entry)) (now (vm .entry)) count) 0 (compilerTargets (now (ws .entry)) (now (text .entry)) (now (abi .entry)) (now (labels .entry)) c)) (classMethods (now (ws .entry)) (now (text .entry)) (now (abi .entry)) (now (labels .entry)) (firstNews (now (ws .entry)) (now (text .entry)) (now (abi .entry)) (now (labels .entry)) (now (refs .entry)) (now (flags .entry)) (now (lasts .entry)) n) c ++ markMethods (now (known .entry)) count) ⌝ }
+    ensures is { λ r. ⌜ entriesOf (after ts) (after ms) r ≡ fold (appending ws text abi labels refs flags lasts n) (targeted ws text abi labels refs flags lasts n c (entriesOf (was vs) (was vm) count)) (methods ws text abi labels refs flags lasts n c ++ markMethods (was known) count) ⌝ }
     ensures count { λ r. ⌜ r ≤ 3584 ⌝ }
 {
     let size = compiler_entries(ws, lasts, n, c, vs, vm, count, ts, ms);
@@ -483,10 +484,10 @@ pub fn prepare_generated<'a>(
     flags: &mut [u32; 1024],
     lasts: &mut [u32; 1024],
 ) -> Prepared
-    ensures table { λ r. ⌜ entriesOf (now (ts .exit)) (now (ms .exit)) (r .n) ≡ compilerTable (now (ws .entry)) (now (text .entry)) (now (abi .entry)) (now (labels .entry)) (now (area .entry)) c ⌝ }
-    ensures members { λ r. ⌜ firstNews (now (ws .entry)) (now (text .entry)) (now (abi .entry)) (now (labels .entry)) (now (refs .exit)) (now (flags .exit)) (now (lasts .exit)) (r .added) ≡ addedMethods (now (ws .entry)) (now (text .entry)) (now (abi .entry)) (now (labels .entry)) (now (area .entry)) c ⌝ }
+    ensures table { λ r. ⌜ entriesOf (after ts) (after ms) (r .n) ≡ compilerTable (was ws) (was text) (was abi) (was labels) (was area) c ⌝ }
+    ensures members { λ r. ⌜ firstNews (was ws) (was text) (was abi) (was labels) (after refs) (after flags) (after lasts) (r .added) ≡ addedMethods (was ws) (was text) (was abi) (was labels) (was area) c ⌝ }
     ensures counts { λ r. ⌜ (r .n ≤ 3584) × (r .added ≤ 1024) ⌝ }
-    ensures arrays { λ r. ⌜ (length (now (ts .exit)) ≡ 3584) × (length (now (ms .exit)) ≡ 3584) × (length (now (refs .exit)) ≡ 1024) × (length (now (flags .exit)) ≡ 1024) × (length (now (lasts .exit)) ≡ 1024) ⌝ }
+    ensures arrays { λ r. ⌜ (length (after ts) ≡ 3584) × (length (after ms) ≡ 3584) × (length (after refs) ≡ 1024) × (length (after flags) ≡ 1024) × (length (after lasts) ≡ 1024) ⌝ }
 {
     let mut vs = [0u32; 1024];
     let mut vm = [0u32; 1024];
