@@ -1,2 +1,3 @@
 pub mod Examples
 pub mod RecordLaws
+pub mod TurnLaws

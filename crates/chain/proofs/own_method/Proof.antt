@@ -3,7 +3,8 @@
 use native.Mathlib.Omega.{arith}
 use mathlib.Core.Path.{_≡_, _∙_}
 use Prim.Native.Nat.{_-_, _≤_}
-use Rattle.words.proofs.ListLaws.{findFrom, find-start, find-hit, find-miss, find-end}
+use Rattle.words.proofs.ListLaws.{findFrom, find-start}
+use Rattle.chain.proofs.TurnLaws.{turn-hit, turn-miss, turn-end}
 use Rattle.linking.specs.Chain.{methodIs, ownMethods, ownMethod}
 use Rattle.chain.specs.Records.{methodRecords}
 use Rattle.chain.proofs.RecordLaws.{record-method}
@@ -25,23 +26,13 @@ unfolding ownMethod ownMethods
 loop-holds c = (omega arith, omega arith, c .before .before .method-records .ensures, find-start _ _ _ ∙ cc)
 
 returns : tie.Need-returns Inv-loop μ-loop
-returns c =
-    let turn : tie.In-loop Inv-loop μ-loop = search in
-    let inv = turn .before .loop .inv in
-    find-hit _ _ _ _ (turn .loop-test .taken) (c .before .record-is .ensures ∙ record-method _ _ _ _ _ (inv .2)) (c .if1 .taken) ∙ inv .3
+returns c = search (turn-hit, record-method)
 
 loop-again : tie.Need-loop-again Inv-loop μ-loop
-loop-again c =
-    let turn : tie.In-loop Inv-loop μ-loop = search in
-    let inv = turn .before .loop .inv in (
-      omega arith,
-      omega arith,
-      inv .2,
-      find-miss _ _ _ _ (turn .loop-test .taken) (c .before .record-is .ensures ∙ record-method _ _ _ _ _ (inv .2)) (c .if1 .left) ∙ inv .3,
-    )
+loop-again c = (omega arith, omega arith, search, search (turn-miss, record-method))
 
 returns-2 : tie.Need-returns-2 Inv-loop μ-loop
-returns-2 c = find-end _ _ _ _ (c .loop-test .left) ∙ c .before .loop .inv .3
+returns-2 c = search turn-end
 
 pub own-method-spec : {M : Type 1} → statement M
 own-method-spec =
