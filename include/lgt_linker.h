@@ -494,9 +494,9 @@ uint32_t lgt_argument_words(const uint8_t *descriptor, size_t descriptor_len, ui
 /*
  * Compares two names, or any bytes, as the library compares all names: lengths first, then names of one length from the last
  * byte back, up to the first pair of bytes that differs.
- * Answers: answer[0], 1 if they are the same bytes, else 0; answer[1], how many pairs of bytes were read: 0 for unequal
- * lengths, all for the same names, else the length minus the last differing place, counted from 0. Leaves nothing else
- * written.
+ * Answers: answer[0], 1 if they are the same bytes, else 0 (the two numbers are this library's choice); answer[1], how many
+ * pairs of bytes were read: 0 for unequal lengths, all for the same names, else the length minus the last differing place,
+ * counted from 0. Leaves nothing else written.
  * Refuses nothing: it returns 0.
  */
 uint32_t lgt_compare_names(const uint8_t *a, size_t a_len, const uint8_t *b, size_t b_len, uint64_t answer[2]);

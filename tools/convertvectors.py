@@ -146,6 +146,7 @@ def ends():
     words = old(text("class A\n")).words()
     for after in (1, 2):
         refused("old", 3, f"word-{after}-after", "words after the content: zero", blocks(words + [0] * (after - 1) + [1]))
+    refused("old", 3, "of-the-new-form", "words after the content: zero", text("class A\n"), also=[(4, "class name: bytes from 0x21")])
     for word in ("table place", "slot count"):
         made = but(old(text("class A generated\n")), "class", 1, **{word.replace(" ", "_"): 1})
         refused("old", 3, f"generated-{word.replace(' ', '-')}", f"{word}: zero", made)

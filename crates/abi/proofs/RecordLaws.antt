@@ -1,15 +1,11 @@
 -- Laws of ABI records that are read from the part of the words that begins with the first of them. Assumes nothing.
 use mathlib.Core.Path.{_≡_, _∙_}
-use mathlib.Core.Bool.{Bool, true, false}
 use mathlib.Core.List.{List}
-use Prim.Native.Nat.{ℕ, _+_, _*_, _≤_, _<_, min}
+use Prim.Native.Nat.{ℕ, _+_, _*_, min}
 use native.Mathlib.Omega.{arith}
 use lib.ListN.{length, getD, take, drop}
 use lib.Seq.{getD-drop}
 use lib.Dec.{eqb}
-use Rattle.words.specs.declared.Found.{Found}
-use Rattle.words.specs.declared.Found.the-variants.{At, Nothing}
-use Rattle.words.proofs.ListLaws.{findFrom, find-hit, find-miss, find-end}
 use Rattle.words.proofs.Laws.{part-rest}
 use Rattle.text.specs.Text.{nameStartWord, nameLengthWord, descriptorStartWord, descriptorLengthWord, numberWord}
 use Rattle.abi_sheet.specs.AbiSheet.{abiMemberWidth, abiSlotsAt, abiFieldsAt, abiSlotWord, abiFieldWord}
@@ -62,16 +58,3 @@ pub record-field : (abi labels : List ℕ) (f : ℕ) (name descriptor : List ℕ
     → recordIs r abiMemberWidth labels f name descriptor ≡ fieldIs abi labels f name descriptor
 unfolding recordIs fieldIs
 record-field abi labels f name descriptor e = rw (e, field-word abi f nameStartWord, field-word abi f nameLengthWord, field-word abi f descriptorStartWord, field-word abi f descriptorLengthWord)
-
--- ---- a search along records
-
--- a turn: b is what the code reads of the i-th record, x what that is in the sheet's words, and F what is found from there on
-module _ (p : ℕ → Bool) (m n i : ℕ) {b x : Bool} {F : Found} where
-  pub turn-hit : i < n → b ≡ x → x ≡ p (m + i) → b ≡ true → findFrom p m n i ≡ F → At (m + i) ≡ F
-  turn-hit h e f t g = find-hit p m n i h (e ∙ f) t ∙ g
-
-  pub turn-miss : i < n → b ≡ x → x ≡ p (m + i) → b ≡ false → findFrom p m n i ≡ F → findFrom p m n (i + 1) ≡ F
-  turn-miss h e f t g = find-miss p m n i h (e ∙ f) t ∙ g
-
-pub turn-end : (p : ℕ → Bool) (m n i : ℕ) {F : Found} → n ≤ i → findFrom p m n i ≡ F → Nothing ≡ F
-turn-end p m n i h g = find-end p m n i h ∙ g

@@ -32,8 +32,8 @@ abiForm abi =
 
 -- ---- row 4
 
--- the record of class a: its name, "table size plus 1 (0 none), instance words plus 1 (0 none)" with "table size ≤ 1,024" and "ABI
--- instance words ≤ 4,096", and "every list .. lies inside its section"
+-- the record of class a: its name, "table size plus 1 (0 none), instance words plus 1 (0 none)" with "linked slot count, table size and compiler
+-- slots ≤ 1,024" and "ABI instance words ≤ 4,096", and "every list and text part lies inside its section"
 unfoldable pub abiClassRecord : List ℕ → List ℕ → ℕ → Bool
 abiClassRecord abi text a =
     partOk text (abiClassNameStart abi a) (abiClassNameLength abi a)

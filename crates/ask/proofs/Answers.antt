@@ -29,7 +29,7 @@ not-refused e = let z : _≡_ {A = ℕ} 0 1 = cc in absurd (omega arith)
 
 module _ (ws abi : List ℕ) (c i : ℕ) (area stubs : List ℕ) where
   entry-refused : (e : Entry) (m k : Found) (b : Built) (n : ℕ) → ((j : ℕ) → b ≡ refused j → j ≢ 0)
-      → consEntry ws (textOf ws) (dispatchEntry ws (textOf ws) e m k) b ≡ refused n → n ≢ 0
+      → consEntry (dispatchEntry ws e m k) b ≡ refused n → n ≢ 0
   entry-refused e (At m) (At k) (built T) n h q = absurd (not-refused q)
   entry-refused e (At m) (At k) (refused j) n h q = λ z. h j refl (cc)
   entry-refused e (At m) Nothing b n h q = λ z. let k : _≡_ {A = ℕ} 16 n = cc in omega arith

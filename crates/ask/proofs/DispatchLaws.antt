@@ -24,6 +24,14 @@ use Rattle.reading.proofs.ClassLaws.{declared-none, declared-step}
 use Rattle.ask.specs.Dispatch.{slotBuilt, dispatched}
 use Rattle.ask.specs.declared.Slot.{Slot}
 
+cons-none : (B : Built) → consEntry (built []) B ≡ B
+cons-none (built T) = refl
+cons-none (refused n) = refl
+
+cons-two : (T U : List Entry) (B : Built) → consEntry (built T) (consEntry (built U) B) ≡ consEntry (built (T ++ U)) B
+cons-two T U (built S) = ap built (sym (append-assoc T U S))
+cons-two T U (refused n) = refl
+
 module _ (ws text : List ℕ) where
   -- ---- implementations
 
@@ -84,18 +92,10 @@ module _ (ws text : List ℕ) where
 
   -- ---- the loop over the slots
 
-  cons-none : (B : Built) → consEntry ws text (built []) B ≡ B
-  cons-none (built T) = refl
-  cons-none (refused n) = refl
-
-  cons-two : (T U : List Entry) (B : Built) → consEntry ws text (built T) (consEntry ws text (built U) B) ≡ consEntry ws text (built (T ++ U)) B
-  cons-two T U (built S) = ap built (sym (append-assoc T U S))
-  cons-two T U (refused n) = refl
-
   module _ (c : ℕ) (ts ms : List ℕ) (n : ℕ) where
     -- the slots so far, and what comes of those from turn i on
     unfoldable pub soFar : List ℕ → List ℕ → ℕ → Built
-    soFar us ns i = consEntry ws text (built (entriesOf us ns i)) (dispatchEntries ws text c (restFrom (entryAt ts ms) 0 n i))
+    soFar us ns i = consEntry (built (entriesOf us ns i)) (dispatchEntries ws text c (restFrom (entryAt ts ms) 0 n i))
 
     pub dispatch-start : (us ns : List ℕ) → soFar us ns 0 ≡ dispatchEntries ws text c (entriesOf ts ms n)
     unfolding soFar entriesOf listFrom
@@ -107,8 +107,8 @@ module _ (ws text : List ℕ) where
       unfolding entryAt
       here = let z : 0 + i ≡ j = omega arith in rw (z, ← word, ← mark) (sym slot)
 
-      turn : (us ns : List ℕ) → soFar us ns i ≡ consEntry ws text (built (entriesOf us ns i))
-          (consEntry ws text (slotBuilt s) (dispatchEntries ws text c (restFrom (entryAt ts ms) 0 n (i + 1))))
+      turn : (us ns : List ℕ) → soFar us ns i ≡ consEntry (built (entriesOf us ns i))
+          (consEntry (slotBuilt s) (dispatchEntries ws text c (restFrom (entryAt ts ms) 0 n (i + 1))))
       unfolding soFar dispatchEntries dispatched
       turn us ns = rw (rest-turn (entryAt ts ms) 0 n i h, ← here)
 

@@ -20,7 +20,7 @@ slotBuilt s = cond (s .missing) (refused 16) (built (record { word = s .word; me
 -- "each known interface entry takes the first non-static, non-private method of its signature, class first, an unknown one keeps its
 -- target": one entry
 unfoldable pub dispatched : List ℕ → List ℕ → ℕ → Entry → Built
-dispatched ws text c e = dispatchEntry ws text e (e .method) (onFound (e .method) (implementation ws text c) Nothing)
+dispatched ws text c e = dispatchEntry ws e (e .method) (onFound (e .method) (implementation ws text c) Nothing)
 
 -- the table that two arrays, a count and a row stand for
 abbrev pub tableBuilt : List ℕ → List ℕ → ℕ → ℕ → Built

@@ -11,12 +11,12 @@ use borrow.Author.Tests.{lt-ltb, le-ltb, ltb-true, ltb-false, eq-eqb, eqb-true}
 use lib.ListN.{length, getD, take, drop, length-append, length-take, List·getD-append, List·getD-eq-default}
 use lib.Seq.{take-at, drop-at, take-all, take-add}
 use lib.Dec.{eqb, ltb}
-use Rattle.words.specs.Words.{leWord, byteOf}
+use Rattle.words.specs.Words.{leWord, byteOf, AreWords, AreBytes}
 use Rattle.words.specs.Folds.{sumOf, allOf, table}
 use Rattle.words.proofs.Bools.{by}
 use Rattle.words.proofs.Bytes.{word-byte, word-of-bytes}
 use Rattle.words.proofs.FoldLaws.{sum-ext, length-table, getD-table, table-ext, table-append, table-list}
-use Rattle.block.specs.Block.{AreWords, AreBytes, wordOf, block, checkOk, content, wordIn, checkWord, packedWord, blockByte, sheetBytes}
+use Rattle.block.specs.Block.{wordOf, block, checkOk, content, wordIn, checkWord, packedWord, blockByte, sheetBytes}
 use Rattle.words.proofs.Lists.{skip, part-at, length-part}
 use Rattle.block.proofs.Laws.{length-content}
 use Rattle.block.proofs.PackLaws.{length-bytes, packed-one, packed-check}

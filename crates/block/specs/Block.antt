@@ -1,20 +1,13 @@
 -- The block form of a sheet, on lists of bytes and words. Assumes nothing.
 -- "The house form: blocks of 512 bytes, 128 little-endian u32 words. The last word is the sum of the other 127 and the block's
 -- number from 1, modulo 2^32. The 127s run on as one word list."
-use Prim.Native.Nat.{ℕ, zero, suc, _+_, _*_, _/_, _%_, _^_, _<_}
+use Prim.Native.Nat.{ℕ, zero, suc, _+_, _*_, _/_, _%_, _^_}
 use mathlib.Core.Bool.{Bool, cond, _&&_, not}
 use mathlib.Core.List.{List, [], _++_}
 use lib.ListN.{getD, take, drop, length}
 use lib.Dec.{eqb, leb, ltb}
 use Rattle.words.specs.Words.{leWord, byteOf}
 use Rattle.words.specs.Folds.{sumOf, table}
-
--- words of 32 bits and bytes of 8, as slices have them
-abbrev pub AreWords : List ℕ → Type 0
-AreWords ws = (i : ℕ) → getD ws i 0 < 2 ^ 32
-
-abbrev pub AreBytes : List ℕ → Type 0
-AreBytes bs = (i : ℕ) → getD bs i 0 < 256
 
 -- word j of a block
 unfoldable pub wordOf : List ℕ → ℕ → ℕ

@@ -3,7 +3,7 @@
 use mathlib.Core.Path.{_≡_, refl, _∙_}
 use mathlib.Core.Logic.{_≢_}
 use mathlib.Core.Bool.{Bool, false, not}
-use mathlib.Core.List.{List, [], _∷_, _++_}
+use mathlib.Core.List.{List, [], _∷_, _++_, List·Memᴰ, List·Memᴰ·head, List·Memᴰ·tail}
 use Prim.Native.Nat.{ℕ, zero, suc, _+_, _-_, _≤_, _<_}
 use native.Mathlib.Omega.{arith}
 use lib.ListN.{length, getD, set, replicate}
@@ -20,9 +20,8 @@ use Rattle.linking.proofs.ChainLaws.{own-target-member, own-method-member}
 use Rattle.linking.specs.Chain.{onFound, ownMethods, chain, eligible, ownTarget, findByTarget}
 use Rattle.linking.specs.Abi.{slotAt, classAbi, chainAbi, minimumSize}
 use Rattle.linking.specs.Vtable.{Entry, empty, Built, built, refused, onBuilt, ownFixed, findByIndex, readEntry, entryIs, slotOf, entryIsOther, methodEntry, fixedOf, putFixed, relay, relayStep, relayed, extended, putMethod, addMethod, addMethods}
-use Rattle.slots.specs.Slots.{In, here, there}
 use Rattle.slots.specs.Made.{readWords, startFrom, tableFrom}
-use Rattle.slots.proofs.ListFacts.{not-found, found-same, found-in, in-member}
+use Rattle.slots.proofs.ListFacts.{not-found, found-same, found-in}
 use Rattle.linking.proofs.Plans.{built-same, not-built}
 use Rattle.calls.proofs.Like.{Like}
 use Rattle.calls.proofs.View.{method-name, method-descriptor, method-target, method-is, eligible-same, chain-class, own-same, own-below, class-abi, chain-abi}
@@ -70,23 +69,21 @@ position-same p q n k (e ∷ T) h same = rw (same e (h .0), position-same p q n 
 
 module _ (old new : List ℕ) (valid : Valid old) (like : Like old new) (abi labels : List ℕ) where
   -- what Reading finds is of the sheet
-  module _ (c : ℕ) (a : c ≤ classCount old) (plain : (d : ℕ) → In d (chain old c) → classKind old d ≢ 1) where
-    own-of : (d m : ℕ) → In d (chain old c) → In m (ownMethods old d) → m < methodCount old
+  module _ (c : ℕ) (a : c ≤ classCount old) (plain : (d : ℕ) → List·Memᴰ d (chain old c) → classKind old d ≢ 1) where
+    own-of : (d m : ℕ) → List·Memᴰ d (chain old c) → List·Memᴰ m (ownMethods old d) → m < methodCount old
     own-of d m i j = let k = chain-class old new valid like c d a i in own-below old new valid like d (k .0) (k .1) (plain d i) m j
 
     target-of : (t m : ℕ) → findByTarget old c t ≡ At m → m < methodCount old
     unfolding findByTarget
     target-of t m e =
         let r = found-in (ownTarget old t) (chain old c) m e in
-        own-of (r .element) m (r .along) (in-member (ownMethods old (r .element)) (own-target-member old t (r .element) m (r .finds)))
+        own-of (r .element) m (r .along) (own-target-member old t (r .element) m (r .finds))
 
-    fixed-of : (i d m : ℕ) → ownFixed old (textOf old) abi labels i d ≡ At m → In m (ownMethods old d)
+    fixed-of : (i d m : ℕ) → ownFixed old (textOf old) abi labels i d ≡ At m → List·Memᴰ m (ownMethods old d)
     unfolding ownFixed
     fixed-of i d m e =
         by-found (andThen (classAbi old (textOf old) abi labels d) (slotAt abi i))
-        (λ z q.
-        in-member (ownMethods old d)
-        (own-method-member old (textOf old) (abiSlotName abi labels z) (abiSlotDescriptor abi labels z) d m (rw q at e)))
+        (λ z q. own-method-member old (textOf old) (abiSlotName abi labels z) (abiSlotDescriptor abi labels z) d m (rw q at e))
         (λ q. not-found (rw q at e))
 
     index-of : (i m : ℕ) → findByIndex old (textOf old) abi labels c i ≡ At m → m < methodCount old
@@ -117,7 +114,7 @@ module _ (old new : List ℕ) (valid : Valid old) (like : Like old new) (abi lab
   step-same abis T e o = by-found (e .method) (λ m q. rw (q, fixed-same abis m (o m q))) (λ q. rw q)
 
   put-of : (f : Found) (e : Entry) (T : List Entry) → OfSheet (methodCount old) e → AllOf (methodCount old) T
-      → AllOf (methodCount old) (putFixed old (textOf old) abi labels f e T)
+      → AllOf (methodCount old) (putFixed f e T)
   put-of (At i) e T o h = of-set (methodCount old) T i e h o
   put-of Nothing e T o h = of-append (methodCount old) T (e ∷ []) h (o, tt)
 
@@ -171,23 +168,23 @@ module _ (old new : List ℕ) (valid : Valid old) (like : Like old new) (abi lab
   -- ---- its own methods
 
   module _ (name descriptor : List ℕ) (e : Entry) (o : OfSheet (methodCount old) e) where
-    entry-is : entryIs new (textOf new) abi labels name descriptor e ≡ entryIs old (textOf old) abi labels name descriptor e
+    entry-is : entryIs new (textOf new) name descriptor e ≡ entryIs old (textOf old) name descriptor e
     unfolding entryIs
     entry-is = by-found (e .method) (λ m q. rw (q, method-is old new valid like m (o m q) name descriptor)) (λ q. rw q)
 
-    entry-other : entryIsOther new (textOf new) abi labels name descriptor e ≡ entryIsOther old (textOf old) abi labels name descriptor e
+    entry-other : entryIsOther new (textOf new) name descriptor e ≡ entryIsOther old (textOf old) name descriptor e
     unfolding entryIsOther
     entry-other = by-found (e .method) (λ m q. rw (q, method-is old new valid like m (o m q) name descriptor)) (λ q. rw q)
 
   slot-same : (name descriptor : List ℕ) (T : List Entry) → AllOf (methodCount old) T
-      → slotOf new (textOf new) abi labels name descriptor T ≡ slotOf old (textOf old) abi labels name descriptor T
+      → slotOf new (textOf new) name descriptor T ≡ slotOf old (textOf old) name descriptor T
   unfolding slotOf
   slot-same name descriptor T h =
-      position-same (entryIs new (textOf new) abi labels name descriptor) (entryIs old (textOf old) abi labels name descriptor) (methodCount old) 0 T h
+      position-same (entryIs new (textOf new) name descriptor) (entryIs old (textOf old) name descriptor) (methodCount old) 0 T h
       (entry-is name descriptor)
 
   module _ (abis : List ℕ) (m : ℕ) (below : m < methodCount old) (T : List Entry) (h : AllOf (methodCount old) T) where
-    put-same : (fixed slot : Found) → putMethod new (textOf new) abi labels fixed slot m T ≡ putMethod old (textOf old) abi labels fixed slot m T
+    put-same : (fixed slot : Found) → putMethod new (textOf new) fixed slot m T ≡ putMethod old (textOf old) fixed slot m T
     unfolding putMethod
     put-same (At i) slot =
         rw (
@@ -209,26 +206,26 @@ module _ (old new : List ℕ) (valid : Valid old) (like : Like old new) (abi lab
           method-descriptor old new valid like m below,
           slot-same (methodName old (textOf old) m) (methodDescriptor old (textOf old) m) T h,
           put-same (fixedOf old (textOf old) abi labels abis m)
-              (slotOf old (textOf old) abi labels (methodName old (textOf old) m) (methodDescriptor old (textOf old) m) T),
+              (slotOf old (textOf old) (methodName old (textOf old) m) (methodDescriptor old (textOf old) m) T),
         )
 
-    mine : OfSheet (methodCount old) (methodEntry old (textOf old) abi labels m)
+    mine : OfSheet (methodCount old) (methodEntry old m)
     mine k e = rw (← found-same e) below
 
-    put-method-of : (fixed slot : Found) (U : List Entry) → putMethod old (textOf old) abi labels fixed slot m T ≡ built U → AllOf (methodCount old) U
+    put-method-of : (fixed slot : Found) (U : List Entry) → putMethod old (textOf old) fixed slot m T ≡ built U → AllOf (methodCount old) U
     unfolding putMethod
     put-method-of (At i) slot U e =
         by (onFound slot (λ j. not (eqb j i)) false) (λ t. not-built (rw t at e))
         (λ t.
         let r = rw t at e in
-        by (entryIsOther old (textOf old) abi labels (methodName old (textOf old) m) (methodDescriptor old (textOf old) m) (getD T i empty))
+        by (entryIsOther old (textOf old) (methodName old (textOf old) m) (methodDescriptor old (textOf old) m) (getD T i empty))
         (λ u. not-built (rw u at r))
         (λ u.
-        rw (← built-same (rw u at r)) (of-set (methodCount old) T i (methodEntry old (textOf old) abi labels m) h mine)))
+        rw (← built-same (rw u at r)) (of-set (methodCount old) T i (methodEntry old m) h mine)))
     put-method-of Nothing (At j) U e =
-        rw (← built-same e) (of-set (methodCount old) T j (methodEntry old (textOf old) abi labels m) h mine)
+        rw (← built-same e) (of-set (methodCount old) T j (methodEntry old m) h mine)
     put-method-of Nothing Nothing U e =
-        rw (← built-same e) (of-append (methodCount old) T (methodEntry old (textOf old) abi labels m ∷ []) h (mine, tt))
+        rw (← built-same e) (of-append (methodCount old) T (methodEntry old m ∷ []) h (mine, tt))
 
     add-of : (U : List Entry) → addMethod old (textOf old) abi labels abis m T ≡ built U → AllOf (methodCount old) U
     unfolding addMethod
@@ -236,21 +233,21 @@ module _ (old new : List ℕ) (valid : Valid old) (like : Like old new) (abi lab
         by (eligible old (textOf old) m)
         (λ t.
         put-method-of (fixedOf old (textOf old) abi labels abis m)
-        (slotOf old (textOf old) abi labels (methodName old (textOf old) m) (methodDescriptor old (textOf old) m) T) U (rw t at e))
+        (slotOf old (textOf old) (methodName old (textOf old) m) (methodDescriptor old (textOf old) m) T) U (rw t at e))
         (λ t. rw (← built-same (rw t at e)) h)
 
   on-same : (b : Built) (f g : List Entry → Built) → ((U : List Entry) → b ≡ built U → f U ≡ g U) → onBuilt b f ≡ onBuilt b g
   on-same (built U) f g h = h U refl
   on-same (refused n) f g h = refl
 
-  adds-same : (abis ms : List ℕ) → ((m : ℕ) → In m ms → m < methodCount old) → (T : List Entry) → AllOf (methodCount old) T
+  adds-same : (abis ms : List ℕ) → ((m : ℕ) → List·Memᴰ m ms → m < methodCount old) → (T : List Entry) → AllOf (methodCount old) T
       → addMethods new (textOf new) abi labels abis ms T ≡ addMethods old (textOf old) abi labels abis ms T
   unfolding addMethods
   adds-same abis [] below T h = refl
   adds-same abis (m ∷ ms) below T h =
-      rw (add-same abis m (below m here) T h)
+      rw (add-same abis m (below m (List·Memᴰ·head refl)) T h)
       (on-same (addMethod old (textOf old) abi labels abis m T) (addMethods new (textOf new) abi labels abis ms) (addMethods old (textOf old) abi labels abis ms)
-      (λ U e. adds-same abis ms (λ k i. below k (there i)) U (add-of abis m (below m here) T h U e)))
+      (λ U e. adds-same abis ms (λ k i. below k (List·Memᴰ·tail i)) U (add-of abis m (below m (List·Memᴰ·head refl)) T h U e)))
 
   -- ---- the table
 

@@ -12,12 +12,12 @@ use borrow.Author.Tests.{eqb-true, eqb-false}
 use Rattle.words.proofs.Bools.{by}
 use Rattle.class_sheet.specs.ClassSheet.{classWidth, memberWidth, firstMethodWord, methodCountWord, firstFieldWord, fieldCountWord, tablePlaceWord, slotCountWord, classCount, methodCount, fieldCount, contentEnd, classWord, classKind, classFirstMethod, classMethodCount, classFirstField, classFieldCount, classTablePlace, classSlotCount, methodWord}
 use Rattle.words.specs.Rows.{rowWord}
+use Rattle.words.specs.Words.{AreBytes}
 use Rattle.class_sheet.specs.Sections.{Sections, laidOut, sectionsOf}
 use Rattle.class_sheet.proofs.Sections.{class-count, method-count, class-word, method-word, text-of, formed-of, class-of, method-of, text-of-words}
 use Rattle.linking.specs.Set.{newText}
 use Rattle.linking.specs.Link.{Plan, isNone, linkedWords}
 use Rattle.linking.specs.Grown.{linkedSections}
-use Rattle.linking.proofs.Names.{Bytes}
 use Rattle.linking.proofs.LinkedSections.{lies-of, linked-laid}
 use Rattle.linking.proofs.LinkedBack.{Left, linked-left, linked-still, linked-own}
 use Rattle.calls.proofs.Like.{Like}
@@ -32,7 +32,7 @@ pub record Leaves (old new : List ℕ) (c p n : ℕ) : Type 0 where
 module _ (ws : List ℕ) (c place words statics : ℕ) (p : Plan) (some : 1 ≤ c) (among : c ≤ classCount ws) (fits : contentEnd ws ≤ length ws)
     (methods : classFirstMethod ws c + classMethodCount ws c ≤ methodCount ws) (fields : classFirstField ws c + classFieldCount ws c ≤ fieldCount ws)
     (inside : classFirstField ws c + length (p .indices) ≤ fieldCount ws) (generated : isNone (p .newMethods) ≡ false → classKind ws c ≡ 1)
-    (method-bytes : Bytes (newText (p .newMethods))) (field-bytes : Bytes (newText (p .newFields))) where
+    (method-bytes : AreBytes (newText (p .newMethods))) (field-bytes : AreBytes (newText (p .newFields))) where
   abbrev s : Sections
   s = sectionsOf ws
 

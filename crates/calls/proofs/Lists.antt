@@ -2,7 +2,7 @@
 -- Assumes nothing.
 use mathlib.Core.Path.{_≡_, refl, sym, _∙_, subst}
 use mathlib.Core.Logic.{_⊎_, inl, inr, _≢_}
-use mathlib.Core.List.{List, [], _∷_}
+use mathlib.Core.List.{List, [], _∷_, List·Memᴰ}
 use Prim.Native.Nat.{ℕ, _+_, _≤_, _<_}
 use native.Mathlib.Omega.{arith}
 use lib.Dec.{eqb}
@@ -14,7 +14,6 @@ use Rattle.set_rules.specs.Valid.{Valid}
 use Rattle.linking.specs.Link.{Outcome, linkDef}
 use Rattle.linking.specs.Ask.{headPlace, askedArea, askDef}
 use Rattle.linking.proofs.Rows.{Linked}
-use Rattle.slots.specs.Slots.{In}
 use Rattle.calls.specs.Calls.{Call, link, ask, State, step, run, LinkedIn, now, later, Lent, lent-now, lent-later, stubsOf}
 use Rattle.calls.proofs.Area.{asked-length, asked-before}
 use Rattle.calls.proofs.Rows.{link-cases, Asked, ask-cases}
@@ -72,7 +71,7 @@ module _ (ws₀ abi : List ℕ) (valid₀ : Valid ws₀) (P : ℕ → Type 0) wh
   stays : (s : State) → Inv ws₀ abi valid₀ P s → (o : Outcome) → o .set ≡ s .set → o .area ≡ s .area → Goes s (record { set = o .set; area = o .area })
   stays s inv o e f = subst (λ (x : State). Goes s x) (sym (same-state s o e f)) (record { keeps = keeps-same s; inv = inv })
 
-  step-goes : (s : State) → Inv ws₀ abi valid₀ P s → (k : Call) → ((x : ℕ) → In x (stubsOf k) → P x) → Goes s (step abi s k)
+  step-goes : (s : State) → Inv ws₀ abi valid₀ P s → (k : Call) → ((x : ℕ) → List·Memᴰ x (stubsOf k) → P x) → Goes s (step abi s k)
   unfolding step
   step-goes s inv (link c stubs) lent =
       elim (link-cases (s .set) abi c (s .area) stubs) [
@@ -117,7 +116,7 @@ module _ (ws₀ abi : List ℕ) (valid₀ : Valid ws₀) (P : ℕ → Type 0) wh
         | inl r ↦ absurd (r .number e)
         | inr a ↦
             let o : Outcome = linkDef (s .set) abi c (s .area) stubs in
-            let given : (x : ℕ) → In x stubs → P x = λ x i. lent x (lent-now i) in
+            let given : (x : ℕ) → List·Memᴰ x stubs → P x = λ x i. lent x (lent-now i) in
             let l = new-linked ws₀ abi valid₀ P s inv c stubs o a given in
             let k = run-goes ks (record { set = o .set; area = o .area }) (link-inv ws₀ abi valid₀ P s inv c stubs o a given) (λ x i. lent x (lent-later i)) .keeps in
             record {
@@ -136,7 +135,7 @@ module _ (ws₀ abi : List ℕ) (valid₀ : Valid ws₀) (P : ℕ → Type 0) wh
     pub slots : ℕ
     pub found : LinkedIn abi c place slots s ks
 
-  step-new : (s : State) → Inv ws₀ abi valid₀ P s → (k : Call) → ((x : ℕ) → In x (stubsOf k) → P x) → (ks : List Call) (d : ℕ)
+  step-new : (s : State) → Inv ws₀ abi valid₀ P s → (k : Call) → ((x : ℕ) → List·Memᴰ x (stubsOf k) → P x) → (ks : List Call) (d : ℕ)
       → Linked (step abi s k .set) d → Linked (s .set) d ⊎ Somewhere d s (k ∷ ks)
   unfolding step
   step-new s inv (link c stubs) lent ks d l =
@@ -164,7 +163,7 @@ module _ (ws₀ abi : List ℕ) (valid₀ : Valid ws₀) (P : ℕ → Type 0) wh
   unfolding run
   history [] s inv lent d l = inl l
   history (k ∷ ks) s inv lent d l =
-      let first : (x : ℕ) → In x (stubsOf k) → P x = λ x i. lent x (lent-now i) in
+      let first : (x : ℕ) → List·Memᴰ x (stubsOf k) → P x = λ x i. lent x (lent-now i) in
       elim (history ks (step abi s k) (step-goes s inv k first .inv) (λ x i. lent x (lent-later i)) d l) [
         | inl m ↦ step-new s inv k first ks d m
         | inr r ↦ inr (record { place = r .place; slots = r .slots; found = later (r .found) })

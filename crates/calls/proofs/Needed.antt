@@ -3,7 +3,7 @@
 use mathlib.Core.Path.{_≡_, refl, sym, ap, _∙_}
 use mathlib.Core.Logic.{inl, inr, _≢_, _⊎_}
 use mathlib.Core.Bool.{Bool, true, false, true≢false}
-use mathlib.Core.List.{List, [], _∷_}
+use mathlib.Core.List.{List, [], _∷_, List·Memᴰ·head, List·Memᴰ·tail}
 use Prim.Native.Nat.{ℕ, _<_}
 use native.Mathlib.Omega.{arith}
 use lib.ListN.{length, getD, replicate}
@@ -16,7 +16,7 @@ use Rattle.linking.specs.Vtable.{readEntry}
 use Rattle.linking.proofs.Assemble as assemble
 use Rattle.linking.proofs.Assemble.{Class, AbiClass, method, flagged, built, compiled, having, linkedAt, slot, abi, sized, classSheet, abiSheet, fresh}
 use Rattle.linking.proofs.Opened.{opened}
-use Rattle.slots.specs.Slots.{here, there, Known, Kept}
+use Rattle.slots.specs.Slots.{Known, Kept}
 use Rattle.slots.proofs.ListFacts.{not-found, in-none}
 use Rattle.calls.specs.Calls.{Call, link, run, Unlinked, LinkedIn, now, later, tableAt, lent-now}
 use Rattle.calls.specs.Demand.{start, Conditions, Claim}
@@ -132,7 +132,7 @@ unfolding opened shown generatedChild
 built-or-array-needed = record {
   start-is = refl;
   premises = refl;
-  outside = λ u k. neither (k .built-or-array 2 here) (omega arith) (omega arith);
+  outside = λ u k. neither (k .built-or-array 2 (List·Memᴰ·head refl)) (omega arith) (omega arith);
   linked = later (now (902 ∷ 903 ∷ []) refl refl refl);
   fails =
       broken generatedChild 2 4 2 1 1 (omega arith) refl (now (901 ∷ []) refl refl refl)
@@ -149,7 +149,7 @@ unfolding opened shown interfaceChild
 no-interface-needed = record {
   start-is = refl;
   premises = refl;
-  outside = λ u k. true≢false (k .no-interface 2 here);
+  outside = λ u k. true≢false (k .no-interface 2 (List·Memᴰ·head refl));
   linked = later (now [] refl refl refl);
   fails =
       broken interfaceChild 2 4 0 1 1 (omega arith) refl (now (901 ∷ []) refl refl refl)
@@ -169,14 +169,14 @@ orderly-needed = record {
   premises = refl;
   outside = λ u k.
       apart
-      (k .orderly .one-index 0 1 (record { class = 1; along = here; entry = 0; named = refl; own = here })
-      (record { class = 1; along = here; entry = 0; named = refl; own = there here }) refl refl)
+      (k .orderly .one-index 0 1 (record { class = 1; along = List·Memᴰ·head refl; entry = 0; named = refl; own = List·Memᴰ·head refl })
+      (record { class = 1; along = List·Memᴰ·head refl; entry = 0; named = refl; own = List·Memᴰ·tail (List·Memᴰ·head refl) }) refl refl)
       (omega arith);
   linked = now (901 ∷ 902 ∷ []) refl refl refl;
   fails = twice twoIndices 1 1 2 (5 ∷ 902 ∷ []) refl 0 1 0 0 (omega arith) (omega arith) (omega arith) refl refl refl refl;
 }
 
--- ---- "the chain's method targets .. are nonzero": a method of target 0 leaves a stub where the parent's slot was known
+-- ---- "the chain's method targets and all stubs lent are nonzero", of the targets: a method of target 0 leaves a stub where the parent's slot was known
 
 unfoldable pub zeroTarget : Case
 zeroTarget =
@@ -187,7 +187,7 @@ unfolding opened shown zeroTarget
 targets-nonzero-needed = record {
   start-is = refl;
   premises = refl;
-  outside = λ u k. k .targets-nonzero 1 (record { owner = 2; along = here; own = here }) refl;
+  outside = λ u k. k .targets-nonzero 1 (record { owner = 2; along = List·Memᴰ·head refl; own = List·Memᴰ·head refl }) refl;
   linked = later (now (902 ∷ []) refl refl refl);
   fails =
       broken zeroTarget 2 4 1 1 1 (omega arith) refl (now (901 ∷ []) refl refl refl)
@@ -206,7 +206,7 @@ unfolding opened shown zeroStub
 stubs-nonzero-needed = record {
   start-is = refl;
   premises = refl;
-  outside = λ u k. k .stubs-nonzero 0 (lent-now here) refl;
+  outside = λ u k. k .stubs-nonzero 0 (lent-now (List·Memᴰ·head refl)) refl;
   linked = later (now (902 ∷ []) refl refl refl);
   fails =
       broken zeroStub 2 4 1 1 1 (omega arith) refl (now (0 ∷ []) refl refl refl)
@@ -225,7 +225,8 @@ targets-different-needed = record {
   premises = refl;
   outside = λ u k.
       apart
-      (k .targets-different 0 1 (record { owner = 1; along = here; own = here }) (record { owner = 1; along = here; own = there here }) refl)
+      (k .targets-different 0 1 (record { owner = 1; along = List·Memᴰ·head refl; own = List·Memᴰ·head refl })
+      (record { owner = 1; along = List·Memᴰ·head refl; own = List·Memᴰ·tail (List·Memᴰ·head refl) }) refl)
       (omega arith);
   linked = now (901 ∷ 902 ∷ []) refl refl refl;
   fails = twice sameTargets 1 1 2 (5 ∷ 5 ∷ []) refl 0 1 0 0 (omega arith) (omega arith) (omega arith) refl refl refl refl;
@@ -241,7 +242,7 @@ unfolding opened shown stubTarget
 no-stub-needed = record {
   start-is = refl;
   premises = refl;
-  outside = λ u k. k .no-stub 902 0 (lent-now (there here)) (record { owner = 1; along = here; own = here }) refl;
+  outside = λ u k. k .no-stub 902 0 (lent-now (List·Memᴰ·tail (List·Memᴰ·head refl))) (record { owner = 1; along = List·Memᴰ·head refl; own = List·Memᴰ·head refl }) refl;
   linked = now (901 ∷ 902 ∷ 903 ∷ []) refl refl refl;
   fails = twice stubTarget 1 1 3 (901 ∷ 902 ∷ 902 ∷ []) refl 1 2 0 0 (omega arith) (omega arith) (omega arith) refl refl refl refl;
 }

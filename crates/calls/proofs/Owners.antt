@@ -14,9 +14,9 @@ use Rattle.set_rules.specs.Valid.{IsClass, Valid}
 use Rattle.set_rules.proofs.Valid.{valid}
 use Rattle.linking.specs.Link.{nextFree, newWords, newStatics, linkedWords, Outcome, linkDef}
 use Rattle.linking.specs.Whose.{MethodsApart}
-use Rattle.linking.proofs.Names.{text-bytes}
 use Rattle.linking.proofs.Plans.{Plans, plans}
 use Rattle.linking.proofs.Whose.{whose}
+use Rattle.linking.proofs.Packed.{text-bytes}
 use Rattle.calls.specs.Calls.{Call, link, ask, State, step, run}
 use Rattle.calls.specs.Owners.{Owners}
 use Rattle.calls.proofs.Linked.{Leaves, link-leaves, link-own}
@@ -37,7 +37,7 @@ module _ (ws abi : List ℕ) (c : ℕ) (area stubs : List ℕ) (o : Outcome) (ac
   planning = plans ws (textOf ws) abi (abiTextOf abi) area c (acc .coming) (acc .comes)
 
   abbrev left : List ℕ
-  left = linkedWords ws c (nextFree area) (newWords ws (textOf ws) abi (abiTextOf abi) area c) (newStatics ws (textOf ws) c) (acc .coming)
+  left = linkedWords ws c (nextFree area) (newWords ws (textOf ws) abi (abiTextOf abi) c) (newStatics ws (textOf ws) c) (acc .coming)
 
   both : Leaves ws left c (nextFree area) (length (acc .coming .table)) × Own ws left c
   both =
@@ -45,10 +45,10 @@ module _ (ws abi : List ℕ) (c : ℕ) (area stubs : List ℕ) (o : Outcome) (ac
       let i = planning .indices in
       let t = text-bytes (textWords ws) (textLength ws) in
       let l = text-bytes (abiTextWords abi) (abiTextLength abi) in (
-        link-leaves ws c (nextFree area) (newWords ws (textOf ws) abi (abiTextOf abi) area c) (newStatics ws (textOf ws) c) (acc .coming)
+        link-leaves ws c (nextFree area) (newWords ws (textOf ws) abi (abiTextOf abi) c) (newStatics ws (textOf ws) c) (acc .coming)
             (acc .class .some) (acc .class .among) (valid-now .fits) (v .methods) (v .fields) (omega (arith, i, v .fields)) (planning .generated)
             (planning .method-bytes t l) (planning .field-bytes t l),
-        link-own ws c (nextFree area) (newWords ws (textOf ws) abi (abiTextOf abi) area c) (newStatics ws (textOf ws) c) (acc .coming)
+        link-own ws c (nextFree area) (newWords ws (textOf ws) abi (abiTextOf abi) c) (newStatics ws (textOf ws) c) (acc .coming)
             (acc .class .some) (acc .class .among) (valid-now .fits) (v .methods) (v .fields) (omega (arith, i, v .fields)) (planning .generated)
             (planning .method-bytes t l) (planning .field-bytes t l),
       )
@@ -122,6 +122,6 @@ pub owners : Owners
 owners = record {
   valid = λ ws v. v .methods;
   apart = run-apart;
-  owner = λ abi calls s text labels c d m v k e.
-      whose .no-other (run abi calls s .set) text abi labels c d m (run-apart abi calls s (v .methods)) k e .0;
+  owner = λ abi calls s c d m v k e.
+      whose .no-other (run abi calls s .set) c d m (run-apart abi calls s (v .methods)) k e .0;
 }

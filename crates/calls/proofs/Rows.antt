@@ -85,7 +85,7 @@ pub record Accepted (ws abi : List ℕ) (c : ℕ) (area stubs : List ℕ) (o : O
   pub number : o .refusal ≡ 0
   pub answers-place : o .first ≡ nextFree area
   pub answers-slots : o .second ≡ length (coming .table)
-  pub new-set : o .set ≡ linkedWords ws c (nextFree area) (newWords ws (textOf ws) abi (abiTextOf abi) area c) (newStatics ws (textOf ws) c) coming
+  pub new-set : o .set ≡ linkedWords ws c (nextFree area) (newWords ws (textOf ws) abi (abiTextOf abi) c) (newStatics ws (textOf ws) c) coming
   pub new-area : o .area ≡ linkedArea area c (coming .table) stubs
 
 refused-call : (ws area : List ℕ) (n : ℕ) → n ≢ 0 → Refused (refusedCall n ws area) ws area

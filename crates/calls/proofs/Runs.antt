@@ -3,7 +3,7 @@
 use mathlib.Core.Path.{_≡_, refl, sym, ap, _∙_, subst}
 use mathlib.Core.Logic.{_⊎_, inl, inr, _≢_}
 use mathlib.Core.Bool.{false}
-use mathlib.Core.List.{List, [], _∷_}
+use mathlib.Core.List.{List, [], _∷_, List·Memᴰ, List·Memᴰ·head, List·Memᴰ·tail}
 use Prim.Native.Nat.{ℕ, zero, suc, _+_, _≤_, _<_}
 use native.Mathlib.Omega.{arith}
 use lib.ListN.{length, getD}
@@ -20,10 +20,9 @@ use Rattle.linking.proofs.ChainLaws.{parent-within}
 use Rattle.linking.specs.Chain.{listCount, ownMethods, parentOf, chain, isInterface}
 use Rattle.linking.specs.Vtable.{Entry, built, parentEntries, slotWords}
 use Rattle.linking.specs.Link.{nextFree, newWords, newStatics, linkedArea, Outcome}
-use Rattle.linking.proofs.Names.{text-bytes}
 use Rattle.linking.proofs.Plans.{Plans, plans}
 use Rattle.linking.proofs.Rows.{Linked}
-use Rattle.slots.specs.Slots.{In, here, there}
+use Rattle.linking.proofs.Packed.{text-bytes}
 use Rattle.slots.specs.Made.{tableFrom, inheritedFrom, Made}
 use Rattle.slots.proofs.ChainFacts.{chain-here, chain-up}
 use Rattle.slots.proofs.LinkFacts.{read-area, plan-table}
@@ -67,21 +66,21 @@ keeps-next p q = record {
 }
 
 -- an element of a list
-pub in-at : (xs : List ℕ) (i : ℕ) → i < length xs → In (getD xs i 0) xs
+pub in-at : (xs : List ℕ) (i : ℕ) → i < length xs → List·Memᴰ (getD xs i 0) xs
 in-at [] i h = absurd (omega arith)
-in-at (x ∷ xs) zero h = here
-in-at (x ∷ xs) (suc i) h = there (in-at xs i (omega arith))
+in-at (x ∷ xs) zero h = List·Memᴰ·head refl
+in-at (x ∷ xs) (suc i) h = List·Memᴰ·tail (in-at xs i (omega arith))
 
 -- "whose parent chain, itself included, has only built and array classes, none of them an interface"
 pub record Plain (ws : List ℕ) (c : ℕ) : Type 0 where
-  pub kinds : (d : ℕ) → In d (chain ws c) → (classKind ws d ≡ 0) ⊎ (classKind ws d ≡ 2)
-  pub flags : (d : ℕ) → In d (chain ws c) → isInterface (classFlags ws d) ≡ false
+  pub kinds : (d : ℕ) → List·Memᴰ d (chain ws c) → (classKind ws d ≡ 0) ⊎ (classKind ws d ≡ 2)
+  pub flags : (d : ℕ) → List·Memᴰ d (chain ws c) → isInterface (classFlags ws d) ≡ false
 
 not-generated : (k : ℕ) → (k ≡ 0) ⊎ (k ≡ 2) → k ≢ 1
 not-generated k (inl e) f = omega arith
 not-generated k (inr e) f = omega arith
 
-plain-kinds : {ws : List ℕ} {c : ℕ} → Plain ws c → (d : ℕ) → In d (chain ws c) → classKind ws d ≢ 1
+plain-kinds : {ws : List ℕ} {c : ℕ} → Plain ws c → (d : ℕ) → List·Memᴰ d (chain ws c) → classKind ws d ≢ 1
 plain-kinds {ws} p d i = not-generated (classKind ws d) (p .kinds d i)
 
 pub plain-up : {ws : List ℕ} {c : ℕ} → 1 ≤ c → Plain ws c → Plain ws (parentOf ws c)
@@ -129,7 +128,7 @@ module _ (ws₀ abi : List ℕ) (valid₀ : Valid ws₀) (P : ℕ → Type 0) wh
   -- ---- an accepted link keeps what is linked, and adds its class
 
   module _ (s : State) (inv : Inv s) (c : ℕ) (stubs : List ℕ) (o : Outcome) (acc : Accepted (s .set) abi c (s .area) stubs o)
-      (lent : (x : ℕ) → In x stubs → P x) where
+      (lent : (x : ℕ) → List·Memᴰ x stubs → P x) where
     abbrev next : State
     next = record { set = o .set; area = o .area }
 
@@ -159,7 +158,7 @@ module _ (ws₀ abi : List ℕ) (valid₀ : Valid ws₀) (P : ℕ → Type 0) wh
         let t = text-bytes (textWords (s .set)) (textLength (s .set)) in
         let l = text-bytes (abiTextWords abi) (abiTextLength abi) in
         subst (λ (x : List ℕ). Leaves (s .set) x c (nextFree (s .area)) (length T)) (sym (acc .new-set))
-        (link-leaves (s .set) c (nextFree (s .area)) (newWords (s .set) (textOf (s .set)) abi (abiTextOf abi) (s .area) c)
+        (link-leaves (s .set) c (nextFree (s .area)) (newWords (s .set) (textOf (s .set)) abi (abiTextOf abi) c)
         (newStatics (s .set) (textOf (s .set)) c) (acc .coming)
         some among (valid-now .fits) (v .methods) (v .fields) (omega arith) (planning .generated) (planning .method-bytes t l) (planning .field-bytes t l))
 

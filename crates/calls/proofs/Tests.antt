@@ -2,7 +2,7 @@
 use mathlib.Core.Path.{_≡_, refl}
 use mathlib.Core.Logic.{_⊎_, inl, inr, _≢_}
 use mathlib.Core.Bool.{Bool, true, false, not, _&&_, _||_}
-use mathlib.Core.List.{List, [], _∷_, _++_}
+use mathlib.Core.List.{List, [], _∷_, _++_, List·Memᴰ, List·Memᴰ·head, List·Memᴰ·tail, Memᴰ·append-left, Memᴰ·append-right}
 use Prim.Native.Nat.{ℕ, _+_, _-_}
 use native.Mathlib.Omega.{arith}
 use lib.Dec.{eqb}
@@ -17,7 +17,7 @@ use Rattle.class_sheet.specs.ClassSheet.{classCount, textOf, classKind, classFl
 use Rattle.abi_sheet.specs.AbiSheet.{abiTextOf, abiSlotName, abiSlotDescriptor}
 use Rattle.linking.specs.Chain.{ownMethods, chain, isInterface}
 use Rattle.linking.specs.Abi.{abiSlots, slotIndex, classAbi}
-use Rattle.slots.specs.Slots.{In, here, there, ChainMethod, ChainSlot, Orderly}
+use Rattle.slots.specs.Slots.{ChainMethod, ChainSlot, Orderly}
 use Rattle.slots.proofs.ListFacts.{all-found}
 use Rattle.calls.specs.Calls.{Call, State, outcome, step, run, Unlinked, Lent, lent-now, lent-later, stubsOf}
 use Rattle.calls.specs.Demand.{Conditions}
@@ -28,27 +28,19 @@ unfoldable pub every : (ℕ → Bool) → List ℕ → Bool
 every p [] = true
 every p (x ∷ xs) = p x && every p xs
 
-every-each : (p : ℕ → Bool) {x : ℕ} {xs : List ℕ} → every p xs ≡ true → In x xs → p x ≡ true
+every-each : (p : ℕ → Bool) {x : ℕ} {xs : List ℕ} → every p xs ≡ true → List·Memᴰ x xs → p x ≡ true
 unfolding every
-every-each p {x} h (here {xs = xs}) = and-both (p x) (every p xs) h .0
-every-each p h (there {y = y} {xs = xs} i) = every-each p (and-both (p y) (every p xs) h .1) i
+every-each p h (List·Memᴰ·head {x = y} {xs = xs} e) = rw e (and-both (p y) (every p xs) h .0)
+every-each p h (List·Memᴰ·tail {x = y} {xs = xs} i) = every-each p (and-both (p y) (every p xs) h .1) i
 
 unfoldable pub gather : (ℕ → List ℕ) → List ℕ → List ℕ
 gather f [] = []
 gather f (x ∷ xs) = f x ++ gather f xs
 
-in-left : {x : ℕ} {xs : List ℕ} (ys : List ℕ) → In x xs → In x (xs ++ ys)
-in-left ys here = here
-in-left ys (there i) = there (in-left ys i)
-
-in-right : {x : ℕ} (xs : List ℕ) {ys : List ℕ} → In x ys → In x (xs ++ ys)
-in-right [] i = i
-in-right (y ∷ xs) i = there (in-right xs i)
-
-in-gather : (f : ℕ → List ℕ) {x y : ℕ} {xs : List ℕ} → In x xs → In y (f x) → In y (gather f xs)
+in-gather : (f : ℕ → List ℕ) {x y : ℕ} {xs : List ℕ} → List·Memᴰ x xs → List·Memᴰ y (f x) → List·Memᴰ y (gather f xs)
 unfolding gather
-in-gather f (here {xs = xs}) j = in-left (gather f xs) j
-in-gather f (there {y = z} i) j = in-right (f z) (in-gather f i j)
+in-gather f (List·Memᴰ·head {xs = xs} e) j = rw (← e) (Memᴰ·append-left (gather f xs) j)
+in-gather f (List·Memᴰ·tail {x = z} i) j = Memᴰ·append-right (f z) (in-gather f i j)
 
 -- ---- what the premises range over
 
@@ -62,10 +54,10 @@ unfoldable pub stubsLent : List Call → List ℕ
 stubsLent [] = []
 stubsLent (k ∷ ks) = stubsOf k ++ stubsLent ks
 
-in-lent : {x : ℕ} {ks : List Call} → Lent x ks → In x (stubsLent ks)
+in-lent : {x : ℕ} {ks : List Call} → Lent x ks → List·Memᴰ x (stubsLent ks)
 unfolding stubsLent
-in-lent (lent-now {ks = ks} i) = in-left (stubsLent ks) i
-in-lent (lent-later {k = k} i) = in-right (stubsOf k) (in-lent i)
+in-lent (lent-now {ks = ks} i) = Memᴰ·append-left (stubsLent ks) i
+in-lent (lent-later {k = k} i) = Memᴰ·append-right (stubsOf k) (in-lent i)
 
 -- ---- the tests
 
@@ -111,22 +103,22 @@ module _ (ws abi : List ℕ) (calls : List Call) (c : ℕ) where
 
   -- ---- where they pass
 
-  a-method : {m : ℕ} → ChainMethod ws (textOf ws) abi (abiTextOf abi) c m → In m (chainMethods ws c)
+  a-method : {m : ℕ} → ChainMethod ws c m → List·Memᴰ m (chainMethods ws c)
   unfolding chainMethods
   a-method k = in-gather (ownMethods ws) (k .along) (k .own)
 
-  a-slot : {s : ℕ} → ChainSlot ws (textOf ws) abi (abiTextOf abi) c s → In s (chainSlots ws abi c)
+  a-slot : {s : ℕ} → ChainSlot ws (textOf ws) abi (abiTextOf abi) c s → List·Memᴰ s (chainSlots ws abi c)
   unfolding chainSlots
   a-slot k = in-gather (abiSlots abi) (all-found (classAbi ws (textOf ws) abi (abiTextOf abi)) (k .along) (k .named)) (k .own)
 
   kind-of : (k : ℕ) → (eqb k 0 || eqb k 2) ≡ true → (k ≡ 0) ⊎ (k ≡ 2)
   kind-of k h = elim (or-either (eqb k 0) (eqb k 2) h) [ inl e ↦ inl (eqb-true k 0 e) | inr e ↦ inr (eqb-true k 2 e) ]
 
-  pub kinds-hold : builtOrArray ≡ true → (d : ℕ) → In d (chain ws c) → (classKind ws d ≡ 0) ⊎ (classKind ws d ≡ 2)
+  pub kinds-hold : builtOrArray ≡ true → (d : ℕ) → List·Memᴰ d (chain ws c) → (classKind ws d ≡ 0) ⊎ (classKind ws d ≡ 2)
   unfolding builtOrArray
   kinds-hold h d i = kind-of (classKind ws d) (every-each (λ d. eqb (classKind ws d) 0 || eqb (classKind ws d) 2) h i)
 
-  pub flags-hold : noInterface ≡ true → (d : ℕ) → In d (chain ws c) → isInterface (classFlags ws d) ≡ false
+  pub flags-hold : noInterface ≡ true → (d : ℕ) → List·Memᴰ d (chain ws c) → isInterface (classFlags ws d) ≡ false
   unfolding noInterface
   flags-hold h d i = not-true (isInterface (classFlags ws d)) (every-each (λ d. not (isInterface (classFlags ws d))) h i)
 
@@ -172,7 +164,7 @@ module _ (ws abi : List ℕ) (calls : List Call) (c : ℕ) where
     one-descriptor = λ s z k l e. signature h s z k l e .1;
   }
 
-  pub nonzero-hold : targetsNonzero ≡ true → (m : ℕ) → ChainMethod ws (textOf ws) abi (abiTextOf abi) c m → methodTarget ws m ≢ 0
+  pub nonzero-hold : targetsNonzero ≡ true → (m : ℕ) → ChainMethod ws c m → methodTarget ws m ≢ 0
   unfolding targetsNonzero
   nonzero-hold h m k =
       eqb-false (methodTarget ws m) 0 (not-true (eqb (methodTarget ws m) 0) (every-each (λ m. not (eqb (methodTarget ws m) 0)) h (a-method k)))
@@ -181,8 +173,8 @@ module _ (ws abi : List ℕ) (calls : List Call) (c : ℕ) where
   unfolding stubsNonzero
   stubs-hold h x i = eqb-false x 0 (not-true (eqb x 0) (every-each (λ x. not (eqb x 0)) h (in-lent i)))
 
-  pub different-hold : targetsDifferent ≡ true → (m k : ℕ) → ChainMethod ws (textOf ws) abi (abiTextOf abi) c m
-      → ChainMethod ws (textOf ws) abi (abiTextOf abi) c k → methodTarget ws m ≡ methodTarget ws k → m ≡ k
+  pub different-hold : targetsDifferent ≡ true → (m k : ℕ) → ChainMethod ws c m
+      → ChainMethod ws c k → methodTarget ws m ≡ methodTarget ws k → m ≡ k
   unfolding targetsDifferent
   different-hold h m k i j e =
       eqb-true m k
@@ -191,7 +183,7 @@ module _ (ws abi : List ℕ) (calls : List Call) (c : ℕ) where
       (every-each (λ m. every (λ k. not (eqb (methodTarget ws m) (methodTarget ws k)) || eqb m k) (chainMethods ws c)) h (a-method i)) (a-method j))
       (eq-eqb (methodTarget ws m) (methodTarget ws k) e))
 
-  pub no-stub-holds : noStub ≡ true → (x m : ℕ) → Lent x calls → ChainMethod ws (textOf ws) abi (abiTextOf abi) c m → methodTarget ws m ≢ x
+  pub no-stub-holds : noStub ≡ true → (x m : ℕ) → Lent x calls → ChainMethod ws c m → methodTarget ws m ≢ x
   unfolding noStub
   no-stub-holds h x m i k =
       eqb-false (methodTarget ws m) x

@@ -2,7 +2,7 @@
 -- slots). Assumes nothing.
 use mathlib.Core.Path.{_≡_, refl, sym, ap, _∙_, subst}
 use mathlib.Core.Logic.{inl, inr, _≢_}
-use mathlib.Core.List.{List}
+use mathlib.Core.List.{List, List·Memᴰ}
 use Prim.Native.Nat.{ℕ, zero, suc, _≤_}
 use native.Mathlib.Omega.{arith}
 use lib.ListN.{length}
@@ -20,7 +20,7 @@ use Rattle.linking.specs.Chain.{parentOf, chain}
 use Rattle.linking.specs.Abi.{classAbi}
 use Rattle.linking.proofs.Rows.{Linked}
 use Rattle.slots.specs.Made as tables
-use Rattle.slots.specs.Slots.{In, Unique, Kept}
+use Rattle.slots.specs.Slots.{Unique, Kept}
 use Rattle.slots.specs.Made.{Made}
 use Rattle.slots.proofs.ListFacts.{in-none}
 use Rattle.slots.proofs.ChainFacts.{chain-cases}
@@ -78,7 +78,7 @@ module _ (ws abi area : List ℕ) (valid₀ : Valid ws) (unlinked : Unlinked ws)
   after i = answered ws abi valid₀ P i start-inv (λ x j. j)
 
   -- the chain of a linked class is linked
-  chain-linked : (bound c : ℕ) → c ≤ bound → Linked (final .set) c → Plain ws c → (d : ℕ) → In d (chain ws c)
+  chain-linked : (bound c : ℕ) → c ≤ bound → Linked (final .set) c → Plain ws c → (d : ℕ) → List·Memᴰ d (chain ws c)
       → Linked (final .set) d × Plain ws d
   chain-linked zero c b l p d i = absurd (omega (arith, l .some))
   chain-linked (suc bound) c b l p d i =
@@ -93,7 +93,7 @@ module _ (ws abi area : List ℕ) (valid₀ : Valid ws) (unlinked : Unlinked ws)
 
   module _ (c place slots : ℕ) (linked : LinkedIn abi c place slots (start ws abi area calls) calls) (plain : Plain ws c)
       (conditions : tables.Conditions ws (textOf ws) abi (abiTextOf abi) P c) where
-    made : (d : ℕ) → In d (chain ws c) → Made ws (textOf ws) abi (abiTextOf abi) (tableOf final) P d
+    made : (d : ℕ) → List·Memᴰ d (chain ws c) → Made ws (textOf ws) abi (abiTextOf abi) (tableOf final) P d
     made d i = let r = chain-linked c c (omega arith) (after linked .linked) plain d i in goes .inv .made d (r .0) (r .1)
 
     within : c ≤ classLimit

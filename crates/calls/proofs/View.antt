@@ -2,15 +2,15 @@
 -- calls left. Assumes nothing.
 use mathlib.Core.Path.{_≡_, refl, ap}
 use mathlib.Core.Logic.{_≢_}
-use mathlib.Core.List.{List, _∷_}
+use mathlib.Core.List.{List, _∷_, List·Memᴰ}
 use Prim.Native.Nat.{ℕ, zero, suc, _+_, _≤_, _<_}
 use native.Mathlib.Omega.{arith}
 use lib.ListN.{length, getD, take}
 use lib.Dec.{eqb}
 use Rattle.words.specs.Lists.{andThen}
 use Rattle.words.proofs.ListLaws.{by-found, numbers-within}
-use Rattle.text.specs.Text.{nameAt}
-use Rattle.class_sheet.specs.ClassSheet.{nameStartWord, nameLengthWord, parentWord, firstMethodWord, methodCountWord, classCount, methodCount, textOf, classKind, classFirstMethod, classMethodCount, className, methodName, methodDescriptor, methodFlags, methodTarget, methodLimit, classLimit}
+use Rattle.text.specs.Text.{nameAt, nameStartWord, nameLengthWord}
+use Rattle.class_sheet.specs.ClassSheet.{parentWord, firstMethodWord, methodCountWord, classCount, methodCount, textOf, classKind, classFirstMethod, classMethodCount, className, methodName, methodDescriptor, methodFlags, methodTarget, methodLimit, classLimit}
 use Rattle.abi_sheet.specs.AbiSheet.{abiSlotName, abiSlotDescriptor}
 use Rattle.set_rules.specs.Valid.{Valid}
 use Rattle.words.proofs.Ext.{list-ext, find-ext, first-ext, founds-ext}
@@ -19,9 +19,7 @@ use Rattle.linking.proofs.Appended.{name-front}
 use Rattle.linking.specs.Chain.{listCount, ownMethods, parentOf, chainOf, chain, eligible, methodIs, ownTarget, findByTarget, ownMethod}
 use Rattle.linking.specs.Abi.{slotAt, classAbi, chainAbi}
 use Rattle.linking.specs.Vtable.{ownFixed, findByIndex, readEntry}
-use Rattle.slots.specs.Slots.{In}
 use Rattle.slots.specs.Made.{readWords}
-use Rattle.slots.proofs.ListFacts.{in-member, member-in}
 use Rattle.calls.proofs.Like.{Like}
 
 module _ (old new : List ℕ) (valid : Valid old) (like : Like old new) where
@@ -78,8 +76,8 @@ module _ (old new : List ℕ) (valid : Valid old) (like : Like old new) where
   unfolding chain
   chain-same c a = chain-of-same c c a
 
-  pub chain-class : (c d : ℕ) → c ≤ classCount old → In d (chain old c) → (1 ≤ d) × (d ≤ classCount old)
-  chain-class c d a i = let w = chain-within old c d (member-in i) in (omega arith, omega arith)
+  pub chain-class : (c d : ℕ) → c ≤ classCount old → List·Memᴰ d (chain old c) → (1 ≤ d) × (d ≤ classCount old)
+  chain-class c d a i = let w = chain-within old c d i in (omega arith, omega arith)
 
   -- ---- a class's own methods
 
@@ -88,25 +86,25 @@ module _ (old new : List ℕ) (valid : Valid old) (like : Like old new) where
     unfolding ownMethods
     own-same = rw (like .listed d firstMethodWord s a n (omega arith), like .listed d methodCountWord s a n (omega arith))
 
-    pub own-below : (m : ℕ) → In m (ownMethods old d) → m < methodCount old
+    pub own-below : (m : ℕ) → List·Memᴰ m (ownMethods old d) → m < methodCount old
     unfolding ownMethods
     own-below m i =
         let v = valid .class d (s, a) .methods in
-        omega (arith, numbers-within (classFirstMethod old d) (listCount (classFirstMethod old d) (classMethodCount old d) methodLimit) m (member-in i))
+        omega (arith, numbers-within (classFirstMethod old d) (listCount (classFirstMethod old d) (classMethodCount old d) methodLimit) m i)
 
     own-target : (t : ℕ) → ownTarget new t d ≡ ownTarget old t d
     unfolding ownTarget
     own-target t =
         rw own-same
         (find-ext (λ m. eqb (methodTarget new m) t) (λ m. eqb (methodTarget old m) t) (ownMethods old d)
-        (λ m i. rw (method-target m (own-below m (in-member (ownMethods old d) i)))))
+        (λ m i. rw (method-target m (own-below m i))))
 
     own-method : (name descriptor : List ℕ) → ownMethod new (textOf new) name descriptor d ≡ ownMethod old (textOf old) name descriptor d
     unfolding ownMethod
     own-method name descriptor =
         rw own-same
         (find-ext (λ m. methodIs new (textOf new) m name descriptor) (λ m. methodIs old (textOf old) m name descriptor) (ownMethods old d)
-        (λ m i. method-is m (own-below m (in-member (ownMethods old d) i)) name descriptor))
+        (λ m i. method-is m (own-below m i) name descriptor))
 
   -- ---- its ABI entry, and its chain's
 
@@ -121,7 +119,7 @@ module _ (old new : List ℕ) (valid : Valid old) (like : Like old new) where
         rw (chain-same c a)
         (ap (take classLimit)
         (founds-ext (classAbi new (textOf new) abi labels) (classAbi old (textOf old) abi labels) (chain old c)
-        (λ d i. let k = chain-class c d a (in-member (chain old c) i) in class-abi d (k .0) (k .1))))
+        (λ d i. let k = chain-class c d a i in class-abi d (k .0) (k .1))))
 
     own-fixed : (i d : ℕ) → 1 ≤ d → d ≤ classCount old → classKind old d ≢ 1
         → ownFixed new (textOf new) abi labels i d ≡ ownFixed old (textOf old) abi labels i d
@@ -134,20 +132,20 @@ module _ (old new : List ℕ) (valid : Valid old) (like : Like old new) where
 
     -- ---- Reading, along a chain without generated classes
 
-    module _ (c : ℕ) (a : c ≤ classCount old) (plain : (d : ℕ) → In d (chain old c) → classKind old d ≢ 1) where
+    module _ (c : ℕ) (a : c ≤ classCount old) (plain : (d : ℕ) → List·Memᴰ d (chain old c) → classKind old d ≢ 1) where
       by-target : (t : ℕ) → findByTarget new c t ≡ findByTarget old c t
       unfolding findByTarget
       by-target t =
           rw (chain-same c a)
           (first-ext (ownTarget new t) (ownTarget old t) (chain old c)
-          (λ d i. let j = in-member (chain old c) i in let k = chain-class c d a j in own-target d (k .0) (k .1) (plain d j) t))
+          (λ d i. let k = chain-class c d a i in own-target d (k .0) (k .1) (plain d i) t))
 
       by-index : (i : ℕ) → findByIndex new (textOf new) abi labels c i ≡ findByIndex old (textOf old) abi labels c i
       unfolding findByIndex
       by-index i =
           rw (chain-same c a)
           (first-ext (ownFixed new (textOf new) abi labels i) (ownFixed old (textOf old) abi labels i) (chain old c)
-          (λ d m. let j = in-member (chain old c) m in let k = chain-class c d a j in own-fixed i d (k .0) (k .1) (plain d j)))
+          (λ d m. let k = chain-class c d a m in own-fixed i d (k .0) (k .1) (plain d m)))
 
       read-same : (i w : ℕ) → readEntry new (textOf new) abi labels c i w ≡ readEntry old (textOf old) abi labels c i w
       unfolding readEntry

@@ -2,14 +2,13 @@
 -- meanwhile." Assumes nothing.
 use Prim.Native.Nat.{ℕ, _+_, _≤_}
 use mathlib.Core.Path.{_≡_}
-use mathlib.Core.List.{List, [], _∷_}
+use mathlib.Core.List.{List, [], _∷_, List·Memᴰ}
 use lib.ListN.{take, drop}
 use Rattle.class_sheet.specs.ClassSheet.{classCount, classTablePlace}
 use Rattle.linking.specs.Link.{Outcome, linkDef}
 use Rattle.linking.specs.Ask.{askDef}
-use Rattle.slots.specs.Slots.{In}
 
--- "links and interface asks .. of whatever class numbers and stub lists": each call lends a stub list of its own
+-- "links and interface asks, accepted or refused, of whatever class numbers and stub lists": each call lends a stub list of its own
 pub data Call : Type 0 where
   link : ℕ → List ℕ → Call
   ask : ℕ → ℕ → List ℕ → Call
@@ -57,5 +56,5 @@ stubsOf (ask c i stubs) = stubs
 
 -- x is one of "all stubs lent": a word of the stub list of a call of the list, accepted or refused
 pub data Lent (x : ℕ) : List Call → Type 0 where
-  lent-now : {k : Call} {ks : List Call} → In x (stubsOf k) → Lent x (k ∷ ks)
+  lent-now : {k : Call} {ks : List Call} → List·Memᴰ x (stubsOf k) → Lent x (k ∷ ks)
   lent-later : {k : Call} {ks : List Call} → Lent x ks → Lent x (k ∷ ks)

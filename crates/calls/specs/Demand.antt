@@ -5,17 +5,17 @@ use Prim.Native.Nat.{ℕ}
 use mathlib.Core.Path.{_≡_}
 use mathlib.Core.Logic.{_≢_, _⊎_}
 use mathlib.Core.Bool.{false}
-use mathlib.Core.List.{List}
+use mathlib.Core.List.{List, List·Memᴰ}
 use lib.ListN.{length}
 use Rattle.words.specs.declared.Found.the-variants.{Nothing}
 use Rattle.class_sheet.specs.ClassSheet.{textOf, classFlags, classKind, methodTarget}
 use Rattle.abi_sheet.specs.AbiSheet.{abiTextOf}
 use Rattle.linking.specs.Chain.{parentOf, chain, isInterface}
 use Rattle.linking.specs.Abi.{classAbi}
-use Rattle.slots.specs.Slots.{In, Unique, Kept, ChainMethod, Orderly}
+use Rattle.slots.specs.Slots.{Unique, Kept, ChainMethod, Orderly}
 use Rattle.calls.specs.Calls.{Call, State, run, Unlinked, LinkedIn, tableAt, Lent}
 
--- "For every list of links and interface asks, .., with one ABI sheet and whatever the area holds": the sheet and the area at the list's start
+-- "with one ABI sheet and whatever the area holds": the sheet and the area at the list's start
 module _ (ws abi area : List ℕ) (calls : List Call) where
   abbrev pub start : State
   start = record { set = ws; area = area }
@@ -28,16 +28,16 @@ module _ (ws abi area : List ℕ) (calls : List Call) where
   abbrev pub Linked : ℕ → ℕ → ℕ → Type 0
   Linked c place slots = LinkedIn abi c place slots start calls
 
-  -- m is one of "the chain's methods", of any flags
+  -- m is one of the chain's methods, of any flags
   abbrev pub Method : ℕ → ℕ → Type 0
-  Method c m = ChainMethod ws (textOf ws) abi (abiTextOf abi) c m
+  Method c m = ChainMethod ws c m
 
-  -- ---- the conditions: "This is claimed for every class linked in the list .."
+  -- ---- the conditions: "This is claimed for every class linked in the list"
 
   pub record Conditions (c : ℕ) : Type 0 where
-    -- ".. whose parent chain, itself included, has only built and array classes, none of them an interface,"
-    pub built-or-array : (d : ℕ) → In d (chain ws c) → (classKind ws d ≡ 0) ⊎ (classKind ws d ≡ 2)
-    pub no-interface : (d : ℕ) → In d (chain ws c) → isInterface (classFlags ws d) ≡ false
+    -- "whose parent chain, itself included, has only built and array classes, none of them an interface,"
+    pub built-or-array : (d : ℕ) → List·Memᴰ d (chain ws c) → (classKind ws d ≡ 0) ⊎ (classKind ws d ≡ 2)
+    pub no-interface : (d : ℕ) → List·Memᴰ d (chain ws c) → isInterface (classFlags ws d) ≡ false
     -- "under an orderly ABI sheet,"
     pub orderly : Orderly ws (textOf ws) abi (abiTextOf abi) c
     -- "where the chain's method targets and all stubs lent are nonzero,"

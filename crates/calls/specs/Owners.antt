@@ -16,6 +16,6 @@ pub record Owners : Type 0 where
   pub valid : (ws : List ℕ) → Valid ws → MethodsApart ws
   pub apart : (abi : List ℕ) (calls : List Call) (start : State) → MethodsApart (start .set) → MethodsApart (run abi calls start .set)
   -- so the class that declares a method there is the only one whose list holds it
-  pub owner : (abi : List ℕ) (calls : List Call) (start : State) (text labels : List ℕ) (c d m : ℕ) → Valid (start .set)
+  pub owner : (abi : List ℕ) (calls : List Call) (start : State) (c d m : ℕ) → Valid (start .set)
       → IsClass (run abi calls start .set) c → Declares (run abi calls start .set) c d m
-      → find (holds (run abi calls start .set) text abi labels m) (numbers 1 (classCount (run abi calls start .set))) ≡ At d
+      → find (holds (run abi calls start .set) m) (numbers 1 (classCount (run abi calls start .set))) ≡ At d

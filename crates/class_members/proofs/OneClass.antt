@@ -8,15 +8,16 @@ use native.Mathlib.Omega.{arith}
 use lib.ListN.{length, getD, set, replicate, length-append}
 use borrow.Author.Tests.{le-leb}
 use Rattle.words.specs.Folds.{allOf}
-use Rattle.words.specs.Words.{inside}
+use Rattle.words.specs.Words.{inside, AreBytes}
 use Rattle.words.specs.Rows.{no-rows, a-row}
 use Rattle.words.proofs.Bools.{and-both, and-3}
+use Rattle.words.proofs.Bytes.{append-bytes}
 use Rattle.words.proofs.FoldLaws.{all-if}
-use Rattle.text.specs.Text.{nameAt, partOk}
+use Rattle.text.specs.Text.{nameAt, partOk, nameStartWord, nameLengthWord, descriptorStartWord, descriptorLengthWord}
 use Rattle.class_sheet.specs.ClassSheet.{classWidth, memberWidth, classLimit, methodLimit, fieldLimit, interfaceLimit, compilerLimit, textLimit}
-use Rattle.class_sheet.specs.ClassSheet.{nameStartWord, nameLengthWord, parentWord, flagsWord, kindWord, firstMethodWord, methodCountWord, firstFieldWord}
+use Rattle.class_sheet.specs.ClassSheet.{parentWord, flagsWord, kindWord, firstMethodWord, methodCountWord, firstFieldWord}
 use Rattle.class_sheet.specs.ClassSheet.{fieldCountWord, firstInterfaceWord, interfaceCountWord, linkStateWord, instanceWordsWord, compilerTableWord}
-use Rattle.class_sheet.specs.ClassSheet.{compilerSlotsWord, tablePlaceWord, descriptorStartWord, descriptorLengthWord}
+use Rattle.class_sheet.specs.ClassSheet.{compilerSlotsWord, tablePlaceWord}
 use Rattle.class_sheet.specs.ClassSheet.{classCount, methodCount, fieldCount, interfaceCount, compilerCount, textLength, contentEnd, textOf, classWord}
 use Rattle.class_sheet.specs.ClassSheet.{methodFlags, methodTarget, fieldFlags, fieldIndex, targetWord, indexWord}
 use Rattle.class_sheet.specs.ClassSheet.{methodWord, fieldWord, className, methodName, methodDescriptor, fieldName, fieldDescriptor}
@@ -34,16 +35,15 @@ use Rattle.linking.specs.Set.{newText, packed}
 use Rattle.linking.specs.Grown.{memberRow, newMembers}
 use Rattle.linking.proofs.Grown.{rows-members, length-members}
 use Rattle.linking.proofs.Packed.{length-packed, text-packed}
-use Rattle.linking.proofs.Names.{Bytes}
 use Rattle.class_members.specs.Members.{stringOk, fieldOk, methodOk, every}
 use Rattle.class_members.specs.Members as file
 use Rattle.class_members.specs.SheetForm.{noAbi}
-use Rattle.class_members.proofs.Placed.{part-is, Stands, stands, part-ok, ok-bytes, every-at, both-bytes, members-bytes}
+use Rattle.class_members.proofs.Placed.{part-is, Stands, stands, part-ok, ok-bytes, every-at, members-bytes}
 
 -- what rows 4, 5 and 14 tell of a class and its members
 pub record Good (name parent : List ℕ) (flags : ℕ) (fs ms : List New) : Type 0 where
   pub name-ok : stringOk name ≡ true
-  pub parent-bytes : Bytes parent
+  pub parent-bytes : AreBytes parent
   pub flags-small : flags ≤ 65535
   pub fields-ok : every fieldOk fs ≡ true
   pub methods-ok : every methodOk ms ≡ true
@@ -185,11 +185,11 @@ module _ (name parent : List ℕ) (flags : ℕ) (fs ms : List New) (rest : List 
         and-3 (stringOk (getD ms m noNew .name)) (stringOk (getD ms m noNew .descriptor)) (methodFlagsOk (getD ms m noNew .flags))
         (every-at methodOk ms (good .methods-ok) m h)
 
-    pub bytes : Bytes text
+    pub bytes : AreBytes text
     bytes =
-        both-bytes name (parent ++ (newText fs ++ newText ms)) (ok-bytes name (good .name-ok))
-        (both-bytes parent (newText fs ++ newText ms) (good .parent-bytes)
-        (both-bytes (newText fs) (newText ms) (members-bytes fs field-strings)
+        append-bytes name (parent ++ (newText fs ++ newText ms)) (ok-bytes name (good .name-ok))
+        (append-bytes parent (newText fs ++ newText ms) (good .parent-bytes)
+        (append-bytes (newText fs) (newText ms) (members-bytes fs field-strings)
         (members-bytes ms (λ m h. (method-strings m h .0, method-strings m h .1)))))
 
     pub text-is : textOf ws ≡ text

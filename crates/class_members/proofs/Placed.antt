@@ -3,20 +3,20 @@
 use mathlib.Core.Path.{_≡_, refl, sym, _∙_}
 use mathlib.Core.Bool.{Bool, true}
 use mathlib.Core.List.{List, [], _∷_, _++_, append-assoc}
-use Prim.Native.Nat.{ℕ, zero, suc, _+_, _-_, _≤_, _<_}
+use Prim.Native.Nat.{ℕ, zero, suc, _+_, _≤_, _<_}
 use native.Mathlib.Omega.{arith}
-use lib.ListN.{length, getD, length-append, List·getD-append}
+use lib.ListN.{length, getD, length-append}
 use lib.Seq.{take-at, drop-at, take-all}
-use lib.Dec.{leb, ltb}
-use borrow.Author.Tests.{leb-true, le-leb, ltb-true, ltb-false}
-use Rattle.words.proofs.Bools.{by, and-both, and-4}
-use Rattle.words.proofs.Lists.{skip}
+use lib.Dec.{leb}
+use borrow.Author.Tests.{leb-true, le-leb}
+use Rattle.words.proofs.Bools.{and-both, and-4}
+use Rattle.words.proofs.Bytes.{all-bytes, append-bytes}
+use Rattle.words.specs.Words.{AreBytes}
 use Rattle.text.specs.Text.{nameAt, printable, partOk}
 use Rattle.text.proofs.Laws.{printable-each}
 use Rattle.linking.specs.Compiler.{New, noNew}
 use Rattle.linking.specs.Set.{newText}
 use Rattle.linking.specs.Grown.{memberRow, newMembers}
-use Rattle.linking.proofs.Names.{Bytes}
 use Rattle.class_members.specs.Members.{stringOk, every}
 
 -- ---- a part between others
@@ -83,14 +83,15 @@ part-ok text start {len} s e p h t =
     simp (le-leb 1 len (omega arith), le-leb len 255 (omega arith), le-leb (start + len) (length text) h, p, rw w at (q .3))
 
 -- each of its bytes is below 256
-pub ok-bytes : (s : List ℕ) → stringOk s ≡ true → Bytes s
+pub ok-bytes : (s : List ℕ) → stringOk s ≡ true → AreBytes s
 unfolding stringOk partOk
-ok-bytes s t i h =
+ok-bytes s t =
+    all-bytes s (λ i h.
     let q = and-4 (leb 1 (length s)) (leb (length s) 255) (leb (0 + length s) (length s)) (printable (nameAt s 0 (length s))) t in
     let r = printable-each s 0 (length s) (omega arith) (q .3) i h in
     let e : 0 + i ≡ i = omega arith in
     let b : getD s i 0 ≤ 126 = rw e at (r .1) in
-    omega arith
+    omega arith)
 
 -- ---- a test that every member passes
 
@@ -102,20 +103,12 @@ every-at p (x ∷ xs) t (suc m) h = every-at p xs (and-both (p x) (every p xs) t
 
 -- ---- bytes
 
-pub both-bytes : (a b : List ℕ) → Bytes a → Bytes b → Bytes (a ++ b)
-both-bytes a b p q i h =
-    by (ltb i (length a))
-    (λ t. let k = ltb-true i (length a) t in rw (List·getD-append a b 0 i k) (p i k))
-    (λ t.
-    let k = ltb-false i (length a) t in
-    rw (skip a b i (i - length a) 0 (omega arith)) (q (i - length a) (omega (arith, length-append a b))))
-
 pub members-bytes : (xs : List New)
     → ((m : ℕ) → m < length xs → (stringOk (getD xs m noNew .name) ≡ true) × (stringOk (getD xs m noNew .descriptor) ≡ true))
-    → Bytes (newText xs)
+    → AreBytes (newText xs)
 unfolding newText
-members-bytes [] h = λ i l. absurd (omega arith)
+members-bytes [] h = λ i. omega arith
 members-bytes (x ∷ xs) h =
     let p = h 0 (omega arith) in
-    both-bytes (x .name) (x .descriptor ++ newText xs) (ok-bytes (x .name) (p .0))
-    (both-bytes (x .descriptor) (newText xs) (ok-bytes (x .descriptor) (p .1)) (members-bytes xs (λ m l. h (suc m) (omega arith))))
+    append-bytes (x .name) (x .descriptor ++ newText xs) (ok-bytes (x .name) (p .0))
+    (append-bytes (x .descriptor) (newText xs) (ok-bytes (x .descriptor) (p .1)) (members-bytes xs (λ m l. h (suc m) (omega arith))))

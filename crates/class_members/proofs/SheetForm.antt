@@ -9,11 +9,10 @@ use lib.ListN.{length, getD, take, drop}
 use lib.Seq.{take-at}
 use lib.Dec.{eqb, leb}
 use borrow.Author.Tests.{leb-true, eqb-true, eqb-false, not-false}
-use Rattle.words.specs.Words.{wordsFor}
+use Rattle.words.specs.Words.{wordsFor, AreBytes}
 use Rattle.words.specs.Rows.{cut}
 use Rattle.words.proofs.Bools.{by, and-both, and-3, and-4, passed}
 use Rattle.words.proofs.Rows.{cut-joined}
-use Rattle.block.specs.Block.{AreBytes}
 use Rattle.class_sheet.specs.ClassSheet.{memberWidth, fieldLimit, methodLimit, textLimit, textOf, flagsWord, methodCountWord, fieldCountWord}
 use Rattle.class_sheet.specs.ClassSheet.{methodName, methodDescriptor, methodFlags, fieldName, fieldDescriptor, fieldFlags}
 use Rattle.linking.specs.Compiler.{New, noNew}
@@ -21,7 +20,6 @@ use Rattle.linking.specs.Set.{newRecords, newText, packed, overlaid}
 use Rattle.linking.specs.Grown.{newMembers}
 use Rattle.linking.proofs.Grown.{joined-members, rows-members, length-members}
 use Rattle.linking.proofs.Packed.{length-packed}
-use Rattle.linking.proofs.Names.{Bytes}
 use Rattle.class_form.specs.Form.{u2, formRefusal}
 use Rattle.class_form.specs.Parts.{memberAt}
 use Rattle.class_members.specs.Members.{FileOutcome, fieldPlaces, methodPlaces, fileFlags, fileName, parentIndex, fileParent, newOf, membersAt}
@@ -142,10 +140,10 @@ module _ (bs targets : List ℕ) (bytes : AreBytes bs) (p : Passed bs targets) w
   unfolding fileParent
   no-parent e = rw e
 
-  parent-bytes : (eqb (parentIndex bs) 0 || stringOk (fileParent bs)) ≡ true → Bytes (fileParent bs)
+  parent-bytes : (eqb (parentIndex bs) 0 || stringOk (fileParent bs)) ≡ true → AreBytes (fileParent bs)
   parent-bytes t =
       by (eqb (parentIndex bs) 0)
-      (λ e. rw (no-parent e) (λ i h. absurd (omega arith)))
+      (λ e. rw (no-parent e) (λ i. omega arith))
       (λ e. ok-bytes (fileParent bs) (rw e at t))
 
   good : one.Good (fileName bs) (fileParent bs) (fileFlags bs) fs ms

@@ -104,7 +104,7 @@ fileText bs targets = fileName bs ++ (fileParent bs ++ (newText (fileFields bs) 
 unfoldable pub stringOk : List ℕ → Bool
 stringOk s = partOk s 0 (length s)
 
--- a field's flags have 16 bits, so "class and field flags [..] ≤ 65,535" always holds
+-- a field's flags have 16 bits, so that of them "class and field flags, link state and instance words ≤ 65,535" always holds
 unfoldable pub fieldOk : New → Bool
 fieldOk x = stringOk (x .name) && stringOk (x .descriptor)
 
@@ -135,14 +135,15 @@ namesOk bs targets =
 unfoldable pub descriptorsOk : List ℕ → List ℕ → Bool
 descriptorsOk bs targets = every fieldTyped (fileFields bs) && every methodTyped (fileMethods bs targets)
 
--- row 14 does not refuse by the sheet: "more members or text than a sheet [..] holds"
+-- "Row 14 also takes more members or text than a sheet or a lent list holds, and a target list whose length is not the method count." It does not refuse by
+-- the sheet
 unfoldable pub sheetHolds : List ℕ → List ℕ → Bool
 sheetHolds bs targets =
     leb (length (fileFields bs)) fieldLimit
     && leb (length (fileMethods bs targets)) methodLimit
     && leb (length (fileText bs targets)) textLimit
 
--- nor by the lists: "or a lent list holds, and a target list whose length is not the method count"
+-- nor by the lists
 unfoldable pub listsHold : List ℕ → List ℕ → List ℕ → List ℕ → List ℕ → Bool
 listsHold bs targets fields methods text =
     leb (memberWidth * length (fileFields bs)) (length fields)

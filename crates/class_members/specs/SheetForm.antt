@@ -4,11 +4,10 @@ use Prim.Native.Nat.{ℕ, _<_}
 use mathlib.Core.Path.{_≡_}
 use mathlib.Core.List.{List, [], _∷_}
 use lib.ListN.{length, getD, set, take, replicate}
-use Rattle.words.specs.Words.{wordsFor}
+use Rattle.words.specs.Words.{wordsFor, AreBytes}
 use Rattle.words.specs.Rows.{cut}
-use Rattle.text.specs.Text.{nameAt}
-use Rattle.block.specs.Block.{AreBytes}
-use Rattle.class_sheet.specs.ClassSheet.{classWidth, memberWidth, nameLengthWord, flagsWord, methodCountWord, fieldCountWord, methodCount, fieldCount}
+use Rattle.text.specs.Text.{nameAt, nameLengthWord}
+use Rattle.class_sheet.specs.ClassSheet.{classWidth, memberWidth, flagsWord, methodCountWord, fieldCountWord, methodCount, fieldCount}
 use Rattle.class_sheet.specs.ClassSheet.{textOf, classFlags, classMethodCount, classFieldCount, className, methodName, methodDescriptor, methodFlags}
 use Rattle.class_sheet.specs.ClassSheet.{methodTarget, fieldName, fieldDescriptor, fieldFlags, fieldIndex}
 use Rattle.class_sheet.specs.Sections.{Sections, laidOut}

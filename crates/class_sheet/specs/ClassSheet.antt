@@ -5,7 +5,7 @@ use Prim.Native.Nat.{ℕ, _+_, _*_, _-_, _/_}
 use mathlib.Core.List.{List, [], _∷_}
 use lib.ListN.{getD, set, drop}
 use Rattle.words.specs.Words.{wordsFor}
-use Rattle.text.specs.Text.{textOfWords, nameAt}
+use Rattle.text.specs.Text.{nameStartWord, nameLengthWord, descriptorStartWord, descriptorLengthWord, textOfWords, nameAt}
 
 -- ---- widths, in words
 
@@ -74,13 +74,7 @@ compilerCountNumber = 4
 abbrev pub textLengthNumber : ℕ
 textLengthNumber = 5
 
--- the first words of a class record, and of a method or field record
-abbrev pub nameStartWord : ℕ
-nameStartWord = 0
-
-abbrev pub nameLengthWord : ℕ
-nameLengthWord = 1
-
+-- a class record, and a method or field record, begin with the name's words (`nameStartWord`, `nameLengthWord` of crate `text`)
 abbrev pub parentWord : ℕ
 parentWord = 2
 
@@ -128,13 +122,6 @@ slotCountWord = 16
 
 abbrev pub staticWordsWord : ℕ
 staticWordsWord = 17
-
--- of a method record, and of a field record
-abbrev pub descriptorStartWord : ℕ
-descriptorStartWord = 2
-
-abbrev pub descriptorLengthWord : ℕ
-descriptorLengthWord = 3
 
 -- the word of a field record that holds its word index
 abbrev pub indexWord : ℕ

@@ -73,7 +73,7 @@ module _ (ws text abi labels refs flags lasts : List ℕ) (n : ℕ) where
   -- ---- one method
 
   module _ (m : ℕ) (ts ms : List ℕ) (size : ℕ) where
-    same-is : (k : ℕ) → onFound (methodOf k) (sameSignature ws text abi labels new m) false
+    same-is : (k : ℕ) → onFound (methodOf k) (sameSignature ws text new m) false
         ≡ markSame ws text abi labels refs n (nameIn ws text abi labels refs n m) (descriptorIn ws text abi labels refs n m) k
     unfolding sameSignature markSame
     same-is k =
@@ -88,34 +88,34 @@ module _ (ws text abi labels refs flags lasts : List ℕ) (n : ℕ) where
         ))
         (λ q. rw q)
 
-    has-is : hasSlot ws text abi labels new m (entriesOf ts ms size)
+    has-is : hasSlot ws text new m (entriesOf ts ms size)
         ≡ someSame ws text abi labels refs n (nameIn ws text abi labels refs n m) (descriptorIn ws text abi labels refs n m) ms size
     unfolding hasSlot someSame entriesOf entryAt
     has-is =
-        some-list (λ e. onFound (e .method) (sameSignature ws text abi labels new m) false)
+        some-list (λ e. onFound (e .method) (sameSignature ws text new m) false)
         (λ i. markSame ws text abi labels refs n (nameIn ws text abi labels refs n m) (descriptorIn ws text abi labels refs n m) (getD ms i 0))
         (entryAt ts ms) 0 size (λ i. same-is (getD ms i 0))
 
     module _ {name descriptor : List ℕ} {f : ℕ} {b : Bool} (en : name ≡ nameIn ws text abi labels refs n m)
         (ed : descriptor ≡ descriptorIn ws text abi labels refs n m) (ef : f ≡ flagsIn ws flags n m) (eb : b ≡ isEligible f name) where
-      eligible-is : isEligible (flagsOf ws text abi labels new m) (nameOf ws text abi labels new m) ≡ b
+      eligible-is : isEligible (flagsOf ws new m) (nameOf ws text new m) ≡ b
       eligible-is = rw (flags-is ws text abi labels refs flags lasts n m, name-is ws text abi labels refs flags lasts n m, ← ef, ← en) (sym eb)
 
-      pub append-ineligible : b ≡ false → entriesOf ts ms size ≡ appendMethod ws text abi labels new (entriesOf ts ms size) m
+      pub append-ineligible : b ≡ false → entriesOf ts ms size ≡ appendMethod ws text new (entriesOf ts ms size) m
       unfolding appendMethod
       append-ineligible q = rw (eligible-is, q)
 
       module _ {h : Bool} (eh : h ≡ someSame ws text abi labels refs n name descriptor ms size) where
-        held-is : hasSlot ws text abi labels new m (entriesOf ts ms size) ≡ h
+        held-is : hasSlot ws text new m (entriesOf ts ms size) ≡ h
         held-is = has-is ∙ rw (← en, ← ed) (sym eh)
 
-        pub append-held : h ≡ true → entriesOf ts ms size ≡ appendMethod ws text abi labels new (entriesOf ts ms size) m
+        pub append-held : h ≡ true → entriesOf ts ms size ≡ appendMethod ws text new (entriesOf ts ms size) m
         unfolding appendMethod
         append-held q = rw (held-is, q, and-false)
 
         pub append-new : (us ns : List ℕ) {w k : ℕ} → m < 4294967295 → b ≡ true → h ≡ false → size < length ts → size < length ms
             → k ≡ markOf (At m) → w ≡ targetIn ws lasts n m → us ≡ set ts size w → ns ≡ set ms size k
-            → entriesOf us ns (size + 1) ≡ appendMethod ws text abi labels new (entriesOf ts ms size) m
+            → entriesOf us ns (size + 1) ≡ appendMethod ws text new (entriesOf ts ms size) m
         unfolding appendMethod
         append-new us ns {w = w} {k = k} small q r l l′ ek ew eu en′ =
             rw (eu, en′, push-slot ts ms size w k l l′, ek, method-back m small, eligible-is, held-is, q, r, target-is ws text abi labels refs flags lasts n m, ← ew)
@@ -123,12 +123,12 @@ module _ (ws text abi labels refs flags lasts : List ℕ) (n : ℕ) where
   -- ---- by mark
 
   module _ (k : ℕ) (E : List Entry) where
-    pub append-none : {o : Found} → o ≡ methodOf k → o ≡ Nothing → E ≡ fold (appendMethod ws text abi labels new) E (consFound (methodOf k) [])
+    pub append-none : {o : Found} → o ≡ methodOf k → o ≡ Nothing → E ≡ fold (appendMethod ws text new) E (consFound (methodOf k) [])
     unfolding fold
     append-none h e = rw (← h, e)
 
-    pub append-known : {F : List Entry} {o : Found} {j : ℕ} → o ≡ methodOf k → o ≡ At j → F ≡ appendMethod ws text abi labels new E j
-        → F ≡ fold (appendMethod ws text abi labels new) E (consFound (methodOf k) [])
+    pub append-known : {F : List Entry} {o : Found} {j : ℕ} → o ≡ methodOf k → o ≡ At j → F ≡ appendMethod ws text new E j
+        → F ≡ fold (appendMethod ws text new) E (consFound (methodOf k) [])
     unfolding fold
     append-known h e f = f ∙ rw (← h, e)
 
@@ -136,26 +136,26 @@ module _ (ws text abi labels refs flags lasts : List ℕ) (n : ℕ) where
 
   module _ (known : List ℕ) (count : ℕ) where
     unfoldable pub knownRest : List Entry → ℕ → List Entry
-    knownRest E i = fold (appendMethod ws text abi labels new) E (allFound (λ j. methodOf (getD known j 0)) (restFrom (λ j. j) 0 count i))
+    knownRest E i = fold (appendMethod ws text new) E (allFound (λ j. methodOf (getD known j 0)) (restFrom (λ j. j) 0 count i))
 
-    pub known-all : (E : List Entry) → knownRest E 0 ≡ fold (appendMethod ws text abi labels new) E (markMethods known count)
+    pub known-all : (E : List Entry) → knownRest E 0 ≡ fold (appendMethod ws text new) E (markMethods known count)
     unfolding knownRest markMethods
     known-all E = rw (rest-start (λ (j : ℕ). j) 0 count)
 
-    fold-cons : (E : List Entry) (f : Found) (xs : List ℕ) → fold (appendMethod ws text abi labels new) E (consFound f xs)
-        ≡ fold (appendMethod ws text abi labels new) (fold (appendMethod ws text abi labels new) E (consFound f [])) xs
+    fold-cons : (E : List Entry) (f : Found) (xs : List ℕ) → fold (appendMethod ws text new) E (consFound f xs)
+        ≡ fold (appendMethod ws text new) (fold (appendMethod ws text new) E (consFound f [])) xs
     unfolding fold
     fold-cons E (At k) xs = refl
     fold-cons E Nothing xs = refl
 
     pub known-turn : (E F A : List Entry) (i : ℕ) {a k : ℕ} → i < count → a ≡ i → k ≡ getD known a 0
-        → F ≡ fold (appendMethod ws text abi labels new) E (consFound (methodOf k) []) → knownRest E i ≡ A → knownRest F (i + 1) ≡ A
+        → F ≡ fold (appendMethod ws text new) E (consFound (methodOf k) []) → knownRest E i ≡ A → knownRest F (i + 1) ≡ A
     unfolding knownRest allFound
     known-turn E F A i {k = k} h e f g r =
         let z : 0 + i ≡ i = omega arith in
         let w : getD known i 0 ≡ k = sym (f ∙ ap (λ (x : ℕ). getD known x 0) e) in
-        let q : fold (appendMethod ws text abi labels new) E (allFound (λ j. methodOf (getD known j 0)) (restFrom (λ j. j) 0 count i))
-        ≡ fold (appendMethod ws text abi labels new) E (consFound (methodOf k) (allFound (λ j. methodOf (getD known j 0)) (restFrom (λ j. j) 0 count (i + 1)))) =
+        let q : fold (appendMethod ws text new) E (allFound (λ j. methodOf (getD known j 0)) (restFrom (λ j. j) 0 count i))
+        ≡ fold (appendMethod ws text new) E (consFound (methodOf k) (allFound (λ j. methodOf (getD known j 0)) (restFrom (λ j. j) 0 count (i + 1)))) =
         rw (rest-turn (λ (j : ℕ). j) 0 count i h, z, w) in
         rw g (sym (fold-cons E (methodOf k) (allFound (λ j. methodOf (getD known j 0)) (restFrom (λ j. j) 0 count (i + 1))))) ∙ sym q ∙ r
 
@@ -165,9 +165,9 @@ module _ (ws text abi labels refs flags lasts : List ℕ) (n : ℕ) where
 
   -- ---- declared, added and parent methods
 
-  pub append-all : (E F : List Entry) (xs ys : List ℕ) {T : List Entry} → F ≡ fold (appendMethod ws text abi labels new) E xs
-      → T ≡ fold (appendMethod ws text abi labels new) F ys → T ≡ fold (appendMethod ws text abi labels new) E (xs ++ ys)
-  append-all E F xs ys p q = rw (fold-append (appendMethod ws text abi labels new) E xs ys, ← p) q
+  pub append-all : (E F : List Entry) (xs ys : List ℕ) {T : List Entry} → F ≡ fold (appendMethod ws text new) E xs
+      → T ≡ fold (appendMethod ws text new) F ys → T ≡ fold (appendMethod ws text new) E (xs ++ ys)
+  append-all E F xs ys p q = rw (fold-append (appendMethod ws text new) E xs ys, ← p) q
 
 -- ---- declared and added methods, in order
 

@@ -161,67 +161,67 @@ module _ (ws text abi labels refs flags lasts : List ℕ) (n c : ℕ) (vs vm : L
   abbrev new : List New
   new = firstNews ws text abi labels refs flags lasts n
 
-  entry-target : (t k w : ℕ) → entryTarget ws text abi labels new t (record { word = w; method = methodOf k }) ≡ markTarget ws lasts n t k
+  entry-target : (t k w : ℕ) → entryTarget ws new t (record { word = w; method = methodOf k }) ≡ markTarget ws lasts n t k
   unfolding entryTarget markTarget
   entry-target t k w = by-found (methodOf k) (λ m q. rw (q, target-is ws text abi labels refs flags lasts n m)) (λ q. rw q)
 
-  match-is : (t : ℕ) → matchTarget ws text abi labels new c (entriesOf vs vm size) t ≡ matchIn ws lasts n c vm size t
+  match-is : (t : ℕ) → matchTarget ws new c (entriesOf vs vm size) t ≡ matchIn ws lasts n c vm size t
   unfolding matchTarget classMethods matchIn viewTarget entriesOf entryAt
   match-is t =
       let p : ℕ → Bool = λ m. eqb (targetIn ws lasts n m) t in
-      let e : find (λ m. eqb (targetOf ws text abi labels new m) t) (ownMethods ws c ++ numbers methodLimit (length new))
+      let e : find (λ m. eqb (targetOf ws new m) t) (ownMethods ws c ++ numbers methodLimit (length new))
       ≡ orElse (find p (ownMethods ws c)) (find p (numbers methodLimit n)) =
       rw (length-first ws text abi labels refs flags lasts n)
-      (find-ext (λ m. eqb (targetOf ws text abi labels new m) t) p (ownMethods ws c ++ numbers methodLimit n)
+      (find-ext (λ m. eqb (targetOf ws new m) t) p (ownMethods ws c ++ numbers methodLimit n)
       (λ m. rw (target-is ws text abi labels refs flags lasts n m))
       ∙ find-append p (ownMethods ws c) (numbers methodLimit n)) in
       rw (
         e,
-        found-list (entryTarget ws text abi labels new t) (λ i. markTarget ws lasts n t (getD vm i 0)) (entryAt vs vm) 0 size
+        found-list (entryTarget ws new t) (λ i. markTarget ws lasts n t (getD vm i 0)) (entryAt vs vm) 0 size
             (λ i. entry-target t (getD vm i 0) (getD vs i 0)),
       )
       (or-assoc (find p (ownMethods ws c)) (find p (numbers methodLimit n)) (firstFound (λ i. markTarget ws lasts n t (getD vm i 0)) (numbers 0 size)))
 
-  entry-is : (i : ℕ) → compilerEntry ws text abi labels new c (entriesOf vs vm size) i (compilerWord ws (classCompilerTable ws c - 1 + i))
+  entry-is : (i : ℕ) → compilerEntry ws new c (entriesOf vs vm size) i (compilerWord ws (classCompilerTable ws c - 1 + i))
       ≡ tableSlot ws lasts n c vs vm size i
   unfolding compilerEntry tableSlot methodAt
   entry-is i =
       by (eqb (compilerWord ws (classCompilerTable ws c - 1 + i)) 0) (λ q. rw q (slot-below vs vm size i))
       (λ q. rw (q, match-is (compilerWord ws (classCompilerTable ws c - 1 + i))))
 
-  entries-from : (f : ℕ → ℕ) (i k : ℕ) → compilerEntries ws text abi labels new c (entriesOf vs vm size) i (listFrom f i k)
-      ≡ listFrom (λ j. compilerEntry ws text abi labels new c (entriesOf vs vm size) j (f j)) i k
+  entries-from : (f : ℕ → ℕ) (i k : ℕ) → compilerEntries ws new c (entriesOf vs vm size) i (listFrom f i k)
+      ≡ listFrom (λ j. compilerEntry ws new c (entriesOf vs vm size) j (f j)) i k
   unfolding compilerEntries listFrom
   entries-from f i zero = refl
   entries-from f i (suc k) = rw (entries-from f (i + 1) k)
 
   pub entries-are : {count : ℕ} → count ≡ min (classCompilerSlots ws c) 1024 → slotsIn ws lasts n c vs vm size count
-      ≡ compilerEntries ws text abi labels new c (entriesOf vs vm size) 0 (compilerTargets ws text abi labels c)
+      ≡ compilerEntries ws new c (entriesOf vs vm size) 0 (compilerTargets ws c)
   unfolding slotsIn compilerTargets
   entries-are {count = count} e =
       rw (← e)
       (sym (entries-from (λ i. compilerWord ws (classCompilerTable ws c - 1 + i)) 0 count
-      ∙ list-ext (λ j. compilerEntry ws text abi labels new c (entriesOf vs vm size) j (compilerWord ws (classCompilerTable ws c - 1 + j)))
+      ∙ list-ext (λ j. compilerEntry ws new c (entriesOf vs vm size) j (compilerWord ws (classCompilerTable ws c - 1 + j)))
       (tableSlot ws lasts n c vs vm size) 0 count (λ i l. entry-is i)))
 
   -- ---- the whole table
 
   pub table-is : (xs : List ℕ) {count : ℕ} {E T : List Entry} → count ≡ min (classCompilerSlots ws c) 1024
       → E ≡ slotsIn ws lasts n c vs vm size count
-      → T ≡ fold (appendMethod ws text abi labels new) E ((ownMethods ws c ++ numbers methodLimit n) ++ xs)
-      → T ≡ fold (appendMethod ws text abi labels new)
-      (compilerEntries ws text abi labels new c (entriesOf vs vm size) 0 (compilerTargets ws text abi labels c))
-      (classMethods ws text abi labels new c ++ xs)
+      → T ≡ fold (appendMethod ws text new) E ((ownMethods ws c ++ numbers methodLimit n) ++ xs)
+      → T ≡ fold (appendMethod ws text new)
+      (compilerEntries ws new c (entriesOf vs vm size) 0 (compilerTargets ws c))
+      (classMethods ws new c ++ xs)
   unfolding classMethods
   table-is xs e f g = g ∙ rw (f, entries-are e, length-first ws text abi labels refs flags lasts n)
 
   pub prepared-is : (area known : List ℕ) {T : List Entry} → entriesOf vs vm size ≡ nativeView ws text abi labels area c
       → new ≡ addedMethods ws text abi labels area c
       → marksIn known size ≡ methodsIn (parentEntries ws text abi labels area c)
-      → T ≡ fold (appendMethod ws text abi labels new)
-      (compilerEntries ws text abi labels new c (entriesOf vs vm size) 0 (compilerTargets ws text abi labels c))
-      (classMethods ws text abi labels new c ++ markMethods known size)
+      → T ≡ fold (appendMethod ws text new)
+      (compilerEntries ws new c (entriesOf vs vm size) 0 (compilerTargets ws c))
+      (classMethods ws new c ++ markMethods known size)
       → T ≡ compilerTable ws text abi labels area c
   unfolding compilerTable
   prepared-is area known view added parent e =
-      rw (← added, ← view, ← (methods-are ws text abi labels known size (parentEntries ws text abi labels area c) new parent)) e
+      rw (← added, ← view, ← (methods-are known size (parentEntries ws text abi labels area c) parent)) e

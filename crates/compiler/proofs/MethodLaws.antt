@@ -111,19 +111,19 @@ module _ (ws text abi labels refs flags lasts : List ℕ) (n : ℕ) where
       (λ p. rw (q, p, new-out (m - methodLimit) (ltb-false (m - methodLimit) n p))))
 
   module _ (m : ℕ) where
-    pub name-is : nameOf ws text abi labels (firstNews ws text abi labels refs flags lasts n) m ≡ nameIn ws text abi labels refs n m
+    pub name-is : nameOf ws text (firstNews ws text abi labels refs flags lasts n) m ≡ nameIn ws text abi labels refs n m
     unfolding nameOf nameIn newAt
     name-is = member-is (λ x. x .name) (methodName ws text m) m
 
-    pub descriptor-is : descriptorOf ws text abi labels (firstNews ws text abi labels refs flags lasts n) m ≡ descriptorIn ws text abi labels refs n m
+    pub descriptor-is : descriptorOf ws text (firstNews ws text abi labels refs flags lasts n) m ≡ descriptorIn ws text abi labels refs n m
     unfolding descriptorOf descriptorIn newAt
     descriptor-is = member-is (λ x. x .descriptor) (methodDescriptor ws text m) m
 
-    pub flags-is : flagsOf ws text abi labels (firstNews ws text abi labels refs flags lasts n) m ≡ flagsIn ws flags n m
+    pub flags-is : flagsOf ws (firstNews ws text abi labels refs flags lasts n) m ≡ flagsIn ws flags n m
     unfolding flagsOf flagsIn newAt below
     flags-is = member-is (λ x. x .flags) (methodFlags ws m) m
 
-    pub target-is : targetOf ws text abi labels (firstNews ws text abi labels refs flags lasts n) m ≡ targetIn ws lasts n m
+    pub target-is : targetOf ws (firstNews ws text abi labels refs flags lasts n) m ≡ targetIn ws lasts n m
     unfolding targetOf targetIn newAt below
     target-is = member-is (λ x. x .last) (methodTarget ws m) m
 

@@ -7,6 +7,7 @@ ghost use mathlib.Core.List.{[], _++_};
 ghost use Prim.Native.Nat.{_+_, _≤_, _<_, min};
 ghost use lib.ListN.{length};
 ghost use lib.Dec.{eqb};
+ghost use Rattle.words.specs.Lent.{was, after};
 ghost use Rattle.words.specs.Lists.{numbers, find, fold, consFound};
 ghost use Rattle.class_sheet.specs.ClassSheet.{classCompilerSlots, methodLimit};
 ghost use Rattle.words.specs.declared.Found.the-variants.{Nothing};
@@ -15,7 +16,7 @@ ghost use Rattle.linking.specs.Compiler.{compilerTable, compilerEntries, compil
 ghost use Rattle.reading.specs.Arrays.{methodOf, entriesOf};
 ghost use Rattle.growth.specs.News.{firstNews};
 ghost use Rattle.native_view.specs.Native.{below, markMethods};
-ghost use Rattle.compiler.specs.Lent.{was, after, appending, targeted, methods};
+ghost use Rattle.compiler.specs.Added.{appending, targeted, methods};
 ghost use Rattle.compiler.specs.Methods.{nameIn, descriptorIn, markSame, someSame, flagsIn, targetIn, markHas, viewTarget, matchIn, methodAt, slotsIn, methodNumber};
 
 // How many slots the table has, and how many methods are added to the class.

@@ -12,7 +12,8 @@ use borrow.Author.Tests.{eq-eqb, le-ltb, ltb-true, ltb-false}
 use Rattle.words.specs.Folds.{table}
 use Rattle.words.proofs.Bools.{by}
 use Rattle.words.proofs.FoldLaws.{all-if, length-table, getD-table}
-use Rattle.block.specs.Block.{AreWords, AreBytes, blockCount, sheetWords, blocksFor, sheetBytes}
+use Rattle.words.specs.Words.{AreWords, AreBytes}
+use Rattle.block.specs.Block.{blockCount, sheetWords, blocksFor, sheetBytes}
 use Rattle.block.proofs.PackLaws.{length-bytes}
 use Rattle.class_sheet.specs.ClassSheet as layout
 use Rattle.class_sheet.specs.ClassSheet.{countsWidth, classWidth, staticWordsWord, kindWord, classCountNumber, blockLimit, classCount, textLength, contentEnd, classKind, classStaticWords, textOf}

@@ -13,7 +13,8 @@ use borrow.Author.Tests.{eqb-true, eqb-false, eq-eqb, le-leb, le-ltb, ltb-true, 
 use Rattle.words.specs.Rows.{Rows, no-rows, a-row, rowWord}
 use Rattle.words.proofs.Bools.{by, and-both, and-4, passed}
 use Rattle.words.proofs.FoldLaws.{all-each, all-if}
-use Rattle.block.specs.Block.{AreWords, AreBytes, blockCount, sheetWords, leastFit, blocksFor, sheetBytes}
+use Rattle.words.specs.Words.{AreWords, AreBytes}
+use Rattle.block.specs.Block.{blockCount, sheetWords, leastFit, blocksFor, sheetBytes}
 use Rattle.block.proofs.Laws.{blocks-least}
 use Rattle.text.specs.Text.{textByte, zeroRest}
 use Rattle.class_sheet.specs.ClassSheet as layout

@@ -8,7 +8,8 @@ use lib.ListN.{length, getD}
 use borrow.Author.Tests.{ltb-true}
 use Rattle.words.specs.Rows.{Rows, rowWord}
 use Rattle.words.proofs.ListLaws.{numbers-within}
-use Rattle.class_sheet.specs.ClassSheet.{countsWidth, classWidth, memberWidth, staticWordsWord, firstFieldWord, fieldCountWord, descriptorStartWord, descriptorLengthWord, fieldLimit, countAt, fieldCount, classFirstField, classFieldCount, textOf}
+use Rattle.text.specs.Text.{descriptorStartWord, descriptorLengthWord}
+use Rattle.class_sheet.specs.ClassSheet.{countsWidth, classWidth, memberWidth, staticWordsWord, firstFieldWord, fieldCountWord, fieldLimit, countAt, fieldCount, classFirstField, classFieldCount, textOf}
 use Rattle.class_sheet.specs.Sections.{Sections, Formed, laidOut, withClasses, withRest}
 use Rattle.class_sheet.proofs.Sections as S
 use Rattle.set_rules.specs.Valid.{IsClass, Valid}

@@ -10,7 +10,8 @@ use lib.Dec.{eqb, ltb}
 use borrow.Author.Tests.{eqb-true, eqb-false, ne-eqb, lt-ltb, le-ltb, ltb-true, ltb-false}
 use Rattle.words.specs.Folds.{allOf}
 use Rattle.words.proofs.Bools.{by, passed}
-use Rattle.block.specs.Block.{AreBytes, blockCount, sheetWords, checkOk, shapeOk, blocksFor, sheetBytes}
+use Rattle.words.specs.Words.{AreBytes}
+use Rattle.block.specs.Block.{blockCount, sheetWords, checkOk, shapeOk, blocksFor, sheetBytes}
 use Rattle.block.proofs.Laws.{length-content, least-blocks}
 use Rattle.class_sheet.specs.ClassSheet as layout
 use Rattle.class_sheet.specs.ClassSheet.{blockLimit, classCount, contentEnd, textOf}

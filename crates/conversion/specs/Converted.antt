@@ -5,7 +5,8 @@ use mathlib.Core.Logic.{_↔_, _≢_}
 use mathlib.Core.Bool.{true, false}
 use mathlib.Core.List.{List, _++_}
 use lib.ListN.{length, getD, take, drop}
-use Rattle.block.specs.Block.{AreBytes, blockCount, sheetWords, blocksFor}
+use Rattle.words.specs.Words.{AreBytes}
+use Rattle.block.specs.Block.{blockCount, sheetWords, blocksFor}
 use Rattle.class_sheet.specs.ClassSheet.{countsWidth, classWidth, blockLimit, classCount, contentEnd, classWord, classStaticWords}
 use Rattle.sheet.specs.Sheet.{readClassSheet}
 use Rattle.writer.specs.Writer.{Outcome, contentOf, writeClassSheet}

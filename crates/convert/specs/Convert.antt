@@ -93,7 +93,7 @@ dropsStatics ws = not (allOf (classCount ws) (λ i. keepsStatics ws (textOf ws) 
 
 -- ---- the conversions
 
--- "blocks .. as the writer makes them": the least number of blocks, or the row that refuses them and no byte changed
+-- "from blocks to blocks as the writer makes them": the least number of blocks, or the row that refuses them and no byte changed
 unfoldable pub blocksOrRow : ℕ → List ℕ → List ℕ → Outcome
 blocksOrRow row ws out =
     cond (eqb row 0)

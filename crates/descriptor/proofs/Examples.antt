@@ -1,5 +1,5 @@
--- Two descriptors with their derivations: what the grammar spells; the width of bytes that are no descriptor, which no call shows; and
--- descriptors at the limit of argument words, with and without a receiver. `judge`'s vectors count and refuse more. Assumes nothing.
+-- Two descriptors with their derivations: what the grammar spells; the width of bytes that are no descriptor, which no call shows; and the
+-- request's descriptors at the limit of argument words. `judge`'s vectors count and refuse more. Assumes nothing.
 use mathlib.Core.Path.{_≡_, refl}
 use mathlib.Core.Bool.{So}
 use mathlib.Core.List.{List, [], _∷_, _++_}
@@ -53,35 +53,12 @@ abbrev pub longs-int : List ℕ
 longs-int = parameters 127 "J" "I"
 
 pub record Limits : Type 0 where
+  -- "a static method of 128 long arguments"
   pub longs-128-static : argumentAnswer (parameters 128 "J" "") 8 ≡ refused
+  -- "A static method with 127 J and one I is at 255 and accepted; the same instance method has 256."
   pub longs-int-static : argumentAnswer longs-int 8 ≡ counted 255
   pub longs-int-instance : argumentAnswer longs-int 0 ≡ refused
-  pub longs-127-instance : argumentAnswer (parameters 127 "J" "") 0 ≡ counted 255
-  pub longs-127-static : argumentAnswer (parameters 127 "J" "") 8 ≡ counted 254
-  pub ints-254-instance : argumentAnswer (parameters 254 "I" "") 0 ≡ counted 255
-  pub ints-255-instance : argumentAnswer (parameters 255 "I" "") 0 ≡ refused
-  pub ints-255-static : argumentAnswer (parameters 255 "I" "") 8 ≡ counted 255
-  pub ints-256-static : argumentAnswer (parameters 256 "I" "") 8 ≡ refused
-  -- an array is one word, of longs too
-  pub arrays : argumentAnswer (parameters 127 "[J" "") 0 ≡ counted 128
-  -- only the bit 0x0008 counts
-  pub all-flags : argumentAnswer longs-int 0xFFFFFFFF ≡ counted 255
-  pub all-but-static : argumentAnswer longs-int 0xFFFFFFF7 ≡ refused
 
 pub limits : Limits
 unfolding argumentAnswer isMethod isMethodDescriptor methodNext fieldNext isBaseByte isNameByte some fold begunFrom begunWords byteWidth
-limits =
-    record {
-      longs-128-static = refl;
-      longs-int-static = refl;
-      longs-int-instance = refl;
-      longs-127-instance = refl;
-      longs-127-static = refl;
-      ints-254-instance = refl;
-      ints-255-instance = refl;
-      ints-255-static = refl;
-      ints-256-static = refl;
-      arrays = refl;
-      all-flags = refl;
-      all-but-static = refl;
-    }
+limits = record { longs-128-static = refl; longs-int-static = refl; longs-int-instance = refl }

@@ -34,7 +34,7 @@ module _ (ws text abi labels : List ℕ) (g c : ℕ) where
   unfoldable pub declaresAt : ℕ → Bool
   declaresAt i = someFrom (declaredBy ws text abi labels g) (ownFields ws c) i
 
-  pub declares-start : declaresAt 0 ≡ declaresField ws text abi labels Nothing c g
+  pub declares-start : declaresAt 0 ≡ declaresField ws text abi labels c g
   unfolding declaresAt declaresField declaredBy
   declares-start = sym (some-start (declaredBy ws text abi labels g) (ownFields ws c))
 
@@ -61,17 +61,17 @@ module _ (ws text abi labels : List ℕ) (g c : ℕ) where
 
 module _ (ws text abi labels : List ℕ) (c : ℕ) where
   -- an ABI field is added or not, after others
-  pub keep-none : (k g : ℕ) (l : List ℕ) {b : Bool} → b ≡ declaresField ws text abi labels Nothing c g → b ≡ true
-      → take k l ≡ take k l ++ cond (declaresField ws text abi labels Nothing c g) [] (g ∷ [])
+  pub keep-none : (k g : ℕ) (l : List ℕ) {b : Bool} → b ≡ declaresField ws text abi labels c g → b ≡ true
+      → take k l ≡ take k l ++ cond (declaresField ws text abi labels c g) [] (g ∷ [])
   keep-none k g l e t = rw (← e, t) (sym (append-nil (take k l)))
 
-  pub keep-one : (k g : ℕ) (l l′ : List ℕ) {b : Bool} {j : ℕ} → b ≡ declaresField ws text abi labels Nothing c g → b ≡ false → k < length l
-      → l′ ≡ set l j g → j ≡ k → take (k + 1) l′ ≡ take k l ++ cond (declaresField ws text abi labels Nothing c g) [] (g ∷ [])
+  pub keep-one : (k g : ℕ) (l l′ : List ℕ) {b : Bool} {j : ℕ} → b ≡ declaresField ws text abi labels c g → b ≡ false → k < length l
+      → l′ ≡ set l j g → j ≡ k → take (k + 1) l′ ≡ take k l ++ cond (declaresField ws text abi labels c g) [] (g ∷ [])
   keep-one k g l l′ e t h f q = rw (← e, t, f, q, add-one) (take-suc-set l k g h)
 
   -- what is there after turn i of the n fields from m on, k of them, and what is to come
   unfoldable pub keptAt : ℕ → ℕ → List ℕ → ℕ → ℕ → List ℕ
-  keptAt m n l k i = take k l ++ keep (λ g. not (declaresField ws text abi labels Nothing c g)) (restFrom (λ j. j) m n i)
+  keptAt m n l k i = take k l ++ keep (λ g. not (declaresField ws text abi labels c g)) (restFrom (λ j. j) m n i)
 
   pub kept-start : (a : ℕ) (l : List ℕ) {m n : ℕ} → m ≡ abiClassFirstField abi a
       → n ≡ listCount (abiClassFirstField abi a) (abiClassFieldCount abi a) abiFieldLimit → keptAt m n l 0 0 ≡ addedFields ws text abi labels (At a) c
@@ -79,12 +79,12 @@ module _ (ws text abi labels : List ℕ) (c : ℕ) where
   kept-start a l {m = m} {n = n} e f = rw (rest-start (λ (j : ℕ). j) m n, f, e)
 
   pub kept-turn : (m n i k r : ℕ) (l l′ : List ℕ) → i < n
-      → take r l′ ≡ take k l ++ cond (declaresField ws text abi labels Nothing c (m + i)) [] ((m + i) ∷ []) → keptAt m n l′ r (i + 1) ≡ keptAt m n l k i
+      → take r l′ ≡ take k l ++ cond (declaresField ws text abi labels c (m + i)) [] ((m + i) ∷ []) → keptAt m n l′ r (i + 1) ≡ keptAt m n l k i
   unfolding keptAt keep
   kept-turn m n i k r l l′ h e =
-      let rest : List ℕ = keep (λ g. not (declaresField ws text abi labels Nothing c g)) (restFrom (λ j. j) m n (i + 1)) in
+      let rest : List ℕ = keep (λ g. not (declaresField ws text abi labels c g)) (restFrom (λ j. j) m n (i + 1)) in
       rw (e, rest-turn (λ (j : ℕ). j) m n i h)
-      (by (declaresField ws text abi labels Nothing c (m + i)) (λ t. rw (t, append-nil (take k l)))
+      (by (declaresField ws text abi labels c (m + i)) (λ t. rw (t, append-nil (take k l)))
       (λ t. rw t (append-assoc (take k l) ((m + i) ∷ []) rest)))
 
   pub kept-end : (m n i k : ℕ) (l : List ℕ) → n ≤ i → take k l ≡ keptAt m n l k i
@@ -107,7 +107,7 @@ module _ (ws text abi labels : List ℕ) (c : ℕ) where
   added-small : (own : Found) (i : ℕ) → getD (addedFields ws text abi labels own c) i 0 < abiFieldLimit
   unfolding addedFields abiFields
   added-small (At a) i =
-      kept-small (λ g. not (declaresField ws text abi labels (At a) c g)) (abiClassFirstField abi a)
+      kept-small (λ g. not (declaresField ws text abi labels c g)) (abiClassFirstField abi a)
       (listCount (abiClassFirstField abi a) (abiClassFieldCount abi a) abiFieldLimit) i (omega arith)
   added-small Nothing i = omega arith
 
@@ -130,7 +130,7 @@ module _ (ws text abi labels : List ℕ) (c : ℕ) where
   added-few (At a) =
       let m = abiClassFirstField abi a in
       let n = listCount (abiClassFirstField abi a) (abiClassFieldCount abi a) abiFieldLimit in
-      omega (arith, length-keep (λ g. not (declaresField ws text abi labels (At a) c g)) (numbers m n), length-list-from (λ (j : ℕ). j) m n)
+      omega (arith, length-keep (λ g. not (declaresField ws text abi labels c g)) (numbers m n), length-list-from (λ (j : ℕ). j) m n)
   added-few Nothing = omega arith
 
   -- what was made of the entry and the part, said of the class
@@ -158,7 +158,7 @@ module _ (abi labels : List ℕ) (own : Found) (running : ℕ) {g : ℕ} (given 
   unfolding wordsFrom
   words-given gs n = rw (← given, ne-eqb g 0 n)
 
-  pub words-raised : (gs : List ℕ) {r : ℕ} → g ≡ 0 → r ≡ raised [] [] abi labels Nothing running gs → r ≡ wordsFrom abi labels own running gs
+  pub words-raised : (gs : List ℕ) {r : ℕ} → g ≡ 0 → r ≡ raised abi labels running gs → r ≡ wordsFrom abi labels own running gs
   unfolding wordsFrom raised
   words-raised gs z f = rw (← given, eq-eqb g 0 z) f
 
@@ -169,19 +169,13 @@ getD-stores n f d i h k =
     rw (stores-is n f d k)
     (List·getD-append (table n f) (drop n d) 0 i (omega (arith, length-table n f)) ∙ getD-table n f i h)
 
-module _ (ws text abi labels : List ℕ) where
-  -- the area does not matter
-  pub any-area : (area gs : List ℕ) → newFieldsOf ws text abi labels area gs ≡ newFieldsOf ws text abi labels [] gs
-  unfolding newFieldsOf
-  any-area area [] = refl
-  any-area area (g ∷ gs) = rw (any-area area gs)
-
+module _ (abi labels : List ℕ) where
   abbrev newField : ℕ → New
   newField g =
       record { name = abiFieldName abi labels g; descriptor = abiFieldDescriptor abi labels g; flags = 2; last = fixedFieldIndex abi g }
 
   news-from : (f : ℕ → New) (m : ℕ) (gs : List ℕ) → ((i : ℕ) → i < length gs → f (m + i) ≡ newField (getD gs i 0))
-      → listFrom f m (length gs) ≡ newFieldsOf ws text abi labels [] gs
+      → listFrom f m (length gs) ≡ newFieldsOf abi labels gs
   unfolding newFieldsOf listFrom
   news-from f m [] h = refl
   news-from f m (g ∷ gs) h =
@@ -189,9 +183,10 @@ module _ (ws text abi labels : List ℕ) where
       let e : f m ≡ newField g = rw z at (h 0 (omega arith)) in
       rw (e, news-from f (m + 1) gs (λ i l. let y : m + 1 + i ≡ m + suc i = omega arith in rw y (h (suc i) (omega arith))))
 
+module _ (ws text abi labels : List ℕ) where
   -- a record is that of its ABI field
   new-at : (refs flags lasts : List ℕ) (i g : ℕ) → getD refs i 0 ≡ 1024 + g → getD flags i 0 ≡ 2 → getD lasts i 0 ≡ fixedFieldIndex abi g
-      → newAt ws text abi labels refs flags lasts i ≡ newField g
+      → newAt ws text abi labels refs flags lasts i ≡ newField abi labels g
   unfolding newAt refName refDescriptor
   new-at refs flags lasts i g e f h =
       let z : 1024 + g - 1024 ≡ g = omega arith in
@@ -200,10 +195,10 @@ module _ (ws text abi labels : List ℕ) where
   -- what the arrays hold after ABI fields gs were put in front
   pub members-are : (gs : List ℕ) (a d b : List ℕ) {refs flags lasts : List ℕ} → refs ≡ namesOver gs a → flags ≡ flagsOver gs d
       → lasts ≡ indicesOver abi gs b → length gs ≤ length a → length gs ≤ length d → length gs ≤ length b
-      → firstNews ws text abi labels refs flags lasts (length gs) ≡ newFieldsOf ws text abi labels [] gs
+      → firstNews ws text abi labels refs flags lasts (length gs) ≡ newFieldsOf abi labels gs
   unfolding firstNews
   members-are gs a d b {refs = refs} {flags = flags} {lasts = lasts} e f g h k l =
-      news-from (newAt ws text abi labels refs flags lasts) 0 gs
+      news-from abi labels (newAt ws text abi labels refs flags lasts) 0 gs
       (λ i m.
       let z : 0 + i ≡ i = omega arith in
       rw z

@@ -1,6 +1,6 @@
 -- Laws of a generated class's fields: their words, fields that stand one after the other, and indices with the base added.
 -- Assumes nothing.
-use mathlib.Core.Path.{_≡_, refl, sym, _∙_}
+use mathlib.Core.Path.{_≡_, sym, _∙_}
 use mathlib.Core.Bool.{Bool, true, false, not, _||_}
 use mathlib.Core.List.{List, [], _∷_, _++_, append-assoc, append-nil}
 use Prim.Native.Nat.{ℕ, zero, suc, _+_, _*_, _-_, _^_, _≤_, _<_}
@@ -39,11 +39,11 @@ add-room ws text n f =
     by (isStatic (fieldFlags ws f)) (λ t. rw t (omega arith)) (λ q. rw q (omega arith))
 
 module _ (ws : List ℕ) (base f : ℕ) {b : Bool} (static : b ≡ isStatic (fieldFlags ws f)) {i : ℕ} (index : i ≡ fieldIndex ws f) where
-  pub moved-static : b ≡ true → i ≡ movedIndex ws [] base f
+  pub moved-static : b ≡ true → i ≡ movedIndex ws base f
   unfolding movedIndex
   moved-static t = rw (← static, t) index
 
-  pub moved-instance : b ≡ false → base + i ≡ movedIndex ws [] base f
+  pub moved-instance : b ≡ false → base + i ≡ movedIndex ws base f
   unfolding movedIndex
   moved-instance t = rw (← static, t, index)
 
@@ -102,19 +102,19 @@ module _ (ws text : List ℕ) where
 module _ (ws : List ℕ) (base : ℕ) where
   -- what is there after turn i of the n fields from m on, and what is to come
   unfoldable pub movedAt : ℕ → ℕ → List ℕ → ℕ → List ℕ
-  movedAt m n l i = take i l ++ indicesPlus ws [] base (restFrom (λ k. k) m n i)
+  movedAt m n l i = take i l ++ indicesPlus ws base (restFrom (λ k. k) m n i)
 
   pub moved-start : (c : ℕ) (l : List ℕ) {m n : ℕ} → m ≡ classFirstField ws c → n ≡ listCount (classFirstField ws c) (classFieldCount ws c) fieldLimit
-      → movedAt m n l 0 ≡ indicesPlus ws [] base (ownFields ws c)
+      → movedAt m n l 0 ≡ indicesPlus ws base (ownFields ws c)
   unfolding movedAt ownFields
   moved-start c l {m = m} {n = n} e f = rw (rest-start (λ (k : ℕ). k) m n, f, e)
 
-  pub moved-turn : (m n i : ℕ) (l l′ : List ℕ) {j v : ℕ} → i < n → i < length l → v ≡ movedIndex ws [] base (m + i) → l′ ≡ set l j v → j ≡ i
+  pub moved-turn : (m n i : ℕ) (l l′ : List ℕ) {j v : ℕ} → i < n → i < length l → v ≡ movedIndex ws base (m + i) → l′ ≡ set l j v → j ≡ i
       → movedAt m n l′ (i + 1) ≡ movedAt m n l i
   unfolding movedAt indicesPlus
   moved-turn m n i l l′ {v = v} h k e f g =
       rw (f, g, add-one, take-suc-set l i v k, ← add-one, rest-turn (λ (k : ℕ). k) m n i h, e)
-      (append-assoc (take i l) (movedIndex ws [] base (m + i) ∷ []) (indicesPlus ws [] base (restFrom (λ k. k) m n (i + 1))))
+      (append-assoc (take i l) (movedIndex ws base (m + i) ∷ []) (indicesPlus ws base (restFrom (λ k. k) m n (i + 1))))
 
   moved-end : (m n i : ℕ) (l : List ℕ) → i ≡ n → take n l ≡ movedAt m n l i
   unfolding movedAt indicesPlus
@@ -126,27 +126,22 @@ module _ (ws : List ℕ) (base : ℕ) where
       let y = front-over n l (replicate fieldLimit 0) h (moved-end m n i l e ∙ f) (rw e at g) in
       answer-is xs (y .0) (y .1)
 
-  any-text : (text fs : List ℕ) → indicesPlus ws [] base fs ≡ indicesPlus ws text base fs
-  unfolding indicesPlus movedIndex
-  any-text text [] = refl
-  any-text text (f ∷ fs) = rw (any-text text fs)
-
 -- ---- what the fields come to
 
-module _ (ws text : List ℕ) (c : ℕ) {t o : ℕ} (total : t ≡ instanceWords ws text c) (own : o ≡ declaredWords ws text c) where
+module _ (ws text : List ℕ) (c : ℕ) {t o : ℕ} (total : t ≡ instanceWords ws c) (own : o ≡ declaredWords ws text c) where
   pub row-8 : t < o → refused 8 ≡ generatedFields ws text c
   unfolding generatedFields generatedRefusal
   row-8 h = rw (← total, ← own, lt-ltb t o h)
 
   module _ (h : o ≤ t) {a : Bool} (absolute : a ≡ standFrom ws text (t - o) (ownFields ws c)) where
-    pub all-absolute : a ≡ true → numbered (indicesPlus ws [] 0 (ownFields ws c)) 0 0 ≡ generatedFields ws text c
+    pub all-absolute : a ≡ true → numbered (indicesPlus ws 0 (ownFields ws c)) 0 0 ≡ generatedFields ws text c
     unfolding generatedFields generatedRefusal generatedIndices
-    all-absolute e = rw (any-text ws 0 text (ownFields ws c), ← total, ← own, le-ltb t o h, ← absolute, e)
+    all-absolute e = rw (← total, ← own, le-ltb t o h, ← absolute, e)
 
     module _ {r : Bool} (relative : r ≡ standFrom ws text 0 (ownFields ws c)) (n : a ≡ false) where
-      pub all-relative : r ≡ true → numbered (indicesPlus ws [] (t - o) (ownFields ws c)) 0 0 ≡ generatedFields ws text c
+      pub all-relative : r ≡ true → numbered (indicesPlus ws (t - o) (ownFields ws c)) 0 0 ≡ generatedFields ws text c
       unfolding generatedFields generatedRefusal generatedIndices
-      all-relative e = rw (any-text ws (t - o) text (ownFields ws c), ← total, ← own, le-ltb t o h, ← absolute, n, ← relative, e)
+      all-relative e = rw (← total, ← own, le-ltb t o h, ← absolute, n, ← relative, e)
 
       pub row-9 : r ≡ false → refused 9 ≡ generatedFields ws text c
       unfolding generatedFields generatedRefusal

@@ -28,16 +28,16 @@ use Rattle.field.proofs.RuntimeLaws.{runtime-room}
 
 module _ (abi : List ℕ) (own fixed : Found) (w : ℕ) (k : Counters) where
   pub instance-fixed : (g : ℕ) {i r : ℕ} → fixed ≡ At g → i ≡ fixedFieldIndex abi g → r ≡ max (k .running) (i + w)
-      → _≡_ {A = Numbering} (record { indices = i ∷ []; statics = k .statics; runtime = k .runtime; running = r }) (numberInstance [] [] abi [] own fixed w (counting [] k))
+      → _≡_ {A = Numbering} (record { indices = i ∷ []; statics = k .statics; runtime = k .runtime; running = r }) (numberInstance abi own fixed w (counting [] k))
   instance-fixed g e f h = rw (e, h, f)
 
   module _ (free : fixed ≡ Nothing) {g : ℕ} (given : g ≡ onFound own (givenWords abi) 0) where
     pub instance-running : g ≡ 0
-        → _≡_ {A = Numbering} (record { indices = k .running ∷ []; statics = k .statics; runtime = k .runtime; running = k .running + w }) (numberInstance [] [] abi [] own fixed w (counting [] k))
+        → _≡_ {A = Numbering} (record { indices = k .running ∷ []; statics = k .statics; runtime = k .runtime; running = k .running + w }) (numberInstance abi own fixed w (counting [] k))
     instance-running z = rw (free, ← given, eq-eqb g 0 z)
 
     pub instance-runtime : {i : ℕ} → (g ≡ 0 → ⊥) → i ≡ belowZero (k .runtime)
-        → _≡_ {A = Numbering} (record { indices = i ∷ []; statics = k .statics; runtime = k .runtime + w; running = k .running }) (numberInstance [] [] abi [] own fixed w (counting [] k))
+        → _≡_ {A = Numbering} (record { indices = i ∷ []; statics = k .statics; runtime = k .runtime + w; running = k .running }) (numberInstance abi own fixed w (counting [] k))
     instance-runtime n e = rw (free, ← given, ne-eqb g 0 n, e)
 
 -- ---- any field
@@ -50,7 +50,7 @@ module _ (ws text abi labels : List ℕ) (own : Found) where
     field-static t = rw (← static, t, wide)
 
     pub field-instance : {x : Found} {n : Numbering} → b ≡ false
-        → x ≡ andThen own (fixedField abi labels (fieldName ws text f) (fieldDescriptor ws text f)) → n ≡ numberInstance [] [] abi [] own x w (counting [] k)
+        → x ≡ andThen own (fixedField abi labels (fieldName ws text f) (fieldDescriptor ws text f)) → n ≡ numberInstance abi own x w (counting [] k)
         → n ≡ numberField ws text abi labels own (counting [] k) f
     unfolding numberField
     field-instance t e h = rw (← static, t, ← e, ← wide) h
@@ -117,7 +117,7 @@ module _ (ws text : List ℕ) (c : ℕ) {p r : ℕ} (parent : p ≡ parentOf ws 
   unfolding firstNumbering
   first-root z = rw (runtime-is, ← parent, eq-eqb p 0 z)
 
-  pub first-child : {w : ℕ} → (p ≡ 0 → ⊥) → w ≡ instanceWords ws [] p
+  pub first-child : {w : ℕ} → (p ≡ 0 → ⊥) → w ≡ instanceWords ws p
       → _≡_ {A = Numbering} (record { indices = []; statics = 0; runtime = r; running = w }) (firstNumbering ws text c)
   unfolding firstNumbering
   first-child n e = rw (runtime-is, ← parent, ne-eqb p 0 n, e)

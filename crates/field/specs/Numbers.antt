@@ -9,7 +9,6 @@ use Rattle.abi_sheet.specs.AbiSheet.{abiFieldLimit}
 use Rattle.words.specs.Folds.{stores}
 use Rattle.words.specs.Lists.{andThen}
 use Rattle.words.specs.declared.Found.{Found}
-use Rattle.words.specs.declared.Found.the-variants.{Nothing}
 use Rattle.class_sheet.specs.ClassSheet.{classFirstField, classFieldCount, fieldName, fieldDescriptor, fieldFlags, fieldIndex, fieldLimit}
 use Rattle.linking.specs.Chain.{onFound, listCount, parentOf, isStatic}
 use Rattle.linking.specs.Abi.{fixedFieldIndex, fixedField, givenWords, classAbi, fieldIs}
@@ -35,7 +34,7 @@ firstNumbering ws text c =
       indices = [];
       statics = 0;
       runtime = runtimeWords ws text (parentOf ws c);
-      running = cond (eqb (parentOf ws c) 0) 0 (instanceWords ws text (parentOf ws c));
+      running = cond (eqb (parentOf ws c) 0) 0 (instanceWords ws (parentOf ws c));
     }
 
 -- field f is an instance field of ABI field g's name and descriptor
@@ -70,7 +69,7 @@ addedTo ws text abi labels c = addedFields ws text abi labels (classAbi ws text 
 
 -- ABI field g, unless an instance field of the class matches it
 abbrev pub undeclared : List ℕ → List ℕ → List ℕ → List ℕ → ℕ → ℕ → List ℕ
-undeclared ws text abi labels c g = cond (declaresField ws text abi labels Nothing c g) [] (g ∷ [])
+undeclared ws text abi labels c g = cond (declaresField ws text abi labels c g) [] (g ∷ [])
 
 -- each is a number of an ABI field, of which a sheet has at most 256
 abbrev pub Small : List ℕ → Type 0
@@ -89,7 +88,7 @@ indicesOver abi gs lasts = stores (length gs) (λ i. fixedFieldIndex abi (getD g
 -- "Instance words are the ABI's if given, else that word": the running word after the declared fields, raised by those that are added
 unfoldable pub wordsFrom : List ℕ → List ℕ → Found → ℕ → List ℕ → ℕ
 wordsFrom abi labels own running gs =
-    cond (eqb (onFound own (givenWords abi) 0) 0) (raised [] [] abi labels own running gs) (onFound own (givenWords abi) 0 - 1)
+    cond (eqb (onFound own (givenWords abi) 0) 0) (raised abi labels running gs) (onFound own (givenWords abi) 0 - 1)
 
 -- ---- what the fields come to
 

@@ -77,7 +77,7 @@ fn field_width(ws: &[u32], text: &[u8], f: u32) -> u32
 
 // How many instance words class c has, at most 65,535.
 fn instance_words(ws: &[u32], c: u32) -> u32
-    ensures { λ r. ⌜ r ≡ instanceWords (now (ws .entry)) [] c ⌝ }
+    ensures { λ r. ⌜ r ≡ instanceWords (now (ws .entry)) c ⌝ }
 {
     let n = class_sheet::class_instance_words(ws, c);
     if n < 65535 { n } else { 65535 }
@@ -155,7 +155,7 @@ fn fixed_of(ws: &[u32], text: &[u8], abi: &[u32], labels: &[u8], own: Found, f: 
 // The index of an instance field of w words: the fixed one; else below zero, if the ABI gives instance words; else the running word.
 fn number_instance(abi: &[u32], own: Found, fixed: Found, w: u32, k: Counters) -> Counters
     requires { ⌜ (w ≤ 2) × (k .runtime ≤ 2147484673) × (k .running ≤ 66559) ⌝ }
-    ensures is { λ r. ⌜ counting (r .index ∷ []) r ≡ numberInstance [] [] (now (abi .entry)) [] own fixed w (counting [] k) ⌝ }
+    ensures is { λ r. ⌜ counting (r .index ∷ []) r ≡ numberInstance (now (abi .entry)) own fixed w (counting [] k) ⌝ }
     ensures small { λ r. ⌜ (r .statics ≡ k .statics) × (r .runtime ≤ k .runtime + 2) × (r .running ≤ max 4097 (k .running + 2)) ⌝ }
 {
     match fixed {
@@ -278,7 +278,7 @@ fn declares(ws: &[u32], text: &[u8], abi: &[u32], labels: &[u8], f: u32, g: u32)
 
 // Whether an instance field of class c matches ABI field g.
 fn declares_field(ws: &[u32], text: &[u8], abi: &[u32], labels: &[u8], c: u32, g: u32) -> bool
-    ensures { λ r. ⌜ r ≡ declaresField (now (ws .entry)) (now (text .entry)) (now (abi .entry)) (now (labels .entry)) Found.Nothing c g ⌝ }
+    ensures { λ r. ⌜ r ≡ declaresField (now (ws .entry)) (now (text .entry)) (now (abi .entry)) (now (labels .entry)) c g ⌝ }
 {
     let first = class_sheet::class_first_field(ws, c);
     let n = chain::field_count(ws, c);
@@ -361,7 +361,7 @@ fn added(
 
 // The running word, raised to the end of each of the ABI fields.
 fn raised(abi: &[u32], labels: &[u8], running: u32, gs: &[u32]) -> u32
-    ensures { λ r. ⌜ r ≡ raised [] [] (now (abi .entry)) (now (labels .entry)) Found.Nothing running (now (gs .entry)) ⌝ }
+    ensures { λ r. ⌜ r ≡ raised (now (abi .entry)) (now (labels .entry)) running (now (gs .entry)) ⌝ }
 {
     let mut word = running;
     let mut i: usize = 0;
@@ -554,7 +554,7 @@ fn stand_from(ws: &[u32], text: &[u8], c: u32, from: u32) -> bool
 // The index of field f, with the base added if it is an instance field.
 fn moved_index(ws: &[u32], base: u32, f: u32) -> u32
     requires { ⌜ Fits (now ws) base f ⌝ }
-    ensures { λ r. ⌜ r ≡ movedIndex (now (ws .entry)) [] base f ⌝ }
+    ensures { λ r. ⌜ r ≡ movedIndex (now (ws .entry)) base f ⌝ }
 {
     let i = class_sheet::field_index(ws, f);
     if is_static(ws, f) {
@@ -566,7 +566,7 @@ fn moved_index(ws: &[u32], base: u32, f: u32) -> u32
 // The indices of class c's own fields, with the base added to those of its instance fields.
 fn moved(ws: &[u32], c: u32, base: u32) -> Numbered
     requires { ⌜ Movable (now ws) c base ⌝ }
-    ensures { λ r. ⌜ r ≡ numberedOf (numbered (indicesPlus (now (ws .entry)) [] base (ownFields (now (ws .entry)) c)) 0 0) ⌝ }
+    ensures { λ r. ⌜ r ≡ numberedOf (numbered (indicesPlus (now (ws .entry)) base (ownFields (now (ws .entry)) c)) 0 0) ⌝ }
 {
     let first = class_sheet::class_first_field(ws, c);
     let n = chain::field_count(ws, c);

@@ -8,11 +8,11 @@ use lib.ListN.{length, getD, take, drop}
 use lib.Dec.{eqb, leb}
 use borrow.Author.Tests.{eqb-true, eqb-false, ne-eqb, leb-true, not-true}
 use Rattle.words.proofs.Bools.{by, and-both}
+use Rattle.words.specs.Words.{AreBytes}
 use Rattle.class_form.specs.declared.Step.the-variants.{To}
 use Rattle.class_form.specs.Form.{u2, u4, isTag, isWide, places, bodySize, tagOk, afterConstant}
 use Rattle.file_form.specs.Grammar.{u2Bytes, u4Bytes, Constant, Utf8, Integer, Float, Long, Double, Class, String, Fieldref, Methodref}
 use Rattle.file_form.specs.Grammar.{InterfaceMethodref, NameAndType, tagOf, infoOf, constantSpelling, entriesOf}
-use Rattle.file_form.specs.Derived.{Bytes}
 use Rattle.file_form.proofs.Items.{constant-to}
 use Rattle.file_form.proofs.Spelled.{Spelled, join, split, ends-at, first-byte, spelled-taken, spelled-u2, some-bytes, some-length, some-byte}
 use Rattle.file_form.proofs.Spelled.{some-u2, some-u4}
@@ -108,7 +108,7 @@ by-tag P p₁ p₃ p₄ p₅ p₆ p₇ p₈ p₉ p₁₀ p₁₁ p₁₂ t h =
     by (eqb t 11) (λ e. rw (eqb-true t 11 e) p₁₁) (λ n. let k₁₂ = above 11 t k₁₁ n in
     let last : t ≡ 12 = omega arith in rw last p₁₂))))))))))
 
-module _ (bs : List ℕ) (bytes : Bytes bs) where
+module _ (bs : List ℕ) (bytes : AreBytes bs) where
   -- what follows the tag t at p
   record Info (t p q : ℕ) : Type 0 where
     constant : Constant

@@ -9,12 +9,13 @@ use lib.Seq.{take-length}
 use lib.Dec.{eqb, leb}
 use borrow.Author.Tests.{eqb-true, eq-eqb, leb-true, le-leb}
 use Rattle.words.proofs.Bools.{by, and-3}
+use Rattle.words.specs.Words.{AreBytes}
 use Rattle.class_form.specs.declared.Step.{Step}
 use Rattle.class_form.specs.declared.Step.the-variants.{To, Stop}
 use Rattle.class_form.specs.Form.{u2, u4, poolCount, afterPool, afterHead, afterFile, versionOk, endRefusal, formRefusal}
 use Rattle.file_form.specs.Grammar.{u2Bytes, u4Bytes, counted, attributeSpelling, memberSpelling, poolSpelling, ClassFile, fileSpelling, Holds}
 use Rattle.file_form.specs.Grammar.{Derivation}
-use Rattle.file_form.specs.Derived.{Bytes, Derived}
+use Rattle.file_form.specs.Derived.{Derived}
 use Rattle.file_form.proofs.Outcome.{on-to, stop-same, stop-to, Outcome, goes, met, early}
 use Rattle.file_form.proofs.File.{file}
 use Rattle.file_form.proofs.Spelled.{Spelled, join, split, begins-at, whole, all-of, spelled-u2, spelled-u4, some-u2, some-u4}
@@ -138,11 +139,11 @@ complete bs d =
 
 -- ---- what is accepted, a class file spells
 
-some-start : (bs : List ℕ) → Bytes bs → 8 ≤ length bs → u4 bs 0 ≡ 0xCAFEBABE → Spelled bs 0 (startOf (u2 bs 4) (u2 bs 6)) 8
+some-start : (bs : List ℕ) → AreBytes bs → 8 ≤ length bs → u4 bs 0 ≡ 0xCAFEBABE → Spelled bs 0 (startOf (u2 bs 4) (u2 bs 6)) 8
 some-start bs bytes h m =
     join (join (rw m at (some-u4 bs bytes 0 (omega arith))) (some-u2 bs bytes 4 (omega arith))) (some-u2 bs bytes 6 (omega arith))
 
-put-together : (bs : List ℕ) (e q : ℕ) (p : PoolOf bs e) → Bytes bs → Accepted bs → HeadAt bs (p .pool) e (p .has) e q
+put-together : (bs : List ℕ) (e q : ℕ) (p : PoolOf bs e) → AreBytes bs → Accepted bs → HeadAt bs (p .pool) e (p .has) e q
     → BodyAt bs (p .pool) e (p .has) q (length bs) → Derivation bs
 unfolding fileSpelling
 put-together bs e q p bytes a h b =
@@ -172,7 +173,7 @@ put-together bs e q p bytes a h b =
           };
     }
 
-sound : (bs : List ℕ) → Bytes bs → formRefusal bs ≡ 0 → Derivation bs
+sound : (bs : List ℕ) → AreBytes bs → formRefusal bs ≡ 0 → Derivation bs
 unfolding afterFile
 sound bs bytes z =
     let a = accepted bs z in

@@ -8,13 +8,13 @@ use lib.ListN.{length, take, drop}
 use lib.Dec.{eqb}
 use borrow.Author.Tests.{eqb-true, eq-eqb}
 use Rattle.words.proofs.Bools.{by}
+use Rattle.words.specs.Words.{AreBytes}
 use Rattle.class_form.specs.declared.Step.{Step}
 use Rattle.class_form.specs.declared.Step.the-variants.{To}
 use Rattle.class_form.specs.Form.{u2, u4, onStep, taken, poolCount, utf8At, classAt, afterName, afterClass, afterParent, afterInterfaces, afterAttribute}
 use Rattle.class_form.specs.Form.{afterEach, afterCounted, afterAttributes, afterMember, afterMembers, afterHead, afterBody}
 use Rattle.file_form.specs.Grammar.{u2Bytes, u4Bytes, each, counted, Constant, Attribute, Member, attributeSpelling, memberSpelling}
-use Rattle.file_form.specs.Grammar.{IsUtf8, IsClass, MemberHolds, All, all-none, all-more}
-use Rattle.file_form.specs.Derived.{Bytes}
+use Rattle.file_form.specs.Grammar.{IsUtf8, IsClassInfo, MemberHolds, All, all-none, all-more}
 use Rattle.file_form.proofs.Outcome.{on-to, to-same, taken-to}
 use Rattle.file_form.proofs.Spelled.{Spelled, nothing, join, split, ends-at, spelled-taken, spelled-u2, spelled-u4, some-bytes, some-length}
 use Rattle.file_form.proofs.Spelled.{some-u2, some-u4}
@@ -26,7 +26,7 @@ pub u2-taken : {bs : List ℕ} {p q : ℕ} (n : ℕ) → Spelled bs p (u2Bytes n
 unfolding u2Bytes
 u2-taken n a = spelled-taken a
 
-pub u2-read : (bs : List ℕ) → Bytes bs → (p q : ℕ) → taken bs p 2 ≡ To q → Spelled bs p (u2Bytes (u2 bs p)) q
+pub u2-read : (bs : List ℕ) → AreBytes bs → (p q : ℕ) → taken bs p 2 ≡ To q → Spelled bs p (u2Bytes (u2 bs p)) q
 u2-read bs bytes p q e = let k = taken-to bs p 2 q e in ends-at (sym (k .0)) (some-u2 bs bytes p (k .1))
 
 -- ---- structures one after the other, each of which has what `Good` says
@@ -61,7 +61,7 @@ module _ {A : Type 0} (spelling : A → List ℕ) (Good : A → Type 0) (bs : Li
         let m = split (u2Bytes (length xs)) (each spelling xs) a in
         rw (u2-taken (length xs) (m .left), spelled-u2 (length xs) (m .left) .0) (each-taken (m .mid) q gs (m .right))
 
-  module _ (bytes : Bytes bs) (one : (p q : ℕ) → item p ≡ To q → Item A spelling Good bs p q) where
+  module _ (bytes : AreBytes bs) (one : (p q : ℕ) → item p ≡ To q → Item A spelling Good bs p q) where
     each-read : (n p q : ℕ) → p ≤ length bs → afterEach item n p ≡ To q → Items A spelling Good bs n p q
     unfolding afterEach each
     each-read zero p q h e = record { values = []; spelled = ends-at (to-same e) (nothing bs p h); good = all-none; number = refl }
@@ -95,7 +95,7 @@ attribute-taken {bs} a p q g s =
     let e : p + 2 ≡ k .mid = omega (arith, k .left .end) in
     rw (spelled-taken (m .left), ap (u4 bs) e ∙ spelled-u4 (length (a .info)) (k .right) .0) (spelled-taken (m .right))
 
-module _ (bs : List ℕ) (bytes : Bytes bs) where
+module _ (bs : List ℕ) (bytes : AreBytes bs) where
   pub attribute-read : (p q : ℕ) → afterAttribute bs p ≡ To q → Item Attribute attributeSpelling (λ a. Unit {0}) bs p q
   unfolding afterAttribute attributeSpelling
   attribute-read p q e =
@@ -134,7 +134,7 @@ interfaces-taken {bs} xs p q a =
     let m = split (u2Bytes (length xs)) (each u2Bytes xs) a in
     rw (u2-taken (length xs) (m .left), spelled-u2 (length xs) (m .left) .0, ← (interfaces-length xs)) (spelled-taken (m .right))
 
-module _ (bs : List ℕ) (bytes : Bytes bs) where
+module _ (bs : List ℕ) (bytes : AreBytes bs) where
   numbers-read : (n p q : ℕ) → p ≤ length bs → q ≡ p + 2 * n → q ≤ length bs → Items ℕ u2Bytes (λ x. Unit {0}) bs n p q
   unfolding each
   numbers-read zero p q h e l = record { values = []; spelled = ends-at (omega arith) (nothing bs p h); good = all-none; number = refl }
@@ -165,7 +165,7 @@ looked bs look p = onStep (taken bs p 2) (λ q. onStep (look (u2 bs p)) (λ name
 looked-taken : {bs : List ℕ} {p q : ℕ} (look : ℕ → Step) (i r : ℕ) → Spelled bs p (u2Bytes i) q → look i ≡ To r → looked bs look p ≡ To q
 looked-taken look i r a e = rw (u2-taken i a, spelled-u2 i a .0, e)
 
-looked-read : (bs : List ℕ) → Bytes bs → (look : ℕ → Step) (p q : ℕ) → looked bs look p ≡ To q
+looked-read : (bs : List ℕ) → AreBytes bs → (look : ℕ → Step) (p q : ℕ) → looked bs look p ≡ To q
     → Spelled bs p (u2Bytes (u2 bs p)) q × ((r : ℕ) × (look (u2 bs p) ≡ To r))
 looked-read bs bytes look p q e =
     let a = on-to (taken bs p 2) _ q e in
@@ -177,7 +177,7 @@ module _ (bs : List ℕ) (pool : List Constant) (end : ℕ) (has : Constants bs 
   Named i = (s : List ℕ) × IsUtf8 pool i s
 
   abbrev Classed : ℕ → Type 0
-  Classed i = (s : List ℕ) × IsClass pool i s
+  Classed i = (s : List ℕ) × IsClassInfo pool i s
 
   name-taken : {p q : ℕ} (i : ℕ) → Named i → Spelled bs p (u2Bytes i) q → afterName bs p ≡ To q
   unfolding afterName
@@ -246,7 +246,7 @@ module _ (bs : List ℕ) (pool : List Constant) (end : ℕ) (has : Constants bs 
     pub fields-hold : All (MemberHolds pool) fields
     pub methods-hold : All (MemberHolds pool) methods
 
-  module _ (bytes : Bytes bs) where
+  module _ (bytes : AreBytes bs) where
     name-read : (p q : ℕ) → afterName bs p ≡ To q → Item ℕ u2Bytes Named bs p q
     unfolding afterName
     name-read p q e =
@@ -327,7 +327,7 @@ module _ (bs : List ℕ) (pool : List Constant) (end : ℕ) (has : Constants bs 
         }
 
 -- a head that was taken found its class
-pub head-count : (bs : List ℕ) → Bytes bs → (p q : ℕ) → afterHead bs p ≡ To q → 1 ≤ poolCount bs
+pub head-count : (bs : List ℕ) → AreBytes bs → (p q : ℕ) → afterHead bs p ≡ To q → 1 ≤ poolCount bs
 unfolding afterHead afterClass
 head-count bs bytes p q e =
     let a = on-to (taken bs p 2) _ q e in

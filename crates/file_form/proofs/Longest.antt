@@ -9,6 +9,7 @@ use native.Mathlib.Omega.{arith}
 use lib.ListN.{length, getD}
 use lib.Dec.{eqb, leb, ltb}
 use borrow.Author.Tests.{leb-true, leb-false}
+use Rattle.words.specs.Words.{AreBytes}
 use Rattle.words.proofs.Bools.{by}
 use Rattle.class_form.specs.declared.Step.{Step}
 use Rattle.class_form.specs.declared.Step.the-variants.{To, Stop}
@@ -57,9 +58,37 @@ module _ (bs : List ℕ) where
   each item k one (suc n) p =
       more (omega (arith, suc-mul n k)) (then (item p) (afterEach item n) (one p) (λ q e. each item k one n q))
 
+-- ---- the longest of each item, in bytes
+
+-- a tag, a length and as many bytes
+abbrev constantMost : ℕ
+constantMost = 1 + (2 + 65535)
+
+-- a name, a length and as many bytes
+abbrev attributeMost : ℕ
+attributeMost = 6 + 4294967295
+
+abbrev attributesMost : ℕ
+attributesMost = 2 + 65535 * attributeMost
+
+-- flags, two references, attributes
+abbrev memberMost : ℕ
+memberMost = 2 + (2 + (2 + attributesMost))
+
+abbrev membersMost : ℕ
+membersMost = 2 + 65535 * memberMost
+
+-- interfaces: a count and two bytes each
+abbrev interfacesMost : ℕ
+interfacesMost = 2 + 2 * 65535
+
+-- flags, the class, its parent, interfaces
+abbrev headMost : ℕ
+headMost = 2 + (2 + (2 + interfacesMost))
+
 -- ---- numbers of two and four bytes
 
-module _ (bs : List ℕ) (bytes : (i : ℕ) → getD bs i 0 < 256) where
+module _ (bs : List ℕ) (bytes : AreBytes bs) where
   u2-most : (p : ℕ) → u2 bs p ≤ 65535
   unfolding u2
   u2-most p = omega (arith, bytes p, bytes (p + 1))
@@ -86,13 +115,13 @@ module _ (bs : List ℕ) (bytes : (i : ℕ) → getD bs i 0 < 256) where
   judged true t q = more bs (body-most t q) (takes bs q (bodySize bs t q))
   judged false t q = more bs (omega arith) (stopped bs q)
 
-  constant : (count i p : ℕ) → Within bs p 65538 (afterConstant bs count i p)
+  constant : (count i p : ℕ) → Within bs p constantMost (afterConstant bs count i p)
   unfolding afterConstant
   constant count i p =
       then bs (taken bs p 1) (λ q. cond (tagOk count i (getD bs p 0)) (taken bs q (bodySize bs (getD bs p 0) q)) (Stop 22)) (takes bs p 1)
       (λ q e. judged (tagOk count i (getD bs p 0)) (getD bs p 0) q)
 
-  constants : (count k i p : ℕ) → Within bs p (k * 65538) (afterConstants bs count k i p)
+  constants : (count k i p : ℕ) → Within bs p (k * constantMost) (afterConstants bs count k i p)
   unfolding afterConstants
   constants count zero i p = stays bs p
   constants count (suc k) i p =
@@ -104,27 +133,27 @@ module _ (bs : List ℕ) (bytes : (i : ℕ) → getD bs i 0 < 256) where
       (λ q e. constants count k (i + places (getD bs p 0)) q))))
       (λ t. rw t (more bs (omega arith) (stays bs p)))
 
-  pool : Within bs 8 (2 + 65535 * 65538) (afterPool bs)
+  pool : Within bs 8 (2 + 65535 * constantMost) (afterPool bs)
   unfolding afterPool poolCount
   pool =
-      then bs {l = 65535 * 65538} (taken bs 8 2) (afterConstants bs (u2 bs 8) (u2 bs 8) 1) (takes bs 8 2)
+      then bs {l = 65535 * constantMost} (taken bs 8 2) (afterConstants bs (u2 bs 8) (u2 bs 8) 1) (takes bs 8 2)
       (λ q e. more bs (omega (arith, u2-most 8)) (constants (u2 bs 8) (u2 bs 8) 1 q))
 
   -- ---- items that look nothing up
 
-  interfaces : (p : ℕ) → Within bs p 131072 (afterInterfaces bs p)
+  interfaces : (p : ℕ) → Within bs p interfacesMost (afterInterfaces bs p)
   unfolding afterInterfaces
   interfaces p =
-      then bs {l = 131070} (taken bs p 2) (λ q. taken bs q (2 * u2 bs p)) (takes bs p 2) (λ q e. more bs (omega (arith, u2-most p)) (takes bs q (2 * u2 bs p)))
+      then bs {l = 2 * 65535} (taken bs p 2) (λ q. taken bs q (2 * u2 bs p)) (takes bs p 2) (λ q e. more bs (omega (arith, u2-most p)) (takes bs q (2 * u2 bs p)))
 
-  attribute : (p : ℕ) → Within bs p 4294967301 (afterAttribute bs p)
+  attribute : (p : ℕ) → Within bs p attributeMost (afterAttribute bs p)
   unfolding afterAttribute
   attribute p =
       then bs (taken bs p 6) (λ q. taken bs q (u4 bs (p + 2))) (takes bs p 6) (λ q e. more bs (u4-most (p + 2)) (takes bs q (u4 bs (p + 2))))
 
-  attributes : (p : ℕ) → Within bs p (2 + 65535 * 4294967301) (afterAttributes bs p)
+  attributes : (p : ℕ) → Within bs p attributesMost (afterAttributes bs p)
   unfolding afterAttributes
-  attributes p = counted (afterAttribute bs) 4294967301 attribute p
+  attributes p = counted (afterAttribute bs) attributeMost attribute p
 
   -- ---- references, once the pool has been taken
 
@@ -149,27 +178,25 @@ module _ (bs : List ℕ) (bytes : (i : ℕ) → getD bs i 0 < 256) where
     unfolding afterParent
     parent p = by (eqb (u2 bs p) 0) (λ t. rw t (takes bs p 2)) (λ t. rw t (class p))
 
-    head : (p : ℕ) → Within bs p 131078 (afterHead bs p)
+    head : (p : ℕ) → Within bs p headMost (afterHead bs p)
     unfolding afterHead
     head p =
         then bs (taken bs p 2) (λ q. onStep (afterClass bs q) (λ r. onStep (afterParent bs r) (afterInterfaces bs))) (takes bs p 2)
         (λ q t. then bs (afterClass bs q) (λ r. onStep (afterParent bs r) (afterInterfaces bs)) (class q)
         (λ r u. then bs (afterParent bs r) (afterInterfaces bs) (parent r) (λ s v. interfaces s)))
 
-    member : (p : ℕ) → Within bs p (8 + 65535 * 4294967301) (afterMember bs p)
+    member : (p : ℕ) → Within bs p memberMost (afterMember bs p)
     unfolding afterMember
     member p =
         then bs (taken bs p 2) (λ q. onStep (afterName bs q) (λ r. onStep (afterName bs r) (afterAttributes bs))) (takes bs p 2)
         (λ q t. then bs (afterName bs q) (λ r. onStep (afterName bs r) (afterAttributes bs)) (name q)
         (λ r u. then bs (afterName bs r) (afterAttributes bs) (name r) (λ s v. attributes s)))
 
-    members : (p : ℕ) → Within bs p (2 + 65535 * (8 + 65535 * 4294967301)) (afterMembers bs p)
+    members : (p : ℕ) → Within bs p membersMost (afterMembers bs p)
     unfolding afterMembers
-    members p = counted (afterMember bs) (8 + 65535 * 4294967301) member p
+    members p = counted (afterMember bs) memberMost member p
 
-    rest : (p : ℕ)
-        → Within bs p (131078 + ((2 + 65535 * (8 + 65535 * 4294967301)) + ((2 + 65535 * (8 + 65535 * 4294967301)) + (2 + 65535 * 4294967301))))
-        (onStep (afterHead bs p) (afterBody bs))
+    rest : (p : ℕ) → Within bs p (headMost + (membersMost + (membersMost + attributesMost))) (onStep (afterHead bs p) (afterBody bs))
     unfolding afterBody
     rest p =
         then bs (afterHead bs p) (afterBody bs) (head p)
@@ -177,6 +204,6 @@ module _ (bs : List ℕ) (bytes : (i : ℕ) → getD bs i 0 < 256) where
         (λ r u. then bs (afterMembers bs r) (afterAttributes bs) (members r) (λ s v. attributes s)))
 
 -- so many bytes, in whatever file
-pub longest : (most : ℕ) × ((bs : List ℕ) → ((i : ℕ) → getD bs i 0 < 256) → Within bs 8 most (afterFile bs))
+pub longest : (most : ℕ) × ((bs : List ℕ) → AreBytes bs → Within bs 8 most (afterFile bs))
 unfolding afterFile
 longest = (_, λ bs bytes. then bs (afterPool bs) (λ p. onStep (afterHead bs p) (afterBody bs)) (pool bs bytes) (λ e t. rest bs bytes e t e))

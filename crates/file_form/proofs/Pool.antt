@@ -9,13 +9,13 @@ use lib.ListN.{length, getD}
 use lib.Dec.{eqb, leb, ltb}
 use borrow.Author.Tests.{eqb-true, eq-eqb, ne-eqb, ltb-true, ltb-false, lt-ltb, le-ltb, le-leb}
 use Rattle.words.proofs.Bools.{by, and-both}
+use Rattle.words.specs.Words.{AreBytes}
 use Rattle.class_form.specs.declared.Step.{Step}
 use Rattle.class_form.specs.declared.Step.the-variants.{To, Stop}
 use Rattle.class_form.specs.Form.{u2, taken, places, afterConstant, afterConstants, poolCount, afterPool, constantFrom, constantAt, taggedAt, utf8At, classAt}
 use Rattle.file_form.specs.Grammar.{u2Bytes, each, Constant, Utf8, Integer, Float, Long, Double, Class, String, Fieldref, Methodref}
 use Rattle.file_form.specs.Grammar.{InterfaceMethodref, NameAndType, tagOf, infoOf, constantSpelling, entriesOf, poolEntries, poolSpelling}
-use Rattle.file_form.specs.Grammar.{Stands, here, there, IsUtf8, IsClass}
-use Rattle.file_form.specs.Derived.{Bytes}
+use Rattle.file_form.specs.Grammar.{Stands, here, there, IsUtf8, IsClassInfo}
 use Rattle.file_form.proofs.Outcome.{on-to, to-same, stop-to, taken-to}
 use Rattle.file_form.proofs.Spelled.{Spelled, nothing, join, split, ends-at, begins-at, first-byte, spelled-taken, spelled-u2, some-u2}
 use Rattle.file_form.proofs.Constants.{constant-taken, spelled-entries, constant-read}
@@ -76,7 +76,7 @@ constants-taken {count = count} (c ∷ cs) (suc k) j p h a =
     (constants-taken cs k (j + entriesOf c) (n .place) (omega (arith, some-entries c)) (n .others))
 
 -- and what was taken are constants
-pub constants-read : (bs : List ℕ) → Bytes bs → (count k j p q : ℕ) → p ≤ length bs → j ≤ count → count ≤ j + k → afterConstants bs count k j p ≡ To q
+pub constants-read : (bs : List ℕ) → AreBytes bs → (count k j p q : ℕ) → p ≤ length bs → j ≤ count → count ≤ j + k → afterConstants bs count k j p ≡ To q
     → (cs : List Constant) × Constants bs count j p cs q
 unfolding afterConstants each poolEntries
 constants-read bs bytes count zero j p q fit h g e =
@@ -231,7 +231,7 @@ pub record PoolOf (bs : List ℕ) (e : ℕ) : Type 0 where
   pub spelled : Spelled bs 8 (poolSpelling pool) e
   pub has : Constants bs (poolCount bs) 1 10 pool e
 
-pub pool-read : (bs : List ℕ) → Bytes bs → (e : ℕ) → 1 ≤ poolCount bs → afterPool bs ≡ To e → PoolOf bs e
+pub pool-read : (bs : List ℕ) → AreBytes bs → (e : ℕ) → 1 ≤ poolCount bs → afterPool bs ≡ To e → PoolOf bs e
 unfolding afterPool poolCount poolSpelling
 pool-read bs bytes e some f =
     let a = on-to (taken bs 8 2) _ e f in
@@ -299,7 +299,7 @@ module _ (bs : List ℕ) (pool : List Constant) (e : ℕ) (has : Constants bs (p
       let u = utf8-of (w .stood .constant) (w .tag) in
       record { bytes = u .0; utf8 = rw (u .1) at (w .stood .stands); end = w .stood .end; spelled = rw (u .1) at (w .stood .spelled) }
 
-  pub class-found : {s : List ℕ} {i : ℕ} → IsClass pool i s → FoundAt bs (Utf8 s) (classAt bs i)
+  pub class-found : {s : List ℕ} {i : ℕ} → IsClassInfo pool i s → FoundAt bs (Utf8 s) (classAt bs i)
   unfolding classAt tagOf
   class-found {s} {i} h =
       let f = tagged-found (h .class) in
@@ -313,7 +313,7 @@ module _ (bs : List ℕ) (pool : List Constant) (e : ℕ) (has : Constants bs (p
 
   pub record ClassAt (i r : ℕ) : Type 0 where
     pub bytes : List ℕ
-    pub class : IsClass pool i bytes
+    pub class : IsClassInfo pool i bytes
     pub end : ℕ
     pub spelled : Spelled bs r (constantSpelling (Utf8 bytes)) end
 

@@ -7,10 +7,10 @@ use native.Mathlib.Numerals.{add-one}
 use lib.ListN.{length, getD, take, drop, length-append, length-drop, length-take, take-append-drop, List·getD-append}
 use lib.Seq.{drop-drop, drop-cons, getD-drop, drop-append-seam, drop-length}
 use borrow.Author.Tests.{le-leb}
+use Rattle.words.specs.Words.{AreBytes}
 use Rattle.class_form.specs.declared.Step.the-variants.{To}
 use Rattle.class_form.specs.Form.{u2, u4, taken}
 use Rattle.file_form.specs.Grammar.{u2Bytes, u4Bytes}
-use Rattle.file_form.specs.Derived.{Bytes}
 
 -- s stands in bs from p to q
 pub record Spelled (bs : List ℕ) (p : ℕ) (s : List ℕ) (q : ℕ) : Type 0 where
@@ -117,10 +117,10 @@ some-length bs p n h = omega (arith, length-take n (drop p bs), length-drop p bs
 pub some-byte : (bs : List ℕ) (p : ℕ) → p + 1 ≤ length bs → Spelled bs p (getD bs p 0 ∷ []) (p + 1)
 some-byte bs p h = record { is = rw (add-one p) (drop-cons bs p 0 (omega arith)); end = omega arith; there = h }
 
-module _ (bs : List ℕ) (bytes : Bytes bs) where
+module _ (bs : List ℕ) (bytes : AreBytes bs) where
   u2-small : (p : ℕ) → p + 2 ≤ length bs → u2 bs p < 65536
   unfolding u2
-  u2-small p h = omega (arith, bytes p (omega arith), bytes (p + 1) (omega arith))
+  u2-small p h = omega (arith, bytes p, bytes (p + 1))
 
   two-bytes : (p : ℕ) → p + 2 ≤ length bs → Spelled bs p (getD bs p 0 ∷ getD bs (p + 1) 0 ∷ []) (p + 2)
   two-bytes p h = ends-at (omega arith) (join (some-byte bs p (omega arith)) (some-byte bs (p + 1) (omega arith)))
@@ -128,7 +128,7 @@ module _ (bs : List ℕ) (bytes : Bytes bs) where
   pub some-u2 : (p : ℕ) → p + 2 ≤ length bs → Spelled bs p (u2Bytes (u2 bs p)) (p + 2)
   unfolding u2 u2Bytes
   some-u2 p h =
-      let low = bytes (p + 1) (omega arith) in
+      let low = bytes (p + 1) in
       let e : (256 * getD bs p 0 + getD bs (p + 1) 0) / 256 ≡ getD bs p 0 = omega arith in
       let f : (256 * getD bs p 0 + getD bs (p + 1) 0) % 256 ≡ getD bs (p + 1) 0 = omega arith in
       rw (e, f) (two-bytes p h)

@@ -5,16 +5,16 @@ use mathlib.Core.Bool.{true, false}
 use mathlib.Core.List.{List, _∷_, _++_}
 use Prim.Native.Nat.{ℕ, _+_, _-_, _≤_, _<_}
 use native.Mathlib.Omega.{arith}
-use lib.ListN.{length, getD, take, replicate, length-append, length-take, length-replicate, getD-replicate, List·getD-append, List·getD-eq-default}
+use lib.ListN.{length, getD, take, replicate, length-append, length-take, length-replicate, getD-replicate, List·getD-eq-default}
 use lib.Seq.{take-take, take-length, length-take-le, take-append-le, take-append-add, getD-take}
 use lib.Dec.{eqb, leb, ltb}
 use borrow.Author.Tests.{eqb-true, eqb-false, eq-eqb, ne-eqb, leb-true, leb-false, ltb-true, ltb-false, le-leb, lt-leb}
 use Rattle.words.proofs.Bools.{by}
-use Rattle.words.proofs.Lists.{skip}
+use Rattle.words.proofs.Bytes.{all-bytes, append-bytes}
+use Rattle.words.specs.Words.{AreBytes}
 use Rattle.class_form.specs.declared.Step.{Step}
 use Rattle.class_form.specs.declared.Step.the-variants.{To, Stop}
 use Rattle.class_form.specs.Form.{afterFile, versionOk, endRefusal, formRefusal}
-use Rattle.file_form.specs.Derived.{Bytes}
 use Rattle.file_form.specs.FrontToBack.{MetAt, EndsEarly, Open, Continues, Alone, FrontToBack}
 use Rattle.file_form.proofs.Outcome.{agree-less, agree-u2, agree-u4, agree-length, Held, Before, Outcome, goes, met, early}
 use Rattle.file_form.proofs.File.{file}
@@ -136,15 +136,10 @@ zeros-at n i =
     let past : length none ≤ i = omega (arith, length-replicate {A = ℕ} n 0, ltb-false i n t) in
     List·getD-eq-default none 0 past)
 
-longer-small : (bs : List ℕ) → Bytes bs → (n i : ℕ) → getD (bs ++ replicate n 0) i 0 < 256
-longer-small bs small n i =
-    by (ltb i (length bs))
-    (λ t. let l = ltb-true i (length bs) t in rw (List·getD-append bs (replicate n 0) 0 i l) (small i l))
-    (λ t.
-    let l = ltb-false i (length bs) t in
-    rw (skip bs (replicate n 0) i (i - length bs) 0 (omega arith), zeros-at n (i - length bs)) (omega arith))
+zero-bytes : (n : ℕ) → AreBytes (replicate n 0)
+zero-bytes n i = rw (zeros-at n i) (omega arith)
 
-module _ (bs : List ℕ) (small : Bytes bs) (ends : EndsEarly bs) where
+module _ (bs : List ℕ) (small : AreBytes bs) (ends : EndsEarly bs) where
   -- as many zeros as no file can ask for
   abbrev many : ℕ
   many = 8 + longest .0
@@ -161,10 +156,8 @@ module _ (bs : List ℕ) (small : Bytes bs) (ends : EndsEarly bs) where
   eight : 8 ≤ length cs
   eight = omega (arith, length-cs)
 
-  some-zeros : (k : ℕ) → Bytes (take k zs)
-  some-zeros k i h =
-      let l : i < k = omega (arith, length-take k zs) in
-      rw (getD-take k zs i 0 l, zeros-at many i) (omega arith)
+  some-zeros : (k : ℕ) → AreBytes (take k zs)
+  some-zeros k = all-bytes (take k zs) (λ i h. rw (getD-take k zs i 0 (omega (arith, length-take k zs))) (zero-bytes many i))
 
   -- a front that is a class file is longer than bs
   up-to : (q : ℕ) → formRefusal (take q cs) ≡ 0 → Open bs
@@ -186,7 +179,7 @@ module _ (bs : List ℕ) (small : Bytes bs) (ends : EndsEarly bs) where
   by-row row other e =
       record {
         more = zs;
-        bytes = λ i h. rw (zeros-at many i) (omega arith);
+        bytes = zero-bytes many;
         other = λ z. other (sym e ∙ z);
       }
 
@@ -199,7 +192,7 @@ module _ (bs : List ℕ) (small : Bytes bs) (ends : EndsEarly bs) where
       by-row 22 (λ z. omega arith) (judged cs eight v q (Stop 22) low there held cs refl)
   after-eight v (early before) =
       let stop : afterFile cs ≡ Stop 21 = sym (ap afterFile (take-length cs)) ∙ before (length cs) eight (omega arith) in
-      let few = longest .1 cs (longer-small bs small many) .ends stop in
+      let few = longest .1 cs (append-bytes bs zs small (zero-bytes many)) .ends stop in
       absurd (omega (arith, few, length-cs))
 
   goes-on : Open bs

@@ -1,18 +1,14 @@
 -- What is claimed of the definition that judges a class file's form: it is the Specification's. `derived` of proofs/Derived.antt proves it. Assumes nothing.
-use Prim.Native.Nat.{ℕ, _<_}
+use Prim.Native.Nat.{ℕ}
 use mathlib.Core.Path.{_≡_}
 use mathlib.Core.List.{List}
-use lib.ListN.{length, getD}
+use Rattle.words.specs.Words.{AreBytes}
 use Rattle.class_form.specs.Form.{formRefusal}
 use Rattle.file_form.specs.Grammar.{Constant, ClassFile, fileSpelling, Stands, Derivation}
 
--- each is a byte, as those of a slice are
-abbrev pub Bytes : List ℕ → Type 0
-Bytes bs = (i : ℕ) → i < length bs → getD bs i 0 < 256
-
 pub record Derived : Type 0 where
   -- bytes are accepted if and only if a class file, whose used references hold, spells them
-  pub sound : (bs : List ℕ) → Bytes bs → formRefusal bs ≡ 0 → Derivation bs
+  pub sound : (bs : List ℕ) → AreBytes bs → formRefusal bs ≡ 0 → Derivation bs
   pub complete : (bs : List ℕ) → Derivation bs → formRefusal bs ≡ 0
   -- only one spells them
   pub unique : (f g : ClassFile) → fileSpelling f ≡ fileSpelling g → f ≡ g

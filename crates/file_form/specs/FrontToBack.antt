@@ -5,8 +5,8 @@ use mathlib.Core.Path.{_≡_}
 use mathlib.Core.Logic.{_≢_, _⊎_}
 use mathlib.Core.List.{List, _∷_, _++_}
 use lib.ListN.{length, take}
+use Rattle.words.specs.Words.{AreBytes}
 use Rattle.class_form.specs.Form.{formRefusal}
-use Rattle.file_form.specs.Derived.{Bytes}
 
 -- a row is met at q: all bytes that begin with the first q of bs have it, and what ends before q is cut short
 pub record MetAt (bs : List ℕ) (row q : ℕ) : Type 0 where
@@ -21,7 +21,7 @@ EndsEarly bs = (n : ℕ) → n ≤ length bs → formRefusal (take n bs) ≡ 21
 -- bytes that begin with bs and are not refused by 21
 pub record Open (bs : List ℕ) : Type 0 where
   pub more : List ℕ
-  pub bytes : Bytes more
+  pub bytes : AreBytes more
   pub other : formRefusal (bs ++ more) ≢ 21
 
 -- a front of bs is a class file, and bytes continue after it
@@ -46,6 +46,6 @@ pub record FrontToBack (bs : List ℕ) : Type 0 where
   pub ends : formRefusal bs ≡ 21 → EndsEarly bs ⊎ Continues bs
   -- 5. Of bytes that end early nothing has been met yet: with others after them they are a class file, or another row refuses them. So a front at
   -- which 22 is met is never told 21.
-  pub unmet : Bytes bs → EndsEarly bs → Open bs
+  pub unmet : AreBytes bs → EndsEarly bs → Open bs
   -- 6. No class file is the front of another.
   pub alone : formRefusal bs ≡ 0 → Alone bs

@@ -146,7 +146,7 @@ abbrev pub IsUtf8 : List Constant → ℕ → List ℕ → Type 0
 IsUtf8 pool i s = Stands (Utf8 s) i 1 pool
 
 -- "a CONSTANT_Class_info structure", whose name_index is that of a CONSTANT_Utf8_info (4.4.1): the class of this name
-pub record IsClass (pool : List Constant) (i : ℕ) (s : List ℕ) : Type 0 where
+pub record IsClassInfo (pool : List Constant) (i : ℕ) (s : List ℕ) : Type 0 where
   pub index : ℕ
   pub class : Stands (Class index) i 1 pool
   pub name : IsUtf8 pool index s
@@ -163,9 +163,9 @@ pub data All {A : Type 0} (P : A → Type 0) : List A → Type 0 where
 pub record Holds (f : ClassFile) : Type 0 where
   pub oldest : 45 ≤ f .major
   pub newest : f .major ≤ 48
-  pub this : (s : List ℕ) × IsClass (f .pool) (f .this) s
+  pub this : (s : List ℕ) × IsClassInfo (f .pool) (f .this) s
   -- "parent name (none if its reference is 0)"
-  pub super : (f .super ≡ 0) ⊎ ((s : List ℕ) × IsClass (f .pool) (f .super) s)
+  pub super : (f .super ≡ 0) ⊎ ((s : List ℕ) × IsClassInfo (f .pool) (f .super) s)
   pub fields : All (MemberHolds (f .pool)) (f .fields)
   pub methods : All (MemberHolds (f .pool)) (f .methods)
 

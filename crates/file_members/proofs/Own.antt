@@ -14,7 +14,7 @@ use Rattle.class_form.specs.Parts.{memberAt}
 use Rattle.class_members.specs.Members.{headPlace, fieldsPlace, methodsPlace, placesFrom, memberPlaces, fieldPlaces, methodPlaces, stringAt}
 use Rattle.class_members.specs.Members.{utf8Bytes, classBytes, fileFlags, fileName, parentIndex, fileParent, newOf, membersAt, fileFields, fileMethods}
 use Rattle.file_form.specs.Grammar.{u2Bytes, each, counted, Constant, Utf8, tagOf, infoOf, constantSpelling, Member, ClassFile}
-use Rattle.file_form.specs.Grammar.{attributeSpelling, memberSpelling, fileSpelling, IsUtf8, IsClass, MemberHolds, All, all-none, all-more, Holds, Derivation}
+use Rattle.file_form.specs.Grammar.{attributeSpelling, memberSpelling, fileSpelling, IsUtf8, IsClassInfo, MemberHolds, All, all-none, all-more, Holds, Derivation}
 use Rattle.file_form.proofs.Spelled.{Spelled, split, begins-at, whole, spelled-u2}
 use Rattle.file_form.proofs.Pool.{Constants, utf8-found, class-found}
 use Rattle.file_form.proofs.Formed.{attributes-taken, members-taken}
@@ -38,7 +38,7 @@ module _ (bs : List ℕ) (pool : List Constant) (end : ℕ) (has : Constants bs 
   unfolding utf8Bytes
   utf8-own i n = let f = utf8-found bs pool end has (n .1) in rw (f .at, string-is (n .0) (f .spelled)) (n .1)
 
-  class-own : (i : ℕ) → (s : List ℕ) × IsClass pool i s → IsClass pool i (classBytes bs i)
+  class-own : (i : ℕ) → (s : List ℕ) × IsClassInfo pool i s → IsClassInfo pool i (classBytes bs i)
   unfolding classBytes
   class-own i n = let f = class-found bs pool end has (n .1) in rw (f .at, string-is (n .0) (f .spelled)) (n .1)
 
@@ -133,7 +133,7 @@ module _ (bs : List ℕ) (f : ClassFile) (holds : Holds f) (l : Laid bs f) where
   numbers : (u2 bs (l .pool-end) ≡ f .flags) × (u2 bs (l .pool-end + 2) ≡ f .this) × (u2 bs (l .pool-end + 4) ≡ f .super)
   numbers = head-numbers (f .flags) (f .this) (f .super) (f .interfaces) (l .head)
 
-  own-name : IsClass (f .pool) (f .this) (fileName bs)
+  own-name : IsClassInfo (f .pool) (f .this) (fileName bs)
   unfolding fileName
   own-name = rw (head-at, numbers .1) (class-own bs (f .pool) (l .pool-end) (l .has) (f .this) (holds .this))
 
@@ -149,12 +149,12 @@ module _ (bs : List ℕ) (f : ClassFile) (holds : Holds f) (l : Laid bs f) where
   unfolding fileParent
   own-no-parent z = rw (parent-is, eq-eqb (f .super) 0 z)
 
-  parent-class : (f .super ≡ 0) ⊎ ((s : List ℕ) × IsClass (f .pool) (f .super) s) → f .super ≢ 0
-      → IsClass (f .pool) (f .super) (classBytes bs (f .super))
+  parent-class : (f .super ≡ 0) ⊎ ((s : List ℕ) × IsClassInfo (f .pool) (f .super) s) → f .super ≢ 0
+      → IsClassInfo (f .pool) (f .super) (classBytes bs (f .super))
   parent-class (inl z) n = absurd (n z)
   parent-class (inr c) n = class-own bs (f .pool) (l .pool-end) (l .has) (f .super) c
 
-  own-parent : f .super ≢ 0 → IsClass (f .pool) (f .super) (fileParent bs)
+  own-parent : f .super ≢ 0 → IsClassInfo (f .pool) (f .super) (fileParent bs)
   unfolding fileParent
   own-parent n = rw (parent-is, ne-eqb (f .super) 0 n) (parent-class (holds .super) n)
 

@@ -68,7 +68,7 @@ supplied bs targets fields methods text rest bytes e =
     let r = read-passed bs targets fields methods text e in
     let passed = file-passed bs targets (r .0) in
     let y = sheet-form bs targets fields methods text rest bytes e in
-    let d = derived .sound bs (λ i h. bytes i) (passed .form) in
+    let d = derived .sound bs bytes (passed .form) in
     let w = own bs targets d in
     let size : readClassFile bs targets fields methods text .parent ≡ length (fileParent bs) = ap (λ (o : FileOutcome). o .parent) (r .1) in
     record {

@@ -6,8 +6,8 @@ use mathlib.Core.Logic.{_≢_, _↔_}
 use mathlib.Core.List.{List}
 use lib.ListN.{getD}
 use Rattle.words.specs.Lists.{listFrom}
+use Rattle.words.specs.Words.{AreBytes}
 use Rattle.text.specs.Text.{nameAt}
-use Rattle.block.specs.Block.{AreBytes}
 use Rattle.class_sheet.specs.ClassSheet.{methodCount, fieldCount, textOf, classFlags, className, methodName, methodDescriptor, methodFlags, methodTarget}
 use Rattle.class_sheet.specs.ClassSheet.{fieldName, fieldDescriptor, fieldFlags, fieldIndex}
 use Rattle.class_sheet.specs.Sections.{laidOut}
@@ -15,7 +15,7 @@ use Rattle.set_rules.specs.SetRules.{setRefusal}
 use Rattle.linking.specs.Compiler.{New}
 use Rattle.class_members.specs.Members.{FileOutcome, readClassFile}
 use Rattle.class_members.specs.SheetForm.{oneClass, noAbi}
-use Rattle.file_form.specs.Grammar.{ClassFile, fileSpelling, IsClass, Derivation}
+use Rattle.file_form.specs.Grammar.{ClassFile, fileSpelling, IsClassInfo, Derivation}
 use Rattle.file_members.specs.Own.{AreMembers}
 
 -- a method and a field of words, and all that they hold, in their order
@@ -47,9 +47,9 @@ fieldsOf ws = listFrom (fieldAt ws) 0 (fieldCount ws)
 pub record Says (targets : List ℕ) (o : FileOutcome) (ws : List ℕ) (f : ClassFile) : Type 0 where
   -- rows 3 to 5 accept the set
   pub accepted : setRefusal ws noAbi ≡ 0
-  pub name : IsClass (f .pool) (f .this) (className ws (textOf ws) 1)
+  pub name : IsClassInfo (f .pool) (f .this) (className ws (textOf ws) 1)
   -- the parent's name stands after the class's: "none if its reference is 0", and then only
-  pub parent : f .super ≢ 0 → IsClass (f .pool) (f .super) (nameAt (textOf ws) (o .name) (o .parent))
+  pub parent : f .super ≢ 0 → IsClassInfo (f .pool) (f .super) (nameAt (textOf ws) (o .name) (o .parent))
   pub no-parent : (o .parent ≡ 0) ↔ (f .super ≡ 0)
   pub flags : classFlags ws 1 ≡ f .flags
   -- "in file order"

@@ -3,7 +3,7 @@ ghost use mathlib.Core.Path.{_≡_};
 ghost use Prim.Native.Nat.{_/_};
 ghost use lib.ListN.{length};
 ghost use Rattle.words.specs.Folds.{stores, allOf};
-ghost use Rattle.files.specs.Files.{wordOf, Fits, sameWord};
+ghost use Rattle.files.specs.Files.{wordOf, Left, sameWord};
 use words::le_word;
 use words::put_word;
 use words::word_at;
@@ -25,7 +25,7 @@ fn is_whole(fd: i32, n: usize, room: usize) -> bool {
 
 // Reads an open file to its end, or as much of it as there is room for.
 fn read_open(fd: i32, bytes: &mut [u8]) -> File
-    ensures { λ r. ⌜ Fits r (length (now (bytes .entry))) ⌝ }
+    ensures { λ r. ⌜ Left r (now (bytes .entry)) (now (bytes .exit)) ⌝ }
 {
     let n = io::read_full(fd, bytes);
     if is_whole(fd, n, bytes.len()) {
@@ -34,9 +34,10 @@ fn read_open(fd: i32, bytes: &mut [u8]) -> File
     File::Unread
 }
 
-// Reads the file at a path, as `read_open` does, or says on standard error why it cannot. What is read no contract can say.
+// Reads the file at a path, as `read_open` does, or says on standard error why it cannot. What is read is the world's choice, and no contract can say it: `Left`
+// has what holds of every choice.
 pub fn read_path(path: &[u8], bytes: &mut [u8]) -> File
-    ensures { λ r. ⌜ Fits r (length (now (bytes .entry))) ⌝ }
+    ensures { λ r. ⌜ Left r (now (bytes .entry)) (now (bytes .exit)) ⌝ }
 {
     let fd = os::open_read(path);
     if fd < 0 {

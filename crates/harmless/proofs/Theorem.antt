@@ -17,21 +17,13 @@ use Rattle.class_rules.specs.ClassRules.{classForm, classRecords}
 use Rattle.abi_rules.specs.AbiRules.{abiForm, abiRecords}
 use Rattle.set_rules.specs.SetRules.{classDescriptors, abiDescriptors, classRefusal, abiRefusal, setFits, recordsRefusal, setRefusal}
 use Rattle.descriptor.specs.Words as descriptor
-use Rattle.descriptor.specs.Words as descriptor
-use Rattle.descriptor.specs.Words as descriptor
 use Rattle.descriptor.specs.Words.{isMethod, argumentAnswer}
-use Rattle.references.specs.References as references
-use Rattle.references.specs.References as references
 use Rattle.references.specs.References as references
 use Rattle.references.specs.References.{tooFew, markedWords, readReferences, countReferences}
 use Rattle.sheet.specs.Sheet as sheet
 use Rattle.sheet.specs.Sheet.{blockRefusal, sheetRefusal, readSheet, classRows, looseRows, abiRows, classSheetRefusal, unorderedSheetRefusal, abiSheetRefusal, readClassSheet, readUnorderedSheet, readAbiSheet}
 use Rattle.writer.specs.Writer as writer
-use Rattle.writer.specs.Writer as writer
-use Rattle.writer.specs.Writer as writer
 use Rattle.writer.specs.Writer.{writeRefusal, writeClassSheet}
-use Rattle.renumber.specs.Renumber as renumber
-use Rattle.renumber.specs.Renumber as renumber
 use Rattle.renumber.specs.Renumber as renumber
 use Rattle.renumber.specs.Renumber.{renumberRefusal, renumberDef}
 use Rattle.convert.specs.Convert.{blocksOrRow, forward, narrowed, widenRefusal, widenSheet, narrowRefusal, narrowSheet}
@@ -186,11 +178,11 @@ within-set Q three four five ws abi =
 -- ---- rows 8 to 13, of a plan
 
 module _ (Q : ℕ → Type 0) (all : (n : ℕ) → 3 ≤ n → n ≤ 15 → Q n) (ws text abi labels area : List ℕ) where
-  put-row : (fixed slot : Found) (m : ℕ) (T : List Entry) → Table Q (putMethod ws text abi labels fixed slot m T)
+  put-row : (fixed slot : Found) (m : ℕ) (T : List Entry) → Table Q (putMethod ws text fixed slot m T)
   unfolding putMethod
   put-row (At i) slot m T =
       table-either Q (onFound slot (λ j. not (eqb j i)) false) (refused 11) _ (no-table 11 (λ h. all 11 (omega arith) (omega arith)))
-      (table-either Q (entryIsOther ws text abi labels (methodName ws text m) (methodDescriptor ws text m) (getD T i empty)) (refused 12) _
+      (table-either Q (entryIsOther ws text (methodName ws text m) (methodDescriptor ws text m) (getD T i empty)) (refused 12) _
       (no-table 12 (λ h. all 12 (omega arith) (omega arith))) (a-table _))
   put-row Nothing (At j) m T = a-table _
   put-row Nothing Nothing m T = a-table _
@@ -225,7 +217,7 @@ module _ (Q : ℕ → Type 0) (all : (n : ℕ) → 3 ≤ n → n ≤ 15 → Q n)
   fields-row : (c : ℕ) → Num Q (generatedRefusal ws text c)
   unfolding generatedRefusal
   fields-row c =
-      num-either Q (ltb (instanceWords ws text c) (declaredWords ws text c)) 8 _ (λ h. all 8 (omega arith) (omega arith))
+      num-either Q (ltb (instanceWords ws c) (declaredWords ws text c)) 8 _ (λ h. all 8 (omega arith) (omega arith))
       (num-either Q (standFrom ws text (generatedBase ws text c) (ownFields ws c) || standFrom ws text 0 (ownFields ws c)) 0 9 (none Q) (λ h. all 9 (omega arith) (omega arith)))
 
   generated-row : (c : ℕ) → Plans Q (planGenerated ws text abi labels area c)
@@ -263,7 +255,7 @@ module _ (Q : ℕ → Type 0) (all : (n : ℕ) → 3 ≤ n → n ≤ 15 → Q n)
 
 module _ (Q : ℕ → Type 0) (three : Q 3) (four : Q 4) (five : Q 5) (six : Q 6) (seven : Q 7) (fifteen : Q 15) (sixteen : Q 16)
     (ws abi : List ℕ) (c i : ℕ) (area stubs : List ℕ) where
-  entry-row : (e : Entry) (m k : Found) (b : Built) → Table Q b → Table Q (consEntry ws (textOf ws) (dispatchEntry ws (textOf ws) e m k) b)
+  entry-row : (e : Entry) (m k : Found) (b : Built) → Table Q b → Table Q (consEntry (dispatchEntry ws e m k) b)
   entry-row e (At m) (At k) (built T) p = a-table _
   entry-row e (At m) (At k) (refused n) p = p
   entry-row e (At m) Nothing b p = no-table 16 (λ h. sixteen)

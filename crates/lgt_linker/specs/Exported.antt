@@ -34,7 +34,8 @@ renumberedBy row answer ws order = record { refusal = row; classes = getD answer
 abbrev pub argumentsBy : ℕ → List ℕ → descriptor.Answer
 argumentsBy row answer = record { refusal = row; words = getD answer 0 0 }
 
--- "The comparison also counts the byte pairs it read": 0, as nothing is refused, 1 for the same names and 0 for others, and the count
+-- "The comparison also counts the byte pairs it read": 0, as nothing is refused, 1 for the same names and 0 for others, and the count. The papers give no
+-- numbers for same and other: 1 and 0 are our choice.
 pub record Comparison : Type 0 where
   pub refusal : ℕ
   pub same : ℕ

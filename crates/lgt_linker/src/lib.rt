@@ -243,7 +243,8 @@ pub extern "C" fn lgt_argument_words(descriptor: &[u8], flags: u32, answer: &mut
     }
 }
 
-// `text::compare`: the answer words are 1 for the same names and 0 for others, and the pairs of bytes read. Nothing is refused.
+// `text::compare`: the answer words are 1 for the same names and 0 for others, and the pairs of bytes read. Nothing is refused. The papers give no numbers for
+// same and other: 1 and 0 are our choice.
 #[no_mangle]
 pub extern "C" fn lgt_compare_names(a: &[u8], b: &[u8], answer: &mut [u64; 2]) -> u32
     ensures { λ r. ⌜ comparedBy r (now (answer .exit)) ≡ compareNames (now (a .entry)) (now (b .entry)) ⌝ }

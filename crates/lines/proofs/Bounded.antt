@@ -11,8 +11,9 @@ use borrow.Author.Tests.{eqb-true, eqb-false, ltb-true, ltb-false}
 use Rattle.words.specs.declared.Found.the-variants.{At}
 use Rattle.words.proofs.Bools.{by}
 use Rattle.words.proofs.ListLaws.{by-found, found-by}
-use Rattle.class_sheet.specs.ClassSheet.{nameLengthWord, descriptorLengthWord, classWidth, firstMethodWord, methodCountWord, firstFieldWord, fieldCountWord, slotCountWord, classCount, methodCount, fieldCount, contentEnd, classNameLength, classFirstMethod, classMethodCount, classFirstField, classSlotCount, methodNameLength, methodDescriptorLength, classWord}
+use Rattle.class_sheet.specs.ClassSheet.{classWidth, firstMethodWord, methodCountWord, firstFieldWord, fieldCountWord, slotCountWord, classCount, methodCount, fieldCount, contentEnd, classNameLength, classFirstMethod, classMethodCount, classFirstField, classSlotCount, methodNameLength, methodDescriptorLength, classWord}
 use Rattle.words.specs.Rows.{rowWord}
+use Rattle.text.specs.Text.{nameLengthWord, descriptorLengthWord}
 use Rattle.class_sheet.specs.Sections.{Sections, Formed, laidOut, sectionsOf, withClasses, withFields}
 use Rattle.class_sheet.proofs.Sections.{formed-of, class-of, method-of, class-count, method-count, class-word, method-word}
 use Rattle.abi_sheet.specs.AbiSheet.{abiSlotCount, abiSlotNameLength, abiSlotDescriptorLength}

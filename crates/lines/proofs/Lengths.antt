@@ -16,7 +16,7 @@ use Rattle.descriptor.specs.Bytes.{text}
 use Rattle.class_sheet.specs.ClassSheet.{className, classNameStart, classNameLength, classInstanceWords, classSlotCount, classTablePlace, methodNameLength, methodDescriptorLength, textOf}
 use Rattle.abi_sheet.specs.AbiSheet.{abiSlotNameLength, abiSlotDescriptorLength, abiTextOf}
 use Rattle.linking.specs.Vtable.{Entry, readEntry, readSlot, tableEntries}
-use Rattle.linking.specs.Whose.{classOf, readDeclared}
+use Rattle.linking.specs.Whose.{declaringClass, readDeclared}
 use Rattle.linking.proofs.Whose.{by-declared, read-class}
 use Rattle.lines.specs.Bytes.{digits, decimal}
 use Rattle.lines.specs.Lines.{numbered, classLine, shown, column, slotLine, classRefused, fixedSlot, slotName, slotDescriptor, slotText, slotTexts, linesOf, isUnlisted, classLines}
@@ -100,7 +100,7 @@ module _ (ws text abi labels : List ℕ) (c : ℕ) where
         (λ f. rw f (omega arith, omega arith))
 
     -- the declaring class is on the chain of a class of at most two digits
-    class-few : (i w : ℕ) → c < limit 1 → classOf (readDeclared ws text abi labels c i w) < limit 1
+    class-few : (i w : ℕ) → c < limit 1 → declaringClass (readDeclared ws text abi labels c i w) < limit 1
     class-few i w h =
         by-declared (readDeclared ws text abi labels c i w)
         (λ d m e. let l = read-class ws text abi labels c i w d m e in rw e (omega arith)) (λ e. rw e (omega arith))

@@ -15,7 +15,7 @@ use Rattle.class_sheet.specs.ClassSheet.{classCount, textOf, textLength, classN
 use Rattle.abi_sheet.specs.AbiSheet.{abiTextOf, abiTextLength, abiTextLimit}
 use Rattle.linking.specs.Vtable.{Entry, empty, readEntry, readSlot, tableEntries}
 use Rattle.linking.specs.Link.{noClass}
-use Rattle.linking.specs.Whose.{classOf, readDeclared, slotClass}
+use Rattle.linking.specs.Whose.{declaringClass, readDeclared, slotClass}
 use Rattle.reading.specs.Arrays.{methodOf, entryAt, entriesOf}
 use Rattle.lines.specs.Bytes.{put}
 use Rattle.lines.specs.Lines.{classLine, slotLine, slotName, slotDescriptor, slotText, slotTexts, linesOf, isUnlisted, classLines}
@@ -59,7 +59,7 @@ module _ (ws text abi labels area : List ℕ) (c : ℕ) where
         rw z at (ap (λ (x : Entry). x .word) e)
 
     -- and its class is the one that declares what Reading finds there
-    slot-class : (i : ℕ) → i < n → getD cs i 0 ≡ classOf (readDeclared ws text abi labels c i (getD ts i 0))
+    slot-class : (i : ℕ) → i < n → getD cs i 0 ≡ declaringClass (readDeclared ws text abi labels c i (getD ts i 0))
     unfolding slotClass
     slot-class i h =
         let z : 0 + i ≡ i = omega arith in
@@ -73,7 +73,7 @@ module _ (ws text abi labels area : List ℕ) (c : ℕ) where
       unfolding slotsFrom slotTexts slotText entryAt
       slots-turn =
           let z : 0 + i ≡ i = omega arith in
-          let e : d ≡ classOf (readDeclared ws text abi labels c i (getD ts i 0)) = class ∙ rw at-class (slot-class i h) in
+          let e : d ≡ declaringClass (readDeclared ws text abi labels c i (getD ts i 0)) = class ∙ rw at-class (slot-class i h) in
           sym (then p (slotLine i (slotName ws text abi labels c i (methodOf m)) (slotDescriptor ws text abi labels c i (methodOf m)) w d) _ line refl
           ∙ rw (rest-turn (entryAt ts ms) 0 n i h, z, e, word, mark, at-word, at-mark))
 

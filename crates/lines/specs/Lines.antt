@@ -15,7 +15,7 @@ use Rattle.linking.specs.Chain.{chain}
 use Rattle.linking.specs.Abi.{classAbi, slotAt}
 use Rattle.linking.specs.Vtable.{Entry, tableEntries}
 use Rattle.linking.specs.Link.{noClass}
-use Rattle.linking.specs.Whose.{classOf, readDeclared}
+use Rattle.linking.specs.Whose.{declaringClass, readDeclared}
 use Rattle.lines.specs.Bytes.{decimal}
 
 -- ---- lines, each ended by a newline
@@ -87,7 +87,7 @@ module _ (ws text abi labels : List ℕ) where
   -- the class is the one that declares the method that Reading finds at the slot's word
   unfoldable pub slotText : ℕ → ℕ → Entry → List ℕ
   slotText c i e =
-      slotLine i (slotName c i (e .method)) (slotDescriptor c i (e .method)) (e .word) (classOf (readDeclared ws text abi labels c i (e .word)))
+      slotLine i (slotName c i (e .method)) (slotDescriptor c i (e .method)) (e .word) (declaringClass (readDeclared ws text abi labels c i (e .word)))
 
   -- the lines of a table's slots from index i on
   unfoldable pub slotTexts : ℕ → ℕ → List Entry → List ℕ

@@ -155,7 +155,7 @@ fn fixed_slot(ws: &[u32], text: &[u8], abi: &[u32], labels: &[u8], c: u32, i: u3
 
 // The name of slot i of class c's table, whose method has mark k: a part of the class text or of the ABI text, empty where neither
 // names it.
-pub fn slot_name<'a>(
+fn slot_name<'a>(
     ws: &[u32],
     text: &'a [u8],
     abi: &[u32],
@@ -176,7 +176,7 @@ pub fn slot_name<'a>(
 }
 
 // Its descriptor, likewise.
-pub fn slot_descriptor<'a>(
+fn slot_descriptor<'a>(
     ws: &[u32],
     text: &'a [u8],
     abi: &[u32],

@@ -97,7 +97,7 @@ pub record Finish (ws abi : List ℕ) (c : ℕ) (area stubs slots : List ℕ) (n
   pub fields : p .newFields ≡ fieldsOf ws c new
   pub slot-count : length (p .table) ≡ n
   pub slot-words : slotWords stubs 0 (p .table) ≡ slotWords stubs 0 (entriesOf slots [] n)
-  pub words-are : words ≡ newWords ws (textOf ws) abi (abiTextOf abi) area c
+  pub words-are : words ≡ newWords ws (textOf ws) abi (abiTextOf abi) c
   pub statics-are : statics ≡ newStatics ws (textOf ws) c
   pub indices-fit : classFirstField ws c + length (p .indices) ≤ fieldCount ws
 
@@ -116,7 +116,7 @@ module _ (ws abi : List ℕ) (c : ℕ) (area stubs slots : List ℕ) (n words st
         refusal = 0;
         first = nextFree area;
         second = length (p .table);
-        set = linkedWords ws c (nextFree area) (newWords ws (textOf ws) abi (abiTextOf abi) area c) (newStatics ws (textOf ws) c) p;
+        set = linkedWords ws c (nextFree area) (newWords ws (textOf ws) abi (abiTextOf abi) c) (newStatics ws (textOf ws) c) p;
         area = linkedArea area c (p .table) stubs;
       })
   done full room short =

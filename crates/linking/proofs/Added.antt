@@ -117,11 +117,11 @@ slot-room ws text abi labels slots i a s d e f =
 
 module _ (ws text abi labels : List ℕ)
     (slots : (a : ℕ) → a < abiClassCount abi → abiClassFirstSlot abi a + abiClassSlotCount abi a ≤ abiSlotCount abi)
-    (Source : ℕ → Type 0) (R : New → Type 0) (method : (m target : ℕ) → Source m → R (fromMethod ws text abi labels m target))
-    (slot : (s target : ℕ) → s < abiSlotCount abi → R (fromSlot ws text abi labels s target)) where
-  named : (c : ℕ) (x : New) (xs : List New) → R x → EachNew R xs → EachNew R (addNamed ws text abi labels c x xs)
+    (Source : ℕ → Type 0) (R : New → Type 0) (method : (m target : ℕ) → Source m → R (fromMethod ws text m target))
+    (slot : (s target : ℕ) → s < abiSlotCount abi → R (fromSlot abi labels s target)) where
+  named : (c : ℕ) (x : New) (xs : List New) → R x → EachNew R xs → EachNew R (addNamed ws text c x xs)
   unfolding addNamed
-  named c x xs p q = by (isDeclared ws text abi labels c x) (λ e. rw e q) (λ e. rw e (more-new R x xs p q))
+  named c x xs p q = by (isDeclared ws text c x) (λ e. rw e q) (λ e. rw e (more-new R x xs p q))
 
   source-room : (c i s : ℕ) → firstFound (slotAt abi i) (signatureSources ws text abi labels c) ≡ At s → s < abiSlotCount abi
   unfolding signatureSources
@@ -136,11 +136,11 @@ module _ (ws text abi labels : List ℕ)
       → EachNew R (addFrom ws text abi labels c i target found xs)
   from c i target found xs f h =
       by-found found
-      (λ m e. rw e (named c (fromMethod ws text abi labels m target) xs (method m target (f m e)) h))
+      (λ m e. rw e (named c (fromMethod ws text m target) xs (method m target (f m e)) h))
       (λ e.
       rw e
       (by-found (firstFound (slotAt abi i) (signatureSources ws text abi labels c))
-      (λ s q. rw q (named c (fromSlot ws text abi labels s target) xs (slot s target (source-room c i s q)) h))
+      (λ s q. rw q (named c (fromSlot abi labels s target) xs (slot s target (source-room c i s q)) h))
       (λ q. rw q h)))
 
   added-from : (c : ℕ) (view : List Entry) → EachKnown Source view → (i : ℕ) (ts : List ℕ)
@@ -155,7 +155,7 @@ module _ (ws text abi labels : List ℕ)
   added-known : (area : List ℕ) (c : ℕ) → EachKnown Source (nativeView ws text abi labels area c)
       → EachNew R (addedMethods ws text abi labels area c)
   unfolding addedMethods
-  added-known area c h = added-from c (nativeView ws text abi labels area c) h 0 (compilerTargets ws text abi labels c)
+  added-known area c h = added-from c (nativeView ws text abi labels area c) h 0 (compilerTargets ws c)
 
 -- ---- of a class of the set: what its native view knows is a record of the sheet
 
@@ -188,8 +188,8 @@ module _ (ws text abi labels : List ℕ) (lists : (d : ℕ) → IsClass ws d →
       view-room (chainAbi ws text abi labels (parentOf ws c)) 0 (parentEntries ws text abi labels area c) (parent-room area c h)
 
   module _ (slots : (a : ℕ) → a < abiClassCount abi → abiClassFirstSlot abi a + abiClassSlotCount abi a ≤ abiSlotCount abi) (R : New → Type 0)
-      (method : (m target : ℕ) → m < methodCount ws → R (fromMethod ws text abi labels m target))
-      (slot : (s target : ℕ) → s < abiSlotCount abi → R (fromSlot ws text abi labels s target)) where
+      (method : (m target : ℕ) → m < methodCount ws → R (fromMethod ws text m target))
+      (slot : (s target : ℕ) → s < abiSlotCount abi → R (fromSlot abi labels s target)) where
     added-each : (area : List ℕ) (c : ℕ) → c ≤ classCount ws → EachNew R (addedMethods ws text abi labels area c)
     added-each area c h =
         added-known ws text abi labels slots (λ m. m < methodCount ws) R method slot area c (native-room area c h)
@@ -236,14 +236,14 @@ module _ (ws abi : List ℕ) (v : Valid ws) (w : ValidAbi abi) where
   slot-within s flags h = meaning .static-more _ flags (meaning .valid-complete _ 0 (w .slot s h .derivation))
 
   -- its owner's link state is 3: a class of the set holds it
-  owned-within : (m : ℕ) → eqb (ownerState ws text abi labels m) 3 ≡ true → Within m
+  owned-within : (m : ℕ) → eqb (ownerState ws m) 3 ≡ true → Within m
   unfolding ownerState holds
   owned-within m e =
-      by-found (find (holds ws text abi labels m) (numbers 1 (classCount ws)))
+      by-found (find (holds ws m) (numbers 1 (classCount ws)))
       (λ d q.
-      let r = find-within (holds ws text abi labels m) 1 (classCount ws) d q in
+      let r = find-within (holds ws m) 1 (classCount ws) d q in
       let t = and-both (leb (classFirstMethod ws d) m) (ltb m (classFirstMethod ws d + classMethodCount ws d))
-      (find-passes (holds ws text abi labels m) (numbers 1 (classCount ws)) d q) in
+      (find-passes (holds ws m) (numbers 1 (classCount ws)) d q) in
       method-within m (omega (arith, ltb-true m (classFirstMethod ws d + classMethodCount ws d) (t .1), v .class d (omega arith, omega arith) .methods)))
       (λ q. absurd (false≢true (rw q at e)))
 
@@ -273,10 +273,10 @@ module _ (ws abi : List ℕ) (v : Valid ws) (w : ValidAbi abi) where
   kept-within : (d i : ℕ) (x : Entry) (m : ℕ) → x .method ≡ At m → isEmptied ws text abi labels (chainAbi ws text abi labels d) i x ≡ false → Within m
   unfolding isEmptied
   kept-within d i x m q e =
-      let f : (not (eqb (ownerState ws text abi labels m) 3)
+      let f : (not (eqb (ownerState ws m) 3)
       && not (onFound (fixedOf ws text abi labels (chainAbi ws text abi labels d) m) (eqb i) false))
       ≡ false = rw q at e in
-      by (eqb (ownerState ws text abi labels m) 3) (owned-within m)
+      by (eqb (ownerState ws m) 3) (owned-within m)
       (λ n.
       by-found (fixedOf ws text abi labels (chainAbi ws text abi labels d) m) (λ k. fixed-within m d k)
       (λ r. absurd (true≢false (rw (n, r) at f))))

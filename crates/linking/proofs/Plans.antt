@@ -14,6 +14,7 @@ use Rattle.words.specs.declared.Found.{Found}
 use Rattle.words.specs.declared.Found.the-variants.{At, Nothing}
 use Rattle.words.proofs.Bools.{by}
 use Rattle.words.proofs.ListLaws.{by-found}
+use Rattle.words.specs.Words.{AreBytes}
 use Rattle.class_sheet.specs.ClassSheet.{classKind, classFlags, classFieldCount, classCompilerTable, fieldFlags, fieldName, fieldDescriptor, methodName, methodDescriptor}
 use Rattle.linking.proofs.ChainLaws.{own-fields-length}
 use Rattle.linking.specs.Chain.{onFound, ownMethods, ownFields, parentOf, isStatic, isInterface, eligible}
@@ -22,7 +23,7 @@ use Rattle.linking.specs.Vtable.{Entry, empty, Built, built, refused, on
 use Rattle.linking.specs.Fields.{Numbering, numberField, numberFields, addedFields, tooManyWords, generatedRefusal, indicesPlus, generatedIndices, generatedBase, standFrom, ownGiven, runtimeWords, instanceWords}
 use Rattle.linking.specs.Link.{Plan, planned, unplanned, isNone, onTable, withinSlots, builtTable, planBuilt, generatedTable, planGenerated, planArray, plan, newFieldsOf, generatedMethods}
 use Rattle.linking.specs.Set.{newText}
-use Rattle.linking.proofs.Names.{Bytes, no-bytes, field-bytes, method-bytes}
+use Rattle.linking.proofs.Names.{no-bytes, field-bytes, method-bytes}
 
 -- ---- how many indices
 
@@ -37,7 +38,7 @@ module _ (ws text abi labels : List ℕ) (own : Found) where
       (λ g e. rw e (length-append (n .indices) _))
       (λ e.
       rw e
-      (by (eqb (ownGiven ws text abi labels own) 0) (λ t. rw t (length-append (n .indices) _)) (λ t. rw t (length-append (n .indices) _))))))
+      (by (eqb (ownGiven abi own) 0) (λ t. rw t (length-append (n .indices) _)) (λ t. rw t (length-append (n .indices) _))))))
 
   number-all : (fs : List ℕ) (n : Numbering) → length (fold (numberField ws text abi labels own) n fs .indices) ≡ length (n .indices) + length fs
   unfolding fold
@@ -54,14 +55,14 @@ module _ (ws text abi labels : List ℕ) (own : Found) where
           indices = [];
           statics = 0;
           runtime = runtimeWords ws text (parentOf ws c);
-          running = cond (eqb (parentOf ws c) 0) 0 (instanceWords ws text (parentOf ws c));
+          running = cond (eqb (parentOf ws c) 0) 0 (instanceWords ws (parentOf ws c));
         }),
       )
 
-plus-length : (ws text : List ℕ) (b : ℕ) (fs : List ℕ) → length (indicesPlus ws text b fs) ≡ length fs
+plus-length : (ws : List ℕ) (b : ℕ) (fs : List ℕ) → length (indicesPlus ws b fs) ≡ length fs
 unfolding indicesPlus
-plus-length ws text b [] = refl
-plus-length ws text b (f ∷ fs) = ap suc (plus-length ws text b fs)
+plus-length ws b [] = refl
+plus-length ws b (f ∷ fs) = ap suc (plus-length ws b fs)
 
 generated-length : (ws text : List ℕ) (c : ℕ) → length (generatedIndices ws text c) ≤ classFieldCount ws c
 unfolding generatedIndices
@@ -69,7 +70,7 @@ generated-length ws text c =
     omega (
       arith,
       own-fields-length ws c,
-      plus-length ws text (cond (standFrom ws text (generatedBase ws text c) (ownFields ws c)) 0 (generatedBase ws text c)) (ownFields ws c),
+      plus-length ws (cond (standFrom ws text (generatedBase ws text c) (ownFields ws c)) 0 (generatedBase ws text c)) (ownFields ws c),
     )
 
 -- ---- a table is built or refused
@@ -96,25 +97,26 @@ on-refused : (b : Built) (f : List Entry → Built) (n : ℕ) → onBuilt b f �
 on-refused (built U) f n e = inr (U, e)
 on-refused (refused m) f n e = inl e
 
-module _ (ws text abi labels : List ℕ) where
-  put-refused : (fixed slot : Found) (m : ℕ) (T : List Entry) (n : ℕ) → putMethod ws text abi labels fixed slot m T ≡ refused n → n ≢ 0
+module _ (ws text : List ℕ) where
+  put-refused : (fixed slot : Found) (m : ℕ) (T : List Entry) (n : ℕ) → putMethod ws text fixed slot m T ≡ refused n → n ≢ 0
   unfolding putMethod
   put-refused (At i) slot m T n e =
       by (onFound slot (λ j. not (eqb j i)) false) (λ t. refused-some {m = 11} (omega arith) (rw t at e))
       (λ t.
       let r = rw t at e in
-      by (entryIsOther ws text abi labels (methodName ws text m) (methodDescriptor ws text m) (getD T i empty))
+      by (entryIsOther ws text (methodName ws text m) (methodDescriptor ws text m) (getD T i empty))
       (λ u. refused-some {m = 12} (omega arith) (rw u at r))
       (λ u. not-built (sym (rw u at r))))
   put-refused Nothing (At j) m T n e = not-built (sym e)
   put-refused Nothing Nothing m T n e = not-built (sym e)
 
+module _ (ws text abi labels : List ℕ) where
   add-refused : (abis : List ℕ) (m : ℕ) (T : List Entry) (n : ℕ) → addMethod ws text abi labels abis m T ≡ refused n → n ≢ 0
   unfolding addMethod
   add-refused abis m T n e =
       by (eligible ws text m)
       (λ t.
-      put-refused (fixedOf ws text abi labels abis m) (slotOf ws text abi labels (methodName ws text m) (methodDescriptor ws text m) T) m T n (rw t at e))
+      put-refused ws text (fixedOf ws text abi labels abis m) (slotOf ws text (methodName ws text m) (methodDescriptor ws text m) T) m T n (rw t at e))
       (λ t. not-built (sym (rw t at e)))
 
   adds-refused : (abis ms : List ℕ) (T : List Entry) (n : ℕ) → addMethods ws text abi labels abis ms T ≡ refused n → n ≢ 0
@@ -178,8 +180,8 @@ module _ (ws text abi labels area : List ℕ) (c : ℕ) where
   pub record Plans (p : Plan) : Type 0 where
     pub indices : length (p .indices) ≤ classFieldCount ws c
     pub generated : isNone (p .newMethods) ≡ false → classKind ws c ≡ 1
-    pub method-bytes : Bytes text → Bytes labels → Bytes (newText (p .newMethods))
-    pub field-bytes : Bytes text → Bytes labels → Bytes (newText (p .newFields))
+    pub method-bytes : AreBytes text → AreBytes labels → AreBytes (newText (p .newMethods))
+    pub field-bytes : AreBytes text → AreBytes labels → AreBytes (newText (p .newFields))
     pub built : classKind ws c ≡ 0 → isInterface (classFlags ws c) ≡ false → buildMethods ws text abi labels area c ≡ built (p .table)
     pub array : classKind ws c ≡ 2 → parentEntries ws text abi labels area c ≡ p .table
 
@@ -189,7 +191,7 @@ module _ (ws text abi labels area : List ℕ) (c : ℕ) where
         table = T;
         indices = numberFields ws text abi labels (classAbi ws text abi labels c) c .indices;
         newMethods = [];
-        newFields = newFieldsOf ws text abi labels area (addedFields ws text abi labels (classAbi ws text abi labels c) c);
+        newFields = newFieldsOf abi labels (addedFields ws text abi labels (classAbi ws text abi labels c) c);
       }
 
   abbrev generatedPlan : List Entry → Plan
@@ -212,7 +214,7 @@ module _ (ws text abi labels area : List ℕ) (c : ℕ) where
         indices = number-fields ws text abi labels (classAbi ws text abi labels c) c;
         generated = λ n. absurd (true≢false n);
         method-bytes = λ t l. no-bytes;
-        field-bytes = λ t l. field-bytes ws text abi labels t l area (addedFields ws text abi labels (classAbi ws text abi labels c) c);
+        field-bytes = λ t l. field-bytes abi labels (addedFields ws text abi labels (classAbi ws text abi labels c) c) l;
         built = λ k f. plain-table f (r .0) (r .1);
         array = λ k. absurd (omega arith);
       }))

@@ -5,8 +5,8 @@ use mathlib.Core.List.{List, [], _∷_, _++_}
 use Prim.Native.String.{String}
 use Prim.Native.Nat.{ℕ}
 use lib.ListN.{replicate}
-use Rattle.linking.proofs.Assemble.{Class, Lent, Call, method, flagged, field, built, compiled, linkedAt, having, slot, fixed, abi}
-use Rattle.linking.proofs.Assemble.{lent, onArea, spare, link, after, tableOf, classesOf}
+use Rattle.linking.proofs.Assemble.{Class, Lent, Call, method, field, built, linkedAt, slot, fixed, abi, lent, onArea, spare, link, after}
+use Rattle.linking.proofs.Assemble.{tableOf, classesOf}
 use Rattle.linking.proofs.Opened.{opened}
 
 abbrev both : List Call
@@ -56,10 +56,6 @@ telling =
 
 -- ---- whose a slot's method is
 
--- a class of one method under which a generated one has a compiler table
-abbrev prepared : Class → Class → Lent
-prepared p g = spare 24 (lent (p ∷ g ∷ []) [])
-
 -- Card and its child VipCard, linked
 abbrev desk : Lent
 desk =
@@ -72,47 +68,10 @@ desk =
 pub record TellingClasses : Type 0 where
   -- the desk's example: 1, 1 and 1, 2, 2
   pub cards : (classesOf 1 desk ≡ 1 ∷ 1 ∷ []) × (classesOf 2 desk ≡ 1 ∷ 2 ∷ 2 ∷ [])
-  -- by target over the whole chain first: slot 0 is P's m, though K itself has the method that the ABI names there
-  pub target-first :
-      classesOf 2
-      (after
-      (spare 24
-      (lent (having-method "P" 0 "m" 5 ∷ compiled "K" 1 (method "k" 9 ∷ []) (5 ∷ []) ∷ []) (abi "K" (slot "k" 0 ∷ []) [] ∷ [])))
-      both)
-      ≡ 1 ∷ 2 ∷ 1 ∷ []
-  -- two methods of one target: the nearest
-  pub twice : classesOf 2 (after (lent (having-method "P" 0 "a" 5 ∷ having-method "Q" 1 "b" 5 ∷ []) []) both) ≡ 2 ∷ 2 ∷ []
-  -- known by the ABI rule: the chain class that has the method
-  pub by-rule :
-      classesOf 2 (after (lent (having-method "K" 0 "k" 0 ∷ plain "D" 1 ∷ []) (abi "K" (slot "k" 0 ∷ []) [] ∷ [])) both) ≡ 1 ∷ []
-  -- unknown, though the ABI text names slot 1
-  pub unknown : classesOf 1 (after (lent (plain "P" 0 ∷ []) (abi "P" (slot "foo" 1 ∷ []) [] ∷ [])) (link 1 ∷ [])) ≡ 0 ∷ 0 ∷ []
-  -- an added method is the generated class's, and so is one that was copied with its list
-  pub added :
-      classesOf 2
-      (after (prepared (having 1 3 0 (having-method "P" 0 "k" 5)) (compiled "G" 1 (method "x" 7 ∷ []) (9 ∷ []))) both)
-      ≡ 2 ∷ 2 ∷ []
-  -- ineligible methods count as in Reading
-  pub ineligible :
-      classesOf 2 (after (prepared (built "P" 0 (flagged 8 "s" 7 ∷ []) []) (compiled "G" 1 [] (7 ∷ []))) both) ≡ 1 ∷ []
-  -- classes of the chain need not be linked, nor their tables be theirs
+  -- classes of the chain need not be linked, nor their tables be theirs: no listing shows it, as that links them all
   pub by-hand :
       classesOf 2 (onArea (area (4 ∷ 57005 ∷ 9 ∷ 0 ∷ [])) (lent (having-method "A" 0 "a" 9 ∷ linkedAt 1 1 (plain "P" 1) ∷ []) [])) ≡ 1 ∷ []
-  -- preparation matches no ancestor's method: k gets a second slot
-  pub second-slot :
-      classesOf 2 (after (prepared (having-method "P" 0 "k" 7) (compiled "G" 1 [] (7 ∷ []))) both) ≡ 1 ∷ 1 ∷ []
 
 pub telling-classes : TellingClasses
 unfolding opened
-telling-classes =
-    record {
-      cards = (refl, refl);
-      target-first = refl;
-      twice = refl;
-      by-rule = refl;
-      unknown = refl;
-      added = refl;
-      ineligible = refl;
-      by-hand = refl;
-      second-slot = refl;
-    }
+telling-classes = record { cards = (refl, refl); by-hand = refl }

@@ -24,7 +24,7 @@ use Rattle.linking.specs.Abi.{classAbi, slotAt}
 use Rattle.linking.specs.Vtable.{ownFixed, findByIndex, readEntry, readSlot}
 use Rattle.linking.specs.Compiler.{holds, ownerState}
 use Rattle.linking.specs.Ask.{ownImplementation, implementation}
-use Rattle.linking.specs.Whose.{methodOf, classOf, orDeclared, declaredIn, firstDeclared, declaredByTarget, declaredImplementation, declaredByIndex, readDeclared, slotClass, Nearest, Declares, MethodsApart, FixedThere, Column, unknown-slot, known-slot, Whose}
+use Rattle.linking.specs.Whose.{methodOf, declaringClass, orDeclared, declaredIn, firstDeclared, declaredByTarget, declaredImplementation, declaredByIndex, readDeclared, slotClass, Nearest, Declares, MethodsApart, FixedThere, Column, unknown-slot, known-slot, Whose}
 use Rattle.linking.proofs.ChainLaws.{chain-within, own-target-member, own-method-member, own-method-is}
 
 -- ---- every answer remains
@@ -144,28 +144,28 @@ find-only p a (suc n) d h g t u =
     past q = by (eqb a d) (λ s. let e = eqb-true a d s in absurd (let z : true ≡ false = sym t ∙ rw (← e) q in let o : _≡_ {A = ℕ} 0 1 = cc in omega arith))
         (λ s. let e = eqb-false a d s in omega arith)
 
-module _ (ws text abi labels : List ℕ) where
-  holds-is : (m c : ℕ) → holds ws text abi labels m c ≡ true → (classFirstMethod ws c ≤ m) × (m < classFirstMethod ws c + classMethodCount ws c)
+module _ (ws : List ℕ) where
+  holds-is : (m c : ℕ) → holds ws m c ≡ true → (classFirstMethod ws c ≤ m) × (m < classFirstMethod ws c + classMethodCount ws c)
   unfolding holds
   holds-is m c h =
       let p = and-both (leb (classFirstMethod ws c) m) (ltb m (classFirstMethod ws c + classMethodCount ws c)) h in
       (leb-true _ _ (p .0), ltb-true _ _ (p .1))
 
-  member-held : (m d : ℕ) → List·Memᴰ m (ownMethods ws d) → holds ws text abi labels m d ≡ true
+  member-held : (m d : ℕ) → List·Memᴰ m (ownMethods ws d) → holds ws m d ≡ true
   unfolding holds ownMethods
   member-held m d t =
       let w = numbers-within (classFirstMethod ws d) (listCount (classFirstMethod ws d) (classMethodCount ws d) methodLimit) m t in
       simp (le-leb (classFirstMethod ws d) m (w .0), lt-ltb m (classFirstMethod ws d + classMethodCount ws d) (omega arith))
 
   owner-is : (c d m : ℕ) → MethodsApart ws → IsClass ws c → Declares ws c d m
-      → (find (holds ws text abi labels m) (numbers 1 (classCount ws)) ≡ At d) × (ownerState ws text abi labels m ≡ classLinkState ws d)
+      → (find (holds ws m) (numbers 1 (classCount ws)) ≡ At d) × (ownerState ws m ≡ classLinkState ws d)
   unfolding ownerState
   owner-is c d m v k e =
       let w = chain-within ws c d (e .along) in
       let h = member-held m d (e .member) in
       let o = holds-is m d h in
-      let f : find (holds ws text abi labels m) (numbers 1 (classCount ws)) ≡ At d =
-      find-only (holds ws text abi labels m) 1 (classCount ws) d (omega arith) (omega arith) h
+      let f : find (holds ws m) (numbers 1 (classCount ws)) ≡ At d =
+      find-only (holds ws m) 1 (classCount ws) d (omega arith) (omega arith) h
       (λ x l g t. let y = holds-is m x t in v x d m (l, omega arith) (omega arith, omega arith) (y .0) (y .1) (o .0) (o .1)) in
       (f, rw f)
 
@@ -194,7 +194,7 @@ module _ (ws text abi labels : List ℕ) where
       (λ a b q. target-declares ws c w d m (q ∙ (rw q at e)) .0)
       (λ q. index-declares ws text abi labels c i d m (rw q at e) .0)
 
-  column-is : (c i w : ℕ) → Column ws c (readEntry ws text abi labels c i w .method) (classOf (readDeclared ws text abi labels c i w))
+  column-is : (c i w : ℕ) → Column ws c (readEntry ws text abi labels c i w .method) (declaringClass (readDeclared ws text abi labels c i w))
   column-is c i w =
       by-declared (readDeclared ws text abi labels c i w)
       (λ d m e. rw (← reading-found ws text abi labels c i w, e) (known-slot (read-declares c i w d m e)))

@@ -48,22 +48,22 @@ module _ (ws text : List ℕ) where
   unfoldable pub implementation : ℕ → ℕ → Found
   implementation c m = firstFound (ownImplementation (methodName ws text m) (methodDescriptor ws text m)) (chain ws c)
 
-  -- the entry of the class's table for an interface's, if it has an implementation
-  abbrev pub dispatchEntry : Entry → Found → Found → Built
-  dispatchEntry e (At m) (At k) = built (record { word = methodTarget ws k; method = At k } ∷ [])
-  dispatchEntry e (At m) Nothing = refused 16
-  dispatchEntry e Nothing found = built (e ∷ [])
+-- the entry of the class's table for an interface's, if it has an implementation
+abbrev pub dispatchEntry : List ℕ → Entry → Found → Found → Built
+dispatchEntry ws e (At m) (At k) = built (record { word = methodTarget ws k; method = At k } ∷ [])
+dispatchEntry ws e (At m) Nothing = refused 16
+dispatchEntry ws e Nothing found = built (e ∷ [])
 
-  abbrev pub consEntry : Built → Built → Built
-  consEntry (built T) (built U) = built (T ++ U)
-  consEntry (built T) (refused n) = refused n
-  consEntry (refused n) other = refused n
+abbrev pub consEntry : Built → Built → Built
+consEntry (built T) (built U) = built (T ++ U)
+consEntry (built T) (refused n) = refused n
+consEntry (refused n) other = refused n
 
-  -- row 16: "a known interface method has no implementation"
-  unfoldable pub dispatchEntries : ℕ → List Entry → Built
-  dispatchEntries c [] = built []
-  dispatchEntries c (e ∷ es) =
-      consEntry (dispatchEntry e (e .method) (onFound (e .method) (implementation c) Nothing)) (dispatchEntries c es)
+-- row 16: "a known interface method has no implementation"
+unfoldable pub dispatchEntries : List ℕ → List ℕ → ℕ → List Entry → Built
+dispatchEntries ws text c [] = built []
+dispatchEntries ws text c (e ∷ es) =
+    consEntry (dispatchEntry ws e (e .method) (onFound (e .method) (implementation ws text c) Nothing)) (dispatchEntries ws text c es)
 
 -- ---- "a node (old head, interface number, slots) goes in front"
 

@@ -28,20 +28,20 @@ noNew = record { name = []; descriptor = []; flags = 0; last = 0 }
 abbrev pub withoutAbstract : ℕ → ℕ
 withoutAbstract flags = cond (isAbstract flags) (flags - 1024) flags
 
+-- ---- (a) "a known parent entry whose owner's link state is not 3 and whose slot is not its fixed index (parent chain's ABI) is emptied:
+-- the native view."
+
+-- "A method belongs to the class whose list holds it"
+unfoldable pub holds : List ℕ → ℕ → ℕ → Bool
+holds ws m c = leb (classFirstMethod ws c) m && ltb m (classFirstMethod ws c + classMethodCount ws c)
+
+unfoldable pub ownerState : List ℕ → ℕ → ℕ
+ownerState ws m = onFound (find (holds ws m) (numbers 1 (classCount ws))) (classLinkState ws) 0
+
 module _ (ws text abi labels : List ℕ) where
-  -- ---- (a) "a known parent entry whose owner's link state is not 3 and whose slot is not its fixed index (parent chain's ABI) is emptied:
-  -- the native view."
-
-  -- "A method belongs to the class whose list holds it"
-  unfoldable pub holds : ℕ → ℕ → Bool
-  holds m c = leb (classFirstMethod ws c) m && ltb m (classFirstMethod ws c + classMethodCount ws c)
-
-  unfoldable pub ownerState : ℕ → ℕ
-  ownerState m = onFound (find (holds m) (numbers 1 (classCount ws))) (classLinkState ws) 0
-
   unfoldable pub isEmptied : List ℕ → ℕ → Entry → Bool
   isEmptied abis i e =
-      onFound (e .method) (λ m. not (eqb (ownerState m) 3) && not (onFound (fixedOf ws text abi labels abis m) (eqb i) false)) false
+      onFound (e .method) (λ m. not (eqb (ownerState ws m) 3) && not (onFound (fixedOf ws text abi labels abis m) (eqb i) false)) false
 
   unfoldable pub viewFrom : List ℕ → ℕ → List Entry → List Entry
   viewFrom abis i [] = []
@@ -50,39 +50,42 @@ module _ (ws text abi labels : List ℕ) where
   unfoldable pub nativeView : List ℕ → ℕ → List Entry
   nativeView area c = viewFrom (chainAbi ws text abi labels (parentOf ws c)) 0 (parentEntries ws text abi labels area c)
 
-  -- ---- the compiler table: "0 none, else first word counted from 1"
+-- ---- the compiler table: "0 none, else first word counted from 1"
 
-  unfoldable pub compilerTargets : ℕ → List ℕ
-  compilerTargets c = listFrom (λ i. compilerWord ws (classCompilerTable ws c - 1 + i)) 0 (min (classCompilerSlots ws c) 1024)
+unfoldable pub compilerTargets : List ℕ → ℕ → List ℕ
+compilerTargets ws c = listFrom (λ i. compilerWord ws (classCompilerTable ws c - 1 + i)) 0 (min (classCompilerSlots ws c) 1024)
 
-  -- ---- (b) "Each nonzero compiler target differing from the native view there takes its signature from that view's method (flags without
-  -- 0x0400), else from the fixed entry at that index of the class's own ABI entry, then its interfaces' (flags 1). It is added as a method
-  -- unless originally declared or nameless."
+-- ---- (b) "Each nonzero compiler target differing from the native view there takes its signature from that view's method (flags without
+-- 0x0400), else from the fixed entry at that index of the class's own ABI entry, then its interfaces' (flags 1). It is added as a method
+-- unless originally declared or nameless."
 
+-- a method that takes its signature from one of the sheet, or from an ABI slot
+abbrev pub fromMethod : List ℕ → List ℕ → ℕ → ℕ → New
+fromMethod ws text m target =
+    record { name = methodName ws text m; descriptor = methodDescriptor ws text m; flags = withoutAbstract (methodFlags ws m); last = target }
+
+abbrev pub fromSlot : List ℕ → List ℕ → ℕ → ℕ → New
+fromSlot abi labels s target = record { name = abiSlotName abi labels s; descriptor = abiSlotDescriptor abi labels s; flags = 1; last = target }
+
+module _ (ws text : List ℕ) where
+  unfoldable pub isDeclared : ℕ → New → Bool
+  isDeclared c x = some (λ m. methodIs ws text m (x .name) (x .descriptor)) (ownMethods ws c)
+
+  -- the method added for a target, if any, in front of the rest
+  unfoldable pub addNamed : ℕ → New → List New → List New
+  addNamed c x xs = cond (isDeclared c x) xs (x ∷ xs)
+
+module _ (ws text abi labels : List ℕ) where
   -- the class's own ABI entry, then its interfaces'
   unfoldable pub signatureSources : ℕ → List ℕ
   signatureSources c =
       consFound (classAbi ws text abi labels c) (allFound (λ i. classAbi ws text abi labels (interfaceWord ws i)) (ownInterfaces ws c))
 
-  -- a method that takes its signature from one of the sheet, or from an ABI slot
-  abbrev pub fromMethod : ℕ → ℕ → New
-  fromMethod m target =
-      record { name = methodName ws text m; descriptor = methodDescriptor ws text m; flags = withoutAbstract (methodFlags ws m); last = target }
-
-  abbrev pub fromSlot : ℕ → ℕ → New
-  fromSlot s target = record { name = abiSlotName abi labels s; descriptor = abiSlotDescriptor abi labels s; flags = 1; last = target }
-
-  unfoldable pub isDeclared : ℕ → New → Bool
-  isDeclared c x = some (λ m. methodIs ws text m (x .name) (x .descriptor)) (ownMethods ws c)
-
-  -- the method added for a target at index i, if any, in front of the rest
-  unfoldable pub addNamed : ℕ → New → List New → List New
-  addNamed c x xs = cond (isDeclared c x) xs (x ∷ xs)
-
+  -- of a target at index i
   abbrev pub addFrom : ℕ → ℕ → ℕ → Found → List New → List New
   addFrom c i target method xs =
-      onFound method (λ m. addNamed c (fromMethod m target) xs)
-      (onFound (firstFound (slotAt abi i) (signatureSources c)) (λ s. addNamed c (fromSlot s target) xs) xs)
+      onFound method (λ m. addNamed ws text c (fromMethod ws text m target) xs)
+      (onFound (firstFound (slotAt abi i) (signatureSources c)) (λ s. addNamed ws text c (fromSlot abi labels s target) xs) xs)
 
   unfoldable pub addedFrom : ℕ → List Entry → ℕ → List ℕ → List New
   addedFrom c view i [] = []
@@ -92,64 +95,69 @@ module _ (ws text abi labels : List ℕ) where
       (addFrom c i t (getD view i empty .method) (addedFrom c view (i + 1) ts))
 
   unfoldable pub addedMethods : List ℕ → ℕ → List New
-  addedMethods area c = addedFrom c (nativeView area c) 0 (compilerTargets c)
+  addedMethods area c = addedFrom c (nativeView ws text abi labels area c) 0 (compilerTargets ws c)
 
-  -- ---- methods of the sheet, and those added to it
+-- ---- methods of the sheet, and those added to it
 
-  module _ (new : List New) where
-    abbrev pub newAt : ℕ → New
-    newAt m = getD new (m - methodLimit) noNew
+abbrev pub newAt : List New → ℕ → New
+newAt new m = getD new (m - methodLimit) noNew
 
-    unfoldable pub nameOf : ℕ → List ℕ
-    nameOf m = cond (ltb m methodLimit) (methodName ws text m) (newAt m .name)
+module _ (ws text : List ℕ) (new : List New) where
+  unfoldable pub nameOf : ℕ → List ℕ
+  nameOf m = cond (ltb m methodLimit) (methodName ws text m) (newAt new m .name)
 
-    unfoldable pub descriptorOf : ℕ → List ℕ
-    descriptorOf m = cond (ltb m methodLimit) (methodDescriptor ws text m) (newAt m .descriptor)
+  unfoldable pub descriptorOf : ℕ → List ℕ
+  descriptorOf m = cond (ltb m methodLimit) (methodDescriptor ws text m) (newAt new m .descriptor)
 
-    unfoldable pub flagsOf : ℕ → ℕ
-    flagsOf m = cond (ltb m methodLimit) (methodFlags ws m) (newAt m .flags)
+module _ (ws : List ℕ) (new : List New) where
+  unfoldable pub flagsOf : ℕ → ℕ
+  flagsOf m = cond (ltb m methodLimit) (methodFlags ws m) (newAt new m .flags)
 
-    unfoldable pub targetOf : ℕ → ℕ
-    targetOf m = cond (ltb m methodLimit) (methodTarget ws m) (newAt m .last)
+  unfoldable pub targetOf : ℕ → ℕ
+  targetOf m = cond (ltb m methodLimit) (methodTarget ws m) (newAt new m .last)
 
-    -- declared and added, in order
-    unfoldable pub classMethods : ℕ → List ℕ
-    classMethods c = ownMethods ws c ++ numbers methodLimit (length new)
+  -- declared and added, in order
+  unfoldable pub classMethods : ℕ → List ℕ
+  classMethods c = ownMethods ws c ++ numbers methodLimit (length new)
 
-    -- ---- (c) "A zero slot is the native view's; another is matched by target in declared and added, then native methods."
+  -- ---- (c) "A zero slot is the native view's; another is matched by target in declared and added, then native methods."
 
-    unfoldable pub entryTarget : ℕ → Entry → Found
-    entryTarget t e = onFound (e .method) (λ m. cond (eqb (targetOf m) t) (At m) Nothing) Nothing
+  unfoldable pub entryTarget : ℕ → Entry → Found
+  entryTarget t e = onFound (e .method) (λ m. cond (eqb (targetOf m) t) (At m) Nothing) Nothing
 
-    unfoldable pub matchTarget : ℕ → List Entry → ℕ → Found
-    matchTarget c view t = orElse (find (λ m. eqb (targetOf m) t) (classMethods c)) (firstFound (entryTarget t) view)
+  unfoldable pub matchTarget : ℕ → List Entry → ℕ → Found
+  matchTarget c view t = orElse (find (λ m. eqb (targetOf m) t) (classMethods c)) (firstFound (entryTarget t) view)
 
-    unfoldable pub compilerEntry : ℕ → List Entry → ℕ → ℕ → Entry
-    compilerEntry c view i t = cond (eqb t 0) (getD view i empty) (record { word = t; method = matchTarget c view t })
+  unfoldable pub compilerEntry : ℕ → List Entry → ℕ → ℕ → Entry
+  compilerEntry c view i t = cond (eqb t 0) (getD view i empty) (record { word = t; method = matchTarget c view t })
 
-    unfoldable pub compilerEntries : ℕ → List Entry → ℕ → List ℕ → List Entry
-    compilerEntries c view i [] = []
-    compilerEntries c view i (t ∷ ts) = compilerEntry c view i t ∷ compilerEntries c view (i + 1) ts
+  unfoldable pub compilerEntries : ℕ → List Entry → ℕ → List ℕ → List Entry
+  compilerEntries c view i [] = []
+  compilerEntries c view i (t ∷ ts) = compilerEntry c view i t ∷ compilerEntries c view (i + 1) ts
 
-    -- ---- (d) "Eligible declared, added and parent methods whose signature has no slot are appended with their own targets."
+-- ---- (d) "Eligible declared, added and parent methods whose signature has no slot are appended with their own targets."
 
-    unfoldable pub sameSignature : ℕ → ℕ → Bool
-    sameSignature m k = sameBytes (nameOf m) (nameOf k) && sameBytes (descriptorOf m) (descriptorOf k)
+module _ (ws text : List ℕ) (new : List New) where
+  unfoldable pub sameSignature : ℕ → ℕ → Bool
+  sameSignature m k =
+      sameBytes (nameOf ws text new m) (nameOf ws text new k) && sameBytes (descriptorOf ws text new m) (descriptorOf ws text new k)
 
-    unfoldable pub hasSlot : ℕ → List Entry → Bool
-    hasSlot m T = some (λ e. onFound (e .method) (sameSignature m) false) T
+  unfoldable pub hasSlot : ℕ → List Entry → Bool
+  hasSlot m T = some (λ e. onFound (e .method) (sameSignature m) false) T
 
-    unfoldable pub appendMethod : List Entry → ℕ → List Entry
-    appendMethod T m =
-        cond (isEligible (flagsOf m) (nameOf m) && not (hasSlot m T)) (T ++ (record { word = targetOf m; method = At m } ∷ [])) T
+  unfoldable pub appendMethod : List Entry → ℕ → List Entry
+  appendMethod T m =
+      cond (isEligible (flagsOf ws new m) (nameOf ws text new m) && not (hasSlot m T))
+      (T ++ (record { word = targetOf ws new m; method = At m } ∷ []))
+      T
 
-    unfoldable pub entryMethods : List Entry → List ℕ
-    entryMethods [] = []
-    entryMethods (e ∷ es) = consFound (e .method) (entryMethods es)
+unfoldable pub entryMethods : List Entry → List ℕ
+entryMethods [] = []
+entryMethods (e ∷ es) = consFound (e .method) (entryMethods es)
 
-  unfoldable pub compilerTable : List ℕ → ℕ → List Entry
-  compilerTable area c =
-      let new : List New = addedMethods area c in
-      let view : List Entry = nativeView area c in
-      fold (appendMethod new) (compilerEntries new c view 0 (compilerTargets c))
-      (classMethods new c ++ entryMethods new (parentEntries ws text abi labels area c))
+unfoldable pub compilerTable : List ℕ → List ℕ → List ℕ → List ℕ → List ℕ → ℕ → List Entry
+compilerTable ws text abi labels area c =
+    let new : List New = addedMethods ws text abi labels area c in
+    let view : List Entry = nativeView ws text abi labels area c in
+    fold (appendMethod ws text new) (compilerEntries ws new c view 0 (compilerTargets ws c))
+    (classMethods ws new c ++ entryMethods (parentEntries ws text abi labels area c))

@@ -24,20 +24,20 @@ magnitude i = 4294967296 - i
 abbrev pub belowZero : ℕ → ℕ
 belowZero runtime = 4294967296 - (runtime + 1)
 
+-- "Descriptors J and D take 2 words, all others 1."
+abbrev pub fieldWidth : List ℕ → List ℕ → ℕ → ℕ
+fieldWidth ws text f = width (fieldDescriptor ws text f)
+
+abbrev pub instanceWords : List ℕ → ℕ → ℕ
+instanceWords ws c = min (classInstanceWords ws c) 65535
+
 module _ (ws text : List ℕ) where
-  -- "Descriptors J and D take 2 words, all others 1."
-  abbrev pub fieldWidth : ℕ → ℕ
-  fieldWidth f = width (fieldDescriptor ws text f)
-
-  abbrev pub instanceWords : ℕ → ℕ
-  instanceWords c = min (classInstanceWords ws c) 65535
-
   -- ---- "The runtime count starts as the largest, over the parent chain's instance fields with negative index, of the index's magnitude
   -- minus 1 plus the field's width (0 if there are none)."
 
   unfoldable pub runtimeEnd : ℕ → ℕ
   runtimeEnd f =
-      cond (not (isStatic (fieldFlags ws f)) && isNegative (fieldIndex ws f)) (magnitude (fieldIndex ws f) - 1 + fieldWidth f) 0
+      cond (not (isStatic (fieldFlags ws f)) && isNegative (fieldIndex ws f)) (magnitude (fieldIndex ws f) - 1 + fieldWidth ws text f) 0
 
   unfoldable pub ownRuntime : ℕ → ℕ → ℕ
   ownRuntime n c = fold (λ k f. max k (runtimeEnd f)) n (ownFields ws c)
@@ -75,18 +75,19 @@ asRuntime w n =
 abbrev pub asRunning : ℕ → Numbering → Numbering
 asRunning w n = record { indices = n .indices ++ (n .running ∷ []); statics = n .statics; runtime = n .runtime; running = n .running + w }
 
+-- `own` is the class's ABI entry; its instance words plus 1, or 0
+abbrev pub ownGiven : List ℕ → Found → ℕ
+ownGiven abi own = onFound own (givenWords abi) 0
+
+abbrev pub numberInstance : List ℕ → Found → Found → ℕ → Numbering → Numbering
+numberInstance abi own fixed w n =
+    onFound fixed (λ g. asFixed (fixedFieldIndex abi g) w n) (cond (eqb (ownGiven abi own) 0) (asRunning w n) (asRuntime w n))
+
 module _ (ws text abi labels : List ℕ) (own : Found) where
-  -- `own` is the class's ABI entry; its instance words plus 1, or 0
-  abbrev pub ownGiven : ℕ
-  ownGiven = onFound own (givenWords abi) 0
-
-  abbrev pub numberInstance : Found → ℕ → Numbering → Numbering
-  numberInstance fixed w n = onFound fixed (λ g. asFixed (fixedFieldIndex abi g) w n) (cond (eqb ownGiven 0) (asRunning w n) (asRuntime w n))
-
   unfoldable pub numberField : Numbering → ℕ → Numbering
   numberField n f =
       cond (isStatic (fieldFlags ws f)) (asStatic (fieldWidth ws text f) n)
-      (numberInstance (andThen own (fixedField abi labels (fieldName ws text f) (fieldDescriptor ws text f))) (fieldWidth ws text f) n)
+      (numberInstance abi own (andThen own (fixedField abi labels (fieldName ws text f) (fieldDescriptor ws text f))) (fieldWidth ws text f) n)
 
   unfoldable pub numberFields : ℕ → Numbering
   numberFields c =
@@ -95,28 +96,32 @@ module _ (ws text abi labels : List ℕ) (own : Found) where
         indices = [];
         statics = 0;
         runtime = runtimeWords ws text (parentOf ws c);
-        running = cond (eqb (parentOf ws c) 0) 0 (instanceWords ws text (parentOf ws c));
+        running = cond (eqb (parentOf ws c) 0) 0 (instanceWords ws (parentOf ws c));
       })
       (ownFields ws c)
 
-  -- "ABI fields that no declared instance field matches are added after the declared ones, flags 0x0002, and raise the running word."
-  unfoldable pub declaresField : ℕ → ℕ → Bool
-  declaresField c g =
-      some (λ f. not (isStatic (fieldFlags ws f)) && fieldIs abi labels g (fieldName ws text f) (fieldDescriptor ws text f)) (ownFields ws c)
+-- "ABI fields that no declared instance field matches are added after the declared ones, flags 0x0002, and raise the running word."
+unfoldable pub declaresField : List ℕ → List ℕ → List ℕ → List ℕ → ℕ → ℕ → Bool
+declaresField ws text abi labels c g =
+    some (λ f. not (isStatic (fieldFlags ws f)) && fieldIs abi labels g (fieldName ws text f) (fieldDescriptor ws text f)) (ownFields ws c)
 
+unfoldable pub raised : List ℕ → List ℕ → ℕ → List ℕ → ℕ
+raised abi labels running gs = fold (λ n g. max n (fixedFieldIndex abi g + width (abiFieldDescriptor abi labels g))) running gs
+
+module _ (ws text abi labels : List ℕ) (own : Found) where
   unfoldable pub addedFields : ℕ → List ℕ
-  addedFields c = onFound own (λ a. keep (λ g. not (declaresField c g)) (abiFields abi a)) []
-
-  unfoldable pub raised : ℕ → List ℕ → ℕ
-  raised running gs = fold (λ n g. max n (fixedFieldIndex abi g + width (abiFieldDescriptor abi labels g))) running gs
+  addedFields c = onFound own (λ a. keep (λ g. not (declaresField ws text abi labels c g)) (abiFields abi a)) []
 
   -- "Instance words are the ABI's if given, else that word."
   unfoldable pub builtWords : ℕ → ℕ
-  builtWords c = cond (eqb ownGiven 0) (raised (numberFields c .running) (addedFields c)) (ownGiven - 1)
+  builtWords c =
+      cond (eqb (ownGiven abi own) 0)
+      (raised abi labels (numberFields ws text abi labels own c .running) (addedFields c))
+      (ownGiven abi own - 1)
 
   -- row 10: "built: instance words, or chain runtime words, would exceed 65,535"
   unfoldable pub tooManyWords : ℕ → Bool
-  tooManyWords c = ltb 65535 (builtWords c) || ltb 65535 (numberFields c .runtime)
+  tooManyWords c = ltb 65535 (builtWords c) || ltb 65535 (numberFields ws text abi labels own c .runtime)
 
 -- ---- static words: "the sum of the static field widths", over the class's own fields
 
@@ -143,23 +148,23 @@ module _ (ws text : List ℕ) where
       (isStatic (fieldFlags ws f) || eqb (fieldIndex ws f) at) && standFrom (addWidth at f) fs
 
   abbrev pub generatedBase : ℕ → ℕ
-  generatedBase c = instanceWords ws text c - declaredWords c
+  generatedBase c = instanceWords ws c - declaredWords c
 
   -- row 8: "own instance words exceed the total"; row 9: "indices neither all relative nor all absolute"
   unfoldable pub generatedRefusal : ℕ → ℕ
   generatedRefusal c =
-      cond (ltb (instanceWords ws text c) (declaredWords c))
+      cond (ltb (instanceWords ws c) (declaredWords c))
       8
       (cond (standFrom (generatedBase c) (ownFields ws c) || standFrom 0 (ownFields ws c)) 0 9)
 
-  unfoldable pub movedIndex : ℕ → ℕ → ℕ
-  movedIndex base f = cond (isStatic (fieldFlags ws f)) (fieldIndex ws f) (base + fieldIndex ws f)
+unfoldable pub movedIndex : List ℕ → ℕ → ℕ → ℕ
+movedIndex ws base f = cond (isStatic (fieldFlags ws f)) (fieldIndex ws f) (base + fieldIndex ws f)
 
-  unfoldable pub indicesPlus : ℕ → List ℕ → List ℕ
-  indicesPlus base [] = []
-  indicesPlus base (f ∷ fs) = movedIndex base f ∷ indicesPlus base fs
+unfoldable pub indicesPlus : List ℕ → ℕ → List ℕ → List ℕ
+indicesPlus ws base [] = []
+indicesPlus ws base (f ∷ fs) = movedIndex ws base f ∷ indicesPlus ws base fs
 
-  -- the class's indices after the link
-  unfoldable pub generatedIndices : ℕ → List ℕ
-  generatedIndices c =
-      indicesPlus (cond (standFrom (generatedBase c) (ownFields ws c)) 0 (generatedBase c)) (ownFields ws c)
+-- the class's indices after the link
+unfoldable pub generatedIndices : List ℕ → List ℕ → ℕ → List ℕ
+generatedIndices ws text c =
+    indicesPlus ws (cond (standFrom ws text (generatedBase ws text c) (ownFields ws c)) 0 (generatedBase ws text c)) (ownFields ws c)

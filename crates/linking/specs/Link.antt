@@ -39,7 +39,7 @@ badArray ws text c =
     || eqb (parentOf ws c) 0
     || not (sameBytes (className ws text (parentOf ws c)) objectName))
 
--- "link: already linked, parent unlinked, or an array class .."
+-- "link: already linked, parent unlinked", or a bad array class
 unfoldable pub badClass : List ℕ → List ℕ → ℕ → Bool
 badClass ws text c =
     noClass ws c
@@ -85,22 +85,22 @@ onTable (refused n) f = unplanned n
 unfoldable pub withinSlots : Plan → Planned
 withinSlots p = cond (ltb 1024 (length (p .table))) (unplanned 13) (planned p)
 
-module _ (ws text abi labels area : List ℕ) where
-  -- "ABI fields .. are added after the declared ones, flags 0x0002"
-  unfoldable pub newFieldsOf : List ℕ → List New
-  newFieldsOf [] = []
-  newFieldsOf (g ∷ gs) =
-      record {
-        name = abiFieldName abi labels g;
-        descriptor = abiFieldDescriptor abi labels g;
-        flags = 2;
-        last = fixedFieldIndex abi g;
-      }
-      ∷ newFieldsOf gs
+-- "ABI fields that no declared instance field matches are added after the declared ones, flags 0x0002, and raise the running word."
+unfoldable pub newFieldsOf : List ℕ → List ℕ → List ℕ → List New
+newFieldsOf abi labels [] = []
+newFieldsOf abi labels (g ∷ gs) =
+    record {
+      name = abiFieldName abi labels g;
+      descriptor = abiFieldDescriptor abi labels g;
+      flags = 2;
+      last = fixedFieldIndex abi g;
+    }
+    ∷ newFieldsOf abi labels gs
 
+module _ (ws text abi labels area : List ℕ) where
   unfoldable pub builtTable : ℕ → Built
   builtTable c =
-      cond (isInterface (classFlags ws c)) (built (buildInterfaceMethods ws text abi labels c)) (buildMethods ws text abi labels area c)
+      cond (isInterface (classFlags ws c)) (built (buildInterfaceMethods ws text c)) (buildMethods ws text abi labels area c)
 
   unfoldable pub planBuilt : ℕ → Planned
   planBuilt c =
@@ -113,7 +113,7 @@ module _ (ws text abi labels area : List ℕ) where
         table = T;
         indices = numberFields ws text abi labels own c .indices;
         newMethods = [];
-        newFields = newFieldsOf (addedFields ws text abi labels own c);
+        newFields = newFieldsOf abi labels (addedFields ws text abi labels own c);
       })))
 
   -- "Generated without a compiler table: `build_methods`, interface or not."
@@ -139,9 +139,9 @@ module _ (ws text abi labels area : List ℕ) where
   unfoldable pub plan : ℕ → Planned
   plan c = cond (eqb (classKind ws c) 0) (planBuilt c) (cond (eqb (classKind ws c) 1) (planGenerated c) (planArray c))
 
-  -- "Linking sets .., unless generated, instance words": "An array class has 0."
-  unfoldable pub newWords : ℕ → ℕ
-  newWords c = cond (eqb (classKind ws c) 0) (builtWords ws text abi labels (classAbi ws text abi labels c) c) 0
+-- the instance words that linking sets, of a class that is not generated: "An array class has 0."
+unfoldable pub newWords : List ℕ → List ℕ → List ℕ → List ℕ → ℕ → ℕ
+newWords ws text abi labels c = cond (eqb (classKind ws c) 0) (builtWords ws text abi labels (classAbi ws text abi labels c) c) 0
 
 -- "linking puts there the sum of the static field widths for a built class, 0 for an array class; a generated class brings its own"
 unfoldable pub newStatics : List ℕ → List ℕ → ℕ → ℕ
@@ -216,7 +216,7 @@ finishLink ws abi c area stubs p =
       refusal = 0;
       first = nextFree area;
       second = length (p .table);
-      set = linkedWords ws c (nextFree area) (newWords ws (textOf ws) abi (abiTextOf abi) area c) (newStatics ws (textOf ws) c) p;
+      set = linkedWords ws c (nextFree area) (newWords ws (textOf ws) abi (abiTextOf abi) c) (newStatics ws (textOf ws) c) p;
       area = linkedArea area c (p .table) stubs;
     }))
 

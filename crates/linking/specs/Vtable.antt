@@ -57,8 +57,9 @@ module _ (ws text abi labels : List ℕ) where
   unfoldable pub parentEntries : List ℕ → ℕ → List Entry
   parentEntries area c = cond (eqb (parentOf ws c) 0) [] (tableEntries area (parentOf ws c))
 
-  -- ---- signatures in a table
+-- ---- signatures in a table
 
+module _ (ws text : List ℕ) where
   unfoldable pub entryIs : List ℕ → List ℕ → Entry → Bool
   entryIs name descriptor e = onFound (e .method) (λ m. methodIs ws text m name descriptor) false
 
@@ -70,20 +71,24 @@ module _ (ws text abi labels : List ℕ) where
   unfoldable pub entryIsOther : List ℕ → List ℕ → Entry → Bool
   entryIsOther name descriptor e = onFound (e .method) (λ m. not (methodIs ws text m name descriptor)) false
 
-  abbrev pub methodEntry : ℕ → Entry
-  methodEntry m = record { word = methodTarget ws m; method = At m }
+abbrev pub methodEntry : List ℕ → ℕ → Entry
+methodEntry ws m = record { word = methodTarget ws m; method = At m }
 
-  -- ---- "`build_methods`: parent entries, extended with empty ones to the largest fixed index + 1 or table size among the chain's ABI
-  -- classes. A class with its own ABI entry first puts each known inherited entry at its fixed index, later ones overwriting; known
-  -- entries without one follow after the minimum size; unknown ones go. Then each eligible method takes its fixed slot, else the slot of
-  -- its signature, else a new last one."
+-- ---- "`build_methods`: parent entries, extended with empty ones to the largest fixed index + 1 or table size among the chain's ABI
+-- classes. A class with its own ABI entry first puts each known inherited entry at its fixed index, later ones overwriting; known
+-- entries without one follow after the minimum size; unknown ones go. Then each eligible method takes its fixed slot, else the slot of
+-- its signature, else a new last one."
 
+unfoldable pub extended : List ℕ → List ℕ → List Entry → List Entry
+extended abi abis inherited = inherited ++ replicate (minimumSize abi abis - length inherited) empty
+
+abbrev pub putFixed : Found → Entry → List Entry → List Entry
+putFixed (At i) e T = set T i e
+putFixed Nothing e T = T ++ (e ∷ [])
+
+module _ (ws text abi labels : List ℕ) where
   unfoldable pub fixedOf : List ℕ → ℕ → Found
   fixedOf abis m = fixedIndex abi labels abis (methodName ws text m) (methodDescriptor ws text m)
-
-  abbrev pub putFixed : Found → Entry → List Entry → List Entry
-  putFixed (At i) e T = set T i e
-  putFixed Nothing e T = T ++ (e ∷ [])
 
   abbrev pub relay : List ℕ → Found → Entry → List Entry → List Entry
   relay abis (At m) e T = putFixed (fixedOf abis m) e T
@@ -95,44 +100,46 @@ module _ (ws text abi labels : List ℕ) where
   unfoldable pub relayed : List ℕ → List Entry → List Entry
   relayed abis inherited = fold (relayStep abis) (replicate (minimumSize abi abis) empty) inherited
 
-  unfoldable pub extended : List ℕ → List Entry → List Entry
-  extended abis inherited = inherited ++ replicate (minimumSize abi abis - length inherited) empty
-
   -- the table before the class's own methods
   unfoldable pub inheritedTable : List ℕ → ℕ → List Entry
   inheritedTable area c =
-      onFound (classAbi ws text abi labels c) (λ a. relayed (chainAbi ws text abi labels c) (parentEntries area c))
-      (extended (chainAbi ws text abi labels c) (parentEntries area c))
+      onFound (classAbi ws text abi labels c) (λ a. relayed (chainAbi ws text abi labels c) (parentEntries ws text abi labels area c))
+      (extended abi (chainAbi ws text abi labels c) (parentEntries ws text abi labels area c))
 
-  -- "Rows 11 and 12 go method by method, 11 first": "a fixed index differs from the inherited one", "the fixed slot holds another
-  -- signature"
-  unfoldable pub putMethod : Found → Found → ℕ → List Entry → Built
-  putMethod (At i) slot m T =
-      cond (onFound slot (λ j. not (eqb j i)) false)
-      (refused 11)
-      (cond (entryIsOther (methodName ws text m) (methodDescriptor ws text m) (getD T i empty)) (refused 12) (built (set T i (methodEntry m))))
-  putMethod Nothing (At j) m T = built (set T j (methodEntry m))
-  putMethod Nothing Nothing m T = built (T ++ (methodEntry m ∷ []))
+-- "Rows 11 and 12 go method by method, 11 first": "a fixed index differs from the inherited one", "the fixed slot holds another
+-- signature"
+unfoldable pub putMethod : List ℕ → List ℕ → Found → Found → ℕ → List Entry → Built
+putMethod ws text (At i) slot m T =
+    cond (onFound slot (λ j. not (eqb j i)) false)
+    (refused 11)
+    (cond (entryIsOther ws text (methodName ws text m) (methodDescriptor ws text m) (getD T i empty))
+    (refused 12)
+    (built (set T i (methodEntry ws m))))
+putMethod ws text Nothing (At j) m T = built (set T j (methodEntry ws m))
+putMethod ws text Nothing Nothing m T = built (T ++ (methodEntry ws m ∷ []))
 
+module _ (ws text abi labels : List ℕ) where
   unfoldable pub addMethod : List ℕ → ℕ → List Entry → Built
   addMethod abis m T =
-      cond (eligible ws text m) (putMethod (fixedOf abis m) (slotOf (methodName ws text m) (methodDescriptor ws text m) T) m T) (built T)
+      cond (eligible ws text m)
+      (putMethod ws text (fixedOf ws text abi labels abis m) (slotOf ws text (methodName ws text m) (methodDescriptor ws text m) T) m T)
+      (built T)
 
   unfoldable pub addMethods : List ℕ → List ℕ → List Entry → Built
   addMethods abis [] T = built T
   addMethods abis (m ∷ ms) T = onBuilt (addMethod abis m T) (addMethods abis ms)
 
   unfoldable pub buildMethods : List ℕ → ℕ → Built
-  buildMethods area c = addMethods (chainAbi ws text abi labels c) (ownMethods ws c) (inheritedTable area c)
+  buildMethods area c = addMethods (chainAbi ws text abi labels c) (ownMethods ws c) (inheritedTable ws text abi labels area c)
 
-  -- ---- "Interface flag (0x0200), built class: the eligible methods in order."
+-- ---- "Interface flag (0x0200), built class: the eligible methods in order."
 
-  unfoldable pub methodEntries : List ℕ → List Entry
-  methodEntries [] = []
-  methodEntries (m ∷ ms) = methodEntry m ∷ methodEntries ms
+unfoldable pub methodEntries : List ℕ → List ℕ → List Entry
+methodEntries ws [] = []
+methodEntries ws (m ∷ ms) = methodEntry ws m ∷ methodEntries ws ms
 
-  unfoldable pub buildInterfaceMethods : ℕ → List Entry
-  buildInterfaceMethods c = methodEntries (keep (eligible ws text) (ownMethods ws c))
+unfoldable pub buildInterfaceMethods : List ℕ → List ℕ → ℕ → List Entry
+buildInterfaceMethods ws text c = methodEntries ws (keep (eligible ws text) (ownMethods ws c))
 
 -- ---- "A slot that is empty or of target 0 takes the stub word at its index."
 

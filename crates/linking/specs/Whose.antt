@@ -28,9 +28,9 @@ methodOf (By c m) = At m
 methodOf Nobody = Nothing
 
 -- the class alone, 0 for nobody
-abbrev pub classOf : Declared → ℕ
-classOf (By c m) = c
-classOf Nobody = 0
+abbrev pub declaringClass : Declared → ℕ
+declaringClass (By c m) = c
+declaringClass Nobody = 0
 
 abbrev pub orDeclared : Declared → Declared → Declared
 orDeclared (By c m) other = By c m
@@ -65,7 +65,7 @@ module _ (ws text abi labels : List ℕ) where
 
   -- the class of slot i of class c's table, as the area holds it: "0 for an unknown slot"
   unfoldable pub slotClass : List ℕ → ℕ → ℕ → ℕ
-  slotClass area c i = classOf (readDeclared c i (getD area (classTablePlace ws c + 1 + i) 0))
+  slotClass area c i = declaringClass (readDeclared c i (getD area (classTablePlace ws c + 1 + i) 0))
 
 -- ---- the theorems
 
@@ -117,11 +117,11 @@ pub record Whose : Type 0 where
   pub implements : (ws text : List ℕ) (c k d m : ℕ) → declaredImplementation ws text c k ≡ By d m
       → Declares ws c d m × (isVirtual (methodFlags ws m) ≡ true) × (methodIs ws text m (methodName ws text k) (methodDescriptor ws text k) ≡ true)
   -- and no other does: it is the class whose list holds the method
-  pub no-other : (ws text abi labels : List ℕ) (c d m : ℕ) → MethodsApart ws → IsClass ws c → Declares ws c d m
-      → (find (holds ws text abi labels m) (numbers 1 (classCount ws)) ≡ At d) × (ownerState ws text abi labels m ≡ classLinkState ws d)
+  pub no-other : (ws : List ℕ) (c d m : ℕ) → MethodsApart ws → IsClass ws c → Declares ws c d m
+      → (find (holds ws m) (numbers 1 (classCount ws)) ≡ At d) × (ownerState ws m ≡ classLinkState ws d)
   -- the method that Reading finds at a slot's word and the number that the listing prints beside it belong together
   pub column : (ws text abi labels : List ℕ) (c i w : ℕ)
-      → Column ws c (readEntry ws text abi labels c i w .method) (classOf (readDeclared ws text abi labels c i w))
+      → Column ws c (readEntry ws text abi labels c i w .method) (declaringClass (readDeclared ws text abi labels c i w))
   -- 0 is unknown
   pub unknown : (ws text abi labels area : List ℕ) (c i : ℕ)
       → (slotClass ws text abi labels area c i ≡ 0) ↔ (readSlot ws text abi labels area c i .method ≡ Nothing)

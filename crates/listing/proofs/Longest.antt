@@ -67,7 +67,7 @@ module _ (ws text abi labels area : List ℕ) (c : ℕ) (p : Plan) where
         table = T;
         indices = numberFields ws text abi labels (classAbi ws text abi labels c) c .indices;
         newMethods = [];
-        newFields = newFieldsOf ws text abi labels area (addedFields ws text abi labels (classAbi ws text abi labels c) c);
+        newFields = newFieldsOf abi labels (addedFields ws text abi labels (classAbi ws text abi labels c) c);
       }
 
   abbrev generatedPlan : List Entry → Plan
@@ -142,7 +142,7 @@ module _ (ws abi : List ℕ) (b : Bounded ws) (c : ℕ) (area stubs : List ℕ) 
         | inl e ↦ rw (← e) none-short
         | inr e ↦ rw (← e) (news-short ws (textOf ws) abi (abiTextOf abi) (valid-bounded ws (v .0)) (v .1) area c (k .1))
       ] in
-      let l = link-leaves ws (v .0) c (nextFree area) (newWords ws (textOf ws) abi (abiTextOf abi) area c) (newStatics ws (textOf ws) c)
+      let l = link-leaves ws (v .0) c (nextFree area) (newWords ws (textOf ws) abi (abiTextOf abi) c) (newStatics ws (textOf ws) c)
       p k short (omega (arith, v .0 .class c k .fields)) in
       let w = a .room .free in
       let f = a .lent .some in

@@ -34,7 +34,7 @@ small-mark ms n i h e = rw e (h i)
 
 -- ---- a new member at the end of the arrays
 
-pub push-new : (ws text abi labels refs flags lasts : List ℕ) (n r f t : ℕ) → n < length refs → n < length flags → n < length lasts
+push-new : (ws text abi labels refs flags lasts : List ℕ) (n r f t : ℕ) → n < length refs → n < length flags → n < length lasts
     → firstNews ws text abi labels (set refs n r) (set flags n f) (set lasts n t) (n + 1)
     ≡ firstNews ws text abi labels refs flags lasts n
     ++ (record { name = refName ws text abi labels r; descriptor = refDescriptor ws text abi labels r; flags = f; last = t } ∷ [])
@@ -51,15 +51,6 @@ push-new ws text abi labels refs flags lasts n r f t h g k =
           rw (getD-set-other refs n i r 0 p, getD-set-other flags n i f 0 p, getD-set-other lasts n i t 0 p)),
     )
 
--- as the code stores it
-pub pushed : (ws text abi labels refs flags lasts : List ℕ) (n r f t : ℕ) {rs fs ls : List ℕ} {i j k : ℕ}
-    → n < length refs → n < length flags → n < length lasts → i ≡ n → rs ≡ set refs i r → j ≡ n → fs ≡ set flags j f → k ≡ n → ls ≡ set lasts k t
-    → firstNews ws text abi labels rs fs ls (n + 1)
-    ≡ firstNews ws text abi labels refs flags lasts n
-    ++ (record { name = refName ws text abi labels r; descriptor = refDescriptor ws text abi labels r; flags = f; last = t } ∷ [])
-pushed ws text abi labels refs flags lasts n r f t h g k ei er ej ef ek el =
-    rw (er, ef, el, ei, ej, ek) (push-new ws text abi labels refs flags lasts n r f t h g k)
-
 pub none-yet : (ws text abi labels refs flags lasts : List ℕ) → firstNews ws text abi labels refs flags lasts 0 ≡ []
 unfolding firstNews listFrom
 none-yet ws text abi labels refs flags lasts = refl
@@ -67,6 +58,21 @@ none-yet ws text abi labels refs flags lasts = refl
 pub interface-end : (ws : List ℕ) (c k : ℕ) {n : ℕ} → n ≤ k → n ≡ listCount (classFirstInterface ws c) (classInterfaceCount ws c) interfaceLimit
     → length (ownInterfaces ws c) ≤ k
 interface-end ws c k h e = omega (arith, own-interfaces-length ws c)
+
+-- ---- flags
+
+module _ (ws : List ℕ) (r : ℕ) where
+  pub flags-slot : methodLimit ≤ r → 1 ≡ refFlags ws r
+  unfolding refFlags
+  flags-slot h = simp (le-ltb r methodLimit h)
+
+  pub flags-abstract : {f : ℕ} → r < methodLimit → f ≡ methodFlags ws r → f / 1024 % 2 ≡ 1 → f - 1024 ≡ refFlags ws r
+  unfolding refFlags
+  flags-abstract {f = f} h e a = simp (lt-ltb r methodLimit h) (rw (← e) (simp (eq-eqb (f / 1024 % 2) 1 a)))
+
+  pub flags-same : {f : ℕ} → r < methodLimit → f ≡ methodFlags ws r → (f / 1024 % 2 ≡ 1 → ⊥) → f ≡ refFlags ws r
+  unfolding refFlags
+  flags-same {f = f} h e a = simp (lt-ltb r methodLimit h) (rw (← e) (simp (ne-eqb (f / 1024 % 2) 1 a)))
 
 module _ (ws text abi labels : List ℕ) where
   -- ---- what a target takes its signature from
@@ -114,67 +120,63 @@ module _ (ws text abi labels : List ℕ) where
       unfolding sourceRef
       ref-none t = rw (← h, z) (rw (← e, t))
 
-  -- ---- flags
-
-  module _ (r : ℕ) where
-    pub flags-slot : methodLimit ≤ r → 1 ≡ refFlags ws text abi labels r
-    unfolding refFlags
-    flags-slot h = simp (le-ltb r methodLimit h)
-
-    pub flags-abstract : {f : ℕ} → r < methodLimit → f ≡ methodFlags ws r → f / 1024 % 2 ≡ 1 → f - 1024 ≡ refFlags ws text abi labels r
-    unfolding refFlags
-    flags-abstract {f = f} h e a = simp (lt-ltb r methodLimit h) (rw (← e) (simp (eq-eqb (f / 1024 % 2) 1 a)))
-
-    pub flags-same : {f : ℕ} → r < methodLimit → f ≡ methodFlags ws r → (f / 1024 % 2 ≡ 1 → ⊥) → f ≡ refFlags ws text abi labels r
-    unfolding refFlags
-    flags-same {f = f} h e a = simp (lt-ltb r methodLimit h) (rw (← e) (simp (ne-eqb (f / 1024 % 2) 1 a)))
-
   -- ---- a method that is added, unless it is declared
 
   module _ (c r t : ℕ) (xs : List New) {name descriptor : List ℕ} {b : Bool} (e : name ≡ refName ws text abi labels r)
       (f : descriptor ≡ refDescriptor ws text abi labels r) (g : b ≡ some (λ m. methodIs ws text m name descriptor) (ownMethods ws c)) where
-    declared-is : b ≡ isDeclared ws text abi labels c (newOf ws text abi labels r t)
+    declared-is : b ≡ isDeclared ws text c (newOf ws text abi labels r t)
     unfolding isDeclared newOf
     declared-is = rw (← e, ← f) g
 
-    pub named-old : b ≡ true → xs ≡ xs ++ addNamed ws text abi labels c (newOf ws text abi labels r t) []
+    pub named-old : b ≡ true → xs ≡ xs ++ addNamed ws text c (newOf ws text abi labels r t) []
     unfolding addNamed
     named-old h = rw (← declared-is, h) (sym (append-nil xs))
 
-    new-is : {fl : ℕ} → fl ≡ refFlags ws text abi labels r
+    new-is : {fl : ℕ} → fl ≡ refFlags ws r
         → xs ++ (record { name = refName ws text abi labels r; descriptor = refDescriptor ws text abi labels r; flags = fl; last = t } ∷ [])
         ≡ xs ++ (newOf ws text abi labels r t ∷ [])
     unfolding newOf
     new-is k = rw k
 
-    pub named-new : {ys : List New} {fl : ℕ} → b ≡ false → fl ≡ refFlags ws text abi labels r
+    named-behind : {ys : List New} {fl : ℕ} → b ≡ false → fl ≡ refFlags ws r
         → ys ≡ xs ++ (record { name = refName ws text abi labels r; descriptor = refDescriptor ws text abi labels r; flags = fl; last = t } ∷ [])
-        → ys ≡ xs ++ addNamed ws text abi labels c (newOf ws text abi labels r t) []
+        → ys ≡ xs ++ addNamed ws text c (newOf ws text abi labels r t) []
     unfolding addNamed
-    named-new h k m = rw (← declared-is, h) (m ∙ new-is k)
+    named-behind h k m = rw (← declared-is, h) (m ∙ new-is k)
+
+  -- as the code stores it
+  pub named-new : (c r t : ℕ) (refs flags lasts : List ℕ) (n : ℕ) {rs fs ls name descriptor : List ℕ} {b : Bool} {fl : ℕ} → n < 1024
+      → 1024 ≤ length refs → 1024 ≤ length flags → 1024 ≤ length lasts → name ≡ refName ws text abi labels r
+      → descriptor ≡ refDescriptor ws text abi labels r → b ≡ some (λ m. methodIs ws text m name descriptor) (ownMethods ws c) → b ≡ false
+      → fl ≡ refFlags ws r → rs ≡ set refs n r → fs ≡ set flags n fl → ls ≡ set lasts n t
+      → firstNews ws text abi labels rs fs ls (n + 1)
+      ≡ firstNews ws text abi labels refs flags lasts n ++ addNamed ws text c (newOf ws text abi labels r t) []
+  named-new c r t refs flags lasts n {fl = fl} few h g k en ed eb fresh ef er es el =
+      named-behind c r t (firstNews ws text abi labels refs flags lasts n) en ed eb fresh ef
+      (rw (er, es, el) (push-new ws text abi labels refs flags lasts n r fl t (omega arith) (omega arith) (omega arith)))
 
   -- ---- what one target adds
 
-  of-method : (m t : ℕ) → m < methodLimit → newOf ws text abi labels m t ≡ fromMethod ws text abi labels m t
+  of-method : (m t : ℕ) → m < methodLimit → newOf ws text abi labels m t ≡ fromMethod ws text m t
   unfolding newOf refName refDescriptor refFlags
   of-method m t h = rw (lt-ltb m methodLimit h)
 
-  of-slot : (s t : ℕ) → s < methodLimit → newOf ws text abi labels (methodLimit + s) t ≡ fromSlot ws text abi labels s t
+  of-slot : (s t : ℕ) → s < methodLimit → newOf ws text abi labels (methodLimit + s) t ≡ fromSlot abi labels s t
   unfolding newOf refName refDescriptor refFlags
   of-slot s t h =
       let e : methodLimit + s - methodLimit ≡ s = omega arith in
       rw (le-ltb (methodLimit + s) methodLimit (omega arith), lt-ltb (methodLimit + s) 1024 (omega arith), e)
 
   add-from : (c i t k : ℕ) → SheetMark k → addFrom ws text abi labels c i t (methodOf k) []
-      ≡ onFound (sourceRef ws text abi labels c i (methodOf k)) (λ r. addNamed ws text abi labels c (newOf ws text abi labels r t) []) []
+      ≡ onFound (sourceRef ws text abi labels c i (methodOf k)) (λ r. addNamed ws text c (newOf ws text abi labels r t) []) []
   unfolding sourceRef SheetMark
   add-from c i t k h =
       by-found (methodOf k)
-      (λ m q. rw q (ap (λ (x : New). addNamed ws text abi labels c x []) (sym (of-method m t (h m q)))))
+      (λ m q. rw q (ap (λ (x : New). addNamed ws text c x []) (sym (of-method m t (h m q)))))
       (λ q.
       rw q
       (by-found (firstFound (slotAt abi i) (signatureSources ws text abi labels c))
-      (λ s p. rw p (ap (λ (x : New). addNamed ws text abi labels c x []) (sym (of-slot s t (source-room i c s p)))))
+      (λ s p. rw p (ap (λ (x : New). addNamed ws text c x []) (sym (of-slot s t (source-room i c s p)))))
       (λ p. rw p)))
 
   module _ (c i t w k : ℕ) (xs : List New) where
@@ -183,7 +185,7 @@ module _ (ws text abi labels : List ℕ) where
     add-skip h = rw h (sym (append-nil xs))
 
     module _ (l : SheetMark k) (h : (eqb t 0 || eqb t w) ≡ false) {q : Found} (e : q ≡ sourceRef ws text abi labels c i (methodOf k)) where
-      pub add-at : (r : ℕ) {ys : List New} → q ≡ At r → ys ≡ xs ++ addNamed ws text abi labels c (newOf ws text abi labels r t) []
+      pub add-at : (r : ℕ) {ys : List New} → q ≡ At r → ys ≡ xs ++ addNamed ws text c (newOf ws text abi labels r t) []
           → ys ≡ xs ++ addedAt ws text abi labels c i t (record { word = w; method = methodOf k })
       unfolding addedAt
       add-at r g m = rw (h, add-from c i t k l, ← e, g) m
@@ -208,23 +210,23 @@ module _ (ws text abi labels : List ℕ) where
       (λ q.
       rw q
       (by-found (getD view i empty .method)
-      (λ m p. rw p (by (isDeclared ws text abi labels c (fromMethod ws text abi labels m t)) (λ d. rw d) (λ d. rw d)))
+      (λ m p. rw p (by (isDeclared ws text c (fromMethod ws text m t)) (λ d. rw d) (λ d. rw d)))
       (λ p.
       rw p
       (by-found (firstFound (slotAt abi i) (signatureSources ws text abi labels c))
-      (λ s o. rw o (by (isDeclared ws text abi labels c (fromSlot ws text abi labels s t)) (λ d. rw d) (λ d. rw d)))
+      (λ s o. rw o (by (isDeclared ws text c (fromSlot abi labels s t)) (λ d. rw d) (λ d. rw d)))
       (λ o. rw o)))))
 
   module _ (c : ℕ) (vs vm : List ℕ) (n : ℕ) where
     rest-all : (count : ℕ) (xs : List New) → count ≡ min (classCompilerSlots ws c) 1024 → xs ≡ [] → xs ++ addRest c vs vm n count 0
-        ≡ addedFrom ws text abi labels c (entriesOf vs vm n) 0 (compilerTargets ws text abi labels c)
+        ≡ addedFrom ws text abi labels c (entriesOf vs vm n) 0 (compilerTargets ws c)
     unfolding addRest compilerTargets
     rest-all count xs e f = rw (f, rest-start (targetAt c) 0 count, e)
 
     -- the loop's entry, where the arrays hold none
     pub rest-begin : (refs flags lasts : List ℕ) (count : ℕ) → count ≡ min (classCompilerSlots ws c) 1024
         → firstNews ws text abi labels refs flags lasts 0 ++ addRest c vs vm n count 0
-        ≡ addedFrom ws text abi labels c (entriesOf vs vm n) 0 (compilerTargets ws text abi labels c)
+        ≡ addedFrom ws text abi labels c (entriesOf vs vm n) 0 (compilerTargets ws c)
     rest-begin refs flags lasts count e =
         rest-all count (firstNews ws text abi labels refs flags lasts 0) e (none-yet ws text abi labels refs flags lasts)
 
@@ -259,7 +261,7 @@ module _ (ws text abi labels : List ℕ) where
     rest-none count i xs A h g = sym (append-nil xs) ∙ (rw (rest-end (targetAt c) 0 count i h) at g)
 
     pub added-are : (area : List ℕ) (xs : List New) → entriesOf vs vm n ≡ nativeView ws text abi labels area c
-        → xs ≡ addedFrom ws text abi labels c (entriesOf vs vm n) 0 (compilerTargets ws text abi labels c)
+        → xs ≡ addedFrom ws text abi labels c (entriesOf vs vm n) 0 (compilerTargets ws c)
         → xs ≡ addedMethods ws text abi labels area c
     unfolding addedMethods
     added-are area xs e g = g ∙ rw e

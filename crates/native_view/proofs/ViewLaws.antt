@@ -17,7 +17,7 @@ use Rattle.class_sheet.specs.ClassSheet.{classTablePlace, classSlotCount, metho
 use Rattle.linking.specs.Chain.{onFound, parentOf}
 use Rattle.linking.specs.Abi.{chainAbi}
 use Rattle.linking.specs.Vtable.{Entry, empty, readSlot, tableEntries, parentEntries, fixedOf}
-use Rattle.linking.specs.Compiler.{New, ownerState, isEmptied, viewFrom, nativeView, entryMethods}
+use Rattle.linking.specs.Compiler.{ownerState, isEmptied, viewFrom, nativeView, entryMethods}
 use Rattle.reading.specs.Arrays.{markOf, methodOf, entryAt, entriesOf}
 use Rattle.reading.proofs.ArrayLaws.{no-method, none-back, length-entries, entry-is, push-slot}
 use Rattle.reading.proofs.ReadLaws.{read-room}
@@ -56,7 +56,7 @@ module _ (ws text abi labels : List ℕ) where
     unfolding isEmptied
     emptied-unknown e = rw (← method, e)
 
-    pub emptied-known : {s m : ℕ} {b : Bool} → o ≡ At m → s ≡ ownerState ws text abi labels m
+    pub emptied-known : {s m : ℕ} {b : Bool} → o ≡ At m → s ≡ ownerState ws m
         → b ≡ onFound (fixedOf ws text abi labels abis m) (eqb i) false
         → (not (eqb s 3) && not b) ≡ isEmptied ws text abi labels abis i (record { word = w; method = methodOf k })
     unfolding isEmptied
@@ -168,20 +168,18 @@ module _ (ws text abi labels : List ℕ) where
       unfolding entriesOf marksIn
       marks-are = marks-from 0 n ∙ ap methodsIn read
 
-  -- ---- the known ones of them, in order
+-- ---- the known ones of the marks, in order
 
-  known-from : (f : ℕ → Found) (new : List New) (m k : ℕ) (E : List Entry) → listFrom f m k ≡ methodsIn E
-      → allFound f (numbers m k) ≡ entryMethods ws text abi labels new E
-  unfolding listFrom methodsIn allFound entryMethods
-  known-from f new m zero [] e = refl
-  known-from f new m zero (x ∷ es) e = let z : _≡_ {A = ℕ} 0 1 = cc in absurd (omega arith)
-  known-from f new m (suc k) [] e = let z : _≡_ {A = ℕ} 0 1 = cc in absurd (omega arith)
-  known-from f new m (suc k) (x ∷ es) e =
-      let h : f m ≡ x .method = cc in
-      let t : listFrom f (m + 1) k ≡ methodsIn es = cc in
-      rw (h, known-from f new (m + 1) k es t)
+known-from : (f : ℕ → Found) (m k : ℕ) (E : List Entry) → listFrom f m k ≡ methodsIn E → allFound f (numbers m k) ≡ entryMethods E
+unfolding listFrom methodsIn allFound entryMethods
+known-from f m zero [] e = refl
+known-from f m zero (x ∷ es) e = let z : _≡_ {A = ℕ} 0 1 = cc in absurd (omega arith)
+known-from f m (suc k) [] e = let z : _≡_ {A = ℕ} 0 1 = cc in absurd (omega arith)
+known-from f m (suc k) (x ∷ es) e =
+    let h : f m ≡ x .method = cc in
+    let t : listFrom f (m + 1) k ≡ methodsIn es = cc in
+    rw (h, known-from f (m + 1) k es t)
 
-  pub methods-are : (ms : List ℕ) (n : ℕ) (E : List Entry) (new : List New) → marksIn ms n ≡ methodsIn E
-      → markMethods ms n ≡ entryMethods ws text abi labels new E
-  unfolding marksIn markMethods
-  methods-are ms n E new e = known-from (λ i. methodOf (getD ms i 0)) new 0 n E e
+pub methods-are : (ms : List ℕ) (n : ℕ) (E : List Entry) → marksIn ms n ≡ methodsIn E → markMethods ms n ≡ entryMethods E
+unfolding marksIn markMethods
+methods-are ms n E e = known-from (λ i. methodOf (getD ms i 0)) 0 n E e

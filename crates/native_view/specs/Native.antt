@@ -38,6 +38,10 @@ methodsIn (e ∷ es) = e .method ∷ methodsIn es
 unfoldable pub markMethods : List ℕ → ℕ → List ℕ
 markMethods ms n = allFound (λ i. methodOf (getD ms i 0)) (numbers 0 n)
 
+-- "flags without 0x0400" of a method, flags 1 of a slot
+unfoldable pub refFlags : List ℕ → ℕ → ℕ
+refFlags ws r = cond (ltb r methodLimit) (withoutAbstract (methodFlags ws r)) 1
+
 module _ (ws text abi labels : List ℕ) where
   -- the slot at index i of the ABI entry of the class that interface word k names
   unfoldable pub interfaceSlot : ℕ → ℕ → Found
@@ -47,13 +51,9 @@ module _ (ws text abi labels : List ℕ) where
   unfoldable pub sourceRef : ℕ → ℕ → Found → Found
   sourceRef c i method = orElse method (mapFound (λ s. methodLimit + s) (firstFound (slotAt abi i) (signatureSources ws text abi labels c)))
 
-  -- "flags without 0x0400" of a method, flags 1 of a slot
-  unfoldable pub refFlags : ℕ → ℕ
-  refFlags r = cond (ltb r methodLimit) (withoutAbstract (methodFlags ws r)) 1
-
   -- the method of target t that takes its signature from r
   unfoldable pub newOf : ℕ → ℕ → New
-  newOf r t = record { name = refName ws text abi labels r; descriptor = refDescriptor ws text abi labels r; flags = refFlags r; last = t }
+  newOf r t = record { name = refName ws text abi labels r; descriptor = refDescriptor ws text abi labels r; flags = refFlags ws r; last = t }
 
   -- what target t at index i adds, where the native view has entry e
   unfoldable pub addedAt : ℕ → ℕ → ℕ → Entry → List New

@@ -3,7 +3,7 @@
 use words::Found;
 ghost use mathlib.Core.Path.{_≡_};
 ghost use mathlib.Core.Bool.{false, cond};
-ghost use mathlib.Core.List.{List, _∷_, [], _++_};
+ghost use mathlib.Core.List.{[], _++_};
 ghost use Prim.Native.Nat.{ℕ, _+_, _-_, _≤_, _<_, min};
 ghost use lib.ListN.{length, set, drop};
 ghost use lib.Dec.{eqb};
@@ -15,7 +15,7 @@ ghost use Rattle.linking.specs.Abi.{slotAt, classAbi};
 ghost use Rattle.linking.specs.Vtable.{fixedOf, parentEntries};
 ghost use Rattle.linking.specs.Compiler.{holds, ownerState, isEmptied, viewFrom, nativeView, signatureSources, addNamed, compilerTargets, addedFrom, addedMethods};
 ghost use Rattle.reading.specs.Arrays.{markOf, methodOf, entriesOf};
-ghost use Rattle.growth.specs.News.{refName, refDescriptor, firstNews};
+ghost use Rattle.growth.specs.News.{firstNews};
 ghost use Rattle.native_view.specs.Native.{below, SheetMark, SmallMarks, marksIn, methodsIn, interfaceSlot, sourceRef, refFlags, newOf, addedAt};
 
 // How many slots the native view has, and how many methods the compiler table adds.
@@ -26,7 +26,7 @@ pub struct Native {
 
 // Whether class c's list holds method m.
 fn holds(ws: &[u32], m: u32, c: u32) -> bool
-    ensures { λ r. ⌜ ((text abi labels : List ℕ) → r ≡ holds (now (ws .entry)) text abi labels m c) ⌝ }
+    ensures { λ r. ⌜ r ≡ holds (now (ws .entry)) m c ⌝ }
 {
     let first = words::wide(class_sheet::class_first_method(ws, c));
     let n = words::wide(class_sheet::class_method_count(ws, c));
@@ -35,7 +35,7 @@ fn holds(ws: &[u32], m: u32, c: u32) -> bool
 
 // The class that method m belongs to: the first whose list holds it.
 fn owner(ws: &[u32], m: u32) -> Found
-    ensures { λ r. ⌜ ((text abi labels : List ℕ) → r ≡ find (holds (now (ws .entry)) text abi labels m) (numbers 1 (classCount (now (ws .entry))))) ⌝ }
+    ensures { λ r. ⌜ r ≡ find (holds (now (ws .entry)) m) (numbers 1 (classCount (now (ws .entry)))) ⌝ }
 {
     let n = class_sheet::class_count(ws);
     let mut i: u32 = 0;
@@ -50,7 +50,7 @@ fn owner(ws: &[u32], m: u32) -> Found
 
 // The link state of the class that method m belongs to.
 fn owner_state(ws: &[u32], m: u32) -> u32
-    ensures { λ r. ⌜ ((text abi labels : List ℕ) → r ≡ ownerState (now (ws .entry)) text abi labels m) ⌝ }
+    ensures { λ r. ⌜ r ≡ ownerState (now (ws .entry)) m ⌝ }
 {
     match owner(ws, m) {
         Found::At(c) => class_sheet::class_link_state(ws, c),
@@ -225,7 +225,7 @@ fn source_ref(ws: &[u32], text: &[u8], abi: &[u32], labels: &[u8], c: u32, i: u3
 
 // The flags of a method that takes its signature from r: never 0x0400.
 fn ref_flags(ws: &[u32], r: u32) -> u32
-    ensures { λ f. ⌜ ((text abi labels : List ℕ) → f ≡ refFlags (now (ws .entry)) text abi labels r) ⌝ }
+    ensures { λ f. ⌜ f ≡ refFlags (now (ws .entry)) r ⌝ }
 {
     if class_sheet::METHOD_LIMIT <= r {
         return 1;
@@ -249,8 +249,9 @@ fn is_declared(ws: &[u32], text: &[u8], name: &[u8], descriptor: &[u8], c: u32) 
 
 // Stores one added method more, after n.
 fn push(refs: &mut [u32], flags: &mut [u32], lasts: &mut [u32], n: u32, r: u32, f: u32, t: u32)
-    requires { ⌜ (n < length (now refs)) × (n < length (now flags)) × (n < length (now lasts)) ⌝ }
-    ensures { λ _. ⌜ ((ws text abi labels : List ℕ) → firstNews ws text abi labels (now (refs .exit)) (now (flags .exit)) (now (lasts .exit)) (n + 1) ≡ firstNews ws text abi labels (now (refs .entry)) (now (flags .entry)) (now (lasts .entry)) n ++ (record { name = refName ws text abi labels r; descriptor = refDescriptor ws text abi labels r; flags = f; last = t } ∷ [])) ⌝ }
+    ensures refs { λ _. ⌜ now (refs .exit) ≡ set (now (refs .entry)) n r ⌝ }
+    ensures flags { λ _. ⌜ now (flags .exit) ≡ set (now (flags .entry)) n f ⌝ }
+    ensures lasts { λ _. ⌜ now (lasts .exit) ≡ set (now (lasts .entry)) n t ⌝ }
 {
     words::put_word(refs, words::wide(n), r);
     words::put_word(flags, words::wide(n), f);
@@ -272,7 +273,7 @@ fn add_named<'a>(
     n: u32,
 ) -> u32
     requires { ⌜ (n < 1024) × (1024 ≤ length (now refs)) × (1024 ≤ length (now flags)) × (1024 ≤ length (now lasts)) ⌝ }
-    ensures is { λ m. ⌜ firstNews (now (ws .entry)) (now (text .entry)) (now (abi .entry)) (now (labels .entry)) (now (refs .exit)) (now (flags .exit)) (now (lasts .exit)) m ≡ firstNews (now (ws .entry)) (now (text .entry)) (now (abi .entry)) (now (labels .entry)) (now (refs .entry)) (now (flags .entry)) (now (lasts .entry)) n ++ addNamed (now (ws .entry)) (now (text .entry)) (now (abi .entry)) (now (labels .entry)) c (newOf (now (ws .entry)) (now (text .entry)) (now (abi .entry)) (now (labels .entry)) r t) [] ⌝ }
+    ensures is { λ m. ⌜ firstNews (now (ws .entry)) (now (text .entry)) (now (abi .entry)) (now (labels .entry)) (now (refs .exit)) (now (flags .exit)) (now (lasts .exit)) m ≡ firstNews (now (ws .entry)) (now (text .entry)) (now (abi .entry)) (now (labels .entry)) (now (refs .entry)) (now (flags .entry)) (now (lasts .entry)) n ++ addNamed (now (ws .entry)) (now (text .entry)) c (newOf (now (ws .entry)) (now (text .entry)) (now (abi .entry)) (now (labels .entry)) r t) [] ⌝ }
     ensures count { λ m. ⌜ m ≤ n + 1 ⌝ }
 {
     let name = growth::ref_name(ws, text, abi, labels, r);
@@ -328,7 +329,7 @@ fn add_methods<'a>(
     lasts: &mut [u32],
 ) -> u32
     requires { ⌜ (SmallMarks (now vm) n) × (1024 ≤ length (now refs)) × (1024 ≤ length (now flags)) × (1024 ≤ length (now lasts)) ⌝ }
-    ensures is { λ m. ⌜ firstNews (now (ws .entry)) (now (text .entry)) (now (abi .entry)) (now (labels .entry)) (now (refs .exit)) (now (flags .exit)) (now (lasts .exit)) m ≡ addedFrom (now (ws .entry)) (now (text .entry)) (now (abi .entry)) (now (labels .entry)) c (entriesOf (now (vs .entry)) (now (vm .entry)) n) 0 (compilerTargets (now (ws .entry)) (now (text .entry)) (now (abi .entry)) (now (labels .entry)) c) ⌝ }
+    ensures is { λ m. ⌜ firstNews (now (ws .entry)) (now (text .entry)) (now (abi .entry)) (now (labels .entry)) (now (refs .exit)) (now (flags .exit)) (now (lasts .exit)) m ≡ addedFrom (now (ws .entry)) (now (text .entry)) (now (abi .entry)) (now (labels .entry)) c (entriesOf (now (vs .entry)) (now (vm .entry)) n) 0 (compilerTargets (now (ws .entry)) c) ⌝ }
     ensures count { λ m. ⌜ m ≤ 1024 ⌝ }
 {
     let count = compiler_count(ws, c);

@@ -12,9 +12,9 @@ use borrow.Author.Tests.{le-leb, lt-ltb, ltb-true, ltb-false, not-true}
 use Rattle.words.specs.Folds.{allOf}
 use Rattle.words.proofs.Bools.{by, and-both, and-3}
 use Rattle.words.proofs.FoldLaws.{all-each, all-if, all-ext}
-use Rattle.text.specs.Text.{sameBytes}
+use Rattle.text.specs.Text.{sameBytes, nameStartWord, nameLengthWord}
 use Rattle.text.proofs.Laws.{same-is, same-refl}
-use Rattle.class_sheet.specs.ClassSheet.{classCountNumber, compilerCountNumber, compilerSlotsWord, compilerTableWord, fieldCountNumber, fieldCountWord, firstFieldWord, firstInterfaceWord, firstMethodWord, flagsWord, instanceWordsWord, interfaceCountNumber, interfaceCountWord, kindWord, linkStateWord, methodCountNumber, methodCountWord, nameLengthWord, nameStartWord, slotCountWord, tablePlaceWord, textLengthNumber, parentWord, countsWidth, classWidth, memberWidth, countAt, classCount, methodCount, fieldCount, interfaceCount, classWord, methodWord, fieldWord, interfaceWord, textOf, classParent, classFirstMethod, classMethodCount, classFirstField, classFieldCount, className}
+use Rattle.class_sheet.specs.ClassSheet.{classCountNumber, compilerCountNumber, compilerSlotsWord, compilerTableWord, fieldCountNumber, fieldCountWord, firstFieldWord, firstInterfaceWord, firstMethodWord, flagsWord, instanceWordsWord, interfaceCountNumber, interfaceCountWord, kindWord, linkStateWord, methodCountNumber, methodCountWord, slotCountWord, tablePlaceWord, textLengthNumber, parentWord, countsWidth, classWidth, memberWidth, countAt, classCount, methodCount, fieldCount, interfaceCount, classWord, methodWord, fieldWord, interfaceWord, textOf, classParent, classFirstMethod, classMethodCount, classFirstField, classFieldCount, className}
 use Rattle.apart.specs.Apart.{apart, methodsApart, fieldsApart, classesApart, apartBefore}
 use Rattle.apart.proofs.Laws.{apart-is, apart-if}
 use Rattle.class_rules.specs.ClassRules.{classLimits, classFits, allFresh, classNumbers, classLists, classRecord, methodRecord, fieldRecord, interfaceNames, classRecords}

@@ -24,11 +24,10 @@ use Rattle.vtable.specs.Arrays.{stepOf}
 use Rattle.vtable.specs.declared.Step.{Step}
 use Rattle.vtable.specs.declared.Step.the-variants.{Next}
 use Rattle.reading.proofs.ArrayLaws.{length-entries}
-use Rattle.vtable.proofs.TableLaws.{interface-same}
 use Rattle.field.specs.Numbers.{addedTo, namesOver, flagsOver, indicesOver, numbered, numberedOf, builtFields, generatedFields}
 use Rattle.field.specs.declared.Numbered.{Numbered}
 use Rattle.field.proofs.OutcomeLaws.{built-accepted, built-refused, generated-accepted, generated-refused}
-use Rattle.field.proofs.AddedLaws.{any-area, added-few, members-are}
+use Rattle.field.proofs.AddedLaws.{added-few, members-are}
 use Rattle.growth.specs.News.{newAt, firstNews}
 use Rattle.plan.specs.declared.Plan.{Plan}
 use Rattle.plan.specs.declared.Table.{Table}
@@ -81,16 +80,21 @@ pub plan-by : {ws text abi labels : List ℕ} {c words : ℕ} {P Q : L.Planned} 
     → Planning ws text abi labels c words P r ts refs flags lasts → Planning ws text abi labels c words Q r ts refs flags lasts
 plan-by e h = rw (← e) h
 
+length-news : (abi labels gs : List ℕ) → length (L.newFieldsOf abi labels gs) ≡ length gs
+unfolding L.newFieldsOf
+length-news abi labels [] = refl
+length-news abi labels (g ∷ gs) = ap suc (length-news abi labels gs)
+
 module _ (ws text abi labels area : List ℕ) (c : ℕ) where
   -- ---- the table of a built class
 
   module _ {f : ℕ} (flags : f ≡ classFlags ws c) where
-    pub interface-table : (n : ℕ) (ts ms : List ℕ) {t : Table} → f / 512 % 2 ≡ 1 → entriesOf ts ms n ≡ buildInterfaceMethods ws text [] [] c
+    pub interface-table : (n : ℕ) (ts ms : List ℕ) {t : Table} → f / 512 % 2 ≡ 1 → entriesOf ts ms n ≡ buildInterfaceMethods ws text c
         → t ≡ tableFrom (Next n) 0 → tableOf t ts ≡ bareBuilt (fewSlots (L.builtTable ws text abi labels area c))
     unfolding L.builtTable
     interface-table n ts ms h e g =
         table-is (Next n) 0 ts ms (L.builtTable ws text abi labels area c) g
-        (ap built e ∙ rw (← flags) (simp (eq-eqb (f / 512 % 2) 1 h) (ap built (interface-same ws text abi labels c))))
+        (ap built e ∙ rw (← flags) (simp (eq-eqb (f / 512 % 2) 1 h)))
 
     pub class-table : (s : Step) (ts ms : List ℕ) {t : Table} → f / 512 % 2 ≢ 1 → stepOf s ts ms ≡ buildMethods ws text abi labels area c
         → t ≡ tableFrom s 0 → tableOf t ts ≡ bareBuilt (fewSlots (L.builtTable ws text abi labels area c))
@@ -98,11 +102,6 @@ module _ (ws text abi labels area : List ℕ) (c : ℕ) where
     class-table s ts ms h e g = table-is s 0 ts ms (L.builtTable ws text abi labels area c) g (e ∙ rw (← flags) (simp (ne-eqb (f / 512 % 2) 1 h)))
 
   -- ---- a built class
-
-  length-news : (gs : List ℕ) → length (L.newFieldsOf ws text abi labels area gs) ≡ length gs
-  unfolding L.newFieldsOf
-  length-news [] = refl
-  length-news (g ∷ gs) = ap suc (length-news gs)
 
   module _ (f : Numbered) (numbers : f ≡ numberedOf (builtFields ws text abi labels c)) where
     pub built-row : (words : ℕ) (ts refs flags lasts : List ℕ) {r : Plan} → r ≡ noPlan (f .row) → f .row ≢ 0
@@ -126,7 +125,7 @@ module _ (ws text abi labels area : List ℕ) (c : ℕ) where
             table = q .slots;
             indices = numberFields ws text abi labels (classAbi ws text abi labels c) c .indices;
             newMethods = [];
-            newFields = L.newFieldsOf ws text abi labels area gs;
+            newFields = L.newFieldsOf abi labels gs;
           }
 
       built-passes : (q : Passed (L.builtTable ws text abi labels area c) (t .n) ts) → L.planBuilt ws text abi labels area c ≡ L.planned (plan-of q)
@@ -134,14 +133,14 @@ module _ (ws text abi labels area : List ℕ) (c : ℕ) where
       built-passes q =
           rw (built-accepted ws text abi labels c numbers zero .0, q .table, le-ltb 1024 (length (q .slots)) (q .few))
 
-      built-words : classKind ws c ≡ 0 → L.newWords ws text abi labels area c ≡ builtWords ws text abi labels (classAbi ws text abi labels c) c
+      built-words : classKind ws c ≡ 0 → L.newWords ws text abi labels c ≡ builtWords ws text abi labels (classAbi ws text abi labels c) c
       unfolding L.newWords
       built-words k = rw k
 
       pub built-plan : (a d b : List ℕ) {r : Plan} {refs flags lasts : List ℕ} → classKind ws c ≡ 0 → t .added ≡ 0 → refs ≡ namesOver gs a
           → flags ≡ flagsOver gs d → lasts ≡ indicesOver abi gs b → (length refs ≡ 1024) × (length flags ≡ 1024) × (length lasts ≡ 1024)
           → r ≡ planFrom f t
-          → Planning ws text abi labels c (L.newWords ws text abi labels area c) (L.planBuilt ws text abi labels area c) r ts refs flags lasts
+          → Planning ws text abi labels c (L.newWords ws text abi labels c) (L.planBuilt ws text abi labels area c) r ts refs flags lasts
       built-plan a d b {refs = refs} {flags = flags} {lasts = lasts} kind none e k l n g =
           by (eqb (t .row) 0)
           (λ z.
@@ -153,17 +152,17 @@ module _ (ws text abi labels area : List ℕ) (c : ℕ) where
           let lb : length lasts ≡ length b = rw l (length-stores (length gs) _ b) in
           let m = members-are ws text abi labels gs a d b e k l (omega arith) (omega arith) (omega arith) in
           let s : length gs + t .added ≡ length gs = omega arith in
-          let both : length gs + t .added ≡ 0 + length (L.newFieldsOf ws text abi labels area gs) = omega (arith, length-news gs) in
-          accepted-plan ws text abi labels c ts refs flags lasts (plan-of q) f t (L.newWords ws text abi labels area c) (length gs) (built-passes q) g o
+          let both : length gs + t .added ≡ 0 + length (L.newFieldsOf abi labels gs) = omega (arith, length-news abi labels gs) in
+          accepted-plan ws text abi labels c ts refs flags lasts (plan-of q) f t (L.newWords ws text abi labels c) (length gs) (built-passes q) g o
           (q .words) (rw (built-words kind) (built-accepted ws text abi labels c numbers zero .1)) both (rw kind refl)
-          (rw (kind, s, m) (any-area ws text abi labels area gs)) (omega arith))
+          (rw (kind, s, m)) (omega arith))
           (λ z.
           let h = eqb-false (t .row) 0 z in
-          refused-plan ws text abi labels c ts refs flags lasts (L.newWords ws text abi labels area c) (t .row) (g ∙ rw (ne-eqb (t .row) 0 h)) h (built-stops h))
+          refused-plan ws text abi labels c ts refs flags lasts (L.newWords ws text abi labels c) (t .row) (g ∙ rw (ne-eqb (t .row) 0 h)) h (built-stops h))
 
   -- ---- a class that gets no instance words
 
-  no-words : classKind ws c ≢ 0 → L.newWords ws text abi labels area c ≡ 0
+  no-words : classKind ws c ≢ 0 → L.newWords ws text abi labels c ≡ 0
   unfolding L.newWords
   no-words h = simp (ne-eqb (classKind ws c) 0 h)
 
@@ -171,7 +170,7 @@ module _ (ws text abi labels area : List ℕ) (c : ℕ) where
 
   pub array-plan : (ts ms : List ℕ) (n : ℕ) → classKind ws c ≢ 0 → entriesOf ts ms n ≡ parentEntries ws text abi labels area c → n ≤ 1024
       → (refs flags lasts : List ℕ)
-      → Planning ws text abi labels c (L.newWords ws text abi labels area c) (L.planArray ws text abi labels area c)
+      → Planning ws text abi labels c (L.newWords ws text abi labels c) (L.planArray ws text abi labels area c)
       (record { indices = replicate fieldLimit 0; n = n; own = 0; instance = 0; added = 0; row = 0 }) ts refs flags lasts
   unfolding L.planArray L.withinSlots overlaid firstNews listFrom
   array-plan ts ms n kind table few refs flags lasts =
@@ -241,7 +240,7 @@ module _ (ws text abi labels area : List ℕ) (c : ℕ) where
 
       pub generated-plan : {r : Plan} (refs flags lasts : List ℕ) → classKind ws c ≢ 0
           → firstNews ws text abi labels refs flags lasts (t .added) ≡ L.generatedMethods ws text abi labels area c → t .added ≤ 1024
-          → r ≡ planFrom f t → Planning ws text abi labels c (L.newWords ws text abi labels area c) (L.planGenerated ws text abi labels area c) r ts refs flags lasts
+          → r ≡ planFrom f t → Planning ws text abi labels c (L.newWords ws text abi labels c) (L.planGenerated ws text abi labels area c) r ts refs flags lasts
       unfolding firstNews
       generated-plan refs flags lasts kind new few g =
           by (eqb (t .row) 0)
@@ -256,7 +255,7 @@ module _ (ws text abi labels area : List ℕ) (c : ℕ) where
           (simp (ne-eqb (classKind ws c) 0 kind)) (omega arith)))
           (λ z.
           let h = eqb-false (t .row) 0 z in
-          refused-plan ws text abi labels c ts refs flags lasts (L.newWords ws text abi labels area c) (t .row) (g ∙ rw (ne-eqb (t .row) 0 h)) h
+          refused-plan ws text abi labels c ts refs flags lasts (L.newWords ws text abi labels c) (t .row) (g ∙ rw (ne-eqb (t .row) 0 h)) h
           (generated-stops h))
 
   -- ---- by the kind

@@ -88,17 +88,18 @@ answerOf words (L.planned p) =
     }
 answerOf words (L.unplanned row) = noPlan row
 
+-- the members to add
+abbrev pub newsOf : List ℕ → List ℕ → List ℕ → List ℕ → List ℕ → List ℕ → List ℕ → ℕ → List New
+newsOf ws text abi labels refs flags lasts added = firstNews ws text abi labels refs flags lasts added
+
 -- what the arrays hold in front: the words of the table's slots, and the members to add, fields of a built class or methods of another.
 -- Of a refused link they hold anything, and the row is not 0.
 module _ (ws text abi labels : List ℕ) (c : ℕ) (ts refs flags lasts : List ℕ) where
-  abbrev pub newsOf : ℕ → List New
-  newsOf added = firstNews ws text abi labels refs flags lasts added
-
   abbrev pub Fronts : L.Planned → Type 0
   Fronts (L.planned p) =
       (entriesOf ts [] (length (p .table)) ≡ bare (p .table))
-      × (p .newMethods ≡ methodsOf ws c (newsOf (length (p .newMethods) + length (p .newFields))))
-      × (p .newFields ≡ fieldsOf ws c (newsOf (length (p .newMethods) + length (p .newFields))))
+      × (p .newMethods ≡ methodsOf ws c (newsOf ws text abi labels refs flags lasts (length (p .newMethods) + length (p .newFields))))
+      × (p .newFields ≡ fieldsOf ws c (newsOf ws text abi labels refs flags lasts (length (p .newMethods) + length (p .newFields))))
   Fronts (L.unplanned row) = row ≢ 0
 
 -- the code's answer r and arrays are those of a link that comes to P and gives so many instance words
@@ -111,7 +112,7 @@ pub record Planning (ws text abi labels : List ℕ) (c words : ℕ) (P : L.Plann
 abbrev pub Plans : (List ℕ → List ℕ → List ℕ → List ℕ → List ℕ → ℕ → L.Planned) → List ℕ → List ℕ → List ℕ → List ℕ → List ℕ → ℕ
     → Plan → List ℕ → List ℕ → List ℕ → List ℕ → Type 0
 Plans of ws text abi labels area c r ts refs flags lasts =
-    Planning ws text abi labels c (L.newWords ws text abi labels area c) (of ws text abi labels area c) r ts refs flags lasts
+    Planning ws text abi labels c (L.newWords ws text abi labels c) (of ws text abi labels area c) r ts refs flags lasts
 
 -- a lent array keeps its length; and so the four
 abbrev pub Keeps : ℕ → List ℕ → List ℕ → Type 0

@@ -21,7 +21,7 @@ use Rattle.linking.specs.declared.Declared.{Declared}
 use Rattle.linking.specs.declared.Declared.the-variants.{By, Nobody}
 use Rattle.linking.specs.Chain.{parentOf, chain, ownTarget, findByTarget}
 use Rattle.linking.specs.Vtable.{ownFixed, findByIndex}
-use Rattle.linking.specs.Whose.{methodOf, classOf, orDeclared, declaredIn, firstDeclared, declaredByTarget, declaredByIndex, readDeclared, slotClass}
+use Rattle.linking.specs.Whose.{methodOf, declaringClass, orDeclared, declaredIn, firstDeclared, declaredByTarget, declaredByIndex, readDeclared, slotClass}
 use Rattle.linking.proofs.ChainLaws.{chain-none, chain-more, own-target-room}
 use Rattle.linking.proofs.Whose.{by-declared, nearest-counts, declared-class, target-found, index-found}
 use Rattle.chain.specs.Records.{methodRecords, firstTarget}

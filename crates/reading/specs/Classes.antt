@@ -8,7 +8,7 @@ use lib.ListN.{getD}
 use lib.Dec.{eqb}
 use Rattle.words.specs.Folds.{stores}
 use Rattle.linking.specs.declared.Declared.{Declared}
-use Rattle.linking.specs.Whose.{classOf}
+use Rattle.linking.specs.Whose.{declaringClass}
 
 -- a slot's class d, or where it has none and has a mark k, class c; and n slots' classes after that
 unfoldable pub claimed : ℕ → ℕ → ℕ → ℕ
@@ -19,7 +19,7 @@ claims c n ms cs = stores n (λ i. claimed c (getD ms i 0) (getD cs i 0)) cs
 
 -- a slot's class, or where it has none the class of what is answered for it; and n slots' classes after that
 unfoldable pub orClass : ℕ → Declared → ℕ
-orClass d a = cond (eqb d 0) (classOf a) d
+orClass d a = cond (eqb d 0) (declaringClass a) d
 
 unfoldable pub classesWith : (ℕ → Declared) → ℕ → List ℕ → List ℕ
 classesWith f n cs = stores n (λ i. orClass (getD cs i 0) (f i)) cs

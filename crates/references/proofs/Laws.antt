@@ -18,7 +18,7 @@ use Rattle.words.specs.Folds.{sumOf}
 use Rattle.words.specs.Lists.{listFrom, numbers, keep}
 use Rattle.words.proofs.Bools.{by}
 use Rattle.words.proofs.FoldLaws.{sum-more}
-use Rattle.references.specs.Meaning.{Bytes}
+use Rattle.words.specs.Words.{AreBytes}
 use Rattle.references.specs.References.{isMarked, markedWords, writtenOver, bytesFor, keptBits, masked, maskedByte, maskedOnes, tooFew, Outcome, readReferences}
 
 -- ---- lists of numbers that pass a test
@@ -166,7 +166,7 @@ unfolding maskedOnes onesBefore
 ones-all bitmap n j p q = rw (← q) p
 
 -- they count the marked ones of the words that lie before it
-pub ones-count : (bitmap : List ℕ) (n j : ℕ) → Bytes bitmap → j ≤ bytesFor n
+pub ones-count : (bitmap : List ℕ) (n j : ℕ) → AreBytes bitmap → j ≤ bytesFor n
     → onesBefore bitmap n j ≡ length (keep (isMarked bitmap) (numbers 0 (min n (8 * j))))
 unfolding bytesFor keptBits
 ones-count bitmap n zero small h = let e : min n (8 * 0) ≡ 0 = omega arith in rw (← ones-none, e, numbers-none, keep-none)
@@ -183,7 +183,7 @@ ones-count bitmap n (suc j) small h =
     (ones-more bitmap n j)
 
 -- "shown equal": the count byte by byte is the list's length
-pub count-is : (bitmap : List ℕ) (n : ℕ) → Bytes bitmap → maskedOnes bitmap n ≡ length (markedWords bitmap n)
+pub count-is : (bitmap : List ℕ) (n : ℕ) → AreBytes bitmap → maskedOnes bitmap n ≡ length (markedWords bitmap n)
 unfolding maskedOnes markedWords onesBefore bytesFor
 count-is bitmap n small =
     let e : min n (8 * ((n + 7) / 8)) ≡ n = omega arith in rw e at (ones-count bitmap n (bytesFor n) small (omega arith))
@@ -274,7 +274,7 @@ module _ (bitmap : List ℕ) (n : ℕ) (list : List ℕ) {b : Bool} (e : b ≡ t
   unfolding readReferences
   read-few t = rw (sym e ∙ t)
 
-  module _ (t : b ≡ false) {m : ℕ} (k : m ≡ maskedOnes bitmap n) (small : Bytes bitmap) where
+  module _ (t : b ≡ false) {m : ℕ} (k : m ≡ maskedOnes bitmap n) (small : AreBytes bitmap) where
     pub list-room : m ≤ length list → length (markedWords bitmap n) ≤ length list
     list-room h = let q = count-is bitmap n small in omega arith
 

@@ -12,7 +12,8 @@ use lib.Seq.{getD-at}
 use lib.Dec.{ltb}
 use borrow.Author.Tests.{ltb-false}
 use Rattle.words.proofs.Bools.{by}
-use Rattle.references.specs.Meaning.{Bytes, Meaning}
+use Rattle.words.specs.Words.{AreBytes}
+use Rattle.references.specs.Meaning.{Meaning}
 use Rattle.references.specs.References.{isMarked, markedWords, bytesFor, tooFew, readReferences, countReferences}
 use Rattle.references.proofs.Laws.{markedBefore, before-none, before-more, before-take, before-skip, before-bound, count-is}
 
@@ -94,7 +95,7 @@ follow bitmap more n f i h =
     rw (List·getD-append bitmap more 0 (i / 8) (omega (arith, ltb-false (length bitmap) ((n + 7) / 8) f)))
 
 -- an accepted list's count is the one that is told without it
-counts : (bitmap list : List ℕ) (n : ℕ) → Bytes bitmap → readReferences bitmap n list .refusal ≡ 0
+counts : (bitmap list : List ℕ) (n : ℕ) → AreBytes bitmap → readReferences bitmap n list .refusal ≡ 0
     → readReferences bitmap n list .count ≡ countReferences bitmap n .count
 unfolding readReferences countReferences
 counts bitmap list n small e =

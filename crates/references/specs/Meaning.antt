@@ -4,19 +4,16 @@ use mathlib.Core.Bool.{Bool, true, false}
 use mathlib.Core.Path.{_≡_}
 use mathlib.Core.List.{List, _++_, List·Memᴰ}
 use lib.ListN.{length, getD}
+use Rattle.words.specs.Words.{AreBytes}
 use Rattle.references.specs.References.{isMarked, markedWords, maskedOnes, tooFew, readReferences, countReferences}
-
--- each element is a byte, as a slice of bytes has it
-abbrev pub Bytes : List ℕ → Type 0
-Bytes bitmap = (j : ℕ) → getD bitmap j 0 < 256
 
 pub record Meaning : Type 0 where
   -- "The count is also to be had without the list, byte by byte, and is shown equal."
-  pub count-is-length : (bitmap : List ℕ) (n : ℕ) → Bytes bitmap → maskedOnes bitmap n ≡ length (markedWords bitmap n)
+  pub count-is-length : (bitmap : List ℕ) (n : ℕ) → AreBytes bitmap → maskedOnes bitmap n ≡ length (markedWords bitmap n)
   -- hence both entries answer one count
-  pub one-count : (bitmap list : List ℕ) (n : ℕ) → Bytes bitmap → readReferences bitmap n list .refusal ≡ 0
+  pub one-count : (bitmap list : List ℕ) (n : ℕ) → AreBytes bitmap → readReferences bitmap n list .refusal ≡ 0
       → readReferences bitmap n list .count ≡ countReferences bitmap n .count
-  -- "word i is marked if ..": just those words stand in the list that are marked and instance words
+  -- just those words stand in the list that are marked and instance words
   pub listed-marked : (bitmap : List ℕ) (n i : ℕ) → List·Memᴰ i (markedWords bitmap n) → (i < n) × (isMarked bitmap i ≡ true)
   pub marked-listed : (bitmap : List ℕ) (n i : ℕ) → i < n → isMarked bitmap i ≡ true → List·Memᴰ i (markedWords bitmap n)
   -- "in rising order": so no number stands there twice

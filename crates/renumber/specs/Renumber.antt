@@ -92,8 +92,8 @@ renumbered ws l =
 
 -- ---- what is turned away
 
--- "3, first, as for a link or if a table place or slot count is not 0" does not hold; "row 3, in .. ticket 3's step .. also take[s] a nonzero value in
--- an unlinked built or array class" for static words
+-- "3, first, as for a link or if a table place or slot count is not 0" does not hold; of static words, "row 3, in reading and ticket 3's step, and 17 also
+-- take a nonzero value in an unlinked built or array class."
 unfoldable pub renumberForm : List ℕ → Bool
 renumberForm ws = classFits ws && allFresh ws
 

@@ -65,20 +65,20 @@ module _ (ws text : List ℕ) where
 
 -- ---- the slot of a method's signature
 
-module _ (ws text abi labels : List ℕ) (m : ℕ) (T : List Entry) where
+module _ (ws text : List ℕ) (m : ℕ) (T : List Entry) where
   abbrev pub slotFor : Found
-  slotFor = slotOf ws text abi labels (methodName ws text m) (methodDescriptor ws text m) T
+  slotFor = slotOf ws text (methodName ws text m) (methodDescriptor ws text m) T
 
   pub slot-below : (i : ℕ) → slotFor ≡ At i → i < length T
   unfolding slotOf
-  slot-below i e = position-below (entryIs ws text abi labels (methodName ws text m) (methodDescriptor ws text m)) T empty i e
+  slot-below i e = position-below (entryIs ws text (methodName ws text m) (methodDescriptor ws text m)) T empty i e
 
   pub slot-shows : (i : ℕ) → slotFor ≡ At i → Shows ws text T i (methodSignature ws text m)
   unfolding slotOf entryIs
   slot-shows i e =
-      go ((at T i) .method) refl (position-passes (entryIs ws text abi labels (methodName ws text m) (methodDescriptor ws text m)) T empty i e)
+      go ((at T i) .method) refl (position-passes (entryIs ws text (methodName ws text m) (methodDescriptor ws text m)) T empty i e)
     where
-      go : (f : Found) → (at T i) .method ≡ f → entryIs ws text abi labels (methodName ws text m) (methodDescriptor ws text m) (at T i) ≡ true
+      go : (f : Found) → (at T i) .method ≡ f → entryIs ws text (methodName ws text m) (methodDescriptor ws text m) (at T i) ≡ true
           → Shows ws text T i (methodSignature ws text m)
       go (At k) q p = record { method = k; holds = q; is = method-same ws text k m (rw q at p) }
       go Nothing q p = absurd (false≢true (rw q at p))
@@ -88,11 +88,11 @@ module _ (ws text abi labels : List ℕ) (m : ℕ) (T : List Entry) where
   slot-none e i k =
       let l = known-below T i (k .method) (k .holds) in
       let q =
-      position-misses (entryIs ws text abi labels (methodName ws text m) (methodDescriptor ws text m)) 0 T empty i l e in
+      position-misses (entryIs ws text (methodName ws text m) (methodDescriptor ws text m)) 0 T empty i l e in
       method-other ws text (k .method) m (rw (k .holds) at q) (k .is)
 
   -- the entry at index i is of no other signature
-  pub not-other : (i : ℕ) → entryIsOther ws text abi labels (methodName ws text m) (methodDescriptor ws text m) (at T i) ≡ false
+  pub not-other : (i : ℕ) → entryIsOther ws text (methodName ws text m) (methodDescriptor ws text m) (at T i) ≡ false
       → (s : Signature) → Shows ws text T i s → s ≡ methodSignature ws text m
   unfolding entryIsOther
   not-other i e s k =

@@ -1,7 +1,7 @@
 -- A chain on which the premises hold, tables that links wrote, and what the claims then say of them. Assumes nothing.
 use mathlib.Core.Path.{_≡_, refl, sym, ap, _∙_}
 use mathlib.Core.Logic.{inl, inr, _≢_}
-use mathlib.Core.List.{List, [], _∷_}
+use mathlib.Core.List.{List, [], _∷_, List·Memᴰ, List·Memᴰ·head, List·Memᴰ·cases-cons}
 use Prim.Native.Nat.{ℕ, suc, _+_, _-_, _*_, _≤_, _<_}
 use native.Mathlib.Omega.{arith}
 use lib.ListN.{getD}
@@ -14,9 +14,9 @@ use Rattle.linking.specs.Vtable.{empty, methodEntry}
 use Rattle.linking.proofs.Assemble.{Lent, method, built, array, slot, abi, lent, link, answers, after, tableOf}
 use Rattle.linking.proofs.Opened.{opened}
 use Rattle.words.proofs.ListLaws.{getD-list-from}
-use Rattle.slots.specs.Slots.{In, here, Unique, Keeps, Kept, ChainMethod, ChainSlot}
+use Rattle.slots.specs.Slots.{Unique, Keeps, Kept, ChainMethod, ChainSlot}
 use Rattle.slots.specs.Made.{Made, Conditions, readWords, startFrom, tableFrom, inheritedFrom}
-use Rattle.slots.proofs.ListFacts.{not-found, found-same, in-cons, in-none}
+use Rattle.slots.proofs.ListFacts.{not-found, found-same, in-none}
 use Rattle.slots.proofs.Tables.{table-unique, table-kept}
 
 -- class 1 declares foo, which its ABI entry fixes at 1; class 2 is an array of it whose ABI entry fixes bar at 2; class 3 declares foo and bar
@@ -81,22 +81,22 @@ abbrev All : (ℕ → Type 0) → List ℕ → Type 0
 All R [] = Unit {0}
 All R (x ∷ xs) = R x × All R xs
 
-each : (R : ℕ → Type 0) (xs : List ℕ) → All R xs → (x : ℕ) → In x xs → R x
+each : (R : ℕ → Type 0) (xs : List ℕ) → All R xs → (x : ℕ) → List·Memᴰ x xs → R x
 each R [] h x i = in-none refl i
-each R (y ∷ xs) h x i = elim (in-cons i) [ inl e ↦ rw e (h .0) | inr j ↦ each R xs (h .1) x j ]
+each R (y ∷ xs) h x i = elim (List·Memᴰ·cases-cons i) [ inl e ↦ rw e (h .0) | inr j ↦ each R xs (h .1) x j ]
 
-the-methods : (c : ℕ) → In c (3 ∷ 2 ∷ 1 ∷ []) → (m : ℕ) → In m (ownMethods ws c) → Method m
+the-methods : (c : ℕ) → List·Memᴰ c (3 ∷ 2 ∷ 1 ∷ []) → (m : ℕ) → List·Memᴰ m (ownMethods ws c) → Method m
 unfolding opened ws
 the-methods =
-    each (λ c. (m : ℕ) → In m (ownMethods ws c) → Method m) (3 ∷ 2 ∷ 1 ∷ []) (
+    each (λ c. (m : ℕ) → List·Memᴰ m (ownMethods ws c) → Method m) (3 ∷ 2 ∷ 1 ∷ []) (
       (each Method (1 ∷ 2 ∷ []) (record { small = omega arith; target = refl }, (record { small = omega arith; target = refl }, tt))),
       ((each Method [] tt), ((each Method (0 ∷ []) (record { small = omega arith; target = refl }, tt)), tt)),
     )
 
-the-slots : (c : ℕ) → In c (3 ∷ 2 ∷ 1 ∷ []) → (a : ℕ) → classAbi ws text sheet labels c ≡ At a → (s : ℕ) → In s (abiSlots sheet a) → Slot s
+the-slots : (c : ℕ) → List·Memᴰ c (3 ∷ 2 ∷ 1 ∷ []) → (a : ℕ) → classAbi ws text sheet labels c ≡ At a → (s : ℕ) → List·Memᴰ s (abiSlots sheet a) → Slot s
 unfolding opened ws text sheet labels
 the-slots =
-    each (λ c. (a : ℕ) → classAbi ws text sheet labels c ≡ At a → (s : ℕ) → In s (abiSlots sheet a) → Slot s) (3 ∷ 2 ∷ 1 ∷ []) (
+    each (λ c. (a : ℕ) → classAbi ws text sheet labels c ≡ At a → (s : ℕ) → List·Memᴰ s (abiSlots sheet a) → Slot s) (3 ∷ 2 ∷ 1 ∷ []) (
       (λ a e. not-found e),
       (
         (λ a e. let q : 1 ≡ a = found-same e in rw (← q) (each Slot (1 ∷ []) (record { small = omega arith; index = refl; letter = refl }, tt))),
@@ -104,7 +104,7 @@ the-slots =
       ),
     )
 
-a-method : (m : ℕ) → ChainMethod ws text sheet labels 3 m → Method m
+a-method : (m : ℕ) → ChainMethod ws 3 m → Method m
 a-method m k = the-methods (k .owner) (rw along at (k .along)) m (k .own)
 
 a-slot : (s : ℕ) → ChainSlot ws text sheet labels 3 s → Slot s
@@ -127,13 +127,13 @@ conditions = record {
 lent-stubs : (i : ℕ) → i < 8 → P (getD (world .stubs) i 0)
 lent-stubs i h = rw (getD-list-from (λ k. 901 + k) 0 8 i 0 h) (omega arith, omega arith)
 
-made : (c : ℕ) → In c (3 ∷ 2 ∷ 1 ∷ []) → Made ws text sheet labels tables P c
+made : (c : ℕ) → List·Memᴰ c (3 ∷ 2 ∷ 1 ∷ []) → Made ws text sheet labels tables P c
 unfolding opened ws text sheet labels startFrom tableFrom inheritedFrom readWords
 made = each (Made ws text sheet labels tables P) (3 ∷ 2 ∷ 1 ∷ []) (third, (second, (first, tt)))
   where
     first : Made ws text sheet labels tables P 1
     first = record {
-      entries = empty ∷ methodEntry ws text sheet labels 0 ∷ [];
+      entries = empty ∷ methodEntry ws 0 ∷ [];
       stubs = world .stubs;
       enough = omega arith;
       lent = lent-stubs;
@@ -144,7 +144,7 @@ made = each (Made ws text sheet labels tables P) (3 ∷ 2 ∷ 1 ∷ []) (third, 
 
     second : Made ws text sheet labels tables P 2
     second = record {
-      entries = record { word = 901; method = Nothing } ∷ methodEntry ws text sheet labels 0 ∷ [];
+      entries = record { word = 901; method = Nothing } ∷ methodEntry ws 0 ∷ [];
       stubs = world .stubs;
       enough = omega arith;
       lent = lent-stubs;
@@ -155,7 +155,7 @@ made = each (Made ws text sheet labels tables P) (3 ∷ 2 ∷ 1 ∷ []) (third, 
 
     third : Made ws text sheet labels tables P 3
     third = record {
-      entries = record { word = 901; method = Nothing } ∷ methodEntry ws text sheet labels 1 ∷ methodEntry ws text sheet labels 2 ∷ [];
+      entries = record { word = 901; method = Nothing } ∷ methodEntry ws 1 ∷ methodEntry ws 2 ∷ [];
       stubs = world .stubs;
       enough = omega arith;
       lent = lent-stubs;
@@ -172,7 +172,7 @@ overridden = record {
   method = 1;
   known = record { slot = omega arith; reads = refl };
   signature = record { name = refl; descriptor = refl };
-  target = inr (record { method = 1; own = here; eligible = refl; signature = record { name = refl; descriptor = refl }; target-is = refl });
+  target = inr (record { method = 1; own = List·Memᴰ·head refl; eligible = refl; signature = record { name = refl; descriptor = refl }; target-is = refl });
 }
 
 -- ---- so the claims hold of them

@@ -3,7 +3,7 @@
 use mathlib.Core.Path.{_≡_, refl, sym, ap, _∙_}
 use mathlib.Core.Logic.{_⊎_, inl, inr, _≢_}
 use mathlib.Core.Bool.{Bool, true, false, true≢false}
-use mathlib.Core.List.{List, []}
+use mathlib.Core.List.{List, [], List·Memᴰ}
 use Prim.Native.Nat.{ℕ, _+_, _-_, _≤_, _<_, min}
 use native.Mathlib.Omega.{arith}
 use lib.Dec.{eqb}
@@ -20,9 +20,9 @@ use Rattle.linking.specs.Abi.{abiSlots, slotIndex, slotIs, vtableIndex, slotAt,
 use Rattle.linking.specs.Vtable.{ownFixed, findByIndex, fixedOf}
 use Rattle.linking.proofs.ChainLaws.{along-up, own-method-member, own-method-is}
 use Rattle.linking.proofs.AbiLaws.{chain-abi-whole, slot-at-is, minimum-size-member}
-use Rattle.slots.specs.Slots.{In, SameSignature, ChainSlot}
+use Rattle.slots.specs.Slots.{SameSignature, ChainSlot}
 use Rattle.slots.specs.Made.{OneSlotIndex}
-use Rattle.slots.proofs.ListFacts.{FoundBy, not-found, found-same, in-member, member-in, in-none, find-misses, found-in, found-misses, all-found, found-of-all}
+use Rattle.slots.proofs.ListFacts.{FoundBy, not-found, found-same, in-none, find-misses, found-in, found-misses, all-found, found-of-all}
 use Rattle.slots.proofs.ChainFacts.{chain-cases}
 use Rattle.slots.proofs.PlaceFacts.{Signature, sameParts, OneIndex}
 
@@ -55,15 +55,15 @@ module _ (ws text : List ℕ) where
       let d : methodDescriptor ws text m ≡ methodDescriptor ws text k = ap (λ (s : Signature). s .descriptor) e in
       true≢false (sym (rw (n, d, same-refl (methodName ws text k)) (same-refl (methodDescriptor ws text k))) ∙ h)
 
-module _ (ws text abi labels : List ℕ) where
-  pub same-signature : {m k : ℕ} → SameSignature ws text abi labels m k → methodSignature ws text m ≡ methodSignature ws text k
+  pub same-signature : {m k : ℕ} → SameSignature ws text m k → methodSignature ws text m ≡ methodSignature ws text k
   unfolding methodSignature
   same-signature h = sameParts (h .name) (h .descriptor)
 
-  pub signature-same : {m k : ℕ} → methodSignature ws text m ≡ methodSignature ws text k → SameSignature ws text abi labels m k
+  pub signature-same : {m k : ℕ} → methodSignature ws text m ≡ methodSignature ws text k → SameSignature ws text m k
   unfolding methodSignature
   signature-same e = record { name = ap (λ (s : Signature). s .name) e; descriptor = ap (λ (s : Signature). s .descriptor) e }
 
+module _ (ws text abi labels : List ℕ) where
   slot-same : (s k : ℕ) → slotIs abi labels s (methodName ws text k) (methodDescriptor ws text k) ≡ true
       → slotSignature abi labels s ≡ methodSignature ws text k
   unfolding slotIs slotSignature methodSignature
@@ -113,7 +113,7 @@ module _ (ws text abi labels : List ℕ) where
       none d e f (inl k) = l .methods (rw (e, f) k)
       none d e f (inr k) = not-found (sym k ∙ (rw (e, f) at (l .fixes .along .named)))
 
-      go : (d : ℕ) → l .fixes .along .class ≡ d → (d ≡ c) ⊎ In d (chain ws (parentOf ws c)) → Live (parentOf ws c) s i
+      go : (d : ℕ) → l .fixes .along .class ≡ d → (d ≡ c) ⊎ List·Memᴰ d (chain ws (parentOf ws c)) → Live (parentOf ws c) s i
       go d e (inl f) = absurd (none d e f idle)
       go d e (inr j) = record {
         fixes = record {
@@ -134,10 +134,10 @@ module _ (ws text abi labels : List ℕ) where
   -- ---- a signature's fixed index, along a chain that is not cut
 
   module _ (c : ℕ) (h : c ≤ 64) where
-    entry-along : {a : ℕ} → In a (chainAbi ws text abi labels c) → FoundBy (classAbi ws text abi labels) (chain ws c) a
+    entry-along : {a : ℕ} → List·Memᴰ a (chainAbi ws text abi labels c) → FoundBy (classAbi ws text abi labels) (chain ws c) a
     entry-along i = found-of-all (classAbi ws text abi labels) (chain ws c) (rw (chain-abi-whole ws text abi labels c h) at i)
 
-    along-entry : {d a : ℕ} → In d (chain ws c) → classAbi ws text abi labels d ≡ At a → In a (chainAbi ws text abi labels c)
+    along-entry : {d a : ℕ} → List·Memᴰ d (chain ws c) → classAbi ws text abi labels d ≡ At a → List·Memᴰ a (chainAbi ws text abi labels c)
     along-entry i e = rw (chain-abi-whole ws text abi labels c h) (all-found (classAbi ws text abi labels) i e)
 
     pub fixed-some : (m i : ℕ) → fixedOf ws text abi labels (chainAbi ws text abi labels c) m ≡ At i → Fixes c (methodSignature ws text m) i
@@ -154,7 +154,7 @@ module _ (ws text abi labels : List ℕ) where
             along = k .along;
             entry = r .element;
             named = k .finds;
-            own = in-member (abiSlots abi (r .element)) (find-member test (abiSlots abi (r .element)) s q);
+            own = find-member test (abiSlots abi (r .element)) s q;
           };
           is = slot-same s m (find-passes test (abiSlots abi (r .element)) s q);
           index = found-same (rw q at (r .finds));
@@ -179,15 +179,15 @@ module _ (ws text abi labels : List ℕ) where
         let a = f .along .entry in
         let l =
         largest-member (λ (k : ℕ). slotIndex abi k + 1) (abiSlots abi a) (min (abiClassTableSizePlusOne abi a) 1025 - 1) (f .slot)
-        (member-in (f .along .own)) in
+        (f .along .own) in
         let r =
-        minimum-size-member abi (chainAbi ws text abi labels c) a (member-in (along-entry (f .along .along) (f .along .named))) in
+        minimum-size-member abi (chainAbi ws text abi labels c) a (along-entry (f .along .along) (f .along .named)) in
         let e = f .index in
         omega arith
 
   -- ---- Reading's second rule: "the first chain class whose ABI entry fixes that index and which itself has a method of that signature"
 
-  own-fixed-live : {c d i m : ℕ} → In d (chain ws c) → (classKind ws d ≡ 2 → ownMethods ws d ≡ []) → ownFixed ws text abi labels i d ≡ At m
+  own-fixed-live : {c d i m : ℕ} → List·Memᴰ d (chain ws c) → (classKind ws d ≡ 2 → ownMethods ws d ≡ []) → ownFixed ws text abi labels i d ≡ At m
       → Live c (methodSignature ws text m) i
   unfolding ownFixed
   own-fixed-live {c} {d} {i} {m} along bare e =
@@ -208,17 +208,17 @@ module _ (ws text abi labels : List ℕ) where
             along = along;
             entry = a;
             named = q;
-            own = in-member (abiSlots abi a) (find-member (λ k. eqb (slotIndex abi k) i) (abiSlots abi a) s (unfold slotAt in r));
+            own = find-member (λ k. eqb (slotIndex abi k) i) (abiSlots abi a) s (unfold slotAt in r);
           };
           is = sym (method-parts ws text m (abiSlotName abi labels s) (abiSlotDescriptor abi labels s)
               (own-method-is ws text (abiSlotName abi labels s) (abiSlotDescriptor abi labels s) d m f) ∙ unfold slotSignature in refl);
           index = slot-at-is abi a i s r;
         };
         methods = λ k.
-            in-none (bare k) (in-member (ownMethods ws d) (own-method-member ws text (abiSlotName abi labels s) (abiSlotDescriptor abi labels s) d m f));
+            in-none (bare k) (own-method-member ws text (abiSlotName abi labels s) (abiSlotDescriptor abi labels s) d m f);
       }
 
-  pub index-live : (c i m : ℕ) → ((d : ℕ) → In d (chain ws c) → classKind ws d ≡ 2 → ownMethods ws d ≡ []) → findByIndex ws text abi labels c i ≡ At m
+  pub index-live : (c i m : ℕ) → ((d : ℕ) → List·Memᴰ d (chain ws c) → classKind ws d ≡ 2 → ownMethods ws d ≡ []) → findByIndex ws text abi labels c i ≡ At m
       → Live c (methodSignature ws text m) i
   unfolding findByIndex
   index-live c i m bare e =

@@ -15,7 +15,6 @@ use Rattle.words.specs.declared.Found.{Found}
 use Rattle.words.specs.declared.Found.the-variants.{At, Nothing}
 use Rattle.words.proofs.Bools.{by}
 use Rattle.words.proofs.ListLaws.{by-found}
-use Rattle.slots.specs.Slots.{In, here, there}
 
 -- ---- found or not
 
@@ -30,69 +29,58 @@ found-same e = cc
 
 -- ---- elements
 
-pub in-member : {x : ℕ} (xs : List ℕ) → List·Memᴰ x xs → In x xs
-in-member [] h = absurd (List·Memᴰ·not-nil h)
-in-member {x} (y ∷ xs) h = ⊎-elim (λ (e : x ≡ y). rw e here) (λ t. there (in-member xs t)) (List·Memᴰ·cases-cons h)
-
-pub member-in : {x : ℕ} {xs : List ℕ} → In x xs → List·Memᴰ x xs
-member-in here = List·Memᴰ·head refl
-member-in (there i) = List·Memᴰ·tail (member-in i)
-
-pub in-cons : {x y : ℕ} {xs : List ℕ} → In x (y ∷ xs) → (x ≡ y) ⊎ In x xs
-in-cons here = inl refl
-in-cons (there i) = inr i
-
-pub in-none : {X : Type 0} {x : ℕ} {xs : List ℕ} → xs ≡ [] → In x xs → X
-in-none e i = absurd (List·Memᴰ·not-nil (member-in (rw e at i)))
+pub in-none : {X : Type 0} {x : ℕ} {xs : List ℕ} → xs ≡ [] → List·Memᴰ x xs → X
+in-none e i = absurd (List·Memᴰ·not-nil (rw e at i))
 
 -- ---- searches
 
-pub find-misses : (p : ℕ → Bool) {x : ℕ} {xs : List ℕ} → In x xs → find p xs ≡ Nothing → p x ≡ false
+pub find-misses : (p : ℕ → Bool) {x : ℕ} {xs : List ℕ} → List·Memᴰ x xs → find p xs ≡ Nothing → p x ≡ false
 unfolding find
-find-misses p {x = x} here e = by (p x) (λ t. not-found (sym (rw t at e))) (λ f. f)
-find-misses p (there {y = y} i) e = by (p y) (λ t. not-found (sym (rw t at e))) (λ f. find-misses p i (rw f at e))
+find-misses p (List·Memᴰ·head {x = y} q) e = rw q (by (p y) (λ t. not-found (sym (rw t at e))) (λ f. f))
+find-misses p (List·Memᴰ·tail {x = y} i) e = by (p y) (λ t. not-found (sym (rw t at e))) (λ f. find-misses p i (rw f at e))
 
 -- the element that found it
 pub record FoundBy (f : ℕ → Found) (xs : List ℕ) (n : ℕ) : Type 0 where
   pub element : ℕ
-  pub along : In element xs
+  pub along : List·Memᴰ element xs
   pub finds : f element ≡ At n
 
 found-later : {f : ℕ → Found} {x n : ℕ} {xs : List ℕ} → FoundBy f xs n → FoundBy f (x ∷ xs) n
-found-later r = record { element = r .element; along = there (r .along); finds = r .finds }
+found-later r = record { element = r .element; along = List·Memᴰ·tail (r .along); finds = r .finds }
 
 pub found-in : (f : ℕ → Found) (xs : List ℕ) (n : ℕ) → firstFound f xs ≡ At n → FoundBy f xs n
 unfolding firstFound
 found-in f [] n e = not-found e
 found-in f (x ∷ xs) n e =
-    by-found (f x) (λ k q. record { element = x; along = here; finds = q ∙ (rw q at e) })
+    by-found (f x) (λ k q. record { element = x; along = List·Memᴰ·head refl; finds = q ∙ (rw q at e) })
     (λ q. found-later (found-in f xs n (rw q at e)))
 
-pub found-misses : (f : ℕ → Found) {x : ℕ} {xs : List ℕ} → In x xs → firstFound f xs ≡ Nothing → f x ≡ Nothing
+pub found-misses : (f : ℕ → Found) {x : ℕ} {xs : List ℕ} → List·Memᴰ x xs → firstFound f xs ≡ Nothing → f x ≡ Nothing
 unfolding firstFound
-found-misses f {x = x} here e = by-found (f x) (λ k q. not-found (sym (rw q at e))) (λ q. q)
-found-misses f (there {y = y} i) e = by-found (f y) (λ k q. not-found (sym (rw q at e))) (λ q. found-misses f i (rw q at e))
+found-misses f (List·Memᴰ·head {x = y} s) e = rw s (by-found (f y) (λ k q. not-found (sym (rw q at e))) (λ q. q))
+found-misses f (List·Memᴰ·tail {x = y} i) e = by-found (f y) (λ k q. not-found (sym (rw q at e))) (λ q. found-misses f i (rw q at e))
 
 -- an element that finds n, where no other finds anything else
-pub found-only : (f : ℕ → Found) {x : ℕ} {xs : List ℕ} (n : ℕ) → In x xs → f x ≡ At n → ((y k : ℕ) → In y xs → f y ≡ At k → k ≡ n)
+pub found-only : (f : ℕ → Found) {x : ℕ} {xs : List ℕ} (n : ℕ) → List·Memᴰ x xs → f x ≡ At n → ((y k : ℕ) → List·Memᴰ y xs → f y ≡ At k → k ≡ n)
     → firstFound f xs ≡ At n
 found-only f {xs = xs} n i e only =
     by-found (firstFound f xs)
     (λ k q. let r = found-in f xs k q in q ∙ ap At (only (r .element) k (r .along) (r .finds)))
     (λ q. not-found (sym (found-misses f i q) ∙ e))
 
-pub all-found : (f : ℕ → Found) {x n : ℕ} {xs : List ℕ} → In x xs → f x ≡ At n → In n (allFound f xs)
+pub all-found : (f : ℕ → Found) {x n : ℕ} {xs : List ℕ} → List·Memᴰ x xs → f x ≡ At n → List·Memᴰ n (allFound f xs)
 unfolding allFound
-all-found f here e = rw e here
-all-found f (there {y = y} i) e = by-found (f y) (λ k q. rw q (there (all-found f i e))) (λ q. rw q (all-found f i e))
+all-found f (List·Memᴰ·head s) e = rw (← s, e) (List·Memᴰ·head refl)
+all-found f (List·Memᴰ·tail {x = y} i) e = by-found (f y) (λ k q. rw q (List·Memᴰ·tail (all-found f i e))) (λ q. rw q (all-found f i e))
 
-pub found-of-all : (f : ℕ → Found) {n : ℕ} (xs : List ℕ) → In n (allFound f xs) → FoundBy f xs n
+pub found-of-all : (f : ℕ → Found) {n : ℕ} (xs : List ℕ) → List·Memᴰ n (allFound f xs) → FoundBy f xs n
 unfolding allFound
 found-of-all f [] i = in-none refl i
 found-of-all f {n} (x ∷ xs) i =
     by-found (f x)
     (λ k q.
-    ⊎-elim (λ (e : n ≡ k). record { element = x; along = here; finds = rw e q }) (λ j. found-later (found-of-all f xs j)) (in-cons (rw q at i)))
+    ⊎-elim (λ (e : n ≡ k). record { element = x; along = List·Memᴰ·head refl; finds = rw e q }) (λ j. found-later (found-of-all f xs j))
+    (List·Memᴰ·cases-cons (rw q at i)))
     (λ q. found-later (found-of-all f xs (rw q at i)))
 
 -- ---- places

@@ -2,7 +2,7 @@
 -- method, one that was lent reads by the ABI alone. Assumes nothing.
 use mathlib.Core.Path.{_≡_, refl, sym, ap, _∙_}
 use mathlib.Core.Logic.{_⊎_, inl, inr, _≢_}
-use mathlib.Core.List.{List, [], _∷_}
+use mathlib.Core.List.{List, [], _∷_, List·Memᴰ}
 use Prim.Native.Nat.{ℕ, zero, suc, _+_, _≤_, _<_}
 use native.Mathlib.Omega.{arith}
 use lib.ListN.{length, getD, List·getD-eq-default}
@@ -16,7 +16,7 @@ use Rattle.linking.specs.Chain.{ownMethods, parentOf, chain}
 use Rattle.linking.specs.Abi.{classAbi}
 use Rattle.linking.specs.Vtable.{Entry, empty, ownFixed, findByIndex, readEntry, slotWord, slotWords}
 use Rattle.linking.proofs.ChainLaws.{along-none, target-none}
-use Rattle.slots.specs.Slots.{In, Known, ChainMethod}
+use Rattle.slots.specs.Slots.{Known, ChainMethod}
 use Rattle.slots.specs.Made.{readWords, Conditions}
 use Rattle.slots.proofs.ListFacts.{not-found}
 use Rattle.slots.proofs.ChainFacts.{method-up, conditions-up, target-absent, target-own}
@@ -41,6 +41,11 @@ words-from stubs k (x ∷ T) (suc i) j h e = words-from stubs (k + 1) T i j (ome
 pub word-at : (stubs : List ℕ) (T : List Entry) (i : ℕ) → i < length T
     → getD (slotWords stubs 0 T) i 0 ≡ slotWord ((at T i) .word) (getD stubs i 0)
 word-at stubs T i h = words-from stubs 0 T i i h (omega arith)
+
+-- a word of class c's table is the target of a method of its chain, or was lent
+pub data Origin (ws : List ℕ) (P : ℕ → Type 0) (c w : ℕ) : Type 0 where
+  target : (m : ℕ) → ChainMethod ws c m → w ≡ methodTarget ws m → Origin ws P c w
+  stub : P w → Origin ws P c w
 
 module _ (ws text abi labels : List ℕ) where
   -- ---- a table's words, read
@@ -74,17 +79,12 @@ module _ (ws text abi labels : List ℕ) where
   read-no-class i w = rw (target-none ws 0 w refl) (along-none (ownFixed ws text abi labels i) ws 0 refl)
 
   module _ (P : ℕ → Type 0) where
-    -- ---- where a word and an entry come from
-
-    -- a word of class c's table is the target of a method of its chain, or was lent
-    pub data Origin (c w : ℕ) : Type 0 where
-      target : (m : ℕ) → ChainMethod ws text abi labels c m → w ≡ methodTarget ws m → Origin c w
-      stub : P w → Origin c w
+    -- ---- where an entry comes from
 
     -- an entry at index i of class c's table, before it is written, is a method's; or its word was lent, and if known it is so by what Reading's second
     -- rule says of a class without an ABI entry too; or it is empty
     pub data Firm (c i : ℕ) (e : Entry) : Type 0 where
-      ours : (m : ℕ) → ChainMethod ws text abi labels c m → e .method ≡ At m → e .word ≡ methodTarget ws m → Firm c i e
+      ours : (m : ℕ) → ChainMethod ws c m → e .method ≡ At m → e .word ≡ methodTarget ws m → Firm c i e
       lent : P (e .word) → ((m : ℕ) → e .method ≡ At m → classAbi ws text abi labels c ≡ Nothing → findByIndex ws text abi labels c i ≡ At m) → Firm c i e
       blank : e .word ≡ 0 → e .method ≡ Nothing → Firm c i e
 
@@ -97,26 +97,26 @@ module _ (ws text abi labels : List ℕ) where
     -- ---- Reading along a chain that meets the conditions
 
     module _ (c : ℕ) (k : Conditions ws text abi labels P c) (i w : ℕ) where
-      pub read-target : (m : ℕ) → ChainMethod ws text abi labels c m → w ≡ methodTarget ws m → (readEntry ws text abi labels c i w) .method ≡ At m
+      pub read-target : (m : ℕ) → ChainMethod ws c m → w ≡ methodTarget ws m → (readEntry ws text abi labels c i w) .method ≡ At m
       unfolding readEntry
       read-target m h e = rw (target-own ws text abi labels c w k m h (sym e)) refl
 
       pub read-stub : P w → (readEntry ws text abi labels c i w) .method ≡ findByIndex ws text abi labels c i
       unfolding readEntry
-      read-stub p = rw (target-absent ws text abi labels c w (λ m h. k .no-stub w m p h)) refl
+      read-stub p = rw (target-absent ws c w (λ m h. k .no-stub w m p h)) refl
 
     -- the parent's entries, as the child starts from them
     module _ (c : ℕ) (h : 0 < c) (k : Conditions ws text abi labels P c) where
-      word-firm : (i w : ℕ) → Origin (parentOf ws c) w → Firm c i (readEntry ws text abi labels (parentOf ws c) i w)
+      word-firm : (i w : ℕ) → Origin ws P (parentOf ws c) w → Firm c i (readEntry ws text abi labels (parentOf ws c) i w)
       word-firm i w (target m n e) =
-          ours m (method-up ws text abi labels c h n)
+          ours m (method-up ws c h n)
           (read-target (parentOf ws c) (conditions-up ws text abi labels c h k) i w m n e) (read-word (parentOf ws c) i w ∙ e)
       word-firm i w (stub p) =
           lent (rw (read-word (parentOf ws c) i w) p)
           (λ m e n.
           index-parent ws text abi labels c i h n ∙ sym (read-stub (parentOf ws c) (conditions-up ws text abi labels c h k) i w p) ∙ e)
 
-      pub read-firm : (t : List ℕ) → ((i : ℕ) → i < length t → Origin (parentOf ws c) (getD t i 0))
+      pub read-firm : (t : List ℕ) → ((i : ℕ) → i < length t → Origin ws P (parentOf ws c) (getD t i 0))
           → (i : ℕ) → Firm c i (at (readWords ws text abi labels (parentOf ws c) t) i)
       read-firm t from i =
           by (ltb i (length t))
@@ -130,7 +130,7 @@ module _ (ws text abi labels : List ℕ) where
     -- ---- what is written for an entry
 
     data Written (c i : ℕ) (e : Entry) (w : ℕ) : Type 0 where
-      method : (m : ℕ) → ChainMethod ws text abi labels c m → e .method ≡ At m → e .word ≡ w → w ≡ methodTarget ws m → Written c i e w
+      method : (m : ℕ) → ChainMethod ws c m → e .method ≡ At m → e .word ≡ w → w ≡ methodTarget ws m → Written c i e w
       other : P w → ((m : ℕ) → e .method ≡ At m → e .word ≡ w)
           → ((m : ℕ) → e .method ≡ At m → classAbi ws text abi labels c ≡ Nothing → findByIndex ws text abi labels c i ≡ At m) → Written c i e w
 
@@ -150,12 +150,12 @@ module _ (ws text abi labels : List ℕ) where
           other (rw r q) (λ m g. sym r) f
       written i e x p (blank f g) = other (rw (bare-word (e .word) x f) p) (λ m q. not-found (sym g ∙ q)) (λ m q. not-found (sym g ∙ q))
 
-      written-origin : {i : ℕ} {e : Entry} {w : ℕ} → Written c i e w → Origin c w
+      written-origin : {i : ℕ} {e : Entry} {w : ℕ} → Written c i e w → Origin ws P c w
       written-origin (method m h f g r) = target m h r
       written-origin (other p f g) = stub p
 
       -- read back, it is the entry's method, or the ABI fixes it there
-      written-back : ((d : ℕ) → In d (chain ws c) → classKind ws d ≡ 2 → ownMethods ws d ≡ []) → (i : ℕ) (e : Entry) (w : ℕ) → Written c i e w
+      written-back : ((d : ℕ) → List·Memᴰ d (chain ws c) → classKind ws d ≡ 2 → ownMethods ws d ≡ []) → (i : ℕ) (e : Entry) (w : ℕ) → Written c i e w
           → (n : ℕ) → (readEntry ws text abi labels c i w) .method ≡ At n → (e .method ≡ At n) ⊎ Live ws text abi labels c (methodSignature ws text n) i
       written-back bare i e w (method m h f g r) n q = inl (f ∙ sym (read-target c k i w m h r) ∙ q)
       written-back bare i e w (other p f g) n q = inr (index-live ws text abi labels c i n bare (sym (read-stub c k i w p) ∙ q))
@@ -173,10 +173,10 @@ module _ (ws text abi labels : List ℕ) where
         each : (i : ℕ) → i < length T → Written c i (at T i) (getD (slotWords stubs 0 T) i 0)
         each i h = rw (word-at stubs T i h) (written i (at T i) (getD stubs i 0) (given i (omega arith)) (firm i))
 
-        pub table-origin : (i : ℕ) → i < length (slotWords stubs 0 T) → Origin c (getD (slotWords stubs 0 T) i 0)
+        pub table-origin : (i : ℕ) → i < length (slotWords stubs 0 T) → Origin ws P c (getD (slotWords stubs 0 T) i 0)
         table-origin i h = written-origin (each i (rw (length-words stubs 0 T) at h))
 
-        pub table-good : ((d : ℕ) → In d (chain ws c) → classKind ws d ≡ 2 → ownMethods ws d ≡ []) → OneIndex (Live ws text abi labels c)
+        pub table-good : ((d : ℕ) → List·Memᴰ d (chain ws c) → classKind ws d ≡ 2 → ownMethods ws d ≡ []) → OneIndex (Live ws text abi labels c)
             → Good (Live ws text abi labels c) (Shows ws text T)
             → Good (Live ws text abi labels c) (Shows ws text (readWords ws text abi labels c (slotWords stubs 0 T)))
         table-good bare one g = good-fixed one back g

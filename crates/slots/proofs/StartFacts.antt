@@ -17,21 +17,23 @@ use Rattle.slots.proofs.PlaceFacts.{Signature, OneIndex, Good, good-les
 use Rattle.slots.proofs.FixedFacts.{methodSignature, Fixes, fixed-some, fixed-none, fixed-room}
 use Rattle.slots.proofs.EntryFacts.{at, Shows, shows-same, shows-entry, set-good, append-good}
 
+-- ---- "parent entries, extended with empty ones to the largest fixed index + 1 or table size among the chain's ABI classes"
+
+module _ (abi abis : List ℕ) (T : List Entry) where
+  pub extended-same : (i : ℕ) → at (extended abi abis T) i ≡ at T i
+  unfolding extended
+  extended-same i = extended-at T (minimumSize abi abis - length T) i empty
+
+  pub extended-room : minimumSize abi abis ≤ length (extended abi abis T)
+  unfolding extended
+  extended-room = simp (length-append, length-replicate) (omega arith)
+
+pub extended-good : (ws text abi abis : List ℕ) (T : List Entry) {F : Signature → ℕ → Type 0} → Good F (Shows ws text T)
+    → Good F (Shows ws text (extended abi abis T))
+extended-good ws text abi abis T g =
+    good-less (λ i s k. shows-same ws text (extended abi abis T) T i i s (extended-same abi abis T i) k) g
+
 module _ (ws text abi labels : List ℕ) where
-  -- ---- "parent entries, extended with empty ones to the largest fixed index + 1 or table size among the chain's ABI classes"
-
-  module _ (abis : List ℕ) (T : List Entry) where
-    pub extended-same : (i : ℕ) → at (extended ws text abi labels abis T) i ≡ at T i
-    unfolding extended
-    extended-same i = extended-at T (minimumSize abi abis - length T) i empty
-
-    pub extended-room : minimumSize abi abis ≤ length (extended ws text abi labels abis T)
-    unfolding extended
-    extended-room = simp (length-append, length-replicate) (omega arith)
-
-    pub extended-good : {F : Signature → ℕ → Type 0} → Good F (Shows ws text T) → Good F (Shows ws text (extended ws text abi labels abis T))
-    extended-good g = good-less (λ i s k. shows-same ws text (extended ws text abi labels abis T) T i i s (extended-same i) k) g
-
   -- ---- "A class with its own ABI entry first puts each known inherited entry at its fixed index, later ones overwriting; known entries without
   -- one follow after the minimum size; unknown ones go."
 
@@ -43,12 +45,12 @@ module _ (ws text abi labels : List ℕ) where
     step-fixed : (m i : ℕ) → e .method ≡ At m → fixedOf ws text abi labels abis m ≡ At i → relayStep ws text abi labels abis T e ≡ set T i e
     unfolding relayStep
     step-fixed m i q r =
-        ap (λ (f : Found). relay ws text abi labels abis f e T) q ∙ ap (λ (f : Found). putFixed ws text abi labels f e T) r
+        ap (λ (f : Found). relay ws text abi labels abis f e T) q ∙ ap (λ (f : Found). putFixed f e T) r
 
     step-last : (m : ℕ) → e .method ≡ At m → fixedOf ws text abi labels abis m ≡ Nothing → relayStep ws text abi labels abis T e ≡ T ++ (e ∷ [])
     unfolding relayStep
     step-last m q r =
-        ap (λ (f : Found). relay ws text abi labels abis f e T) q ∙ ap (λ (f : Found). putFixed ws text abi labels f e T) r
+        ap (λ (f : Found). relay ws text abi labels abis f e T) q ∙ ap (λ (f : Found). putFixed f e T) r
 
   blank-none : (n i : ℕ) (s : Signature) → Shows ws text (replicate n empty) i s → ⊥
   blank-none n i s k = not-found (sym (ap (λ (e : Entry). e .method) (blank-at n i empty)) ∙ k .holds)

@@ -2,7 +2,7 @@
 -- child without an ABI entry keeps its parent's known slots. Assumes nothing.
 use mathlib.Core.Path.{_≡_, refl, sym, ap, _∙_}
 use mathlib.Core.Logic.{inl, inr, _≢_}
-use mathlib.Core.List.{List, []}
+use mathlib.Core.List.{List, [], List·Memᴰ}
 use Prim.Native.Nat.{ℕ, zero, suc, _≤_, _<_}
 use native.Mathlib.Omega.{arith}
 use lib.ListN.{length, getD}
@@ -17,7 +17,7 @@ use Rattle.linking.specs.Abi.{classAbi, chainAbi, minimumSize}
 use Rattle.linking.specs.Vtable.{Entry, built, readEntry, relayed, extended, addMethods, slotWords}
 use Rattle.linking.proofs.ChainLaws.{parent-below, parent-within}
 use Rattle.linking.proofs.Plans.{built-same}
-use Rattle.slots.specs.Slots.{In, Unique, Declares, Keeps, Kept}
+use Rattle.slots.specs.Slots.{Unique, Redeclares, Keeps, Kept}
 use Rattle.slots.specs.Made.{readWords, startFrom, tableFrom, inheritedFrom, Made, Conditions}
 use Rattle.slots.proofs.ListFacts.{not-found}
 use Rattle.slots.proofs.ChainFacts.{chain-here, chain-up, method-here, conditions-up}
@@ -31,14 +31,14 @@ use Rattle.slots.proofs.ReadFacts.{read-at, known-read, read-word, read
 module _ (ws text abi labels : List ℕ) (tables : ℕ → List ℕ) (P : ℕ → Type 0) where
   -- what a class's table has, for its children and for the claim
   record Linked (c : ℕ) : Type 0 where
-    origin : (i : ℕ) → i < length (tables c) → Origin ws text abi labels P c (getD (tables c) i 0)
+    origin : (i : ℕ) → i < length (tables c) → Origin ws P c (getD (tables c) i 0)
     good : Good (Live ws text abi labels c) (Shows ws text (readWords ws text abi labels c (tables c)))
     kept : parentOf ws c ≢ 0 → classAbi ws text abi labels c ≡ Nothing → Kept ws text abi labels c (tables c) (tables (parentOf ws c))
 
   -- ---- one class over its parent
 
   module _ (c : ℕ) (h : 0 < c) (within : c ≤ 64) (k : Conditions ws text abi labels P c)
-      (made : (d : ℕ) → In d (chain ws c) → Made ws text abi labels tables P d) (parent : parentOf ws c ≢ 0 → Linked (parentOf ws c)) where
+      (made : (d : ℕ) → List·Memᴰ d (chain ws c) → Made ws text abi labels tables P d) (parent : parentOf ws c ≢ 0 → Linked (parentOf ws c)) where
     abbrev inherited : List Entry
     inherited = inheritedFrom ws text abi labels tables c
 
@@ -102,12 +102,12 @@ module _ (ws text abi labels : List ℕ) (tables : ℕ → List ℕ) (P : ℕ �
       same = λ n. not-found (sym n ∙ e);
     }
 
-    extended-starts : classAbi ws text abi labels c ≡ Nothing → Starts (extended ws text abi labels (chainAbi ws text abi labels c) inherited)
+    extended-starts : classAbi ws text abi labels c ≡ Nothing → Starts (extended abi (chainAbi ws text abi labels c) inherited)
     extended-starts e = record {
-      good = extended-good ws text abi labels (chainAbi ws text abi labels c) inherited (good-sub (live-up ws text abi labels c h (inr e)) inherited-good);
-      room = extended-room ws text abi labels (chainAbi ws text abi labels c) inherited;
-      firm = λ i. rw (extended-same ws text abi labels (chainAbi ws text abi labels c) inherited i) (inherited-firm i);
-      same = λ n. extended-same ws text abi labels (chainAbi ws text abi labels c) inherited;
+      good = extended-good ws text abi (chainAbi ws text abi labels c) inherited (good-sub (live-up ws text abi labels c h (inr e)) inherited-good);
+      room = extended-room abi (chainAbi ws text abi labels c) inherited;
+      firm = λ i. rw (extended-same abi (chainAbi ws text abi labels c) inherited i) (inherited-firm i);
+      same = λ n. extended-same abi (chainAbi ws text abi labels c) inherited;
     }
 
     starts : Starts (startFrom ws text abi labels c inherited)
@@ -122,7 +122,7 @@ module _ (ws text abi labels : List ℕ) (tables : ℕ → List ℕ) (P : ℕ �
         record {
           good = adds-good ws text abi labels a (starts .good);
           firm = adds-each ws text abi labels (λ i e. Firm ws text abi labels P c i e) a
-              (λ m i o. ours m (method-here ws text abi labels c h o) refl refl) (starts .firm);
+              (λ m i o. ours m (method-here ws c h o) refl refl) (starts .firm);
           stays = λ n i m q.
               let s = starts .same n i in
               rw s at
@@ -138,7 +138,7 @@ module _ (ws text abi labels : List ℕ) (tables : ℕ → List ℕ) (P : ℕ �
 
     -- ---- its words, written and read back
 
-    bare : (d : ℕ) → In d (chain ws c) → classKind ws d ≡ 2 → ownMethods ws d ≡ []
+    bare : (d : ℕ) → List·Memᴰ d (chain ws c) → classKind ws d ≡ 2 → ownMethods ws d ≡ []
     bare d i e = (made d i) .bare e
 
     kept-one : (stubs : List ℕ) (T : List Entry) → length T ≤ length stubs → ((i : ℕ) → i < length stubs → P (getD stubs i 0)) → Makes T
@@ -156,12 +156,12 @@ module _ (ws text abi labels : List ℕ) (tables : ℕ → List ℕ) (P : ℕ �
         word =
             ap (λ (x : Entry). x .word) read ∙ read-word ws text abi labels (parentOf ws c) i (getD (tables (parentOf ws c)) i 0)
 
-        declares : (w : ℕ) → Declared ws text abi labels (ownMethods ws c) (methodSignature ws text m) w → Declares ws text abi labels c m w
-        declares w d = record {
+        redeclares : (w : ℕ) → Declared ws text abi labels (ownMethods ws c) (methodSignature ws text m) w → Redeclares ws text c m w
+        redeclares w d = record {
           method = d .method;
           own = d .own;
           eligible = d .eligible;
-          signature = signature-same ws text abi labels (d .is);
+          signature = signature-same ws text (d .is);
           target-is = d .target;
         }
 
@@ -172,8 +172,8 @@ module _ (ws text abi labels : List ℕ) (tables : ℕ → List ℕ) (P : ℕ �
             record {
               method = s .method;
               known = table-known ws text abi labels P c k stubs T enough given (makes .firm) none i (s .method) (s .holds);
-              signature = signature-same ws text abi labels (s .is);
-              target = elim (s .word) [ inl e ↦ inl (w ∙ e ∙ word) | inr d ↦ inr (rw w (declares ((at T i) .word) d)) ];
+              signature = signature-same ws text (s .is);
+              target = elim (s .word) [ inl e ↦ inl (w ∙ e ∙ word) | inr d ↦ inr (rw w (redeclares ((at T i) .word) d)) ];
             }
 
     link : Linked c
@@ -191,7 +191,7 @@ module _ (ws text abi labels : List ℕ) (tables : ℕ → List ℕ) (P : ℕ �
   -- ---- along the chain, from its root
 
   all : (bound c : ℕ) → c ≤ bound → 0 < c → c ≤ 64 → Conditions ws text abi labels P c
-      → ((d : ℕ) → In d (chain ws c) → Made ws text abi labels tables P d) → Linked c
+      → ((d : ℕ) → List·Memᴰ d (chain ws c) → Made ws text abi labels tables P d) → Linked c
   all zero c b h within k made = absurd (omega arith)
   all (suc bound) c b h within k made =
       let f = parent-below ws c h in
@@ -204,19 +204,19 @@ module _ (ws text abi labels : List ℕ) (tables : ℕ → List ℕ) (P : ℕ �
 
   -- "no two known slots in a class's table have one signature"
   pub table-unique : (c : ℕ) → c ≤ 64 → Conditions ws text abi labels P c
-      → ((d : ℕ) → In d (chain ws c) → Made ws text abi labels tables P d) → Unique ws text abi labels c (tables c)
+      → ((d : ℕ) → List·Memᴰ d (chain ws c) → Made ws text abi labels tables P d) → Unique ws text abi labels c (tables c)
   table-unique zero within k made i j m n p q s = not-found (sym (read-no-class ws text abi labels i (getD (tables 0) i 0)) ∙ p .reads)
   table-unique (suc c) within k made i j m n p q s =
       let l = all (suc c) (suc c) (omega arith) (omega arith) within k made in
       let a = known-read ws text abi labels (suc c) (tables (suc c)) i m p in
       let b = known-read ws text abi labels (suc c) (tables (suc c)) j n q in
       l .good .unique i j (methodSignature ws text n)
-      (record { method = m; holds = a; is = same-signature ws text abi labels s }) (record { method = n; holds = b; is = refl })
+      (record { method = m; holds = a; is = same-signature ws text s }) (record { method = n; holds = b; is = refl })
 
   -- "In a child without an ABI entry, each known slot of its parent's table is known at the same index with the same signature, and the child's
   -- target there is the parent's or that of an eligible method of that signature which the child declares."
   pub table-kept : (c : ℕ) → c ≤ 64 → Conditions ws text abi labels P c
-      → ((d : ℕ) → In d (chain ws c) → Made ws text abi labels tables P d) → parentOf ws c ≢ 0 → classAbi ws text abi labels c ≡ Nothing
+      → ((d : ℕ) → List·Memᴰ d (chain ws c) → Made ws text abi labels tables P d) → parentOf ws c ≢ 0 → classAbi ws text abi labels c ≡ Nothing
       → Kept ws text abi labels c (tables c) (tables (parentOf ws c))
   table-kept c within k made n none =
       let f = parent-within ws c in

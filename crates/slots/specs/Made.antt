@@ -25,7 +25,7 @@ module _ (ws text abi labels : List ℕ) where
   unfoldable pub startFrom : ℕ → List Entry → List Entry
   startFrom c P =
       onFound (classAbi ws text abi labels c) (λ a. relayed ws text abi labels (chainAbi ws text abi labels c) P)
-      (extended ws text abi labels (chainAbi ws text abi labels c) P)
+      (extended abi (chainAbi ws text abi labels c) P)
 
   -- "Array: the parent's entries."
   unfoldable pub tableFrom : ℕ → List Entry → Built
@@ -56,7 +56,7 @@ module _ (ws text abi labels : List ℕ) where
   -- so ordered, and "where the chain's method targets and all stubs lent are nonzero, the targets all different and none of them a stub"
   pub record Conditions (P : ℕ → Type 0) (c : ℕ) : Type 0 where
     pub one-index : OneSlotIndex c
-    pub targets-nonzero : (m : ℕ) → ChainMethod ws text abi labels c m → methodTarget ws m ≢ 0
-    pub targets-different : (m k : ℕ) → ChainMethod ws text abi labels c m → ChainMethod ws text abi labels c k → methodTarget ws m ≡ methodTarget ws k → m ≡ k
+    pub targets-nonzero : (m : ℕ) → ChainMethod ws c m → methodTarget ws m ≢ 0
+    pub targets-different : (m k : ℕ) → ChainMethod ws c m → ChainMethod ws c k → methodTarget ws m ≡ methodTarget ws k → m ≡ k
     pub stubs-nonzero : (x : ℕ) → P x → x ≢ 0
-    pub no-stub : (x m : ℕ) → P x → ChainMethod ws text abi labels c m → methodTarget ws m ≢ x
+    pub no-stub : (x m : ℕ) → P x → ChainMethod ws c m → methodTarget ws m ≢ x

@@ -10,7 +10,8 @@ use borrow.Author.Tests.{eqb-true, eqb-false}
 use Rattle.words.specs.Lists.{fold}
 use Rattle.words.proofs.Bools.{by}
 use Rattle.words.proofs.ListLaws.{numbers-within}
-use Rattle.class_sheet.specs.ClassSheet.{classWidth, kindWord, firstFieldWord, fieldCountWord, tablePlaceWord, staticWordsWord, descriptorStartWord, descriptorLengthWord, indexWord, fieldLimit, fieldCount, textOf, classWord, classKind, classFirstField, classFieldCount, classTablePlace, classStaticWords, fieldWord}
+use Rattle.text.specs.Text.{descriptorStartWord, descriptorLengthWord}
+use Rattle.class_sheet.specs.ClassSheet.{classWidth, kindWord, firstFieldWord, fieldCountWord, tablePlaceWord, staticWordsWord, indexWord, fieldLimit, fieldCount, textOf, classWord, classKind, classFirstField, classFieldCount, classTablePlace, classStaticWords, fieldWord}
 use Rattle.set_rules.specs.Valid.{IsClass, Valid}
 use Rattle.linking.specs.Chain.{listCount, ownFields}
 use Rattle.linking.specs.Fields.{addStatic, staticWords}

@@ -9,6 +9,7 @@ use lib.ListN.{length, getD, take, drop, length-append, List·getD-append}
 use borrow.Author.Tests.{eq-eqb, ne-eqb}
 use Rattle.words.specs.Rows.{rowWord}
 use Rattle.words.proofs.Bools.{by}
+use Rattle.words.specs.Words.{AreBytes}
 use Rattle.class_sheet.specs.ClassSheet.{classWidth, memberWidth, kindWord, firstMethodWord, methodCountWord, firstFieldWord, fieldCountWord, staticWordsWord, indexWord, classCount, methodCount, fieldCount, contentEnd, textLength, textWords, textOf, classWord, classKind, classFirstMethod, classMethodCount, classFirstField, classFieldCount, classStaticWords, fieldWord}
 use Rattle.class_sheet.specs.Sections.{Sections, Formed, laidOut, sectionsOf}
 use Rattle.class_sheet.proofs.Sections.{field-count, class-word, field-word, formed-of, class-of, field-of}
@@ -21,10 +22,10 @@ use Rattle.linking.specs.Link.{Plan, isNone, nextFree, newWords, newStatics, li
 use Rattle.linking.specs.Grown.{newMembers, rowIndices, methodsGrowing, fieldsGrowing, recordRows, linkedSections}
 use Rattle.linking.proofs.Grown.{length-row-indices, index-other}
 use Rattle.linking.proofs.Appended.{word-kept}
-use Rattle.linking.proofs.Names.{Bytes, text-bytes}
 use Rattle.linking.proofs.Plans.{Plans, plans}
 use Rattle.linking.proofs.LinkedSections.{record-brought, record-statics, lies-of, linked-laid}
 use Rattle.linking.proofs.LinkedBack.{linked-left}
+use Rattle.linking.proofs.Packed.{text-bytes}
 use Rattle.linking.proofs.LinkedBack as back
 use Rattle.calls.proofs.Linked.{Leaves, link-leaves}
 use Rattle.calls.proofs.Rows.{Accepted, link-cases}
@@ -86,7 +87,7 @@ module _ (ws abi : List ℕ) (c : ℕ) (area stubs : List ℕ) (o : Outcome) (ac
   p = acc .coming
 
   abbrev pub words : ℕ
-  words = newWords ws (textOf ws) abi (abiTextOf abi) area c
+  words = newWords ws (textOf ws) abi (abiTextOf abi) c
 
   abbrev pub statics : ℕ
   statics = newStatics ws (textOf ws) c
@@ -109,10 +110,10 @@ module _ (ws abi : List ℕ) (c : ℕ) (area stubs : List ℕ) (o : Outcome) (ac
   planning : Plans ws (textOf ws) abi (abiTextOf abi) area c p
   planning = plans ws (textOf ws) abi (abiTextOf abi) area c p (acc .comes)
 
-  method-bytes : Bytes (newText (p .newMethods))
+  method-bytes : AreBytes (newText (p .newMethods))
   method-bytes = planning .method-bytes (text-bytes (textWords ws) (textLength ws)) (text-bytes (abiTextWords abi) (abiTextLength abi))
 
-  field-bytes : Bytes (newText (p .newFields))
+  field-bytes : AreBytes (newText (p .newFields))
   field-bytes = planning .field-bytes (text-bytes (textWords ws) (textLength ws)) (text-bytes (abiTextWords abi) (abiTextLength abi))
 
   methods-in : classFirstMethod ws c + classMethodCount ws c ≤ methodCount ws

@@ -65,14 +65,14 @@ module _ (ws text abi labels : List ℕ) (own : Found) where
 
   -- an instance field's index, whatever it is, leaves the count
   instance-turn : (n : Numbering) (fixed : Found) (w : ℕ)
-      → (index : ℕ) × (numberInstance ws text abi labels own fixed w n .indices ≡ n .indices ++ (index ∷ []))
-      × (numberInstance ws text abi labels own fixed w n .statics ≡ n .statics)
+      → (index : ℕ) × (numberInstance abi own fixed w n .indices ≡ n .indices ++ (index ∷ []))
+      × (numberInstance abi own fixed w n .statics ≡ n .statics)
   instance-turn n fixed w =
       by-found fixed
       (λ g e. rw e (fixedFieldIndex abi g, refl, refl))
       (λ e.
       rw e
-      (by (eqb (ownGiven ws text abi labels own) 0)
+      (by (eqb (ownGiven abi own) 0)
       (λ t. rw t (n .running, refl, refl))
       (λ t. rw t (belowZero (n .runtime), refl, refl))))
 
@@ -124,7 +124,7 @@ module _ (ws text abi labels : List ℕ) (own : Found) where
       indices = [];
       statics = 0;
       runtime = runtimeWords ws text (parentOf ws c);
-      running = cond (eqb (parentOf ws c) 0) 0 (instanceWords ws text (parentOf ws c));
+      running = cond (eqb (parentOf ws c) 0) 0 (instanceWords ws (parentOf ws c));
     }
 
     pub counted : numberFields ws text abi labels own c .statics ≡ staticWords ws text c

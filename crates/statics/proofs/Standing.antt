@@ -12,7 +12,8 @@ use borrow.Author.Tests.{ltb-true, ltb-false}
 use Rattle.words.specs.Rows.{rowWord}
 use Rattle.words.specs.declared.Found.{Found}
 use Rattle.words.proofs.Bools.{by}
-use Rattle.class_sheet.specs.ClassSheet.{classWidth, memberWidth, firstFieldWord, fieldCountWord, descriptorStartWord, descriptorLengthWord, indexWord, fieldCount, textOf, classKind, classFirstField, classFieldCount, classStaticWords, fieldWord, fieldFlags, fieldIndex}
+use Rattle.text.specs.Text.{descriptorStartWord, descriptorLengthWord}
+use Rattle.class_sheet.specs.ClassSheet.{classWidth, memberWidth, firstFieldWord, fieldCountWord, indexWord, fieldCount, textOf, classKind, classFirstField, classFieldCount, classStaticWords, fieldWord, fieldFlags, fieldIndex}
 use Rattle.class_sheet.specs.Sections.{Sections, Formed, laidOut, sectionsOf, withClasses, withFields}
 use Rattle.class_sheet.proofs.Sections.{class-word, field-word, field-of}
 use Rattle.descriptor.specs.Words.{width}
@@ -47,14 +48,14 @@ module _ (ws text abi labels area : List ℕ) (c : ℕ) (p : Plan) where
   pub record BuiltPlan : Type 0 where
     pub indices : p .indices ≡ numberFields ws text abi labels own c .indices
     pub no-methods : isNone (p .newMethods) ≡ true
-    pub new-fields : p .newFields ≡ newFieldsOf ws text abi labels area (addedFields ws text abi labels own c)
+    pub new-fields : p .newFields ≡ newFieldsOf abi labels (addedFields ws text abi labels own c)
 
   abbrev planOf : List Entry → Plan
   planOf T = record {
     table = T;
     indices = numberFields ws text abi labels own c .indices;
     newMethods = [];
-    newFields = newFieldsOf ws text abi labels area (addedFields ws text abi labels own c);
+    newFields = newFieldsOf abi labels (addedFields ws text abi labels own c);
   }
 
   within : (T : List Entry) → withinSlots (planOf T) ≡ planned p → BuiltPlan
@@ -75,13 +76,12 @@ module _ (ws text abi labels area : List ℕ) (c : ℕ) (p : Plan) where
       let f : planBuilt ws text abi labels area c ≡ planned p = rw k at e in
       by (tooManyWords ws text abi labels own c) (λ t. not-planned (rw t at f)) (λ t. by-table (builtTable ws text abi labels area c) (rw t at f))
 
-  -- ABI fields have flags 0x0002
-  pub new-flags : (gs : List ℕ) (j : ℕ) → j < length (newFieldsOf ws text abi labels area gs)
-      → (getD (newFieldsOf ws text abi labels area gs) j noNew) .flags ≡ 2
-  unfolding newFieldsOf
-  new-flags [] j h = absurd (omega arith)
-  new-flags (g ∷ gs) zero h = refl
-  new-flags (g ∷ gs) (suc j) h = new-flags gs j (omega arith)
+-- ABI fields have flags 0x0002
+new-flags : (abi labels gs : List ℕ) (j : ℕ) → j < length (newFieldsOf abi labels gs) → (getD (newFieldsOf abi labels gs) j noNew) .flags ≡ 2
+unfolding newFieldsOf
+new-flags abi labels [] j h = absurd (omega arith)
+new-flags abi labels (g ∷ gs) zero h = refl
+new-flags abi labels (g ∷ gs) (suc j) h = new-flags abi labels gs j (omega arith)
 
 -- ---- where the class's fields stand, in words laid out from what a link leaves
 
@@ -263,9 +263,9 @@ module _ (ws abi : List ℕ) (c : ℕ) (area stubs : List ℕ) (o : Outcome) (ac
       let j : ℕ = i - classFieldCount ws c in
       let n : rowWord (sectionsOf ws .classes) (c - 1) fieldCountWord + j ≡ i = omega (arith, l, count-is) in
       let a = stands .added j (rw n h) in
-      let m : j < length (newFieldsOf ws text abi labels area (addedFields ws text abi labels (classAbi ws text abi labels c) c)) =
+      let m : j < length (newFieldsOf abi labels (addedFields ws text abi labels (classAbi ws text abi labels c) c)) =
       rw (← comes .new-fields) (a .0) in
-      rw (rw n at (a .1), comes .new-fields, new-flags ws text abi labels area c (acc .coming) _ j m)
+      rw (rw n at (a .1), comes .new-fields, new-flags abi labels _ j m)
 
   pub standing : Standing (o .set) c
   standing i h s =

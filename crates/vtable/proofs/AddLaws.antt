@@ -1,5 +1,5 @@
 -- Laws of a class's own methods: where each goes, rows 11 and 12, and all of them in their order. Assumes nothing.
-use mathlib.Core.Path.{_≡_, refl, sym, ap, _∙_}
+use mathlib.Core.Path.{_≡_, sym, ap, _∙_}
 use mathlib.Core.Bool.{Bool, true, false, not, cond}
 use mathlib.Core.Logic.{_≢_}
 use mathlib.Core.List.{List, [], _∷_, _++_}
@@ -24,9 +24,9 @@ use Rattle.reading.proofs.ArrayLaws.{method-back, length-entries, entry-is}
 use Rattle.vtable.proofs.SlotLaws.{slot-in}
 
 -- the entry with a method's mark is the method's
-pub mark-entry : (ws text abi labels : List ℕ) (m : ℕ) {t k : ℕ} → m < methodLimit → t ≡ methodTarget ws m → k ≡ markOf (At m)
-    → _≡_ {A = Entry} (record { word = t; method = methodOf k }) (methodEntry ws text abi labels m)
-mark-entry ws text abi labels m h e f = rw (f, e, method-back m (omega arith))
+pub mark-entry : (ws : List ℕ) (m : ℕ) {t k : ℕ} → m < methodLimit → t ≡ methodTarget ws m → k ≡ markOf (At m)
+    → _≡_ {A = Entry} (record { word = t; method = methodOf k }) (methodEntry ws m)
+mark-entry ws m h e f = rw (f, e, method-back m (omega arith))
 
 module _ (ws text : List ℕ) (m : ℕ) where
   -- ---- whether the fixed slot holds another signature
@@ -46,11 +46,11 @@ module _ (ws text : List ℕ) (m : ℕ) where
       unfolding otherIn
       other-is e p q g = rw (g, p, q) (rw (lt-ltb i n h, ← here, ← mark, ← method, e))
 
-  other-entry : (abi labels ts ms : List ℕ) (n i : ℕ)
-      → entryIsOther ws text abi labels (methodName ws text m) (methodDescriptor ws text m) (getD (entriesOf ts ms n) i empty)
+  other-entry : (ts ms : List ℕ) (n i : ℕ)
+      → entryIsOther ws text (methodName ws text m) (methodDescriptor ws text m) (getD (entriesOf ts ms n) i empty)
       ≡ otherIn ws text m ms n i
   unfolding entryIsOther otherIn entryAt
-  other-entry abi labels ts ms n i =
+  other-entry ts ms n i =
       by (ltb i n)
       (λ q. rw q (rw (entry-is ts ms n i empty (ltb-true i n q))))
       (λ q. rw q (rw (List·getD-eq-default (entriesOf ts ms n) empty (past-end ts ms i n q))))
@@ -60,38 +60,31 @@ module _ (ws text : List ℕ) (m : ℕ) where
 
   -- ---- a method with a fixed index
 
-  module _ (abi labels : List ℕ) (i : ℕ) (slot : Found) {b : Bool} (moved : b ≡ onFound slot (λ j. not (eqb j i)) false) where
-    pub put-moved : (T : List Entry) → b ≡ true → refused 11 ≡ putMethod ws text abi labels (At i) slot m T
+  module _ (i : ℕ) (slot : Found) {b : Bool} (moved : b ≡ onFound slot (λ j. not (eqb j i)) false) where
+    pub put-moved : (T : List Entry) → b ≡ true → refused 11 ≡ putMethod ws text (At i) slot m T
     unfolding putMethod
     put-moved T e = rw (← moved, e)
 
     module _ (ts ms : List ℕ) (n : ℕ) (stays : b ≡ false) {o : Bool} (other : o ≡ otherIn ws text m ms n i) where
-      pub put-taken : o ≡ true → refused 12 ≡ putMethod ws text abi labels (At i) slot m (entriesOf ts ms n)
+      pub put-taken : o ≡ true → refused 12 ≡ putMethod ws text (At i) slot m (entriesOf ts ms n)
       unfolding putMethod
-      put-taken e = rw (← moved, stays, other-entry abi labels ts ms n i, ← other, e)
+      put-taken e = rw (← moved, stays, other-entry ts ms n i, ← other, e)
 
-      pub put-there : {U : List Entry} → o ≡ false → U ≡ set (entriesOf ts ms n) i (methodEntry ws text abi labels m)
-          → built U ≡ putMethod ws text abi labels (At i) slot m (entriesOf ts ms n)
+      pub put-there : {U : List Entry} → o ≡ false → U ≡ set (entriesOf ts ms n) i (methodEntry ws m)
+          → built U ≡ putMethod ws text (At i) slot m (entriesOf ts ms n)
       unfolding putMethod
-      put-there e u = rw (u, ← moved, stays, other-entry abi labels ts ms n i, ← other, e)
+      put-there e u = rw (u, ← moved, stays, other-entry ts ms n i, ← other, e)
 
   -- ---- a method without one
 
-  module _ (abi labels : List ℕ) (T : List Entry) {slot : Found} {U : List Entry} where
-    pub put-again : (j : ℕ) → slot ≡ At j → U ≡ set T j (methodEntry ws text abi labels m) → built U ≡ putMethod ws text abi labels Nothing slot m T
+  module _ (T : List Entry) {slot : Found} {U : List Entry} where
+    pub put-again : (j : ℕ) → slot ≡ At j → U ≡ set T j (methodEntry ws m) → built U ≡ putMethod ws text Nothing slot m T
     unfolding putMethod
     put-again j e u = rw (e, u)
 
-    pub put-last : slot ≡ Nothing → U ≡ T ++ (methodEntry ws text abi labels m ∷ []) → built U ≡ putMethod ws text abi labels Nothing slot m T
+    pub put-last : slot ≡ Nothing → U ≡ T ++ (methodEntry ws m ∷ []) → built U ≡ putMethod ws text Nothing slot m T
     unfolding putMethod
     put-last e u = rw (e, u)
-
-  -- where a method goes does not depend on the ABI sheet, once its fixed index is found
-  put-same : (abi labels : List ℕ) (f s : Found) (T : List Entry) → putMethod ws text [] [] f s m T ≡ putMethod ws text abi labels f s m T
-  unfolding putMethod entryIsOther
-  put-same abi labels (At i) s T = refl
-  put-same abi labels Nothing (At j) T = refl
-  put-same abi labels Nothing Nothing T = refl
 
   -- ---- an own method
 
@@ -102,12 +95,12 @@ module _ (ws text : List ℕ) (m : ℕ) where
 
     pub add-put : {f s : Found} {name descriptor : List ℕ} (X : Built) → e ≡ true → f ≡ fixedOf ws text abi labels abis m
         → name ≡ methodName ws text m → descriptor ≡ methodDescriptor ws text m → s ≡ slotIn ws text name descriptor ms n
-        → X ≡ putMethod ws text [] [] f s m (entriesOf ts ms n) → X ≡ addMethod ws text abi labels abis m (entriesOf ts ms n)
+        → X ≡ putMethod ws text f s m (entriesOf ts ms n) → X ≡ addMethod ws text abi labels abis m (entriesOf ts ms n)
     unfolding addMethod
-    add-put {f = f} {s = s} X h g p q l x =
-        let y : s ≡ slotOf ws text abi labels (methodName ws text m) (methodDescriptor ws text m) (entriesOf ts ms n)
-        = l ∙ rw (p, q) (sym (slot-in ws text abi labels (methodName ws text m) (methodDescriptor ws text m) ts ms n)) in
-        x ∙ put-same abi labels f s (entriesOf ts ms n) ∙ rw (← able, h, g, y)
+    add-put {s = s} X h g p q l x =
+        let y : s ≡ slotOf ws text (methodName ws text m) (methodDescriptor ws text m) (entriesOf ts ms n)
+        = l ∙ rw (p, q) (sym (slot-in ws text (methodName ws text m) (methodDescriptor ws text m) ts ms n)) in
+        x ∙ rw (← able, h, g, y)
 
 -- ---- all of a class's own methods
 

@@ -19,10 +19,10 @@ position-is p f m zero = refl
 position-is p f m (suc n) = rw (position-is p f (m + 1) n)
 
 -- the slot of a signature does not depend on the words
-pub slot-in : (ws text abi labels name descriptor ts ms : List ℕ) (n : ℕ)
-    → slotOf ws text abi labels name descriptor (entriesOf ts ms n) ≡ slotIn ws text name descriptor ms n
+pub slot-in : (ws text name descriptor ts ms : List ℕ) (n : ℕ)
+    → slotOf ws text name descriptor (entriesOf ts ms n) ≡ slotIn ws text name descriptor ms n
 unfolding slotOf entriesOf slotIn markIs entryIs entryAt
-slot-in ws text abi labels name descriptor ts ms n = position-is (entryIs ws text abi labels name descriptor) (entryAt ts ms) 0 n
+slot-in ws text name descriptor ts ms n = position-is (entryIs ws text name descriptor) (entryAt ts ms) 0 n
 
 -- whether a mark is of the signature, as the code asks it
 module _ (ws text name descriptor : List ℕ) (k : ℕ) {o : Found} (method : o ≡ methodOf k) where

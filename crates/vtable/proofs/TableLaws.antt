@@ -1,5 +1,5 @@
 -- Laws of whole tables: `build_methods` and `build_interface_methods`. Assumes nothing.
-use mathlib.Core.Path.{_≡_, refl, sym, ap, _∙_}
+use mathlib.Core.Path.{_≡_, sym, ap, _∙_}
 use mathlib.Core.Bool.{Bool, true, false}
 use mathlib.Core.List.{List, [], _∷_, _++_, append-assoc, append-nil}
 use Prim.Native.Nat.{ℕ, zero, suc, _+_, _-_, _≤_, _<_}
@@ -24,46 +24,36 @@ built-is ws text abi labels area c abis T e f g = g ∙ rw (e, f)
 
 module _ (ws text : List ℕ) where
   module _ (m : ℕ) (T : List Entry) {e : Bool} (able : e ≡ eligible ws text m) where
-    pub eligible-no : e ≡ false → T ≡ T ++ methodEntries ws text [] [] (keep (eligible ws text) (m ∷ []))
+    pub eligible-no : e ≡ false → T ≡ T ++ methodEntries ws (keep (eligible ws text) (m ∷ []))
     unfolding methodEntries keep
     eligible-no h = rw (← able, h) (sym (append-nil T))
 
-    pub eligible-yes : {U : List Entry} → e ≡ true → U ≡ T ++ (methodEntry ws text [] [] m ∷ [])
-        → U ≡ T ++ methodEntries ws text [] [] (keep (eligible ws text) (m ∷ []))
+    pub eligible-yes : {U : List Entry} → e ≡ true → U ≡ T ++ (methodEntry ws m ∷ [])
+        → U ≡ T ++ methodEntries ws (keep (eligible ws text) (m ∷ []))
     unfolding methodEntries keep
     eligible-yes h u = u ∙ rw (← able, h)
 
   entries-cons : (x : ℕ) (xs : List ℕ)
-      → methodEntries ws text [] [] (keep (eligible ws text) (x ∷ xs))
-      ≡ methodEntries ws text [] [] (keep (eligible ws text) (x ∷ [])) ++ methodEntries ws text [] [] (keep (eligible ws text) xs)
+      → methodEntries ws (keep (eligible ws text) (x ∷ xs))
+      ≡ methodEntries ws (keep (eligible ws text) (x ∷ [])) ++ methodEntries ws (keep (eligible ws text) xs)
   unfolding methodEntries keep
   entries-cons x xs = by (eligible ws text x) (λ q. rw q) (λ q. rw q)
 
   module _ (first count : ℕ) where
     pub eligibles-start : (c : ℕ) {T : List Entry} → T ≡ [] → first ≡ classFirstMethod ws c
         → count ≡ listCount (classFirstMethod ws c) (classMethodCount ws c) methodLimit
-        → T ++ methodEntries ws text [] [] (keep (eligible ws text) (restFrom (λ k. k) first count 0)) ≡ buildInterfaceMethods ws text [] [] c
+        → T ++ methodEntries ws (keep (eligible ws text) (restFrom (λ k. k) first count 0)) ≡ buildInterfaceMethods ws text c
     unfolding buildInterfaceMethods ownMethods
     eligibles-start c t e f = rw (t, rest-start (λ k. k) first count, e, f)
 
     pub eligibles-turn : (i : ℕ) (T U : List Entry) → i < count
-        → U ≡ T ++ methodEntries ws text [] [] (keep (eligible ws text) ((first + i) ∷ []))
-        → U ++ methodEntries ws text [] [] (keep (eligible ws text) (restFrom (λ k. k) first count (i + 1)))
-        ≡ T ++ methodEntries ws text [] [] (keep (eligible ws text) (restFrom (λ k. k) first count i))
+        → U ≡ T ++ methodEntries ws (keep (eligible ws text) ((first + i) ∷ []))
+        → U ++ methodEntries ws (keep (eligible ws text) (restFrom (λ k. k) first count (i + 1)))
+        ≡ T ++ methodEntries ws (keep (eligible ws text) (restFrom (λ k. k) first count i))
     eligibles-turn i T U h u =
         rw (rest-turn (λ k. k) first count i h, entries-cons (first + i) (restFrom (λ k. k) first count (i + 1)), u, append-assoc)
 
     pub eligibles-end : (i : ℕ) (T : List Entry) → count ≤ i
-        → T ≡ T ++ methodEntries ws text [] [] (keep (eligible ws text) (restFrom (λ k. k) first count i))
+        → T ≡ T ++ methodEntries ws (keep (eligible ws text) (restFrom (λ k. k) first count i))
     unfolding methodEntries keep
     eligibles-end i T h = rw (rest-end (λ k. k) first count i h) (sym (append-nil T))
-
--- the ABI sheet does not matter
-entries-same : (ws text abi labels ms : List ℕ) → methodEntries ws text [] [] ms ≡ methodEntries ws text abi labels ms
-unfolding methodEntries
-entries-same ws text abi labels [] = refl
-entries-same ws text abi labels (m ∷ ms) = rw (entries-same ws text abi labels ms)
-
-pub interface-same : (ws text abi labels : List ℕ) (c : ℕ) → buildInterfaceMethods ws text [] [] c ≡ buildInterfaceMethods ws text abi labels c
-unfolding buildInterfaceMethods
-interface-same ws text abi labels c = entries-same ws text abi labels (keep (eligible ws text) (ownMethods ws c))

@@ -174,7 +174,7 @@ fn extend_parent(
     ts: &mut [u32; 3584],
     ms: &mut [u32; 3584],
 ) -> u32
-    ensures is { λ r. ⌜ entriesOf (now (ts .exit)) (now (ms .exit)) r ≡ extended (now (ws .entry)) (now (text .entry)) (now (abi .entry)) (now (labels .entry)) (now (abis .entry)) (parentEntries (now (ws .entry)) (now (text .entry)) (now (abi .entry)) (now (labels .entry)) (now (area .entry)) c) ⌝ }
+    ensures is { λ r. ⌜ entriesOf (now (ts .exit)) (now (ms .exit)) r ≡ extended (now (abi .entry)) (now (abis .entry)) (parentEntries (now (ws .entry)) (now (text .entry)) (now (abi .entry)) (now (labels .entry)) (now (area .entry)) c) ⌝ }
     ensures count { λ r. ⌜ r ≤ 1024 ⌝ }
     ensures arrays { λ r. ⌜ (length (now (ts .exit)) ≡ 3584) × (length (now (ms .exit)) ≡ 3584) ⌝ }
 {
@@ -247,7 +247,7 @@ fn put_fixed(
     n: u32,
 ) -> Step
     requires { ⌜ (m < methodLimit) × (n ≤ length (now ts)) × (n ≤ length (now ms)) ⌝ }
-    ensures is { λ r. ⌜ stepOf r (now (ts .exit)) (now (ms .exit)) ≡ putMethod (now (ws .entry)) (now (text .entry)) [] [] (At i) slot m (entriesOf (now (ts .entry)) (now (ms .entry)) n) ⌝ }
+    ensures is { λ r. ⌜ stepOf r (now (ts .exit)) (now (ms .exit)) ≡ putMethod (now (ws .entry)) (now (text .entry)) (At i) slot m (entriesOf (now (ts .entry)) (now (ms .entry)) n) ⌝ }
     ensures count { λ r. ⌜ stepCount r ≤ n ⌝ }
 {
     let moved = is_elsewhere(slot, i);
@@ -274,7 +274,7 @@ fn put_found(
     n: u32,
 ) -> Step
     requires { ⌜ (m < methodLimit) × (n < 3584) × (n < length (now ts)) × (n < length (now ms)) ⌝ }
-    ensures is { λ r. ⌜ stepOf r (now (ts .exit)) (now (ms .exit)) ≡ putMethod (now (ws .entry)) (now (text .entry)) [] [] Nothing slot m (entriesOf (now (ts .entry)) (now (ms .entry)) n) ⌝ }
+    ensures is { λ r. ⌜ stepOf r (now (ts .exit)) (now (ms .exit)) ≡ putMethod (now (ws .entry)) (now (text .entry)) Nothing slot m (entriesOf (now (ts .entry)) (now (ms .entry)) n) ⌝ }
     ensures count { λ r. ⌜ stepCount r ≤ n + 1 ⌝ }
 {
     let target = class_sheet::method_target(ws, m);
@@ -408,7 +408,7 @@ pub fn build_methods(
 // Puts method m after the n slots, if it is eligible.
 fn add_eligible(ws: &[u32], text: &[u8], m: u32, ts: &mut [u32], ms: &mut [u32], n: u32) -> u32
     requires { ⌜ (m < methodLimit) × (n < 3584) × (n < length (now ts)) × (n < length (now ms)) ⌝ }
-    ensures is { λ r. ⌜ entriesOf (now (ts .exit)) (now (ms .exit)) r ≡ entriesOf (now (ts .entry)) (now (ms .entry)) n ++ methodEntries (now (ws .entry)) (now (text .entry)) [] [] (keep (eligible (now (ws .entry)) (now (text .entry))) (m ∷ [])) ⌝ }
+    ensures is { λ r. ⌜ entriesOf (now (ts .exit)) (now (ms .exit)) r ≡ entriesOf (now (ts .entry)) (now (ms .entry)) n ++ methodEntries (now (ws .entry)) (keep (eligible (now (ws .entry)) (now (text .entry))) (m ∷ [])) ⌝ }
     ensures count { λ r. ⌜ r ≤ n + 1 ⌝ }
 {
     if chain::eligible(ws, text, m) {
@@ -422,7 +422,7 @@ fn add_eligible(ws: &[u32], text: &[u8], m: u32, ts: &mut [u32], ms: &mut [u32],
 // Fills the arrays with class c's own eligible methods, and answers how many there are.
 fn eligible_methods(ws: &[u32], text: &[u8], c: u32, ts: &mut [u32], ms: &mut [u32]) -> u32
     requires { ⌜ (methodLimit ≤ length (now ts)) × (methodLimit ≤ length (now ms)) ⌝ }
-    ensures is { λ r. ⌜ entriesOf (now (ts .exit)) (now (ms .exit)) r ≡ buildInterfaceMethods (now (ws .entry)) (now (text .entry)) [] [] c ⌝ }
+    ensures is { λ r. ⌜ entriesOf (now (ts .exit)) (now (ms .exit)) r ≡ buildInterfaceMethods (now (ws .entry)) (now (text .entry)) c ⌝ }
     ensures count { λ r. ⌜ r ≤ methodLimit ⌝ }
 {
     let first = class_sheet::class_first_method(ws, c);
@@ -445,7 +445,7 @@ pub fn build_interface_methods(
     ts: &mut [u32; 3584],
     ms: &mut [u32; 3584],
 ) -> u32
-    ensures is { λ r. ⌜ entriesOf (now (ts .exit)) (now (ms .exit)) r ≡ buildInterfaceMethods (now (ws .entry)) (now (text .entry)) [] [] c ⌝ }
+    ensures is { λ r. ⌜ entriesOf (now (ts .exit)) (now (ms .exit)) r ≡ buildInterfaceMethods (now (ws .entry)) (now (text .entry)) c ⌝ }
     ensures count { λ r. ⌜ r ≤ methodLimit ⌝ }
     ensures arrays { λ r. ⌜ (length (now (ts .exit)) ≡ 3584) × (length (now (ms .exit)) ≡ 3584) ⌝ }
 {

@@ -1,15 +1,34 @@
--- A little-endian word and its four bytes: each says the other. Assumes nothing.
+-- A little-endian word and its four bytes: each says the other; lists of bytes. Assumes nothing.
 use mathlib.Core.Path.{_≡_}
-use mathlib.Core.List.{List}
-use Prim.Native.Nat.{ℕ, zero, suc, _+_, _*_, _/_, _%_, _^_, _<_}
+use mathlib.Core.List.{List, _++_}
+use Prim.Native.Nat.{ℕ, zero, suc, _+_, _-_, _*_, _/_, _%_, _^_, _<_}
 use native.Mathlib.Nat.{div-add-mod, div-div-eq-div-mul}
 use native.Mathlib.Omega.{arith}
-use lib.ListN.{getD}
-use Rattle.words.specs.Words.{leWord, byteOf}
+use lib.ListN.{length, getD, List·getD-append, List·getD-eq-default}
+use lib.Dec.{ltb}
+use borrow.Author.Tests.{ltb-true, ltb-false}
+use Rattle.words.specs.Words.{leWord, byteOf, AreBytes}
+use Rattle.words.proofs.Bools.{by}
+use Rattle.words.proofs.Lists.{skip}
 
 pub byte-small : (w j : ℕ) → byteOf w j < 256
 unfolding byteOf
 byte-small w j = omega arith
+
+-- ---- lists of bytes
+
+-- past the end there is 0
+pub all-bytes : (bs : List ℕ) → ((i : ℕ) → i < length bs → getD bs i 0 < 256) → AreBytes bs
+all-bytes bs small i =
+    by (ltb i (length bs))
+    (λ t. small i (ltb-true i (length bs) t))
+    (λ t. rw (List·getD-eq-default bs 0 (ltb-false i (length bs) t)) (omega arith))
+
+pub append-bytes : (a b : List ℕ) → AreBytes a → AreBytes b → AreBytes (a ++ b)
+append-bytes a b p q i =
+    by (ltb i (length a))
+    (λ t. rw (List·getD-append a b 0 i (ltb-true i (length a) t)) (p i))
+    (λ t. let k = ltb-false i (length a) t in rw (skip a b i (i - length a) 0 (omega arith)) (q (i - length a)))
 
 -- ---- bytes to a word and back
 
@@ -32,7 +51,7 @@ module _ (a b c d : ℕ) (ha : a < 256) (hb : b < 256) (hc : c < 256) (hd : d < 
   digit-3 = omega arith
 
 -- byte r of the word at byte p, where all are bytes
-pub word-byte : (bytes : List ℕ) → ((i : ℕ) → getD bytes i 0 < 256) → (p r : ℕ) → r < 4 → byteOf (leWord bytes p) r ≡ getD bytes (p + r) 0
+pub word-byte : (bytes : List ℕ) → AreBytes bytes → (p r : ℕ) → r < 4 → byteOf (leWord bytes p) r ≡ getD bytes (p + r) 0
 unfolding leWord
 word-byte bytes small p zero l =
     let e : p + 0 ≡ p = omega arith in rw e (digit-0 _ _ _ _ (small p) (small (p + 1)) (small (p + 2)) (small (p + 3)))

@@ -80,6 +80,17 @@ module _ (p : ℕ → Bool) where
   pub seek-miss : (n i : ℕ) {b : Bool} → i < n → b ≡ p i → b ≡ false → findFrom 0 n (i + 1) ≡ findFrom 0 n i
   seek-miss n i h e t = let z : 0 + i ≡ i = omega arith in find-miss 0 n i h (rw z e) t
 
+-- a turn of a search along records: b is what the code reads of the i-th record, x what that is in the sheet's words, and F what is found from there on
+module _ (p : ℕ → Bool) (m n i : ℕ) {b x : Bool} {F : Found} where
+  pub turn-hit : i < n → b ≡ x → x ≡ p (m + i) → b ≡ true → findFrom p m n i ≡ F → At (m + i) ≡ F
+  turn-hit h e f t g = find-hit p m n i h (e ∙ f) t ∙ g
+
+  pub turn-miss : i < n → b ≡ x → x ≡ p (m + i) → b ≡ false → findFrom p m n i ≡ F → findFrom p m n (i + 1) ≡ F
+  turn-miss h e f t g = find-miss p m n i h (e ∙ f) t ∙ g
+
+pub turn-end : (p : ℕ → Bool) (m n i : ℕ) {F : Found} → n ≤ i → findFrom p m n i ≡ F → Nothing ≡ F
+turn-end p m n i h g = find-end p m n i h ∙ g
+
 -- a found number passes the test, and is in the list
 pub find-passes : (p : ℕ → Bool) (xs : List ℕ) (m : ℕ) → find p xs ≡ At m → p m ≡ true
 unfolding find

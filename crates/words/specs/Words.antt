@@ -1,9 +1,16 @@
 -- Words and bytes as lists of numbers. Assumes nothing.
-use Prim.Native.Nat.{ℕ, _+_, _*_, _/_, _%_, _^_}
+use Prim.Native.Nat.{ℕ, _+_, _*_, _/_, _%_, _^_, _<_}
 use mathlib.Core.Bool.{Bool, true, false, cond, _&&_}
 use mathlib.Core.List.{List, _++_}
 use lib.ListN.{getD, take, drop, length}
 use lib.Dec.{leb}
+
+-- words of 32 bits and bytes of 8, as slices have them
+abbrev pub AreWords : List ℕ → Type 0
+AreWords ws = (i : ℕ) → getD ws i 0 < 2 ^ 32
+
+abbrev pub AreBytes : List ℕ → Type 0
+AreBytes bs = (i : ℕ) → getD bs i 0 < 256
 
 -- the little-endian word at byte b: the four bytes from b, lowest first
 unfoldable pub leWord : List ℕ → ℕ → ℕ

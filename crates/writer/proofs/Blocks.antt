@@ -9,12 +9,12 @@ use lib.ListN.{length, getD, take, replicate, length-append, length-replicate, L
 use lib.Seq.{ext-getD, getD-take, length-take-le}
 use lib.Dec.{eqb, ltb}
 use borrow.Author.Tests.{ltb-true, ltb-false, not-false, eqb-true, eqb-false}
-use Rattle.words.specs.Words.{byteOf}
+use Rattle.words.specs.Words.{byteOf, AreWords, AreBytes}
 use Rattle.words.specs.Folds.{allOf, table}
 use Rattle.words.proofs.Bools.{by, passed}
 use Rattle.words.proofs.Bytes.{word-of-bytes}
 use Rattle.words.proofs.FoldLaws.{all-each, all-if, length-table, getD-table}
-use Rattle.block.specs.Block.{AreWords, AreBytes, blockCount, checkOk, sheetWords, shapeOk, leastFit, blocksFor, sheetBytes}
+use Rattle.block.specs.Block.{blockCount, checkOk, sheetWords, shapeOk, leastFit, blocksFor, sheetBytes}
 use Rattle.block.proofs.Laws.{length-content, shape-whole, shape-if, blocks-least, least-blocks}
 use Rattle.block.proofs.PackLaws.{length-bytes, bytes-same}
 use Rattle.block.proofs.RoundTrip.{check-back, content-back, sheet-again, content-small}

@@ -12,7 +12,8 @@ use lib.Dec.{eqb, ltb}
 use borrow.Author.Tests.{eqb-true, eqb-false, ltb-true, ltb-false, le-leb, not-false}
 use Rattle.words.proofs.Bools.{by, and-4, passed}
 use Rattle.words.proofs.Lists.{skip}
-use Rattle.block.specs.Block.{AreWords, AreBytes, blockCount, sheetWords, leastFit, blocksFor, sheetBytes}
+use Rattle.words.specs.Words.{AreWords, AreBytes}
+use Rattle.block.specs.Block.{blockCount, sheetWords, leastFit, blocksFor, sheetBytes}
 use Rattle.block.proofs.Laws.{blocks-least}
 use Rattle.block.proofs.PackLaws.{length-bytes}
 use Rattle.text.specs.Text.{zeroRest}

@@ -5,7 +5,8 @@ use mathlib.Core.Bool.{true}
 use mathlib.Core.List.{List, _++_}
 use Prim.Native.Nat.{ℕ, _*_, _-_, _≤_}
 use lib.ListN.{length, getD, take, drop, replicate}
-use Rattle.block.specs.Block.{AreWords, AreBytes, blockCount, leastFit, sheetBytes}
+use Rattle.words.specs.Words.{AreWords, AreBytes}
+use Rattle.block.specs.Block.{blockCount, leastFit, sheetBytes}
 use Rattle.class_sheet.specs.ClassSheet.{blockLimit, contentEnd}
 use Rattle.class_rules.specs.ClassRules.{classFits}
 use Rattle.set_rules.specs.SetRules.{setRefusal}

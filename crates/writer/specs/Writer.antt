@@ -41,12 +41,12 @@ blocksOf ws = blocksFor (contentEnd ws)
 unfoldable pub linkRows : List ℕ → ℕ
 linkRows ws = cond (not (classFits ws)) 3 (classRefusal ws (textOf ws))
 
--- 17 does not refuse: "if any class has a nonzero table place or slot count or a nonzero byte follows the text in its last word"; it "also take[s] a
--- nonzero value in an unlinked built or array class" for static words
+-- 17 does not refuse: "if any class has a nonzero table place or slot count or a nonzero byte follows the text in its last word"; of static
+-- words, "row 3, in reading and ticket 3's step, and 17 also take a nonzero value in an unlinked built or array class."
 unfoldable pub storable : List ℕ → Bool
 storable ws = allFresh ws && zeroRest (contentOf ws) (4 * textAt ws + textLength ws)
 
--- "17, after them [..]; 18, last, if the lent bytes are too few": the number that refuses where `room` bytes are lent, or 0
+-- 17 after 3 to 5, and "18, last, if the lent bytes are too few": the number that refuses where `room` bytes are lent, or 0
 unfoldable pub writeRefusal : List ℕ → ℕ → ℕ
 writeRefusal ws room =
     cond (eqb (linkRows ws) 0) (cond (not (storable ws)) 17 (cond (ltb room (512 * blocksOf ws)) 18 0)) (linkRows ws)

@@ -3,8 +3,7 @@
 use native.Mathlib.Omega.{arith}
 use mathlib.Core.Path.{_≡_, _∙_}
 use Prim.Native.Nat.{_-_, _≤_}
-use Rattle.words.proofs.ListLaws.{findFrom, find-start}
-use Rattle.chain.proofs.TurnLaws.{turn-hit, turn-miss, turn-end}
+use Rattle.words.proofs.ListLaws.{findFrom, find-start, turn-hit, turn-miss, turn-end}
 use Rattle.linking.specs.Chain.{methodIs, ownMethods, ownMethod}
 use Rattle.chain.specs.Records.{methodRecords}
 use Rattle.chain.proofs.RecordLaws.{record-method}

@@ -17,7 +17,7 @@ abbrev Inv-loop : tie.InvT-loop
 Inv-loop ws text abi labels refs flags lasts n known count ts₀ ms₀ size r₀ i₀ ts ms r i =
     ((i ≤ count) × (r ≤ size + i) × (size + count ≤ 3584) × (3584 ≤ length ts₀) × (3584 ≤ length ms₀) × (length ts ≡ length ts₀)
     × (length ms ≡ length ms₀)) × (knownRest ws text abi labels refs flags lasts n known count (entriesOf ts ms r) i ≡ fold
-    (appendMethod ws text abi labels (firstNews ws text abi labels refs flags lasts n)) (entriesOf ts₀ ms₀ size) (markMethods known count))
+    (appendMethod ws text (firstNews ws text abi labels refs flags lasts n)) (entriesOf ts₀ ms₀ size) (markMethods known count))
 
 abbrev μ-loop : tie.MeasureT-loop
 μ-loop ws text abi labels refs flags lasts n known count ts₀ ms₀ size r₀ i₀ ts ms r i = count - i

@@ -21,8 +21,8 @@ abbrev Inv-loop : tie.InvT-loop
 Inv-loop ws text abi labels refs flags lasts n c ts₀ ms₀ end first own total r₀ j₀ ts ms r j =
     (j ≤ total) × (r ≤ end + j) × (first + own ≤ 4294967295) × (total ≤ 1536)
     × ((n ≤ 1024) × (end ≤ 1024) × (3584 ≤ length ts₀) × (3584 ≤ length ms₀)) × (length ts ≡ length ts₀) × (length ms ≡ length ms₀)
-    × (foldFrom (methodNumber first own) (appendMethod ws text abi labels (firstNews ws text abi labels refs flags lasts n))
-    (entriesOf ts ms r) 0 total j ≡ fold (appendMethod ws text abi labels (firstNews ws text abi labels refs flags lasts n))
+    × (foldFrom (methodNumber first own) (appendMethod ws text (firstNews ws text abi labels refs flags lasts n))
+    (entriesOf ts ms r) 0 total j ≡ fold (appendMethod ws text (firstNews ws text abi labels refs flags lasts n))
     (entriesOf ts₀ ms₀ end) (ownMethods ws c ++ numbers methodLimit n))
 
 abbrev μ-loop : tie.MeasureT-loop

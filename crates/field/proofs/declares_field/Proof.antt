@@ -1,6 +1,5 @@
 -- The loop's invariant: no field passed matches, so the search among those to come has the whole answer. The measure is the fields to
 -- come. Assumes nothing.
-use Rattle.words.specs.declared.Found.the-variants.{Nothing}
 use Rattle.linking.specs.Fields.{declaresField}
 use Rattle.field.proofs.AddedLaws.{declaresAt, declares-start, declares-hit, declares-miss, declares-end}
 use Rattle.class_sheet.specs.ClassSheet.{classFirstField, classFieldCount, fieldLimit}
@@ -15,7 +14,7 @@ use Rattle.field.proofs.declares_field.Tie as tie
 abbrev Inv-loop : tie.InvT-loop
 Inv-loop ws text abi labels c g first n i₀ i =
     (i ≤ n) × (first ≡ classFirstField ws c) × (n ≡ listCount (classFirstField ws c) (classFieldCount ws c) fieldLimit)
-    × (declaresAt ws text abi labels g c i ≡ declaresField ws text abi labels Nothing c g)
+    × (declaresAt ws text abi labels g c i ≡ declaresField ws text abi labels c g)
 
 abbrev μ-loop : tie.MeasureT-loop
 μ-loop ws text abi labels c g first n i₀ i = n - i

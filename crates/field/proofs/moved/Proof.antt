@@ -1,6 +1,5 @@
 -- The loop's invariant: the indices stored and those to come are the class's, with the base added; after them the array still holds zeros.
 -- The measure is the fields to come. Assumes nothing.
-use mathlib.Core.List.{[]}
 use lib.ListN.{length, drop, replicate}
 use Rattle.field.specs.Numbers.{ownCount, Movable}
 use Rattle.linking.specs.Fields.{indicesPlus}
@@ -18,7 +17,7 @@ use Rattle.field.proofs.moved.Tie as tie
 abbrev Inv-loop : tie.InvT-loop
 Inv-loop ws c base first n indices₀ i₀ indices i =
     (i ≤ n) × (first ≡ classFirstField ws c) × (n ≡ ownCount ws c) × (length indices ≡ fieldLimit)
-    × Movable ws c base × (movedAt ws base first n indices i ≡ indicesPlus ws [] base (ownFields ws c)) × (drop i indices ≡ drop i (replicate fieldLimit 0))
+    × Movable ws c base × (movedAt ws base first n indices i ≡ indicesPlus ws base (ownFields ws c)) × (drop i indices ≡ drop i (replicate fieldLimit 0))
 
 abbrev μ-loop : tie.MeasureT-loop
 μ-loop ws c base first n indices₀ i₀ indices i = n - i

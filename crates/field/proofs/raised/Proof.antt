@@ -2,8 +2,6 @@
 -- Assumes nothing.
 use Rattle.field.proofs.RuntimeLaws.{width-room}
 use mathlib.Core.Path.{sym}
-use mathlib.Core.List.{[]}
-use Rattle.words.specs.declared.Found.the-variants.{Nothing}
 use Rattle.linking.specs.Fields.{raised}
 use Rattle.linking.specs.Abi.{fixedFieldIndex}
 use Rattle.descriptor.specs.Words.{width}
@@ -20,7 +18,7 @@ use Rattle.field.proofs.raised.Tie as tie
 abbrev Inv-loop : tie.InvT-loop
 Inv-loop abi labels running gs word₀ i₀ word i =
     (i ≤ length gs) × (foldAt (λ n g. max n
-    (fixedFieldIndex abi g + width (abiFieldDescriptor abi labels g))) word gs i ≡ raised [] [] abi labels Nothing running gs)
+    (fixedFieldIndex abi g + width (abiFieldDescriptor abi labels g))) word gs i ≡ raised abi labels running gs)
 
 abbrev μ-loop : tie.MeasureT-loop
 μ-loop abi labels running gs word₀ i₀ word i = length gs - i

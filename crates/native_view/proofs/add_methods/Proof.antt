@@ -20,7 +20,7 @@ Inv-loop ws text abi labels c vs vm n refs₀ flags₀ lasts₀ count new₀ i�
     × (length refs ≡ length refs₀) × (length flags ≡ length flags₀) × (length lasts ≡ length lasts₀))
     × (count ≡ min (classCompilerSlots ws c) 1024) × (SmallMarks vm n)
     × (firstNews ws text abi labels refs flags lasts new ++ addRest ws text abi labels c vs vm n count i ≡ addedFrom ws text abi labels c
-    (entriesOf vs vm n) 0 (compilerTargets ws text abi labels c))
+    (entriesOf vs vm n) 0 (compilerTargets ws c))
 
 abbrev μ-loop : tie.MeasureT-loop
 μ-loop ws text abi labels c vs vm n refs₀ flags₀ lasts₀ count new₀ i₀ refs flags lasts new i = count - i

@@ -6,7 +6,7 @@ use Rattle.native_view.proofs.holds.Tie as tie
 
 returns : tie.Need-returns
 unfolding holds
-returns c = λ text abi labels. cc
+returns c = cc
 
 pub holds-spec : {M : Type 1} → statement M
 holds-spec =

@@ -8,7 +8,7 @@ returns : tie.Need-returns
 returns c =
     let at-m : tie.After-m = search in
     let at-method-of : tie.After-method-of = search in
-    λ w. emptied-known _ _ _ _ _ _ _ _ (at-method-of .method-of .ensures) (at-m .m .given .1) (c .before .owner-state .ensures _ _ _)
+    λ w. emptied-known _ _ _ _ _ _ _ _ (at-method-of .method-of .ensures) (at-m .m .given .1) (c .before .owner-state .ensures)
     (c .fixed-here .ensures)
 
 returns-2 : tie.Need-returns-2

@@ -12,15 +12,15 @@ returns : tie.Need-returns
 unfolding ownerState
 returns c =
     let at-owner : tie.After-owner = search in
-    λ text abi labels. c .class-link-state .ensures
-    ∙ on-at _ (classLinkState (now (at-owner .before .before .args .ws))) 0 (at-owner .owner .ensures text abi labels) _
+    c .class-link-state .ensures
+    ∙ on-at _ (classLinkState (now (at-owner .before .before .args .ws))) 0 (at-owner .owner .ensures) _
     (c .before .before .c .given .1)
 
 returns-2 : tie.Need-returns-2
 unfolding ownerState
 returns-2 c =
-    λ text abi labels. on-nothing _ (classLinkState (now (c .before .before .before .before .args .ws))) 0
-    (c .before .before .owner .ensures text abi labels) (c .enum-told .given .1)
+    on-nothing _ (classLinkState (now (c .before .before .before .before .args .ws))) 0
+    (c .before .before .owner .ensures) (c .enum-told .given .1)
 
 pub owner-state-spec : {M : Type 1} → statement M
 owner-state-spec =

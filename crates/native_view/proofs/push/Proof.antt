@@ -1,11 +1,10 @@
--- Three stores behind the last member make one member more. Assumes nothing.
-use Rattle.native_view.proofs.AddLaws.{pushed}
+-- Three stores, each at the same index. Assumes nothing.
 use borrow.Author.Needs.{needs}
 use Rattle.native_view.proofs.push.Statement.{statement}
 use Rattle.native_view.proofs.push.Tie as tie
 
 returns : tie.Need-returns
-returns c = search pushed
+returns c = (cc, (cc, cc))
 
 pub push-spec : {M : Type 1} → statement M
 push-spec =

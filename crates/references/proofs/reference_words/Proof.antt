@@ -2,13 +2,13 @@
 use borrow.Author.Needs.{needs}
 use mathlib.Core.Path.{_≡_}
 use native.Mathlib.Omega.{arith}
-use Rattle.references.specs.Meaning.{Bytes}
+use Rattle.words.specs.Words.{AreBytes}
 use Rattle.references.proofs.Laws.{read-few, list-room, read-short, read-list}
 use Rattle.references.proofs.reference_words.Statement.{statement}
 use Rattle.references.proofs.reference_words.Tie as tie
 
 -- a slice of bytes holds bytes
-bytes : (c : tie.After-shared-slice-known) → Bytes (c .before .args .bitmap .now)
+bytes : (c : tie.After-shared-slice-known) → AreBytes (c .before .args .bitmap .now)
 bytes c j = omega (arith, c .shared-slice-known .given j)
 
 returns : tie.Need-returns

@@ -1,7 +1,6 @@
 -- An eligible method goes behind the last slot, any other one nowhere. Assumes nothing.
 use native.Mathlib.Omega.{arith}
 use denote.Ref.{now}
-use mathlib.Core.List.{[]}
 use mathlib.Core.Path.{_∙_}
 use Rattle.reading.specs.Arrays.{entriesOf}
 use Rattle.vtable.proofs.AddLaws.{mark-entry}
@@ -22,7 +21,7 @@ returns c =
     let s = at-put-slot .put-slot .ensures in (
       eligible-yes _ _ _ (entriesOf (now (a .ts)) (now (a .ms)) (a .n)) (at-if1 .before .eligible .ensures) (at-if1 .if1 .taken)
           (rw (s .0, s .1) (push-slot (now (a .ts)) (now (a .ms)) _ _ _ (omega arith) (omega arith)
-          ∙ rw (mark-entry (now (a .ws)) (now (a .text)) [] [] (a .m) (omega arith) (target .method-target .ensures) (mark .mark-of .ensures)))),
+          ∙ rw (mark-entry (now (a .ws)) (a .m) (omega arith) (target .method-target .ensures) (mark .mark-of .ensures)))),
       omega arith,
     )
 

@@ -2,7 +2,7 @@
 use native.Mathlib.Omega.{arith}
 use lib.ListN.{length}
 use Prim.Native.Nat.{_+_, _-_, _≤_}
-use mathlib.Core.List.{[], _++_}
+use mathlib.Core.List.{_++_}
 use mathlib.Core.Path.{_≡_, _∙_}
 use Rattle.class_sheet.specs.ClassSheet.{methodLimit}
 use Rattle.reading.specs.Arrays.{entriesOf}
@@ -19,8 +19,8 @@ use Rattle.vtable.proofs.eligible_methods.Tie as tie
 abbrev Inv-loop : tie.InvT-loop
 Inv-loop ws text c ts₀ ms₀ first count n₀ i₀ ts ms n i =
     (i ≤ count) × (n ≤ i) × (count ≤ methodLimit - first) × ((methodLimit ≤ length ts₀) × (methodLimit ≤ length ms₀)) × (length ts ≡ length ts₀)
-    × (length ms ≡ length ms₀) × (entriesOf ts ms n ++ methodEntries ws text [] []
-    (keep (eligible ws text) (restFrom (λ x. x) first count i)) ≡ buildInterfaceMethods ws text [] [] c)
+    × (length ms ≡ length ms₀) × (entriesOf ts ms n ++ methodEntries ws
+    (keep (eligible ws text) (restFrom (λ x. x) first count i)) ≡ buildInterfaceMethods ws text c)
 
 abbrev μ-loop : tie.MeasureT-loop
 μ-loop ws text c ts₀ ms₀ first count n₀ i₀ ts ms n i = count - i

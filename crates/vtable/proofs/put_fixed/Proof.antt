@@ -2,7 +2,6 @@
 use native.Mathlib.Omega.{arith}
 use denote.Ref.{now}
 use mathlib.Core.Path.{_∙_}
-use mathlib.Core.List.{[]}
 use Rattle.vtable.proofs.BuildLaws.{put-any}
 use Rattle.vtable.proofs.AddLaws.{mark-entry, put-moved, put-taken, put-there}
 use borrow.Author.Needs.{needs}
@@ -25,10 +24,10 @@ returns-3 c =
     let start = at-is-elsewhere .before .before .before .before .before in
     let a = start .args in
     let s = at-put-slot .put-slot .ensures in (
-      put-there _ _ _ _ _ _ _ (at-is-elsewhere .is-elsewhere .ensures) _ _ _ (at-if2 .before .if1 .left)
+      put-there _ _ _ _ _ (at-is-elsewhere .is-elsewhere .ensures) _ _ _ (at-if2 .before .if1 .left)
           (at-if2 .before .before .holds-other .ensures) (at-if2 .if2 .left)
           (rw (s .0, s .1) (put-any (now (a .ts)) (now (a .ms)) _ _ _ _ (omega arith) (omega arith)
-          ∙ rw (mark-entry (now (a .ws)) (now (a .text)) [] [] (a .m) (omega arith) (target .method-target .ensures) (at-mark-of .mark-of .ensures)))),
+          ∙ rw (mark-entry (now (a .ws)) (a .m) (omega arith) (target .method-target .ensures) (at-mark-of .mark-of .ensures)))),
       omega arith,
     )
 

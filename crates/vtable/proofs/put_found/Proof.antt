@@ -2,7 +2,6 @@
 use native.Mathlib.Omega.{arith}
 use denote.Ref.{now}
 use mathlib.Core.Path.{_∙_}
-use mathlib.Core.List.{[]}
 use Rattle.reading.proofs.ArrayLaws.{push-slot}
 use Rattle.vtable.proofs.BuildLaws.{put-any}
 use Rattle.vtable.proofs.AddLaws.{mark-entry, put-again, put-last}
@@ -19,9 +18,9 @@ returns c =
     let start : tie.Start = search in
     let a = start .args in
     let s = at-put-slot .put-slot .ensures in (
-      put-again _ _ _ _ _ _ _ (at-slot .slot .given .1)
+      put-again _ _ _ _ _ (at-slot .slot .given .1)
           (rw (s .0, s .1) (put-any (now (a .ts)) (now (a .ms)) _ _ _ _ (omega arith) (omega arith)
-          ∙ rw (mark-entry (now (a .ws)) (now (a .text)) [] [] (a .m) (omega arith) (target .method-target .ensures) (mark .mark-of .ensures)))),
+          ∙ rw (mark-entry (now (a .ws)) (a .m) (omega arith) (target .method-target .ensures) (mark .mark-of .ensures)))),
       omega arith,
     )
 
@@ -34,9 +33,9 @@ returns-2 c =
     let start : tie.Start = search in
     let a = start .args in
     let s = at-put-slot2 .put-slot2 .ensures in (
-      put-last _ _ _ _ _ _ (at-enum-told .enum-told .given .1)
+      put-last _ _ _ _ (at-enum-told .enum-told .given .1)
           (rw (s .0, s .1) (push-slot (now (a .ts)) (now (a .ms)) _ _ _ (omega arith) (omega arith)
-          ∙ rw (mark-entry (now (a .ws)) (now (a .text)) [] [] (a .m) (omega arith) (target .method-target .ensures) (mark .mark-of .ensures)))),
+          ∙ rw (mark-entry (now (a .ws)) (a .m) (omega arith) (target .method-target .ensures) (mark .mark-of .ensures)))),
       omega arith,
     )
 

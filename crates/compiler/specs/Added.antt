@@ -1,18 +1,12 @@
--- What the memory behind a parameter held when the call was made, and holds after it; and the methods that are added, of the arrays that name them.
--- For contracts to be short: each is an abbreviation. Assumes nothing.
+-- The methods that are added, of the arrays that name them: abbreviations, for contracts to be short.
 use Prim.Native.Nat.{ℕ}
 use mathlib.Core.List.{List}
 use denote.Ref.{RefT}
 use denote.Triple.Both.{Both}
+use Rattle.words.specs.Lent.{was}
 use Rattle.linking.specs.Vtable.{Entry}
 use Rattle.linking.specs.Compiler.{New, appendMethod, compilerEntries, compilerTargets, classMethods}
 use Rattle.growth.specs.News.{firstNews}
-
-abbrev pub was : {A X : Type 0} → Both (RefT A) X → A
-was x = x .entry .now
-
-abbrev pub after : {A X : Type 0} → Both X (RefT A) → A
-after x = x .exit .now
 
 module _ {A B C D : Type 0} (ws : Both (RefT (List ℕ)) A) (text : Both (RefT (List ℕ)) B) (abi : Both (RefT (List ℕ)) C) (labels : Both (RefT (List ℕ)) D) where
   module _ {E F G : Type 0} (refs : Both (RefT (List ℕ)) E) (flags : Both (RefT (List ℕ)) F) (lasts : Both (RefT (List ℕ)) G) (n : ℕ) where
@@ -22,13 +16,13 @@ module _ {A B C D : Type 0} (ws : Both (RefT (List ℕ)) A) (text : Both (RefT (
 
     -- a method appended, where it is eligible and its signature has no slot
     abbrev pub appending : List Entry → ℕ → List Entry
-    appending = appendMethod (was ws) (was text) (was abi) (was labels) added
+    appending = appendMethod (was ws) (was text) added
 
     -- the slots of class c's compiler table, over this native view
     abbrev pub targeted : ℕ → List Entry → List Entry
     targeted c view =
-        compilerEntries (was ws) (was text) (was abi) (was labels) added c view 0 (compilerTargets (was ws) (was text) (was abi) (was labels) c)
+        compilerEntries (was ws) added c view 0 (compilerTargets (was ws) c)
 
     -- class c's declared methods and the added ones
     abbrev pub methods : ℕ → List ℕ
-    methods c = classMethods (was ws) (was text) (was abi) (was labels) added c
+    methods c = classMethods (was ws) added c
