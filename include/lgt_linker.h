@@ -54,6 +54,8 @@
 #define LGT_REFUSED_CLASS 6u
 /* the area: empty, a wrong next free place, a table or a node outside, a list of more than LGT_MOST_NODES nodes */
 #define LGT_REFUSED_AREA 7u
+/* a class of kind 3 whose chain has an ABI entry, an interface or another kind, or a class of another kind with one of kind 3 above it */
+#define LGT_REFUSED_PACKAGES 26u
 /* a generated class's own words exceed its total */
 #define LGT_REFUSED_GENERATED_WORDS 8u
 /* a generated class's indices, neither all relative nor all absolute */
@@ -172,7 +174,7 @@
  *    0, 1   name: start in the text, bytes            1 to 255 bytes
  *    2      parent: a class number, 0 for none        below the class's own number
  *    3      access flags                              at most 65,535
- *    4      kind (LGT_KIND_..)                        at most 2
+ *    4      kind (LGT_KIND_..)                        at most 3
  *    5, 6   methods: first, count                     inside their section, in no other class's list
  *    7, 8   fields: first, count                      inside their section, in no other class's list
  *    9, 10  interface words: first, count             inside their section
@@ -212,7 +214,10 @@
 #define LGT_KIND_BUILT 0
 #define LGT_KIND_GENERATED 1
 #define LGT_KIND_ARRAY 2
+#define LGT_KIND_PACKAGED 3 /* a built class, not an interface, whose methods override by packages (JVM Specification, 5.4.5) */
+#define LGT_FLAG_PUBLIC 0x0001
 #define LGT_FLAG_PRIVATE 0x0002
+#define LGT_FLAG_PROTECTED 0x0004
 #define LGT_FLAG_STATIC 0x0008
 #define LGT_FLAG_INTERFACE 0x0200
 #define LGT_FLAG_ABSTRACT 0x0400
@@ -317,6 +322,9 @@ static inline const char *lgt_refusal_text(uint32_t refusal)
         return "Lend the area as the last call left it, or a fresh one: word 0 holds the next free place (1 in a fresh "
                "area), which is at most the area's length; no linked table and no node of the class's list reaches past "
                "it, and the list has at most 64 nodes.";
+    case LGT_REFUSED_PACKAGES:
+        return "A class of kind 3 is linked by the packages of the JVM Specification, and so must be all its ancestors: "
+               "give the whole chain kind 3, with no interface and no ABI entry among them, or none of it.";
     case LGT_REFUSED_GENERATED_WORDS:
         return "A generated class says too few instance words: raise its total to at least the words that its own "
                "instance fields take.";
@@ -457,13 +465,14 @@ uint32_t lgt_renumber_classes(uint32_t *set, size_t set_len, uint32_t *order, si
 /*
  * Links a class. `set` is the class words as read, or as earlier links left them; `abi` the ABI words. `area` is as the last
  * call left it, or fresh: word 0 is the next free place, 1 in a fresh area. `stubs` are the words for slots without a target.
- * Classes count from 1, and a parent is linked before its child.
+ * Classes count from 1, and a parent is linked before its child. The chain of a class, itself included, is of kind 3
+ * as a whole, without interfaces and ABI entries, or has no class of kind 3.
  * Answers: answer[0], the place of the class's table in the area; answer[1], its slots.
  * Leaves in the area, from that place on: the class number, the slots, a zero list head; word 0 moves past them.
  * Leaves in the set: the class's table place and slot count; unless it is generated, its instance words and static words, the
  * latter where the indices of its own static fields end and 0 for an array class; the indices of its fields. A built class gets the ABI's fields that it lacks, a generated one the methods of its compiler table that it
  * lacks: its list is then copied to the end of its section, and the sections behind move up. The class's link state stays.
- * Refuses by 3 to 15.
+ * Refuses by 3 to 7, 26, 8 to 15.
  */
 LGT_MUST_USE
 uint32_t lgt_link(uint32_t *set, size_t set_len, const uint32_t *abi, size_t abi_len, uint32_t class_number,

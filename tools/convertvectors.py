@@ -8,7 +8,8 @@ words, which no converter is. The converters of sheetlib.py, written from docs/S
 give the answers.
 
 The `old-` files that `answers` lists are the class vectors as they stood before there were static words, with what the reading of that time
-answered (but for a method of 252 longs, refused by 5 since row 5 counts argument words): they are stored and never made. The others are made here.
+answered (but for a method of 252 longs, refused by 5 since row 5 counts argument words, and a class of kind 3, read since there are packaged
+classes): they are stored and never made. The others are made here.
 """
 
 import argparse
@@ -24,7 +25,7 @@ import sheetvectors  # noqa: E402
 from sheetlib import (  # noqa: E402
     BLOCK_BYTES, CLASS_SHEET, OLD_CLASS_SHEET, STATICS, Sheet, block_words, blocks, narrow, narrowing_faults, sheet_of,
     static_sum, to_old_form, widen, widening_faults)
-from sheetvectors import ARRAY, BUILT, GENERATED, TOP, but, renamed, text_only, with_word  # noqa: E402
+from sheetvectors import ARRAY, BUILT, GENERATED, PACKAGED, TOP, but, renamed, text_only, with_word  # noqa: E402
 from vectors import differences, store, told_faults, weighed  # noqa: E402
 
 HERE = os.path.dirname(os.path.realpath(__file__))
@@ -78,7 +79,7 @@ class A generated
 def kinds():
     """Going forward a generated class gets the sum, every other class 0; going back only a generated class is asked for it."""
     for kind, field in (("generated", "I"), ("generated", "J"), ("generated", "D"), ("generated", "[J"), ("generated", "LJ;"),
-                        ("built", "J"), ("array", "J")):
+                        ("built", "J"), ("array", "J"), ("packaged", "J")):
         shown = {"[J": "array-of-J", "LJ;": "class-J"}.get(field, field)
         made = text(f"class A {kind}\n  field x {field} 0 flags 8\n")
         accepted("old", f"{kind}-static-{shown}", old(made))
@@ -86,6 +87,8 @@ def kinds():
     accepted("old", "generated-statics-3", old(three))
     accepted("old", "built-statics-3", old(but(three, "class", 1, kind=BUILT)))
     accepted("old", "array-statics-3", old(but(three, "class", 1, kind=ARRAY)))
+    accepted("old", "packaged-statics-3", old(but(three, "class", 1, kind=PACKAGED)))
+    refused("old", 4, "kind-4", "class kind: at most 3", old(but(three, "class", 1, kind=4)))
     accepted("old", "generated-no-fields", old(text("class A generated\n")))
     accepted("old", "generated-instance-fields", old(text("class A generated\n  words 3\n  field x I 0\n  field y J 1\n")))
     accepted("old", "three-generated", old(text("class A generated\n  field x J 0 flags 8\nclass B\n  field x J 0 flags 8\n"
@@ -111,7 +114,7 @@ def sums():
     accepted("new", "two-generated", two)
     refused("new", 23, "two-generated-the-second-wrong", SUM[1], but(two, "class", 2, static_words=2))
     refused("new", 23, "two-generated-exchanged", SUM[1], but(but(two, "class", 1, static_words=1), "class", 2, static_words=2))
-    for kind, name in ((BUILT, "built"), (ARRAY, "array")):
+    for kind, name in ((BUILT, "built"), (ARRAY, "array"), (PACKAGED, "packaged")):
         accepted("new", f"{name}-static-fields", but(three, "class", 1, kind=kind))
         for words in (1, 3):
             refused("new", 3, f"{name}-statics-{words}-of-3", STATICS, but(three, "class", 1, kind=kind, static_words=words))

@@ -155,12 +155,12 @@ def form():
 
 
 def statics():
-    """Row 3 of a built or array class; another kind, 3 too, moves with its word."""
+    """Row 3 of a built or array class; another kind, 4 too, moves with its word."""
     base = but(but(CLASSES, "class", 1, parent=2), "class", 2, parent=0)
-    for kind, value in ((0, 1), (0, TOP), (2, 1), (2, TOP)):
+    for kind, value in ((0, 1), (0, TOP), (2, 1), (2, TOP), (3, 1), (3, TOP)):
         refused(UNCOUNTED, f"kind-{kind}-statics-{shown(value)}", with_statics(kind, value, base))
     refused(UNCOUNTED, "statics-of-1", but(base, "class", 1, static_words=1))
-    for kind, value in ((1, 1), (1, TOP), (3, 1), (TOP, TOP)):
+    for kind, value in ((1, 1), (1, TOP), (4, 1), (TOP, TOP)):
         accepted(f"kind-{shown(kind)}-statics-{shown(value)}", [2, 1], [UNCOUNTED], with_statics(kind, value, base))
     refused(UNCOUNTED, "statics-and-parent-9", but(parents(0), "class", 1, static_words=1, parent=9), also=[PARENT])
 

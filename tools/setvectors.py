@@ -167,10 +167,10 @@ def linked():
 
 def statics():
     """Static words are no row's at a link or an ask: any, of any kind but for row 4's own rule of kinds."""
-    for kind in (0, 1, 2):
+    for kind in (0, 1, 2, 3):
         for value in (1, TOP):
-            accepted(CLASS_SHEET, f"kind-{kind}-statics-{shown(value)}", [(4, "class kind: at most 2")], with_statics(kind, value))
-    refused(CLASS_SHEET, 4, "kind-3-statics", "class kind: at most 2", with_statics(3, 1))
+            accepted(CLASS_SHEET, f"kind-{kind}-statics-{shown(value)}", [(4, "class kind: at most 3")], with_statics(kind, value))
+    refused(CLASS_SHEET, 4, "kind-4-statics", "class kind: at most 3", with_statics(4, 1))
 
 
 def shown(value):

@@ -9,7 +9,7 @@ import re
 from sheetlib import ABI_SHEET, CLASS_SHEET, WORD, Sheet, content_faults, count_faults, label, linked_faults, shown
 from sheetorder import parents_of, rings
 
-KINDS = ("built", "generated", "array")
+KINDS = ("built", "generated", "array", "packaged")
 HEADS = {"classes": CLASS_SHEET, "abi": ABI_SHEET}
 NOT_IN_TABLES = 0x000A  # static, private
 

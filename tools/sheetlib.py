@@ -78,7 +78,7 @@ def class_layout(name, record):
                 lists=(("method", "first method", "method count"),
                        ("field", "first field", "field count"),
                        ("interface word", "first interface word", "interface count")),
-                most=(("access flags", 65535), ("kind", 2), ("link state", 65535),
+                most=(("access flags", 65535), ("kind", 3), ("link state", 65535),
                       ("instance words", 65535), ("compiler slots", 1024))),
         Section("method", "methods", 512, MEMBER + ("flags", "target"),
                 parts=SIGNATURE, mask=(("flags", 0x1DFF),), grammar="method"),
@@ -107,7 +107,8 @@ ABI_SHEET = Layout("abi", 51, (
             parts=SIGNATURE, most=(("index", 4095),), grammar="field"),
 ))
 
-BUILT, GENERATED, ARRAY = 0, 1, 2
+# A packaged class is a built class linked by packages (JVMS 5.4.5).
+BUILT, GENERATED, ARRAY, PACKAGED = range(4)
 # What is 0 in every class of a set before it is linked, the static words in a built or array class alone.
 ZERO_UNLINKED = ("table place", "slot count", "static words")
 STATICS = "static words: zero in a built or array class"
@@ -660,7 +661,7 @@ def linked_faults(sheet, row, why):
                 continue
             if word != "static words":
                 yield Fault(row, f"{word}: zero", f"{said(sheet, 'class', i, word)}, and {why}", ("class", i, word), f"and {why}")
-            elif sheet.get("class", i, "kind") in (BUILT, ARRAY):
+            elif sheet.get("class", i, "kind") in (BUILT, ARRAY, PACKAGED):
                 yield Fault(row, STATICS, f"{said(sheet, 'class', i, word)}, and only a generated class brings its own", ("class", i, word),
                             "and only a generated class brings its own")
 

@@ -16,7 +16,7 @@ from sheetlib import (
     ABI_SHEET, BLOCK_BYTES, BLOCK_WORDS, CLASS_SHEET, STATICS, WORD, Sheet, block_words, blocks, faults, layout_of)
 
 TOP = WORD - 1
-BUILT, GENERATED, ARRAY = range(3)
+BUILT, GENERATED, ARRAY, PACKAGED = range(4)
 AAAA, BBBB = 0x41414141, 0x42424242  # four bytes of text
 FILL = 7  # what every lent word or byte holds before the call
 
@@ -379,7 +379,7 @@ def with_statics(kind, value, sheet=CLASSES):
 
 def row_3_statics():
     """A built or array class has none before it is linked; a generated class brings any."""
-    for kind in (BUILT, ARRAY):
+    for kind in (BUILT, ARRAY, PACKAGED):
         name = f"statics-{sheetform.KINDS[kind]}"
         accepted(CLASS_SHEET, f"{name}-0", [(3, STATICS)], with_statics(kind, 0))
         for value, file in ((1, name), (0x01000000, f"{name}-byte-3"), (TOP, f"{name}-top")):
@@ -587,8 +587,8 @@ def row_4_names():
 
 def row_4_statics():
     """A class of another kind is neither built nor array: its static words are not row 3's."""
-    for kind in (3, TOP):
-        refused(CLASS_SHEET, 4, f"kind-{'top' if kind == TOP else kind}-statics", "class kind: at most 2", with_statics(kind, 1))
+    for kind in (4, TOP):
+        refused(CLASS_SHEET, 4, f"kind-{'top' if kind == TOP else kind}-statics", "class kind: at most 3", with_statics(kind, 1))
 
 
 def row_4_overlaps(of):

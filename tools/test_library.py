@@ -87,6 +87,17 @@ class Header(unittest.TestCase):
                 ("MOST_ABI_INSTANCE_WORDS", most(ABI_SHEET, "class", "instance words plus 1") - 1)):
             self.assertEqual(self.numbers["LGT_" + name], value, name)
 
+    def test_kinds(self):
+        """Each kind has the name of the text form and its number, and the last is row 4's limit."""
+        kinds = {name.removeprefix("LGT_KIND_").lower(): value for name, value in self.numbers.items() if name.startswith("LGT_KIND_")}
+        self.assertEqual(kinds, {kind: number for number, kind in enumerate(sheetform.KINDS)})
+        self.assertEqual(max(kinds.values()), dict(CLASS_SHEET.section("class").most)["kind"])
+
+    def test_order(self):
+        """The refusals stand in the order in which they are judged: 26 between 7 and 8, 16 between 13 and 14."""
+        named = [value for name, value in self.numbers.items() if name.startswith("LGT_REFUSED_")]
+        self.assertEqual(named[:16], [1, 2, 3, 4, 5, 6, 7, 26, 8, 9, 10, 11, 12, 13, 16, 14])
+
     def test_stack(self):
         """The stack that is said to be measured is the most of docs/PERFORMANCE.md's table."""
         table = re.search(r"^### Bytes of stack\n\n(.*?)\n\n", contents("docs", "PERFORMANCE.md"), re.M | re.S)[1]

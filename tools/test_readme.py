@@ -22,6 +22,7 @@ COMMAND = r"(?:\./|tools/|oracle/|bench/|examples/|bash |rt |cargo |make |python
 IN_THE_GATE = {
     "oracle/run SEED COUNT": "oracle/run 1 ", "oracle/run 1 1000000": "oracle/run 1 ", "oracle/run --model SEED COUNT": "oracle/run --model 1 ",
     "oracle/faults SEED COUNT": "oracle/faults 1 ", "oracle/corpus SEED N FILE": "oracle/corpus 1 300 ",
+    "oracle/corpus packages SEED N FILE": "oracle/corpus packages 1 100 ",
     "oracle/corpus telling FILE": "oracle/corpus telling ", "oracle/corpus answers SEED N FILE": "oracle/corpus answers 1 50 ",
     "cargo test --offline": "(cd oracle && cargo test --offline", "examples/c/run": "examples/c/run",
     "python3 tools/test_sheet.py": "python3 tools/test_sheet.py",
@@ -141,7 +142,7 @@ class Pages(unittest.TestCase):
     def test_figures(self):
         """The figures of docs/TRUST.md are those of the pages that it cites."""
         cited = "".join(contents(f"docs/{page}.md") for page in ("DIFFERENCES", "PERFORMANCE"))
-        figures = re.findall(r"\d+(?:,\d{3})+|\b0\.\d+|\b312\b|\b70\b|\b68\b", contents("docs/TRUST.md"))
+        figures = re.findall(r"\d+(?:,\d{3})+|\b0\.\d+|\b331\b|\b143\b|\b141\b", contents("docs/TRUST.md"))
         self.assertGreaterEqual(len(figures), 9)
         for figure in figures:
             self.assertIn(figure, cited)

@@ -73,7 +73,7 @@ def random_form(pick, layout):
             out += [f"slot {random_name(pick)} {random_method_type(pick)} {pick.randrange(1024)}" for _ in range(pick.randrange(4))]
             out += [f"field {random_name(pick)} {random_type(pick)} {pick.randrange(4096)}" for _ in range(pick.randrange(3))]
             continue
-        kind = pick.choice(("", " built", " generated", " array"))
+        kind = pick.choice(("", " built", " generated", " array", " packaged"))
         out.append(f"class {name}" + (f" extends {pick.choice(names[:i])}" if i and pick.random() < 0.6 else "") + kind)
         out += [f"statics {pick.choice((1, TOP, pick.randrange(WORD)))}"] if kind == " generated" and pick.random() < 0.5 else []
         for word in ("flags", "state", "words"):
@@ -330,7 +330,7 @@ class OpenPoints(unittest.TestCase):
         self.assertEqual(judge_words(CLASS_SHEET, [0] * 5 + [1, 0x0141])[0], 0)
         self.assertEqual(judge_words(CLASS_SHEET, [0] * 5 + [5, 0x41])[0], 3)
         self.assertEqual(judge_words(CLASS_SHEET, [65] + [0] * 20000)[0], 3)
-        self.assertEqual(judge_words(CLASS_SHEET, self.one(kind=3).words())[0], 4)
+        self.assertEqual([judge_words(CLASS_SHEET, self.one(kind=kind).words())[0] for kind in (2, 3, 4)], [0, 0, 4])
 
     def test_both_sheets(self):
         """Row by row over both sheets' words: the lower row counts."""
@@ -338,7 +338,7 @@ class OpenPoints(unittest.TestCase):
         row_5 = form("class A\n field x V 0\n").words()
         row_4 = form("abi class A\n slot m ()V 1024\n").words()
         for words, abi_words, want in ((good, abi, 0), (row_5, abi, 5), (good, row_4, 4), (row_5, row_4, 4), (row_5, [], 3),
-                                       (self.one(kind=3).words(), abi[:-1], 3), ([], row_4, 3), ([], [], 3)):
+                                       (self.one(kind=4).words(), abi[:-1], 3), ([], row_4, 3), ([], [], 3)):
             self.assertEqual(judge_set(words, abi_words), want)
 
     def test_writing(self):
@@ -350,10 +350,10 @@ class OpenPoints(unittest.TestCase):
         self.assertEqual(blocks(one)[508:], (70).to_bytes(4, "little"))
         self.assertEqual(rows(one + [7, 7], 512), (0, 1))
         self.assertEqual(rows([0] * 5, 512), (3, 0))
-        for words, room, want in ((dict(table_place=1, kind=3), 512, 4), (dict(table_place=1, slot_count=1025), 512, 4),
+        for words, room, want in ((dict(table_place=1, kind=4), 512, 4), (dict(table_place=1, kind=3), 512, 17), (dict(table_place=1, slot_count=1025), 512, 4),
                                   (dict(table_place=1), 0, 17), (dict(slot_count=1), 512, 17), ({}, 511, 18)):
             self.assertEqual(rows(self.one(**words).words(), room), (want, 0))
-        for kind, want in ((0, (17, 0)), (1, (0, 1)), (2, (17, 0)), (3, (4, 0))):
+        for kind, want in ((0, (17, 0)), (1, (0, 1)), (2, (17, 0)), (3, (17, 0)), (4, (4, 0))):
             self.assertEqual(rows(self.one(kind=kind, static_words=1).words(), 512), want)
         bad = sheetvectors.renamed(sheetvectors.with_statics(0, 1), "method", 0, "descriptor", b"(V)V")
         self.assertEqual(rows(bad.words(), 512), (5, 0))
@@ -372,7 +372,7 @@ class OpenPoints(unittest.TestCase):
         for parents, room, row in (((1,), 0, 19), ((2, 1), 9, 19), ((0, 3, 4, 3), 9, 19), ((1, 3), 9, 4), ((5,), 0, 4), ((0,), 0, 15)):
             self.assertEqual(of(*parents, room=room), (row, []))
         self.assertEqual(sheetlib.judge_order(self.one(slot_count=1, parent=9).words(), 9), (3, []))
-        for kind, row in ((0, 3), (1, 0), (2, 3), (3, 0), (TOP, 0)):
+        for kind, row in ((0, 3), (1, 0), (2, 3), (3, 3), (4, 0), (TOP, 0)):
             self.assertEqual(sheetlib.judge_order(self.one(kind=kind, static_words=1).words(), 9)[0], row)
 
     def test_orders(self):
@@ -436,10 +436,10 @@ class OpenPoints(unittest.TestCase):
 
     def test_statics(self):
         """Row 3 takes them of a built or array class alone; a link and an ask do not ask."""
-        for kind, want in ((0, 3), (1, 0), (2, 3), (3, 4)):
+        for kind, want in ((0, 3), (1, 0), (2, 3), (3, 3), (4, 4)):
             for words in (1, TOP):
                 made = self.one(kind=kind, static_words=words)
-                self.assertEqual((row(made), judge_words(CLASS_SHEET, made.words())[0]), (want, 4 if kind == 3 else 0))
+                self.assertEqual((row(made), judge_words(CLASS_SHEET, made.words())[0]), (want, 4 if kind == 4 else 0))
         self.assertEqual(row(sheetvectors.renamed(sheetvectors.with_statics(0, 1), "method", 0, "descriptor", b"(V)V")), 3)
 
     def test_both_forms(self):
@@ -544,7 +544,8 @@ class Forms(unittest.TestCase):
 
     def test_old_answers(self):
         """The class vectors as they stood before the eighteenth word, and what the reading of that time answered (tools/old-answers), but for
-        a method of 252 longs, which row 5 refuses since it counts argument words: the old form's layout answers the same. Going forward the same row refuses, but for the clause on lent words, and what is accepted comes back."""
+        a method of 252 longs, which row 5 refuses since it counts argument words, and a class of kind 3, which is read since there are packaged
+        classes: the old form's layout answers the same. Going forward the same row refuses, but for the clause on lent words, and what is accepted comes back."""
         lines = convertvectors.stored_answers()
         forms = {0: 0, 3: 0}
         for name, line in lines.items():
@@ -559,7 +560,7 @@ class Forms(unittest.TestCase):
             if not row:
                 forms[judge(CLASS_SHEET, data)[0]] += 1
         # Of these the new form refuses all by 3 but those without classes, which are the same bytes in both.
-        self.assertEqual((len(lines), forms), (489, {0: 12, 3: 170}))
+        self.assertEqual((len(lines), forms), (489, {0: 12, 3: 171}))
 
     def test_rows_by_name(self):
         """A name tells the row, but of an old vector that lends too few words, which no converter is lent."""
@@ -595,7 +596,7 @@ class Forms(unittest.TestCase):
     def test_static_words(self):
         """The sum is of a generated class's own fields with 0x0008; others get 0."""
         text = "class A{}\n  field i I 0 flags 8\n  field j J 1 flags 0xffff\n  field d D 1 flags 9\n  field a [J 1 flags 8\n  field k J 0\nclass B generated\n"
-        for kind, words in ((" generated", 6), ("", 0), (" array", 0)):
+        for kind, words in ((" generated", 6), ("", 0), (" array", 0), (" packaged", 0)):
             new = sheetlib.to_new_form(sheetlib.to_old_form(form(text.format(kind))))
             self.assertEqual([new.get("class", i, "static words") for i in range(2)], [words, 0])
 
@@ -820,8 +821,8 @@ classes.txt: 3 faults, nothing was written (--anyway writes it)
                       sheet("make", raw)[2])
         raw = self.file("classes.txt", "sheet classes raw\ntext A\nclass 0 1 0 1 0 0 0 0 0 0 0 0 0 0 0 0 0\n")
         self.assertIn("classes.txt line 3: a class record has 18 words, and here are 17", sheet("make", raw)[2])
-        raw = self.file("classes.txt", "sheet classes raw\ntext A\nclass 0 1 0 1 3 0 0 0 0 0 0 0 0 0 0 0 0 0\n")
-        self.assertIn("classes.txt line 3: class 1 `A`: kind at byte 40 of the file (block 1) is 3, above 2 (row 4)", sheet("make", raw)[2])
+        raw = self.file("classes.txt", "sheet classes raw\ntext A\nclass 0 1 0 1 4 0 0 0 0 0 0 0 0 0 0 0 0 0\n")
+        self.assertIn("classes.txt line 3: class 1 `A`: kind at byte 40 of the file (block 1) is 4, above 3 (row 4)", sheet("make", raw)[2])
 
     def test_other_files(self):
         """A sheet, a listing, another sheet's text and a folder, given to make."""
@@ -850,6 +851,14 @@ classes.txt: 3 faults, nothing was written (--anyway writes it)
         self.assertEqual((status, err.count("warning")), (0, 1))
         self.assertIn("classes.txt line 3: warning: method a ()V of I has target 0, so its slot stays unknown", err)
         self.assertIn("no interface table is refused by 16 for want of it", err)
+
+    def test_kinds(self):
+        """The word of each kind, and its number."""
+        path = self.file("classes.txt", "class A built\nclass B generated\nclass C array\nclass D extends A packaged\n")
+        self.assertEqual(sheet("make", path), (0, "", ""))
+        made = path[:-4] + ".bin"
+        self.assertEqual(sheet("show", made)[1], "sheet classes\n\nclass A\n\nclass B generated\n\nclass C array\n\nclass D extends A packaged\n")
+        self.assertIn("\nclass 3 1 1 1 3 0 0 0 0 0 0 0 0 0 0 0 0 0\n", sheet("show", "--raw", made)[1])
 
     def test_statics(self):
         """A generated class brings any; the plain form tells them, and the raw form of the same sheet."""
@@ -937,7 +946,7 @@ classes.txt: 3 faults, nothing was written (--anyway writes it)
     def test_messages(self):
         """Each row of both sheets: the number, the place and the sentence of docs/REFUSALS.md."""
         table = self.table()
-        self.assertEqual(sorted(map(int, table)), [*range(1, 26)])
+        self.assertEqual(sorted(map(int, table)), [*range(1, 27)])
         for name, place in (
                 ("class-r1-513-bytes", "the file has 513 bytes"), ("abi-r1-no-bytes", "the file is empty"),
                 ("class-r2-check-of-block-2", "block 2: the check word at byte 1020 of the file"),

@@ -71,12 +71,12 @@ def linked():
 def statics():
     """A built or array class has none before it is linked; a generated class's are written."""
     bad = "method descriptor: VoidDescriptor"
-    for kind, value in ((0, 1), (0, TOP), (2, 1), (2, TOP)):
+    for kind, value in ((0, 1), (0, TOP), (2, 1), (2, TOP), (3, 1), (3, TOP)):
         refused(17, f"kind-{kind}-statics-{shown(value)}", STATICS, with_statics(kind, value))
     refused(17, "statics-of-1", STATICS, but(CLASSES, "class", 1, static_words=1))
     for value in (1, TOP):
         accepted(f"generated-statics-{shown(value)}", [UNCOUNTED], with_statics(1, value))
-    refused(4, "kind-3-statics", "class kind: at most 2", with_statics(3, 1))
+    refused(4, "kind-4-statics", "class kind: at most 3", with_statics(4, 1))
     refused(5, "statics-and-descriptor", bad, renamed(with_statics(0, 1), "method", 0, "descriptor", b"(V)V"), also=[UNCOUNTED])
     refused(17, "statics-and-place", PLACE[1], but(CLASSES, "class", 1, table_place=1, static_words=1), also=[UNCOUNTED])
     refused(17, "statics-no-bytes", STATICS, with_statics(0, 1), 0, also=[ROOM])
@@ -100,12 +100,13 @@ def after_the_text():
 
 def orders():
     """3 to 5 as for a link, then 17, then 18."""
-    refused(4, "linked-kind-3", "class kind: at most 2", but(CLASSES, "class", 1, table_place=1, kind=3), also=[PLACE])
+    refused(4, "linked-kind-4", "class kind: at most 3", but(CLASSES, "class", 1, table_place=1, kind=4), also=[PLACE])
+    refused(17, "linked-kind-3", PLACE[1], but(CLASSES, "class", 1, table_place=1, kind=3))
     refused(4, "linked-1025-slots", "class linked slot count: at most 1024", but(CLASSES, "class", 1, table_place=1, slot_count=1025), also=[PLACE, SLOTS])
     refused(5, "linked-descriptor", "method descriptor: VoidDescriptor",
             renamed(but(CLASSES, "class", 1, table_place=1), "method", 0, "descriptor", b"(V)V"), also=[PLACE])
     refused(3, "5-words", "counts: all there", [0] * 5, 0)
-    refused(4, "kind-3-no-bytes", "class kind: at most 2", but(A, "class", 1, kind=3), 0, also=[ROOM])
+    refused(4, "kind-4-no-bytes", "class kind: at most 3", but(A, "class", 1, kind=4), 0, also=[ROOM])
     refused(17, "linked-no-bytes", PLACE[1], but(A, "class", 1, table_place=1), 0, also=[ROOM])
     refused(17, "byte-after-511-bytes", AFTER[1], A.words()[:-1] + [0x0141], 511, also=[ROOM])
 

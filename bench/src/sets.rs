@@ -3,7 +3,7 @@
 
 use harness::case::{Call, Case};
 use harness::generate::{AbiClassDraft, AbiMemberDraft, ClassDraft, Draft, MemberDraft, Shape};
-use harness::sheet::blocks;
+use harness::sheet::{blocks, class_word, class_word_at};
 use harness::side::Linker;
 use library::Library;
 
@@ -71,6 +71,16 @@ const LONG_NAMES: Size =
 /// The sets by their names.
 pub fn all() -> Vec<ClassSet> {
     vec![card(), made("middle", MIDDLE), made("chains of 8", LARGEST), made("chain of 64", LARGEST_CHAIN), made("long names", LONG_NAMES)]
+}
+
+/// The chain of 64 classes as kind 3, without ABI classes; the original does not link it.
+pub fn packaged() -> ClassSet {
+    let mut set = made("packaged chain of 64", LARGEST_CHAIN);
+    for class in 1..=set.case.set[0] {
+        set.case.set[class_word_at(class, class_word::KIND)] = 3;
+    }
+    set.case.abi = vec![0; 4];
+    set
 }
 
 /// The example of the specification; VipCard is asked for Card's table.

@@ -169,7 +169,8 @@ fn run_set(painted: &mut Painted, set: &ClassSet) {
     }
 }
 
-/// Makes at least `count` calls of the harness's generator, which the original judges.
+/// Makes at least `count` calls of the harness's generator, which the original judges, and those of as many cases of kind 3, which the
+/// harness judges.
 fn run_generated(painted: &mut Painted, seed: u64, count: u64) -> Result<(), String> {
     let (mut oracle, mut counts) = (Oracle::default(), ReadingCounts::default());
     let (mut calls, mut number) = (0, 0);
@@ -177,6 +178,8 @@ fn run_generated(painted: &mut Painted, seed: u64, count: u64) -> Result<(), Str
         let case = generate::case(seed, number);
         let compared = compare(&mut oracle, painted, &case, &mut |_| calls += 1);
         compared.map_err(|found| format!("seed {seed}, case {number}: {}", found.difference))?;
+        let compared = compare(&mut oracle, painted, &generate::packages(seed, number), &mut |_| {});
+        compared.map_err(|found| format!("seed {seed}, case {number} of kind 3: {}", found.difference))?;
         readings::compare(&mut oracle, painted, &mut Random::for_case(!seed, number), &case, &mut counts)?;
         number += 1;
     }
@@ -189,7 +192,7 @@ pub fn print(seed: &str, count: &str, limit: Option<&str>) -> Result<(), String>
     let number = |text: &str| text.parse::<u64>().map_err(|error| format!("{text}: {error}"));
     let (seed, count, limit) = (number(seed)?, number(count)?, limit.map(number).transpose()?);
     let mut on_sets = Painted::new();
-    sets::all().iter().for_each(|set| run_set(&mut on_sets, set));
+    sets::all().iter().chain([&sets::packaged()]).for_each(|set| run_set(&mut on_sets, set));
     let mut on_generated = Painted::new();
     run_generated(&mut on_generated, seed, count)?;
     println!("function,sets,generated");

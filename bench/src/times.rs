@@ -52,20 +52,25 @@ pub fn spread(numbers: impl Iterator<Item = f64>) -> [f64; 3] {
     [numbers[0], numbers[numbers.len() / 2], numbers[numbers.len() - 1]]
 }
 
+/// Prints the middle nanoseconds of a job that this linker does alone.
+fn print_alone(ours: &mut Ours, name: &str, job: Job, repetitions: Repetitions) {
+    let [_, middle, _] = spread((0..repetitions.count).map(|_| seconds(ours, job, repetitions.least)));
+    println!("{name},{},{},{:.1},,,,", job.name(), repetitions.count, 1e9 * middle);
+}
+
 /// Prints, for each set and job, the middle nanoseconds of both sides and the ratio's spread. Both sides are
-/// compared before anything is timed.
+/// compared before anything is timed. The original links no class of kind 3.
 pub fn print(repetitions: Repetitions) -> Result<(), String> {
     println!("set,job,repetitions,ours,original,ratio,least,most");
     for set in sets::all() {
         sides::check(&set)?;
         let (mut ours, mut original) = (Ours::new(&set), Original::new(&set));
         for job in Job::ALL {
-            let line = format!("{},{},{}", set.name, job.name(), repetitions.count);
             if !job.is_shared() {
-                let [_, middle, _] = spread((0..repetitions.count).map(|_| seconds(&mut ours, job, repetitions.least)));
-                println!("{line},{:.1},,,,", 1e9 * middle);
+                print_alone(&mut ours, &set.name, job, repetitions);
                 continue;
             }
+            let line = format!("{},{},{}", set.name, job.name(), repetitions.count);
             let pairs = pairs(&mut ours, &mut original, job, repetitions);
             let [_, first, _] = spread(pairs.iter().map(|pair| pair.0));
             let [_, second, _] = spread(pairs.iter().map(|pair| pair.1));
@@ -73,5 +78,7 @@ pub fn print(repetitions: Repetitions) -> Result<(), String> {
             println!("{line},{:.1},{:.1},{ratio:.4},{least:.4},{most:.4}", 1e9 * first, 1e9 * second);
         }
     }
+    let packaged = sets::packaged();
+    print_alone(&mut Ours::new(&packaged), &packaged.name, Job::Link, repetitions);
     Ok(())
 }

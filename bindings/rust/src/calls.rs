@@ -233,7 +233,7 @@ pub fn renumber_classes(set: &mut [u32], order: &mut [u32]) -> Result<u32, Refus
 ///
 /// # Errors
 ///
-/// Refusals 3 to 15; set and area are then as they were.
+/// Refusals 3 to 7, 26 and 8 to 15; set and area are then as they were.
 ///
 /// ```
 /// # use lgt_linker::*;

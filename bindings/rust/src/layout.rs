@@ -71,7 +71,7 @@ pub mod class {
     pub const PARENT: usize = 2;
     /// Access flags.
     pub const FLAGS: usize = 3;
-    /// The kind: 0 built, 1 generated, 2 array.
+    /// The kind: 0 built, 1 generated, 2 array, 3 built and linked by packages.
     pub const KIND: usize = 4;
     /// The class's first method; the count of its methods follows.
     pub const FIRST_METHOD: usize = 5;
@@ -194,6 +194,8 @@ pub mod flags {
     pub const PUBLIC: u32 = 0x0001;
     /// A private method has no slot.
     pub const PRIVATE: u32 = 0x0002;
+    /// A protected method is overridden from every package.
+    pub const PROTECTED: u32 = 0x0004;
     /// A static method has no slot and no receiver, a static field no instance word.
     pub const STATIC: u32 = 0x0008;
     /// Marks an interface.

@@ -32,6 +32,8 @@ pub enum Refusal {
     Class,
     /// 7: the table area
     Area,
+    /// 26, between 7 and 8: a chain in part of kind 3, or one of kind 3 with an ABI entry or an interface in it
+    Packages,
     /// 8: a generated class's own words exceed its total
     GeneratedWords,
     /// 9: a generated class's indices are neither all relative nor all absolute
@@ -140,6 +142,13 @@ const REFUSALS: &[Row] = &[
         wrong: "the area is not as a call left it: word 0, a linked table's end or a list of nodes does not fit",
         mend: "Lend the area as the last call left it, or a fresh one: word 0 holds the next free place (1 in a fresh area), which is at \
          most the area's length; no linked table and no node of the class's list reaches past it, and the list has at most 64 nodes.",
+    },
+    Row {
+        number: 26,
+        refusal: Refusal::Packages,
+        wrong: "a class of kind 3 has an ABI entry, an interface or another kind in its chain, or a class of another kind has kind 3 above it",
+        mend: "A class of kind 3 is linked by the packages of the JVM Specification, and so must be all its ancestors: give the whole chain \
+         kind 3, with no interface and no ABI entry among them, or none of it.",
     },
     Row {
         number: 8,

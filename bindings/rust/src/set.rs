@@ -251,7 +251,7 @@ impl ClassSet {
     ///
     /// # Errors
     ///
-    /// Refusals 6 to 15; set and area are then as they were.
+    /// Refusals 6, 7, 26 and 8 to 15; set and area are then as they were.
     ///
     /// ```
     /// # use lgt_linker::*;

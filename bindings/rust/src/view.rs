@@ -53,6 +53,9 @@ pub enum Kind {
     Generated,
     /// An array class.
     Array,
+    /// Built, and linked by the packages of the JVM Specification (5.4.5): all its ancestors are of this kind, and neither it nor one of
+    /// them is an interface or has an ABI entry.
+    Packaged,
     /// A number that this version of the crate has no name for.
     Unknown(u32),
 }
@@ -69,6 +72,7 @@ impl Kind {
             Kind::Built => 0,
             Kind::Generated => 1,
             Kind::Array => 2,
+            Kind::Packaged => 3,
             Kind::Unknown(number) => number,
         }
     }
@@ -85,6 +89,7 @@ impl Kind {
             0 => Kind::Built,
             1 => Kind::Generated,
             2 => Kind::Array,
+            3 => Kind::Packaged,
             _ => Kind::Unknown(number),
         }
     }

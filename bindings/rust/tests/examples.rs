@@ -114,6 +114,7 @@ fn set_of(text: &str) -> SetBuilder {
             classes.push(match rest.last() {
                 Some(&"generated") => class.kind(Kind::Generated),
                 Some(&"array") => class.kind(Kind::Array),
+                Some(&"packaged") => class.kind(Kind::Packaged),
                 _ => class,
             });
             continue;

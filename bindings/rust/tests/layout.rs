@@ -1,5 +1,6 @@
 //! The layout's numbers are the C header's, which a test of its own holds to the specification's.
 
+use lgt_linker::Kind;
 use lgt_linker::layout::*;
 
 const HEADER: &str = include_str!("../../../include/lgt_linker.h");
@@ -26,7 +27,10 @@ fn records() {
     same!("ABI_CLASS_", abi_class, NAME_START NAME_LENGTH TABLE_SIZE_PLUS_1 INSTANCE_WORDS_PLUS_1 FIRST_SLOT SLOT_COUNT FIRST_FIELD
         FIELD_COUNT);
     same!("ABI_ROW_", abi_row, NAME_START NAME_LENGTH DESCRIPTOR_START DESCRIPTOR_LENGTH INDEX);
-    same!("FLAG_", flags, PRIVATE STATIC INTERFACE ABSTRACT);
+    same!("FLAG_", flags, PUBLIC PRIVATE PROTECTED STATIC INTERFACE ABSTRACT);
+    let kinds = ["BUILT", "GENERATED", "ARRAY", "PACKAGED"].map(|name| Kind::of(defined(&format!("KIND_{name}")) as u32));
+    assert_eq!(kinds, [Kind::Built, Kind::Generated, Kind::Array, Kind::Packaged]);
+    assert_eq!(kinds.map(Kind::number), [0, 1, 2, 3]);
     let widths = ["CLASS_RECORD", "METHOD_RECORD", "FIELD_RECORD", "ABI_CLASS_RECORD", "ABI_ROW_RECORD"].map(defined);
     assert_eq!(widths, [class::WIDTH, member::WIDTH, member::WIDTH, abi_class::WIDTH, abi_row::WIDTH]);
     assert_eq!([defined("METHOD_TARGET"), defined("FIELD_WORD_INDEX")], [member::LAST; 2]);

@@ -2,8 +2,8 @@
 
 use lgt_linker::Refusal;
 
-/// The numbers that have a name; some are left out.
-const NAMED: [u32; 25] = [1, 2, 3, 4, 5, 6, 7, 8, 9, 10, 11, 12, 13, 14, 15, 16, 17, 18, 19, 20, 21, 22, 23, 24, 25];
+/// The numbers that have a name, in the order of the document.
+const NAMED: [u32; 26] = [1, 2, 3, 4, 5, 6, 7, 26, 8, 9, 10, 11, 12, 13, 14, 15, 16, 17, 18, 19, 20, 21, 22, 23, 24, 25];
 
 #[test]
 fn every_number_is_a_refusal() {

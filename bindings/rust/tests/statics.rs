@@ -4,7 +4,7 @@ use lgt_linker::layout::flags::{INTERFACE, STATIC};
 use lgt_linker::layout::{BLOCK_WORDS, class, set};
 use lgt_linker::*;
 
-const KINDS: [Kind; 4] = [Kind::Built, Kind::Generated, Kind::Array, Kind::Unknown(3)];
+const KINDS: [Kind; 5] = [Kind::Built, Kind::Generated, Kind::Array, Kind::Packaged, Kind::Unknown(4)];
 
 fn abi() -> AbiSheet {
     AbiBuilder::new().build().unwrap()
@@ -55,12 +55,15 @@ fn a_link_overwrites_what_it_is_lent_of_its_own_class_alone() {
 fn only_a_generated_class_brings_any() {
     for words in [1, u32::MAX] {
         let read = KINDS.map(|kind| ClassSet::read(&one(kind, words)).err());
-        assert_eq!(read, [Some(Refusal::SheetCounts), None, Some(Refusal::SheetCounts), Some(Refusal::Record)]);
+        assert_eq!(read, [Some(Refusal::SheetCounts), None, Some(Refusal::SheetCounts), Some(Refusal::SheetCounts), Some(Refusal::Record)]);
         let written = KINDS.map(|kind| write_class_sheet(&content(&one(kind, words)), &mut [0; CLASS_BYTES]).err());
-        assert_eq!(written, [Some(Refusal::NotStorable), None, Some(Refusal::NotStorable), Some(Refusal::Record)]);
+        assert_eq!(
+            written,
+            [Some(Refusal::NotStorable), None, Some(Refusal::NotStorable), Some(Refusal::NotStorable), Some(Refusal::Record)]
+        );
         // A renumbering asks nothing of another kind.
         let renumbered = KINDS.map(|kind| renumber_classes(&mut content(&one(kind, words)), &mut [0]).err());
-        assert_eq!(renumbered, [Some(Refusal::SheetCounts), None, Some(Refusal::SheetCounts), None]);
+        assert_eq!(renumbered, [Some(Refusal::SheetCounts), None, Some(Refusal::SheetCounts), Some(Refusal::SheetCounts), None]);
     }
 }
 

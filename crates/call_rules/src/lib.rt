@@ -31,7 +31,7 @@ fn bad_array(ws: &[u32], text: &[u8], c: u32) -> bool
         class_sheet::class_name(ws, text, parent),
         b"java/lang/Object",
     );
-    (class_sheet::class_kind(ws, c) == 2) & (members | (parent == 0) | !named)
+    (class_sheet::class_kind(ws, c) == class_sheet::ARRAY) & (members | (parent == 0) | !named)
 }
 
 // Row 6 of a link.

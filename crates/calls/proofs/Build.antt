@@ -13,7 +13,7 @@ use Rattle.words.specs.declared.Found.{Found}
 use Rattle.words.specs.declared.Found.the-variants.{At, Nothing}
 use Rattle.words.proofs.Bools.{by}
 use Rattle.words.proofs.ListLaws.{by-found}
-use Rattle.class_sheet.specs.ClassSheet.{kindWord, classCount, methodCount, textOf, classKind, methodName, methodDescriptor}
+use Rattle.class_sheet.specs.ClassSheet.{classCount, methodCount, textOf, classKind, methodName, methodDescriptor}
 use Rattle.abi_sheet.specs.AbiSheet.{abiSlotName, abiSlotDescriptor}
 use Rattle.set_rules.specs.Valid.{Valid}
 use Rattle.linking.proofs.ChainLaws.{own-target-member, own-method-member}
@@ -22,8 +22,9 @@ use Rattle.linking.specs.Abi.{slotAt, classAbi, chainAbi, minimumSize}
 use Rattle.linking.specs.Vtable.{Entry, empty, Built, built, refused, onBuilt, ownFixed, findByIndex, readEntry, entryIs, slotOf, entryIsOther, methodEntry, fixedOf, putFixed, relay, relayStep, relayed, extended, putMethod, addMethod, addMethods}
 use Rattle.slots.specs.Made.{readWords, startFrom, tableFrom}
 use Rattle.slots.proofs.ListFacts.{not-found, found-same, found-in}
-use Rattle.linking.proofs.Plans.{built-same, not-built}
-use Rattle.calls.proofs.Like.{Like}
+use Rattle.linking.proofs.Plans.{not-built}
+use Rattle.linking.proofs.Plans as plans
+use Rattle.calls.proofs.Like.{Alike}
 use Rattle.calls.proofs.View.{method-name, method-descriptor, method-target, method-is, eligible-same, chain-class, own-same, own-below, class-abi, chain-abi}
 
 -- ---- entries whose methods are of a sheet of n methods
@@ -67,7 +68,7 @@ unfolding position
 position-same p q n k [] h same = refl
 position-same p q n k (e ∷ T) h same = rw (same e (h .0), position-same p q n (k + 1) T (h .1) same)
 
-module _ (old new : List ℕ) (valid : Valid old) (like : Like old new) (abi labels : List ℕ) where
+module _ (old new : List ℕ) (valid : Valid old) (like : Alike old new) (abi labels : List ℕ) where
   -- what Reading finds is of the sheet
   module _ (c : ℕ) (a : c ≤ classCount old) (plain : (d : ℕ) → List·Memᴰ d (chain old c) → classKind old d ≢ 1) where
     own-of : (d m : ℕ) → List·Memᴰ d (chain old c) → List·Memᴰ m (ownMethods old d) → m < methodCount old
@@ -221,11 +222,11 @@ module _ (old new : List ℕ) (valid : Valid old) (like : Like old new) (abi lab
         by (entryIsOther old (textOf old) (methodName old (textOf old) m) (methodDescriptor old (textOf old) m) (getD T i empty))
         (λ u. not-built (rw u at r))
         (λ u.
-        rw (← built-same (rw u at r)) (of-set (methodCount old) T i (methodEntry old m) h mine)))
+        rw (← plans.built-same (rw u at r)) (of-set (methodCount old) T i (methodEntry old m) h mine)))
     put-method-of Nothing (At j) U e =
-        rw (← built-same e) (of-set (methodCount old) T j (methodEntry old m) h mine)
+        rw (← plans.built-same e) (of-set (methodCount old) T j (methodEntry old m) h mine)
     put-method-of Nothing Nothing U e =
-        rw (← built-same e) (of-append (methodCount old) T (methodEntry old m ∷ []) h (mine, tt))
+        rw (← plans.built-same e) (of-append (methodCount old) T (methodEntry old m ∷ []) h (mine, tt))
 
     add-of : (U : List Entry) → addMethod old (textOf old) abi labels abis m T ≡ built U → AllOf (methodCount old) U
     unfolding addMethod
@@ -234,7 +235,7 @@ module _ (old new : List ℕ) (valid : Valid old) (like : Like old new) (abi lab
         (λ t.
         put-method-of (fixedOf old (textOf old) abi labels abis m)
         (slotOf old (textOf old) (methodName old (textOf old) m) (methodDescriptor old (textOf old) m) T) U (rw t at e))
-        (λ t. rw (← built-same (rw t at e)) h)
+        (λ t. rw (← plans.built-same (rw t at e)) h)
 
   on-same : (b : Built) (f g : List Entry → Built) → ((U : List Entry) → b ≡ built U → f U ≡ g U) → onBuilt b f ≡ onBuilt b g
   on-same (built U) f g h = h U refl
@@ -251,15 +252,24 @@ module _ (old new : List ℕ) (valid : Valid old) (like : Like old new) (abi lab
 
   -- ---- the table
 
-  pub table-same : (c : ℕ) → 1 ≤ c → c ≤ classCount old → classKind old c ≢ 1 → (P : List Entry) → AllOf (methodCount old) P
-      → tableFrom new (textOf new) abi labels c P ≡ tableFrom old (textOf old) abi labels c P
-  unfolding tableFrom
-  table-same c s a n P h =
+  -- of a class that is no array, whatever its kind
+  pub built-same : (c : ℕ) → 1 ≤ c → c ≤ classCount old → classKind old c ≢ 1 → (P : List Entry) → AllOf (methodCount old) P
+      → addMethods new (textOf new) abi labels (chainAbi new (textOf new) abi labels c) (ownMethods new c) (startFrom new (textOf new) abi labels c P)
+      ≡ addMethods old (textOf old) abi labels (chainAbi old (textOf old) abi labels c) (ownMethods old c) (startFrom old (textOf old) abi labels c P)
+  built-same c s a n P h =
       rw (
-        like .word c kindWord s a (omega arith),
         chain-abi old new valid like abi labels c a,
         own-same old new valid like c s a n,
         start-same c s a P h,
         adds-same (chainAbi old (textOf old) abi labels c) (ownMethods old c) (own-below old new valid like c s a n)
             (startFrom old (textOf old) abi labels c P) (start-of c s a P h),
+      )
+
+  pub table-same : (c : ℕ) → 1 ≤ c → c ≤ classCount old → classKind old c ≢ 1 → classKind new c ≡ classKind old c → (P : List Entry) → AllOf (methodCount old) P
+      → tableFrom new (textOf new) abi labels c P ≡ tableFrom old (textOf old) abi labels c P
+  unfolding tableFrom
+  table-same c s a n kind P h =
+      rw (
+        kind,
+        built-same c s a n P h,
       )

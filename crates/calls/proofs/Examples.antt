@@ -74,7 +74,7 @@ unlinked = refl
 passes : Passes ws sheet calls 3
 unfolding opened shown ws sheet
 passes = record {
-  built-or-array = refl;
+  kinds = refl;
   no-interface = refl;
   orderly = refl;
   targets-nonzero = refl;

@@ -2,12 +2,17 @@ pub mod Area
 pub mod Linked
 pub mod Rows
 pub mod Like
+pub mod Packages
 pub mod View
 pub mod Build
+pub mod Fits
 pub mod Runs
 pub mod Lists
 pub mod Owners
 pub mod Theorem
+pub mod Takes
+pub mod KindZero
 pub mod Tests
+pub mod BesideZero
 pub mod Examples
 pub mod Needed

@@ -42,3 +42,22 @@ like-next a b c p q =
       more = p .more ++ q .more;
       text = q .text ∙ ap (λ (t : List ℕ). t ++ q .more) (p .text) ∙ append-assoc (textOf a) (p .more) (q .more);
     }
+
+-- the same but for kinds: what chains, methods and Reading go by
+pub record Alike (old new : List ℕ) : Type 0 where
+  pub classes : classCount new ≡ classCount old
+  pub word : (c k : ℕ) → 1 ≤ c → c ≤ classCount old → k < kindWord → classWord new c k ≡ classWord old c k
+  pub listed : (c k : ℕ) → 1 ≤ c → c ≤ classCount old → classKind old c ≢ 1 → kindWord < k → k < firstFieldWord → classWord new c k ≡ classWord old c k
+  pub method : (m k : ℕ) → m < methodCount old → k < memberWidth → methodWord new m k ≡ methodWord old m k
+  pub more : List ℕ
+  pub text : textOf new ≡ textOf old ++ more
+
+pub alike : {old new : List ℕ} → Like old new → Alike old new
+alike l = record {
+  classes = l .classes;
+  word = λ c k s a h. l .word c k s a (omega arith);
+  listed = λ c k s a n g h. l .listed c k s a n h;
+  method = l .method;
+  more = l .more;
+  text = l .text;
+}

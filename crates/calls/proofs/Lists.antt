@@ -58,6 +58,7 @@ module _ (ws₀ abi : List ℕ) (valid₀ : Valid ws₀) (P : ℕ → Type 0) wh
       like = inv .like;
       parent = inv .parent;
       made = λ d l p. made-keeps ws₀ abi valid₀ P inv ask-keeps d l p;
+      fits = inv .fits;
       whole = λ d l. whole-keeps ws₀ abi valid₀ P inv ask-keeps d l;
       apart = inv .apart;
     }

@@ -1,5 +1,5 @@
 -- Each premise of demand 3 is needed: a list for each, in which the class is linked, all premises but that one hold, and the claim fails. Of orderly
--- this is so of "each signature has one index"; "each index one signature" is not needed (`one-index-enough`, Theorem.antt). Assumes nothing.
+-- this is so of "each signature (name and descriptor) has one index"; "each index one signature" is not needed (`one-index-enough`, Theorem.antt). Assumes nothing.
 use mathlib.Core.Path.{_≡_, refl, sym, ap, _∙_}
 use mathlib.Core.Logic.{inl, inr, _≢_, _⊎_}
 use mathlib.Core.Bool.{Bool, true, false, true≢false}
@@ -15,12 +15,13 @@ use Rattle.linking.specs.Abi.{classAbi}
 use Rattle.linking.specs.Vtable.{readEntry}
 use Rattle.linking.proofs.Assemble as assemble
 use Rattle.linking.proofs.Assemble.{Class, AbiClass, method, flagged, built, compiled, having, linkedAt, slot, abi, sized, classSheet, abiSheet, fresh}
+use Rattle.linking.proofs.Packaged.{packaged, foo}
 use Rattle.linking.proofs.Opened.{opened}
-use Rattle.slots.specs.Slots.{Known, Kept}
+use Rattle.slots.specs.Slots.{Unique, Known, Kept}
 use Rattle.slots.proofs.ListFacts.{not-found, in-none}
 use Rattle.calls.specs.Calls.{Call, link, run, Unlinked, LinkedIn, now, later, tableAt, lent-now}
 use Rattle.calls.specs.Demand.{start, Conditions, Claim}
-use Rattle.calls.proofs.Tests.{isUnlinked, verdicts, shown}
+use Rattle.calls.proofs.Tests.{isUnlinked, oldRule, old-holds, verdicts, shown}
 
 pub record Case : Type 0 where
   pub set : List ℕ
@@ -50,11 +51,20 @@ module _ (x : Case) where
   a-known c t u e i m h r = rw e (record { slot = h; reads = r })
 
   -- two known slots have one signature
+  not-unique : (c p n : ℕ) (u : List ℕ) → finalTable p n ≡ u → (i j m k : ℕ) → i ≢ j → i < length u → j < length u → Reads c u i m → Reads c u j k
+      → methodName (x .set) (textOf (x .set)) m ≡ methodName (x .set) (textOf (x .set)) k
+      → methodDescriptor (x .set) (textOf (x .set)) m ≡ methodDescriptor (x .set) (textOf (x .set)) k
+      → Unique (x .set) (textOf (x .set)) (x .sheet) (abiTextOf (x .sheet)) c (finalTable p n) → ⊥
+  not-unique c p n u e i j m k d hi hj ri rj a b unique =
+      d (unique i j m k (a-known c (finalTable p n) u e i m hi ri) (a-known c (finalTable p n) u e j k hj rj) (record { name = a; descriptor = b }))
+
+  -- so by the old rule
   twice : (c p n : ℕ) (u : List ℕ) → finalTable p n ≡ u → (i j m k : ℕ) → i ≢ j → i < length u → j < length u → Reads c u i m → Reads c u j k
       → methodName (x .set) (textOf (x .set)) m ≡ methodName (x .set) (textOf (x .set)) k
-      → methodDescriptor (x .set) (textOf (x .set)) m ≡ methodDescriptor (x .set) (textOf (x .set)) k → Holds c p n → ⊥
-  twice c p n u e i j m k d hi hj ri rj a b claim =
-      d (claim .unique i j m k (a-known c (finalTable p n) u e i m hi ri) (a-known c (finalTable p n) u e j k hj rj) (record { name = a; descriptor = b }))
+      → methodDescriptor (x .set) (textOf (x .set)) m ≡ methodDescriptor (x .set) (textOf (x .set)) k
+      → oldRule (x .set) (x .sheet) (x .calls) c ≡ true → Holds c p n → ⊥
+  twice c p n u e i j m k d hi hj ri rj a b old claim =
+      not-unique c p n u e i j m k d hi hj ri rj a b (claim .unique (old-holds (x .set) (x .sheet) (x .calls) c old))
 
   -- a known slot of the parent's table is not known in the child's, or the child's target there is neither the parent's nor that of a method
   -- which the child declares
@@ -95,10 +105,11 @@ pub record Breaks (x : Case) (c p n : ℕ) (unlinked : Bool) (tests : List Bool)
 apart : {m k : ℕ} → m ≡ k → m ≢ k → ⊥
 apart e n = n e
 
--- a is neither b nor c
-neither : {a b c : ℕ} → (a ≡ b) ⊎ (a ≡ c) → a ≢ b → a ≢ c → ⊥
-neither (inl e) m n = m e
-neither (inr e) m n = n e
+-- a is none of b, c and d
+neither : {a b c d : ℕ} → (a ≡ b) ⊎ ((a ≡ c) ⊎ (a ≡ d)) → a ≢ b → a ≢ c → a ≢ d → ⊥
+neither (inl e) m n o = m e
+neither (inr (inl e)) m n o = n e
+neither (inr (inr e)) m n o = o e
 
 -- ---- "from an unlinked sheet": a table that lay in the area before holds one target twice
 
@@ -118,7 +129,7 @@ unlinked-needed = record {
   premises = refl;
   outside = λ u k. apart (u 1 (omega arith) (omega arith)) (omega arith);
   linked = now (901 ∷ 902 ∷ []) refl refl refl;
-  fails = twice linkedBefore 2 5 2 (5 ∷ 5 ∷ []) refl 0 1 0 0 (omega arith) (omega arith) (omega arith) refl refl refl refl;
+  fails = twice linkedBefore 2 5 2 (5 ∷ 5 ∷ []) refl 0 1 0 0 (omega arith) (omega arith) (omega arith) refl refl refl refl refl;
 }
 
 -- ---- "only built and array classes": a generated class's compiler table lies over the parent's slot
@@ -127,12 +138,12 @@ unfoldable pub generatedChild : Case
 generatedChild =
     from (built "P" 0 (method "a" 5 ∷ []) [] ∷ compiled "G" 1 [] (7 ∷ []) ∷ []) [] (link 1 (901 ∷ []) ∷ link 2 (902 ∷ 903 ∷ []) ∷ [])
 
-built-or-array-needed : Breaks generatedChild 2 4 2 true (false ∷ true ∷ true ∷ true ∷ true ∷ true ∷ true ∷ [])
+kinds-needed : Breaks generatedChild 2 4 2 true (false ∷ true ∷ true ∷ true ∷ true ∷ true ∷ true ∷ [])
 unfolding opened shown generatedChild
-built-or-array-needed = record {
+kinds-needed = record {
   start-is = refl;
   premises = refl;
-  outside = λ u k. neither (k .built-or-array 2 (List·Memᴰ·head refl)) (omega arith) (omega arith);
+  outside = λ u k. neither (k .kinds 2 (List·Memᴰ·head refl)) (omega arith) (omega arith) (omega arith);
   linked = later (now (902 ∷ 903 ∷ []) refl refl refl);
   fails =
       broken generatedChild 2 4 2 1 1 (omega arith) refl (now (901 ∷ []) refl refl refl)
@@ -173,7 +184,7 @@ orderly-needed = record {
       (record { class = 1; along = List·Memᴰ·head refl; entry = 0; named = refl; own = List·Memᴰ·tail (List·Memᴰ·head refl) }) refl refl)
       (omega arith);
   linked = now (901 ∷ 902 ∷ []) refl refl refl;
-  fails = twice twoIndices 1 1 2 (5 ∷ 902 ∷ []) refl 0 1 0 0 (omega arith) (omega arith) (omega arith) refl refl refl refl;
+  fails = twice twoIndices 1 1 2 (5 ∷ 902 ∷ []) refl 0 1 0 0 (omega arith) (omega arith) (omega arith) refl refl refl refl refl;
 }
 
 -- ---- "the chain's method targets and all stubs lent are nonzero", of the targets: a method of target 0 leaves a stub where the parent's slot was known
@@ -229,7 +240,7 @@ targets-different-needed = record {
       (record { owner = 1; along = List·Memᴰ·head refl; own = List·Memᴰ·tail (List·Memᴰ·head refl) }) refl)
       (omega arith);
   linked = now (901 ∷ 902 ∷ []) refl refl refl;
-  fails = twice sameTargets 1 1 2 (5 ∷ 5 ∷ []) refl 0 1 0 0 (omega arith) (omega arith) (omega arith) refl refl refl refl;
+  fails = twice sameTargets 1 1 2 (5 ∷ 5 ∷ []) refl 0 1 0 0 (omega arith) (omega arith) (omega arith) refl refl refl refl refl;
 }
 
 -- ---- "and none of them a stub": a stub that is a method's target reads as that method
@@ -244,7 +255,7 @@ no-stub-needed = record {
   premises = refl;
   outside = λ u k. k .no-stub 902 0 (lent-now (List·Memᴰ·tail (List·Memᴰ·head refl))) (record { owner = 1; along = List·Memᴰ·head refl; own = List·Memᴰ·head refl }) refl;
   linked = now (901 ∷ 902 ∷ 903 ∷ []) refl refl refl;
-  fails = twice stubTarget 1 1 3 (901 ∷ 902 ∷ 902 ∷ []) refl 1 2 0 0 (omega arith) (omega arith) (omega arith) refl refl refl refl;
+  fails = twice stubTarget 1 1 3 (901 ∷ 902 ∷ 902 ∷ []) refl 1 2 0 0 (omega arith) (omega arith) (omega arith) refl refl refl refl refl;
 }
 
 -- ---- "In a child without an ABI entry": an entry moves the parent's known slot to its fixed index
@@ -271,11 +282,36 @@ without-entry-needed = record {
   fails = not-known movedSlot 2 (finalTable movedSlot 4 2) (finalTable movedSlot 1 1) (902 ∷ 5 ∷ []) (5 ∷ []) refl refl 0 0 (omega arith) refl refl;
 }
 
+-- ---- "The no-second-slot claim is made only for the old rule": a chain of kind 3 that meets every premise has two known slots of one signature
+
+unfoldable pub secondSlot : Case
+secondSlot =
+    from (packaged "p/A" 0 (foo 0 10) ∷ packaged "q/B" 1 (foo 0 20) ∷ []) [] (link 1 (901 ∷ []) ∷ link 2 (902 ∷ 903 ∷ []) ∷ [])
+
+pub record SecondSlot : Type 0 where
+  pub start-is : isUnlinked (secondSlot .set) ≡ true
+  pub premises : verdicts (secondSlot .set) (secondSlot .sheet) (secondSlot .calls) 2 ≡ true ∷ true ∷ true ∷ true ∷ true ∷ true ∷ true ∷ []
+  pub parent-linked : LinkedAt secondSlot 1 1 1
+  pub linked : LinkedAt secondSlot 2 4 2
+  pub table-is : finalTable secondSlot 4 2 ≡ 10 ∷ 20 ∷ []
+  pub fails : Unique (secondSlot .set) (textOf (secondSlot .set)) (secondSlot .sheet) (abiTextOf (secondSlot .sheet)) 2 (finalTable secondSlot 4 2) → ⊥
+
+second-slot : SecondSlot
+unfolding opened shown secondSlot
+second-slot = record {
+  start-is = refl;
+  premises = refl;
+  parent-linked = now (901 ∷ []) refl refl refl;
+  linked = later (now (902 ∷ 903 ∷ []) refl refl refl);
+  table-is = refl;
+  fails = not-unique secondSlot 2 4 2 (10 ∷ 20 ∷ []) refl 0 1 0 1 (omega arith) (omega arith) (omega arith) refl refl refl refl;
+}
+
 -- ---- as rows of one theorem
 
 pub record Needed : Type 0 where
   pub unlinked : Breaks linkedBefore 2 5 2 false (true ∷ true ∷ true ∷ true ∷ true ∷ true ∷ true ∷ [])
-  pub built-or-array : Breaks generatedChild 2 4 2 true (false ∷ true ∷ true ∷ true ∷ true ∷ true ∷ true ∷ [])
+  pub kinds : Breaks generatedChild 2 4 2 true (false ∷ true ∷ true ∷ true ∷ true ∷ true ∷ true ∷ [])
   pub no-interface : Breaks interfaceChild 2 4 0 true (true ∷ false ∷ true ∷ true ∷ true ∷ true ∷ true ∷ [])
   pub orderly : Breaks twoIndices 1 1 2 true (true ∷ true ∷ false ∷ true ∷ true ∷ true ∷ true ∷ [])
   pub targets-nonzero : Breaks zeroTarget 2 4 1 true (true ∷ true ∷ true ∷ false ∷ true ∷ true ∷ true ∷ [])
@@ -283,11 +319,12 @@ pub record Needed : Type 0 where
   pub targets-different : Breaks sameTargets 1 1 2 true (true ∷ true ∷ true ∷ true ∷ true ∷ false ∷ true ∷ [])
   pub no-stub : Breaks stubTarget 1 1 3 true (true ∷ true ∷ true ∷ true ∷ true ∷ true ∷ false ∷ [])
   pub without-entry : WithEntry
+  pub old-rule : SecondSlot
 
 pub needed : Needed
 needed = record {
   unlinked = unlinked-needed;
-  built-or-array = built-or-array-needed;
+  kinds = kinds-needed;
   no-interface = no-interface-needed;
   orderly = orderly-needed;
   targets-nonzero = targets-nonzero-needed;
@@ -295,4 +332,5 @@ needed = record {
   targets-different = targets-different-needed;
   no-stub = no-stub-needed;
   without-entry = without-entry-needed;
+  old-rule = second-slot;
 }

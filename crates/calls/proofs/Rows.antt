@@ -15,6 +15,7 @@ use Rattle.abi_sheet.specs.AbiSheet.{abiTextOf}
 use Rattle.set_rules.specs.SetRules.{setRefusal}
 use Rattle.linking.specs.Chain.{parentOf}
 use Rattle.linking.specs.Vtable.{Entry, Built, built, refused, tableEntries}
+use Rattle.linking.specs.Packages.{badPackages}
 use Rattle.linking.specs.Link.{objectName, noClass, isLinked, badArray, badClass, nextFree, badArea, Plan, Planned, planned, unplanned, plan, newWords, newStatics, listsFull, setShort, noRoom, linkedArea, linkedWords, Outcome, refusedCall, finishLink, onPlan, linkDef}
 use Rattle.linking.specs.Ask.{Walk, hit, missed, broken, walk, headPlace, dispatchEntries, askedArea, onDispatch, buildNode, onWalk, badAsk, askDef}
 use Rattle.linking.proofs.Plans.{unplanned-number}
@@ -79,6 +80,7 @@ pub record Accepted (ws abi : List ℕ) (c : ℕ) (area stubs : List ℕ) (o : O
   pub valid : setRefusal ws abi ≡ 0
   pub class : ClassOk ws c
   pub lent : Sound ws area
+  pub packages : badPackages ws (textOf ws) abi (abiTextOf abi) c ≡ false
   pub coming : Plan
   pub comes : plan ws (textOf ws) abi (abiTextOf abi) area c ≡ planned coming
   pub room : Fits area stubs (length (coming .table))
@@ -95,10 +97,10 @@ module _ (ws abi : List ℕ) (c : ℕ) (area stubs : List ℕ) where
   abbrev Either : Outcome → Type 0
   Either o = Refused o ws area ⊎ Accepted ws abi c area stubs o
 
-  finish : setRefusal ws abi ≡ 0 → ClassOk ws c → Sound ws area → (p : Plan) → plan ws (textOf ws) abi (abiTextOf abi) area c ≡ planned p
+  finish : setRefusal ws abi ≡ 0 → ClassOk ws c → Sound ws area → badPackages ws (textOf ws) abi (abiTextOf abi) c ≡ false → (p : Plan) → plan ws (textOf ws) abi (abiTextOf abi) area c ≡ planned p
       → Either (finishLink ws abi c area stubs p)
   unfolding finishLink
-  finish v k a p e =
+  finish v k a f p e =
       by (listsFull ws c p) (λ t. rw t (inl (refused-call ws area 14 (omega arith))))
       (λ t.
       rw t
@@ -110,6 +112,7 @@ module _ (ws abi : List ℕ) (c : ℕ) (area stubs : List ℕ) where
         valid = v;
         class = k;
         lent = a;
+        packages = f;
         coming = p;
         comes = e;
         room = fits area stubs (length (p .table)) (or-neither (noRoom area stubs (length (p .table))) (setShort ws c p) u .0);
@@ -120,10 +123,10 @@ module _ (ws abi : List ℕ) (c : ℕ) (area stubs : List ℕ) where
         new-area = refl;
       })))))
 
-  go-on : setRefusal ws abi ≡ 0 → ClassOk ws c → Sound ws area → (q : Planned) → plan ws (textOf ws) abi (abiTextOf abi) area c ≡ q
+  go-on : setRefusal ws abi ≡ 0 → ClassOk ws c → Sound ws area → badPackages ws (textOf ws) abi (abiTextOf abi) c ≡ false → (q : Planned) → plan ws (textOf ws) abi (abiTextOf abi) area c ≡ q
       → Either (onPlan q (finishLink ws abi c area stubs) (λ n. refusedCall n ws area))
-  go-on v k a (planned p) e = finish v k a p e
-  go-on v k a (unplanned n) e = inl (refused-call ws area n (unplanned-number ws (textOf ws) abi (abiTextOf abi) area c n e))
+  go-on v k a f (planned p) e = finish v k a f p e
+  go-on v k a f (unplanned n) e = inl (refused-call ws area n (unplanned-number ws (textOf ws) abi (abiTextOf abi) area c n e))
 
   pub link-cases : Either (linkDef ws abi c area stubs)
   unfolding linkDef
@@ -137,8 +140,11 @@ module _ (ws abi : List ℕ) (c : ℕ) (area stubs : List ℕ) where
       (by (badArea ws area) (λ u. rw u (inl (refused-call ws area 7 (omega arith))))
       (λ u.
       rw u
-      (go-on (eqb-true (setRefusal ws abi) 0 v) (class-ok ws (textOf ws) c t) (sound ws area u)
-      (plan ws (textOf ws) abi (abiTextOf abi) area c) refl))))))
+      (by (badPackages ws (textOf ws) abi (abiTextOf abi) c) (λ k. rw k (inl (refused-call ws area 26 (omega arith))))
+      (λ k.
+      rw k
+      (go-on (eqb-true (setRefusal ws abi) 0 v) (class-ok ws (textOf ws) c t) (sound ws area u) k
+      (plan ws (textOf ws) abi (abiTextOf abi) area c) refl))))))))
       (λ v. rw v (inl (refused-call ws area (setRefusal ws abi) (eqb-false (setRefusal ws abi) 0 v))))
 
 -- ---- an ask

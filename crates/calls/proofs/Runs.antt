@@ -1,38 +1,44 @@
 -- What every list of calls keeps, and what holds after it. Each accepted link leaves one equation of its class's table over its parent's; no
 -- later call changes either. Assumes nothing.
-use mathlib.Core.Path.{_≡_, refl, sym, ap, _∙_, subst}
+use mathlib.Core.Path.{_≡_, refl, sym, ap, _∙_, subst, fun-ext}
 use mathlib.Core.Logic.{_⊎_, inl, inr, _≢_}
 use mathlib.Core.Bool.{false}
 use mathlib.Core.List.{List, [], _∷_, List·Memᴰ, List·Memᴰ·head, List·Memᴰ·tail}
 use Prim.Native.Nat.{ℕ, zero, suc, _+_, _≤_, _<_}
 use native.Mathlib.Omega.{arith}
 use lib.ListN.{length, getD}
-use lib.Dec.{eqb}
+use lib.Dec.{eqb, ltb}
 use borrow.Author.Tests.{eqb-true, eqb-false}
 use Rattle.words.specs.Lists.{listFrom}
 use Rattle.words.proofs.Bools.{by}
+use Rattle.words.proofs.ListLaws.{by-found}
 use Rattle.words.proofs.Lists.{part-ext}
-use Rattle.class_sheet.specs.ClassSheet.{flagsWord, kindWord, methodCountWord, classCount, methodCount, textLength, textWords, textOf, classKind, classFlags, classFirstMethod, classMethodCount, classTablePlace, classSlotCount, methodLimit}
+use Rattle.class_sheet.specs.ClassSheet.{flagsWord, kindWord, methodCountWord, classCount, methodCount, textLength, textWords, textOf, classKind, isPackaged, classFlags, classFirstMethod, classMethodCount, classTablePlace, classSlotCount, methodLimit}
 use Rattle.abi_sheet.specs.AbiSheet.{abiTextLength, abiTextWords, abiTextOf}
 use Rattle.set_rules.specs.Valid.{Valid}
 use Rattle.set_rules.proofs.Valid.{valid}
-use Rattle.linking.proofs.ChainLaws.{parent-within}
+use Rattle.linking.proofs.ChainLaws.{parent-below, parent-within, chain-none}
 use Rattle.linking.specs.Chain.{listCount, ownMethods, parentOf, chain, isInterface}
-use Rattle.linking.specs.Vtable.{Entry, built, parentEntries, slotWords}
+use Rattle.linking.specs.Vtable.{Entry, built, readEntry, parentEntries, slotWords}
+use Rattle.linking.specs.Packages.{topmost, unfitForPackages, badPackages}
 use Rattle.linking.specs.Link.{nextFree, newWords, newStatics, linkedArea, Outcome}
 use Rattle.linking.proofs.Plans.{Plans, plans}
 use Rattle.linking.proofs.Rows.{Linked}
 use Rattle.linking.proofs.Packed.{text-bytes}
-use Rattle.slots.specs.Made.{tableFrom, inheritedFrom, Made}
-use Rattle.slots.proofs.ChainFacts.{chain-here, chain-up}
+use Rattle.slots.specs.Slots.{OldRule, PackageRule}
+use Rattle.slots.specs.Made.{tableFrom, inheritedFrom, introducedFrom, packagesFrom, madeFrom, Made}
+use Rattle.slots.proofs.ListFacts.{in-none}
+use Rattle.slots.proofs.ChainFacts.{chain-here, chain-up, chain-cases}
+use Rattle.slots.proofs.PackageLinks.{last-ext, last-of, Lies, packages-from}
 use Rattle.slots.proofs.LinkFacts.{read-area, plan-table}
 use Rattle.slots.proofs.ReadFacts.{length-words}
 use Rattle.calls.specs.Calls.{State, tableAt}
 use Rattle.calls.proofs.Area.{linked-length, linked-before, linked-slots}
 use Rattle.calls.proofs.Linked.{Leaves, link-leaves}
 use Rattle.calls.proofs.Rows.{Accepted}
-use Rattle.calls.proofs.Like.{Like, like-next}
-use Rattle.calls.proofs.View.{parent-same, read-words-same}
+use Rattle.calls.proofs.Like.{Like, like-next, alike}
+use Rattle.calls.proofs.View.{parent-same, chain-same, chain-class, class-abi, read-words-same}
+use Rattle.calls.proofs.Packages.{some-ext, packages-same}
 use Rattle.calls.proofs.Build.{AllOf, read-words-of, table-same}
 
 -- a class's table as its record and the area have it
@@ -71,20 +77,24 @@ in-at [] i h = absurd (omega arith)
 in-at (x ∷ xs) zero h = List·Memᴰ·head refl
 in-at (x ∷ xs) (suc i) h = List·Memᴰ·tail (in-at xs i (omega arith))
 
--- "whose parent chain, itself included, has only built and array classes, none of them an interface"
+-- "whose parent chain, itself included, has only built and array classes, none of them an interface", or only classes of kind 3
 pub record Plain (ws : List ℕ) (c : ℕ) : Type 0 where
-  pub kinds : (d : ℕ) → List·Memᴰ d (chain ws c) → (classKind ws d ≡ 0) ⊎ (classKind ws d ≡ 2)
-  pub flags : (d : ℕ) → List·Memᴰ d (chain ws c) → isInterface (classFlags ws d) ≡ false
+  pub kinds : OldRule ws c ⊎ PackageRule ws c
+  pub flags : (d : ℕ) → List·Memᴰ d (chain ws c) → (classKind ws d ≡ 0) ⊎ (classKind ws d ≡ 2) → isInterface (classFlags ws d) ≡ false
 
 not-generated : (k : ℕ) → (k ≡ 0) ⊎ (k ≡ 2) → k ≢ 1
 not-generated k (inl e) f = omega arith
 not-generated k (inr e) f = omega arith
 
 plain-kinds : {ws : List ℕ} {c : ℕ} → Plain ws c → (d : ℕ) → List·Memᴰ d (chain ws c) → classKind ws d ≢ 1
-plain-kinds {ws} p d i = not-generated (classKind ws d) (p .kinds d i)
+plain-kinds {ws} p d i =
+    elim (p .kinds) [ inl k ↦ not-generated (classKind ws d) (k d i) | inr k ↦ (λ e. let q = k d i in omega arith) ]
 
 pub plain-up : {ws : List ℕ} {c : ℕ} → 1 ≤ c → Plain ws c → Plain ws (parentOf ws c)
-plain-up {ws} {c} h p = record { kinds = λ d i. p .kinds d (chain-up ws c h i); flags = λ d i. p .flags d (chain-up ws c h i) }
+plain-up {ws} {c} h p = record {
+  kinds = elim (p .kinds) [ inl k ↦ inl (λ d i. k d (chain-up ws c h i)) | inr k ↦ inr (λ d i. k d (chain-up ws c h i)) ];
+  flags = λ d i. p .flags d (chain-up ws c h i);
+}
 
 module _ (ws₀ abi : List ℕ) (valid₀ : Valid ws₀) (P : ℕ → Type 0) where
   abbrev pub MadeIn : State → ℕ → Type 0
@@ -96,6 +106,7 @@ module _ (ws₀ abi : List ℕ) (valid₀ : Valid ws₀) (P : ℕ → Type 0) wh
     pub like : Like ws₀ (s .set)
     pub parent : (c : ℕ) → Linked (s .set) c → parentOf ws₀ c ≢ 0 → Linked (s .set) (parentOf ws₀ c)
     pub made : (c : ℕ) → Linked (s .set) c → Plain ws₀ c → MadeIn s c
+    pub fits : (c : ℕ) → Linked (s .set) c → badPackages ws₀ (textOf ws₀) abi (abiTextOf abi) c ≡ false
     pub whole : (c : ℕ) → Linked (s .set) c → length (tableOf s c) ≡ classSlotCount (s .set) c
     pub apart : (c d : ℕ) → Linked (s .set) c → Linked (s .set) d → c ≢ d
         → (endOf s c ≤ classTablePlace (s .set) d) ⊎ (endOf s d ≤ classTablePlace (s .set) c)
@@ -107,20 +118,56 @@ module _ (ws₀ abi : List ℕ) (valid₀ : Valid ws₀) (P : ℕ → Type 0) wh
       by (eqb (parentOf ws₀ c) 0) (λ q. rw q refl)
       (λ q. rw (q, h (eqb-false (parentOf ws₀ c) 0 q)) refl)
 
+  -- what a link makes is a matter of the tables of the parent's chain
+
+  introduced-same : (t u : ℕ → List ℕ) (p : ℕ) → ((d : ℕ) → List·Memᴰ d (chain ws₀ p) → t d ≡ u d) → (i : ℕ)
+      → introducedFrom ws₀ (textOf ws₀) abi (abiTextOf abi) t p i ≡ introducedFrom ws₀ (textOf ws₀) abi (abiTextOf abi) u p i
+  unfolding introducedFrom readEntry
+  introduced-same t u p h i =
+      let q : topmost (λ d. ltb i (length (t d))) (chain ws₀ p) ≡ topmost (λ d. ltb i (length (u d))) (chain ws₀ p) =
+      last-ext (λ d. ltb i (length (t d))) (λ d. ltb i (length (u d))) (chain ws₀ p) (λ d j. rw (h d j)) in
+      rw q
+      (by-found (topmost (λ d. ltb i (length (u d))) (chain ws₀ p))
+      (λ d e.
+      rw (e, h d (last-of (λ d. ltb i (length (u d))) (chain ws₀ p) d e .0)))
+      (λ e. rw e))
+
+  from-same : (t u : ℕ → List ℕ) (c : ℕ) → ((d : ℕ) → List·Memᴰ d (chain ws₀ (parentOf ws₀ c)) → t d ≡ u d)
+      → madeFrom ws₀ (textOf ws₀) abi (abiTextOf abi) t c ≡ madeFrom ws₀ (textOf ws₀) abi (abiTextOf abi) u c
+  unfolding madeFrom packagesFrom
+  from-same t u c h =
+      let q : introducedFrom ws₀ (textOf ws₀) abi (abiTextOf abi) t (parentOf ws₀ c) ≡ introducedFrom ws₀ (textOf ws₀) abi (abiTextOf abi) u (parentOf ws₀ c) =
+      fun-ext (introduced-same t u (parentOf ws₀ c) h) in
+      rw (q, inherited-same t u c (λ n. h (parentOf ws₀ c) (chain-here ws₀ (parentOf ws₀ c) (omega arith))))
+
   made-same : (s s′ : State) (c : ℕ) → tableOf s′ c ≡ tableOf s c
-      → (parentOf ws₀ c ≢ 0 → tableOf s′ (parentOf ws₀ c) ≡ tableOf s (parentOf ws₀ c)) → MadeIn s c → MadeIn s′ c
+      → ((d : ℕ) → List·Memᴰ d (chain ws₀ (parentOf ws₀ c)) → tableOf s′ d ≡ tableOf s d) → MadeIn s c → MadeIn s′ c
   made-same s s′ c e h m = record {
     entries = m .entries;
     stubs = m .stubs;
     enough = m .enough;
     lent = m .lent;
     bare = m .bare;
-    from = ap (tableFrom ws₀ (textOf ws₀) abi (abiTextOf abi) c) (inherited-same (tableOf s′) (tableOf s) c h) ∙ m .from;
+    from = from-same (tableOf s′) (tableOf s) c h ∙ m .from;
     words = e ∙ m .words;
   }
 
+  -- the chain of a linked class is linked
+  pub chain-linked : {s : State} → Inv s → (bound c : ℕ) → c ≤ bound → Linked (s .set) c → (d : ℕ) → List·Memᴰ d (chain ws₀ c) → Linked (s .set) d
+  chain-linked inv zero c b l d i = absurd (omega (arith, l .some))
+  chain-linked inv (suc bound) c b l d i =
+      let f = parent-below ws₀ c (l .some) in
+      elim (chain-cases ws₀ c (l .some) i) [
+        | inl e ↦ rw e l
+        | inr j ↦
+            by (eqb (parentOf ws₀ c) 0)
+            (λ t. in-none (chain-none ws₀ (parentOf ws₀ c) (eqb-true (parentOf ws₀ c) 0 t)) j)
+            (λ n. chain-linked inv bound (parentOf ws₀ c) (omega arith) (inv .parent c l (eqb-false (parentOf ws₀ c) 0 n)) d j)
+      ]
+
   pub made-keeps : {s s′ : State} → Inv s → Keeps s s′ → (c : ℕ) → Linked (s .set) c → Plain ws₀ c → MadeIn s′ c
-  made-keeps {s} {s′} inv k c l p = made-same s s′ c (k .table c l) (λ n. k .table (parentOf ws₀ c) (inv .parent c l n)) (inv .made c l p)
+  made-keeps {s} {s′} inv k c l p =
+      made-same s s′ c (k .table c l) (λ d i. k .table d (chain-linked inv c c (omega arith) l d (chain-up ws₀ c (l .some) i))) (inv .made c l p)
 
   pub whole-keeps : {s s′ : State} → Inv s → Keeps s s′ → (c : ℕ) → Linked (s .set) c → length (tableOf s′ c) ≡ classSlotCount (s′ .set) c
   whole-keeps inv k c l = ap length (k .table c l) ∙ inv .whole c l ∙ sym (k .slots c l)
@@ -214,7 +261,7 @@ module _ (ws₀ abi : List ℕ) (valid₀ : Valid ws₀) (P : ℕ → Type 0) wh
 
     -- its parent
     parent-is : parentOf (s .set) c ≡ parentOf ws₀ c
-    parent-is = parent-same ws₀ (s .set) valid₀ (inv .like) c some among₀
+    parent-is = parent-same ws₀ (s .set) valid₀ (alike (inv .like)) c some among₀
 
     parent-linked : parentOf ws₀ c ≢ 0 → Linked (s .set) (parentOf ws₀ c)
     parent-linked n =
@@ -236,7 +283,7 @@ module _ (ws₀ abi : List ℕ) (valid₀ : Valid ws₀) (P : ℕ → Type 0) wh
         rw q
         (sym (read-area (s .set) (textOf (s .set)) abi (abiTextOf abi) (s .area) (parentOf ws₀ c) (classSlotCount (s .set) (parentOf ws₀ c))
         (omega arith) (omega arith))
-        ∙ read-words-same ws₀ (s .set) valid₀ (inv .like) abi (abiTextOf abi) (parentOf ws₀ c) (omega (arith, l .among, inv .like .classes))
+        ∙ read-words-same ws₀ (s .set) valid₀ (alike (inv .like)) abi (abiTextOf abi) (parentOf ws₀ c) (omega (arith, l .among, inv .like .classes))
         (plain-kinds (plain-up some p)) (tableOf s (parentOf ws₀ c)))))
 
     inherited-of : Plain ws₀ c → AllOf (methodCount ws₀) (inheritedFrom ws₀ (textOf ws₀) abi (abiTextOf abi) (tableOf s) c)
@@ -246,7 +293,7 @@ module _ (ws₀ abi : List ℕ) (valid₀ : Valid ws₀) (P : ℕ → Type 0) wh
         by (eqb (parentOf ws₀ c) 0) (λ q. rw q tt)
         (λ q.
         rw q
-        (read-words-of ws₀ (s .set) valid₀ (inv .like) abi (abiTextOf abi) (parentOf ws₀ c) (omega (arith, among₀)) (plain-kinds (plain-up some p))
+        (read-words-of ws₀ (s .set) valid₀ (alike (inv .like)) abi (abiTextOf abi) (parentOf ws₀ c) (omega (arith, among₀)) (plain-kinds (plain-up some p))
         (tableOf s (parentOf ws₀ c))))
 
     here-kind : classKind (s .set) c ≡ classKind ws₀ c
@@ -255,14 +302,82 @@ module _ (ws₀ abi : List ℕ) (valid₀ : Valid ws₀) (P : ℕ → Type 0) wh
     here-flags : classFlags (s .set) c ≡ classFlags ws₀ c
     here-flags = inv .like .word c flagsWord some among₀ (omega arith)
 
-    new-from : Plain ws₀ c → tableFrom ws₀ (textOf ws₀) abi (abiTextOf abi) c (inheritedFrom ws₀ (textOf ws₀) abi (abiTextOf abi) (tableOf s) c) ≡ built T
-    new-from p =
-        let k = p .kinds c (chain-here ws₀ c some) in
-        let f = p .flags c (chain-here ws₀ c some) in
-        sym (table-same ws₀ (s .set) valid₀ (inv .like) abi (abiTextOf abi) c some among₀ (plain-kinds p c (chain-here ws₀ c some))
+    old-from : Plain ws₀ c → (classKind ws₀ c ≡ 0) ⊎ (classKind ws₀ c ≡ 2)
+        → tableFrom ws₀ (textOf ws₀) abi (abiTextOf abi) c (inheritedFrom ws₀ (textOf ws₀) abi (abiTextOf abi) (tableOf s) c) ≡ built T
+    old-from p k =
+        let f = p .flags c (chain-here ws₀ c some) k in
+        sym (table-same ws₀ (s .set) valid₀ (alike (inv .like)) abi (abiTextOf abi) c some among₀ (plain-kinds p c (chain-here ws₀ c some)) here-kind
         (inheritedFrom ws₀ (textOf ws₀) abi (abiTextOf abi) (tableOf s) c) (inherited-of p))
         ∙ ap (tableFrom (s .set) (textOf (s .set)) abi (abiTextOf abi) c) (sym (parent-entries p))
         ∙ plan-table (s .set) (textOf (s .set)) abi (abiTextOf abi) (s .area) c (acc .coming) planning (rw here-kind k) (rw here-flags f)
+
+    -- the parent's chain is linked
+    parents : (d : ℕ) → List·Memᴰ d (chain ws₀ (parentOf ws₀ c)) → Linked (s .set) d
+    parents d i =
+        by (eqb (parentOf ws₀ c) 0)
+        (λ t. in-none (chain-none ws₀ (parentOf ws₀ c) (eqb-true (parentOf ws₀ c) 0 t)) i)
+        (λ n. chain-linked inv (parentOf ws₀ c) (parentOf ws₀ c) (omega arith) (parent-linked (eqb-false (parentOf ws₀ c) 0 n)) d i)
+
+    lies : (d : ℕ) → List·Memᴰ d (chain (s .set) (parentOf (s .set) c)) → Lies (s .set) (textOf (s .set)) abi (abiTextOf abi) (s .area) (tableOf s) d
+    lies d i =
+        let w = parent-within ws₀ c in
+        let e : chain (s .set) (parentOf (s .set) c) ≡ chain ws₀ (parentOf ws₀ c) =
+        ap (chain (s .set)) parent-is ∙ chain-same ws₀ (s .set) valid₀ (alike (inv .like)) (parentOf ws₀ c) (omega (arith, among₀)) in
+        let l = parents d (rw e at i) in
+        let b = acc .lent .below d l in
+        let v = acc .lent .within in
+        record {
+          linked = l .has;
+          slots = valid-now .class d (l .some, l .among) .slots (l .has);
+          inside = omega arith;
+          table = refl;
+        }
+
+    packages-from-start : Plain ws₀ c → classKind ws₀ c ≡ 3 → packagesFrom ws₀ (textOf ws₀) abi (abiTextOf abi) (tableOf s) c ≡ T
+    packages-from-start p k =
+        sym (packages-same ws₀ (s .set) valid₀ (alike (inv .like)) abi (abiTextOf abi) c some among₀ (plain-kinds p) (tableOf s))
+        ∙ sym (packages-from (s .set) (textOf (s .set)) abi (abiTextOf abi) (s .area) (tableOf s) c lies)
+        ∙ planning .packaged (here-kind ∙ k)
+
+    new-from : Plain ws₀ c → madeFrom ws₀ (textOf ws₀) abi (abiTextOf abi) (tableOf s) c ≡ built T
+    unfolding madeFrom
+    new-from p =
+        by (isPackaged ws₀ c)
+        (λ t. rw t (ap built (packages-from-start p (eqb-true (classKind ws₀ c) 3 t))))
+        (λ t.
+        rw t
+        (elim (p .kinds) [
+          | inl k ↦ old-from p (k c (chain-here ws₀ c some))
+          | inr k ↦ absurd (eqb-false (classKind ws₀ c) 3 t (k c (chain-here ws₀ c some)))
+        ]))
+
+    -- row 26 by the sheet at the start
+
+    chain-is : chain (s .set) c ≡ chain ws₀ c
+    chain-is = chain-same ws₀ (s .set) valid₀ (alike (inv .like)) c among₀
+
+    at-class : (d : ℕ) → List·Memᴰ d (chain ws₀ c) → (1 ≤ d) × (d ≤ classCount ws₀)
+    at-class d i = chain-class ws₀ (s .set) valid₀ (alike (inv .like)) c d among₀ i
+
+    kind-same : (d : ℕ) → List·Memᴰ d (chain ws₀ c) → isPackaged (s .set) d ≡ isPackaged ws₀ d
+    kind-same d i = let k = at-class d i in rw (inv .like .word d kindWord (k .0) (k .1) (omega arith))
+
+    bad-same : badPackages (s .set) (textOf (s .set)) abi (abiTextOf abi) c ≡ badPackages ws₀ (textOf ws₀) abi (abiTextOf abi) c
+    unfolding badPackages unfitForPackages
+    bad-same =
+        rw (
+          here-kind,
+          chain-is,
+          some-ext (unfitForPackages (s .set) (textOf (s .set)) abi (abiTextOf abi)) (unfitForPackages ws₀ (textOf ws₀) abi (abiTextOf abi)) (chain ws₀ c)
+              (λ d i.
+              let k = at-class d i in
+              rw (
+                inv .like .word d kindWord (k .0) (k .1) (omega arith),
+                inv .like .word d flagsWord (k .0) (k .1) (omega arith),
+                class-abi ws₀ (s .set) valid₀ (alike (inv .like)) abi (abiTextOf abi) d (k .0) (k .1),
+              )),
+          some-ext (isPackaged (s .set)) (isPackaged ws₀) (chain ws₀ c) kind-same,
+        )
 
     no-methods : classMethodCount ws₀ c ≡ 0 → ownMethods ws₀ c ≡ []
     unfolding ownMethods listFrom
@@ -279,9 +394,7 @@ module _ (ws₀ abi : List ℕ) (valid₀ : Valid ws₀) (P : ℕ → Type 0) wh
       enough = acc .room .stubbed;
       lent = λ i h. lent (getD stubs i 0) (in-at stubs i h);
       bare = new-bare;
-      from = ap (tableFrom ws₀ (textOf ws₀) abi (abiTextOf abi) c)
-          (inherited-same (tableOf next) (tableOf s) c (λ n. table-other (parentOf ws₀ c) (parent-linked n)))
-          ∙ new-from p;
+      from = from-same (tableOf next) (tableOf s) c (λ d i. table-other d (parents d i)) ∙ new-from p;
       words = new-table;
     }
 
@@ -299,6 +412,10 @@ module _ (ws₀ abi : List ℕ) (valid₀ : Valid ws₀) (P : ℕ → Type 0) wh
           by (eqb d c)
           (λ t. let e : d ≡ c = eqb-true d c t in rw e (new-made (rw e at p)))
           (λ f. made-keeps inv link-keeps d (was d (eqb-false d c f) l) p);
+      fits = λ d l.
+          by (eqb d c)
+          (λ t. let e : d ≡ c = eqb-true d c t in rw e (sym bad-same ∙ acc .packages))
+          (λ f. inv .fits d (was d (eqb-false d c f) l));
       whole = λ d l.
           by (eqb d c)
           (λ t. let e : d ≡ c = eqb-true d c t in rw e (ap length new-table ∙ length-words stubs 0 T ∙ sym new-slots))

@@ -1,7 +1,7 @@
 -- The premises of demand 3 as tests, so that examples meet them by computation: where a test passes, its premise holds. Assumes nothing.
 use mathlib.Core.Path.{_≡_, refl}
 use mathlib.Core.Logic.{_⊎_, inl, inr, _≢_}
-use mathlib.Core.Bool.{Bool, true, false, not, _&&_, _||_}
+use mathlib.Core.Bool.{Bool, true, false, not, _&&_, _||_, false≢true}
 use mathlib.Core.List.{List, [], _∷_, _++_, List·Memᴰ, List·Memᴰ·head, List·Memᴰ·tail, Memᴰ·append-left, Memᴰ·append-right}
 use Prim.Native.Nat.{ℕ, _+_, _-_}
 use native.Mathlib.Omega.{arith}
@@ -17,10 +17,10 @@ use Rattle.class_sheet.specs.ClassSheet.{classCount, textOf, classKind, classFl
 use Rattle.abi_sheet.specs.AbiSheet.{abiTextOf, abiSlotName, abiSlotDescriptor}
 use Rattle.linking.specs.Chain.{ownMethods, chain, isInterface}
 use Rattle.linking.specs.Abi.{abiSlots, slotIndex, classAbi}
-use Rattle.slots.specs.Slots.{ChainMethod, ChainSlot, Orderly}
+use Rattle.slots.specs.Slots.{OldRule, ChainMethod, ChainSlot, Orderly}
 use Rattle.slots.proofs.ListFacts.{all-found}
 use Rattle.calls.specs.Calls.{Call, State, outcome, step, run, Unlinked, Lent, lent-now, lent-later, stubsOf}
-use Rattle.calls.specs.Demand.{Conditions}
+use Rattle.calls.specs.Demand.{BuiltOrArray, Conditions}
 
 -- ---- lists
 
@@ -28,10 +28,14 @@ unfoldable pub every : (ℕ → Bool) → List ℕ → Bool
 every p [] = true
 every p (x ∷ xs) = p x && every p xs
 
-every-each : (p : ℕ → Bool) {x : ℕ} {xs : List ℕ} → every p xs ≡ true → List·Memᴰ x xs → p x ≡ true
+pub every-each : (p : ℕ → Bool) {x : ℕ} {xs : List ℕ} → every p xs ≡ true → List·Memᴰ x xs → p x ≡ true
 unfolding every
 every-each p h (List·Memᴰ·head {x = y} {xs = xs} e) = rw e (and-both (p y) (every p xs) h .0)
 every-each p h (List·Memᴰ·tail {x = y} {xs = xs} i) = every-each p (and-both (p y) (every p xs) h .1) i
+
+pub implied : (a b : Bool) → (not a || b) ≡ true → a ≡ true → b ≡ true
+implied true b h e = h
+implied false b h e = absurd (false≢true e)
 
 unfoldable pub gather : (ℕ → List ℕ) → List ℕ → List ℕ
 gather f [] = []
@@ -68,9 +72,13 @@ module _ (ws abi : List ℕ) (calls : List Call) (c : ℕ) where
   abbrev labels : List ℕ
   labels = abiTextOf abi
 
+  -- the premise of `unique`
+  unfoldable pub oldRule : Bool
+  oldRule = every (λ d. eqb (classKind ws d) 0 || eqb (classKind ws d) 2) (chain ws c)
+
   -- row by row as in `Conditions`
   unfoldable pub builtOrArray : Bool
-  builtOrArray = every (λ d. eqb (classKind ws d) 0 || eqb (classKind ws d) 2) (chain ws c)
+  builtOrArray = every (λ d. eqb (classKind ws d) 0 || (eqb (classKind ws d) 2 || eqb (classKind ws d) 3)) (chain ws c)
 
   unfoldable pub noInterface : Bool
   noInterface = every (λ d. not (isInterface (classFlags ws d))) (chain ws c)
@@ -103,7 +111,7 @@ module _ (ws abi : List ℕ) (calls : List Call) (c : ℕ) where
 
   -- ---- where they pass
 
-  a-method : {m : ℕ} → ChainMethod ws c m → List·Memᴰ m (chainMethods ws c)
+  pub a-method : {m : ℕ} → ChainMethod ws c m → List·Memᴰ m (chainMethods ws c)
   unfolding chainMethods
   a-method k = in-gather (ownMethods ws) (k .along) (k .own)
 
@@ -114,9 +122,21 @@ module _ (ws abi : List ℕ) (calls : List Call) (c : ℕ) where
   kind-of : (k : ℕ) → (eqb k 0 || eqb k 2) ≡ true → (k ≡ 0) ⊎ (k ≡ 2)
   kind-of k h = elim (or-either (eqb k 0) (eqb k 2) h) [ inl e ↦ inl (eqb-true k 0 e) | inr e ↦ inr (eqb-true k 2 e) ]
 
-  pub kinds-hold : builtOrArray ≡ true → (d : ℕ) → List·Memᴰ d (chain ws c) → (classKind ws d ≡ 0) ⊎ (classKind ws d ≡ 2)
+  pub old-holds : oldRule ≡ true → OldRule ws c
+  unfolding oldRule
+  old-holds h d i = kind-of (classKind ws d) (every-each (λ d. eqb (classKind ws d) 0 || eqb (classKind ws d) 2) h i)
+
+  pub kinds-hold : builtOrArray ≡ true → (d : ℕ) → List·Memᴰ d (chain ws c) → BuiltOrArray ws d
   unfolding builtOrArray
-  kinds-hold h d i = kind-of (classKind ws d) (every-each (λ d. eqb (classKind ws d) 0 || eqb (classKind ws d) 2) h i)
+  kinds-hold h d i =
+      let e = every-each (λ d. eqb (classKind ws d) 0 || (eqb (classKind ws d) 2 || eqb (classKind ws d) 3)) h i in
+      elim (or-either (eqb (classKind ws d) 0) (eqb (classKind ws d) 2 || eqb (classKind ws d) 3) e) [
+        | inl t ↦ inl (eqb-true (classKind ws d) 0 t)
+        | inr t ↦ elim (or-either (eqb (classKind ws d) 2) (eqb (classKind ws d) 3) t) [
+          | inl u ↦ inr (inl (eqb-true (classKind ws d) 2 u))
+          | inr u ↦ inr (inr (eqb-true (classKind ws d) 3 u))
+        ]
+      ]
 
   pub flags-hold : noInterface ≡ true → (d : ℕ) → List·Memᴰ d (chain ws c) → isInterface (classFlags ws d) ≡ false
   unfolding noInterface
@@ -129,13 +149,6 @@ module _ (ws abi : List ℕ) (calls : List Call) (c : ℕ) where
       and-both (oneIndex s z) (oneSignature s z)
       (every-each (λ z. oneIndex s z && oneSignature s z)
       (every-each (λ s. every (λ z. oneIndex s z && oneSignature s z) (chainSlots ws abi c)) h (a-slot k)) (a-slot l))
-
-  implied : (a b : Bool) → (not a || b) ≡ true → a ≡ true → b ≡ true
-  implied true b h e = h
-  implied false b h e = absurd (omega (arith, zero-one e))
-    where
-      zero-one : false ≡ true → _≡_ {A = ℕ} 0 1
-      zero-one e = cc
 
   signature : isOrderly ≡ true → (s z : ℕ) → ChainSlot ws (textOf ws) abi (abiTextOf abi) c s → ChainSlot ws (textOf ws) abi (abiTextOf abi) c z
       → slotIndex abi s ≡ slotIndex abi z
@@ -199,7 +212,7 @@ unlinked-holds ws h c s a =
 
 -- all of them
 pub record Passes (ws abi : List ℕ) (calls : List Call) (c : ℕ) : Type 0 where
-  pub built-or-array : builtOrArray ws abi calls c ≡ true
+  pub kinds : builtOrArray ws abi calls c ≡ true
   pub no-interface : noInterface ws abi calls c ≡ true
   pub orderly : isOrderly ws abi calls c ≡ true
   pub targets-nonzero : targetsNonzero ws abi calls c ≡ true
@@ -209,7 +222,7 @@ pub record Passes (ws abi : List ℕ) (calls : List Call) (c : ℕ) : Type 0 whe
 
 pub conditions : (ws abi area : List ℕ) (calls : List Call) (c : ℕ) → Passes ws abi calls c → Conditions ws abi area calls c
 conditions ws abi area calls c p = record {
-  built-or-array = kinds-hold ws abi calls c (p .built-or-array);
+  kinds = kinds-hold ws abi calls c (p .kinds);
   no-interface = flags-hold ws abi calls c (p .no-interface);
   orderly = orderly-holds ws abi calls c (p .orderly);
   targets-nonzero = nonzero-hold ws abi calls c (p .targets-nonzero);
@@ -232,5 +245,5 @@ answers abi s (k ∷ ks) =
 
 -- what examples by computation open
 unfoldable pub shown : ℕ
-unfolding every gather chainMethods chainSlots stubsLent isUnlinked builtOrArray noInterface isOrderly targetsNonzero stubsNonzero targetsDifferent noStub verdicts answers step run
+unfolding every gather chainMethods chainSlots stubsLent isUnlinked oldRule builtOrArray noInterface isOrderly targetsNonzero stubsNonzero targetsDifferent noStub verdicts answers step run
 shown = 0

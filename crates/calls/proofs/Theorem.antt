@@ -2,6 +2,7 @@
 -- slots). Assumes nothing.
 use mathlib.Core.Path.{_≡_, refl, sym, ap, _∙_, subst}
 use mathlib.Core.Logic.{inl, inr, _≢_}
+use mathlib.Core.Bool.{false}
 use mathlib.Core.List.{List, List·Memᴰ}
 use Prim.Native.Nat.{ℕ, zero, suc, _≤_}
 use native.Mathlib.Omega.{arith}
@@ -10,7 +11,7 @@ use lib.Dec.{eqb}
 use borrow.Author.Tests.{eqb-true, eqb-false}
 use Rattle.words.specs.declared.Found.the-variants.{Nothing}
 use Rattle.words.proofs.Bools.{by}
-use Rattle.class_sheet.specs.ClassSheet.{textOf, classSlotCount, classLimit}
+use Rattle.class_sheet.specs.ClassSheet.{textOf, classCount, classSlotCount, classLimit}
 use Rattle.abi_sheet.specs.AbiSheet.{abiTextOf}
 use Rattle.set_rules.specs.SetRules.{setRefusal}
 use Rattle.set_rules.specs.Valid.{Valid}
@@ -18,18 +19,22 @@ use Rattle.set_rules.proofs.Valid.{valid}
 use Rattle.linking.proofs.ChainLaws.{parent-below, chain-none}
 use Rattle.linking.specs.Chain.{parentOf, chain}
 use Rattle.linking.specs.Abi.{classAbi}
+use Rattle.linking.specs.Packages.{badPackages}
 use Rattle.linking.proofs.Rows.{Linked}
 use Rattle.slots.specs.Made as tables
-use Rattle.slots.specs.Slots.{Unique, Kept}
+use Rattle.slots.specs.Slots.{OldRule, Unique, Kept}
 use Rattle.slots.specs.Made.{Made}
 use Rattle.slots.proofs.ListFacts.{in-none}
 use Rattle.slots.proofs.ChainFacts.{chain-cases}
 use Rattle.slots.proofs.Tables.{table-unique, table-kept}
+use Rattle.slots.proofs.PackageTables.{packages-kept}
 use Rattle.calls.specs.Calls.{Call, link, ask, State, step, run, Unlinked, LinkedIn, now, later, tableAt, Lent}
 use Rattle.calls.specs.Demand.{start, KeepsParent, Claim, Demand3}
 use Rattle.calls.proofs.Rows.{link-cases, ask-cases}
 use Rattle.calls.proofs.Like.{like-same}
+use Rattle.calls.proofs.Runs as runs
 use Rattle.calls.proofs.Runs.{tableOf, Plain, plain-up, Inv}
+use Rattle.calls.proofs.Fits.{one-rule}
 use Rattle.calls.proofs.Lists.{Goes, run-goes, Answered, answered, history}
 
 -- ---- a set that rows 3 to 5 refuse never links
@@ -53,10 +58,10 @@ module _ (ws abi : List ℕ) (bad : setRefusal ws abi ≢ 0) where
 -- ---- the others
 
 module _ (ws abi area : List ℕ) (valid₀ : Valid ws) (unlinked : Unlinked ws) (calls : List Call) where
-  abbrev P : ℕ → Type 0
+  abbrev pub P : ℕ → Type 0
   P x = Lent x calls
 
-  abbrev final : State
+  abbrev pub final : State
   final = run abi calls (start ws abi area calls)
 
   none : (c : ℕ) → Linked ws c → ⊥
@@ -67,6 +72,7 @@ module _ (ws abi area : List ℕ) (valid₀ : Valid ws) (unlinked : Unlinked ws)
     like = like-same ws;
     parent = λ c l. absurd (none c l);
     made = λ c l. absurd (none c l);
+    fits = λ c l. absurd (none c l);
     whole = λ c l. absurd (none c l);
     apart = λ c d l. absurd (none c l);
   }
@@ -91,25 +97,60 @@ module _ (ws abi area : List ℕ) (valid₀ : Valid ws) (unlinked : Unlinked ws)
             (λ n. chain-linked bound (parentOf ws c) (omega arith) (goes .inv .parent c l (eqb-false (parentOf ws c) 0 n)) (plain-up (l .some) p) d j)
       ]
 
+  -- the table that a link answered
+  pub table-is : {d p n : ℕ} → LinkedIn abi d p n (start ws abi area calls) calls → tableOf final d ≡ tableAt (final .area) p n
+  table-is {d} {p} {n} i =
+      let a = after i in
+      ap (λ (x : ℕ). tableAt (final .area) x (classSlotCount (final .set) d)) (a .place)
+      ∙ ap (λ (x : ℕ). tableAt (final .area) p x) (a .slots)
+
+  -- as many as the slots it answered
+  pub whole-is : {d p n : ℕ} → LinkedIn abi d p n (start ws abi area calls) calls → length (tableAt (final .area) p n) ≡ n
+  whole-is {d} i = sym (ap length (table-is i)) ∙ goes .inv .whole d (after i .linked) ∙ after i .slots
+
+  pub chain-made : {c p n : ℕ} → LinkedIn abi c p n (start ws abi area calls) calls → Plain ws c
+      → (d : ℕ) → List·Memᴰ d (chain ws c) → Made ws (textOf ws) abi (abiTextOf abi) (tableOf final) P d
+  chain-made {c} linked plain d i = let r = chain-linked c c (omega arith) (after linked .linked) plain d i in goes .inv .made d (r .0) (r .1)
+
+  pub class-within : {c p n : ℕ} → LinkedIn abi c p n (start ws abi area calls) calls → (1 ≤ c) × (c ≤ classCount ws)
+  class-within linked = (after linked .linked .some, omega (arith, after linked .linked .among, goes .inv .like .classes))
+
+  -- so is its chain, in the list
+  pub chain-in : {c p n : ℕ} → LinkedIn abi c p n (start ws abi area calls) calls → (d : ℕ) → List·Memᴰ d (chain ws c)
+      → (place : ℕ) × (slots : ℕ) × LinkedIn abi d place slots (start ws abi area calls) calls
+  chain-in {c} linked d i =
+      elim (history ws abi valid₀ P calls (start ws abi area calls) start-inv (λ x j. j) d
+      (runs.chain-linked ws abi valid₀ P (goes .inv) c c (omega arith) (after linked .linked) d i)) [
+        | inl l ↦ absurd (none d l)
+        | inr r ↦ (r .place, r .slots, r .found)
+      ]
+
+  -- row 26 passed it
+  pub link-fits : {c p n : ℕ} → LinkedIn abi c p n (start ws abi area calls) calls → badPackages ws (textOf ws) abi (abiTextOf abi) c ≡ false
+  link-fits {c} linked = goes .inv .fits c (after linked .linked)
+
   module _ (c place slots : ℕ) (linked : LinkedIn abi c place slots (start ws abi area calls) calls) (plain : Plain ws c)
       (conditions : tables.Conditions ws (textOf ws) abi (abiTextOf abi) P c) where
     made : (d : ℕ) → List·Memᴰ d (chain ws c) → Made ws (textOf ws) abi (abiTextOf abi) (tableOf final) P d
-    made d i = let r = chain-linked c c (omega arith) (after linked .linked) plain d i in goes .inv .made d (r .0) (r .1)
+    made = chain-made linked plain
 
     within : c ≤ classLimit
     within = omega (arith, after linked .linked .among, goes .inv .like .classes, valid₀ .class-count)
 
-    -- the table that a link answered
-    table-is : {d p n : ℕ} → LinkedIn abi d p n (start ws abi area calls) calls → tableOf final d ≡ tableAt (final .area) p n
-    table-is {d} {p} {n} i =
-        let a = after i in
-        ap (λ (x : ℕ). tableAt (final .area) x (classSlotCount (final .set) d)) (a .place)
-        ∙ ap (λ (x : ℕ). tableAt (final .area) p x) (a .slots)
-
-    unique : Unique ws (textOf ws) abi (abiTextOf abi) c (tableAt (final .area) place slots)
-    unique =
+    unique : OldRule ws c → Unique ws (textOf ws) abi (abiTextOf abi) c (tableAt (final .area) place slots)
+    unique old =
         subst (λ (t : List ℕ). Unique ws (textOf ws) abi (abiTextOf abi) c t) (table-is linked)
-        (table-unique ws (textOf ws) abi (abiTextOf abi) (tableOf final) P c within conditions made)
+        (table-unique ws (textOf ws) abi (abiTextOf abi) (tableOf final) P c within old conditions made)
+
+    -- by either rule
+    both-kept : parentOf ws c ≢ 0 → classAbi ws (textOf ws) abi (abiTextOf abi) c ≡ Nothing
+        → Kept ws (textOf ws) abi (abiTextOf abi) c (tableOf final c) (tableOf final (parentOf ws c))
+    both-kept n e =
+        elim (plain .kinds) [
+          | inl old ↦ table-kept ws (textOf ws) abi (abiTextOf abi) (tableOf final) P c within old conditions made n e
+          | inr packages ↦ packages-kept ws (textOf ws) abi (abiTextOf abi) (tableOf final) P c packages
+              (record { nonzero = conditions .targets-nonzero; different = conditions .targets-different }) made n
+        ]
 
     keeps-parent : parentOf ws c ≢ 0 → classAbi ws (textOf ws) abi (abiTextOf abi) c ≡ Nothing → KeepsParent ws abi area calls c place slots
     keeps-parent n e =
@@ -121,7 +162,7 @@ module _ (ws abi area : List ℕ) (valid₀ : Valid ws) (unlinked : Unlinked ws)
             parent-linked = r .found;
             kept = λ p m l. subst (λ (t : List ℕ). Kept ws (textOf ws) abi (abiTextOf abi) c t (tableAt (final .area) p m)) (table-is linked)
                 (subst (λ (t : List ℕ). Kept ws (textOf ws) abi (abiTextOf abi) c (tableOf final c) t) (table-is l)
-                (table-kept ws (textOf ws) abi (abiTextOf abi) (tableOf final) P c within conditions made n e));
+                (both-kept n e));
           }
         ]
 
@@ -129,11 +170,18 @@ module _ (ws abi area : List ℕ) (valid₀ : Valid ws) (unlinked : Unlinked ws)
     claim = record {
       unique = unique;
       keeps-parent = keeps-parent;
-      whole = sym (ap length (table-is linked)) ∙ goes .inv .whole c (after linked .linked) ∙ after linked .slots;
+      whole = whole-is linked;
       one-table = λ p n i. let a = after i in let b = after linked in (sym (a .place) ∙ b .place, sym (a .slots) ∙ b .slots);
     }
 
 -- ---- THE THEOREM
+
+-- a set from which a class was linked is valid
+pub linked-valid : (ws abi area : List ℕ) (calls : List Call) (c place slots : ℕ) → LinkedIn abi c place slots (start ws abi area calls) calls → Valid ws
+linked-valid ws abi area calls c place slots linked =
+    by (eqb (setRefusal ws abi) 0)
+    (λ t. valid ws abi (eqb-true (setRefusal ws abi) 0 t) .0)
+    (λ f. absurd (never ws abi (eqb-false (setRefusal ws abi) 0 f) refl linked))
 
 -- for every class whose chain is plain and meets the conditions of Made.antt: of orderly, "each signature (name and descriptor) has one index" is
 -- enough, whatever signatures share an index
@@ -141,13 +189,14 @@ pub one-index-enough : (ws abi area : List ℕ) → Unlinked ws → (calls : Lis
     → LinkedIn abi c place slots (start ws abi area calls) calls → Plain ws c
     → tables.Conditions ws (textOf ws) abi (abiTextOf abi) (λ x. Lent x calls) c → Claim ws abi area calls c place slots
 one-index-enough ws abi area unlinked calls c place slots linked plain k =
-    by (eqb (setRefusal ws abi) 0)
-    (λ t. claim ws abi area (valid ws abi (eqb-true (setRefusal ws abi) 0 t) .0) unlinked calls c place slots linked plain k)
-    (λ f. absurd (never ws abi (eqb-false (setRefusal ws abi) 0 f) refl linked))
+    claim ws abi area (linked-valid ws abi area calls c place slots linked) unlinked calls c place slots linked plain k
 
 pub demand-3 : Demand3
 demand-3 ws abi area unlinked calls c place slots linked k =
-    one-index-enough ws abi area unlinked calls c place slots linked (record { kinds = k .built-or-array; flags = k .no-interface })
+    let valid₀ = linked-valid ws abi area calls c place slots linked in
+    let fits = link-fits ws abi area valid₀ unlinked calls linked in
+    one-index-enough ws abi area unlinked calls c place slots linked
+    (record { kinds = one-rule ws (textOf ws) abi (abiTextOf abi) c fits (k .kinds); flags = λ d i q. k .no-interface d i })
     (record {
       one-index = k .orderly .one-index;
       targets-nonzero = k .targets-nonzero;

@@ -20,9 +20,9 @@ use Rattle.linking.specs.Chain.{listCount, ownMethods, parentOf, chainOf, chain
 use Rattle.linking.specs.Abi.{slotAt, classAbi, chainAbi}
 use Rattle.linking.specs.Vtable.{ownFixed, findByIndex, readEntry}
 use Rattle.slots.specs.Made.{readWords}
-use Rattle.calls.proofs.Like.{Like}
+use Rattle.calls.proofs.Like.{Alike}
 
-module _ (old new : List ℕ) (valid : Valid old) (like : Like old new) where
+module _ (old new : List ℕ) (valid : Valid old) (like : Alike old new) where
   -- ---- names
 
   pub name-same : (start len : ℕ) → start + len ≤ length (textOf old) → nameAt (textOf new) start len ≡ nameAt (textOf old) start len
@@ -84,7 +84,7 @@ module _ (old new : List ℕ) (valid : Valid old) (like : Like old new) where
   module _ (d : ℕ) (s : 1 ≤ d) (a : d ≤ classCount old) (n : classKind old d ≢ 1) where
     pub own-same : ownMethods new d ≡ ownMethods old d
     unfolding ownMethods
-    own-same = rw (like .listed d firstMethodWord s a n (omega arith), like .listed d methodCountWord s a n (omega arith))
+    own-same = rw (like .listed d firstMethodWord s a n (omega arith) (omega arith), like .listed d methodCountWord s a n (omega arith) (omega arith))
 
     pub own-below : (m : ℕ) → List·Memᴰ m (ownMethods old d) → m < methodCount old
     unfolding ownMethods
@@ -147,7 +147,7 @@ module _ (old new : List ℕ) (valid : Valid old) (like : Like old new) where
           (first-ext (ownFixed new (textOf new) abi labels i) (ownFixed old (textOf old) abi labels i) (chain old c)
           (λ d m. let k = chain-class c d a m in own-fixed i d (k .0) (k .1) (plain d m)))
 
-      read-same : (i w : ℕ) → readEntry new (textOf new) abi labels c i w ≡ readEntry old (textOf old) abi labels c i w
+      pub read-same : (i w : ℕ) → readEntry new (textOf new) abi labels c i w ≡ readEntry old (textOf old) abi labels c i w
       unfolding readEntry
       read-same i w = rw (by-target w, by-index i)
 

@@ -8,12 +8,16 @@ use mathlib.Core.Bool.{false}
 use mathlib.Core.List.{List, List·Memᴰ}
 use lib.ListN.{length}
 use Rattle.words.specs.declared.Found.the-variants.{Nothing}
-use Rattle.class_sheet.specs.ClassSheet.{textOf, classFlags, classKind, methodTarget}
+use Rattle.class_sheet.specs.ClassSheet.{textOf, classKind, classFlags, methodTarget}
 use Rattle.abi_sheet.specs.AbiSheet.{abiTextOf}
 use Rattle.linking.specs.Chain.{parentOf, chain, isInterface}
 use Rattle.linking.specs.Abi.{classAbi}
-use Rattle.slots.specs.Slots.{Unique, Kept, ChainMethod, Orderly}
+use Rattle.slots.specs.Slots.{OldRule, Unique, Kept, ChainMethod, Orderly}
 use Rattle.calls.specs.Calls.{Call, State, run, Unlinked, LinkedIn, tableAt, Lent}
+
+-- class d is built, of kind 0 or 3, or an array class
+abbrev pub BuiltOrArray : List ℕ → ℕ → Type 0
+BuiltOrArray ws d = (classKind ws d ≡ 0) ⊎ ((classKind ws d ≡ 2) ⊎ (classKind ws d ≡ 3))
 
 -- "with one ABI sheet and whatever the area holds": the sheet and the area at the list's start
 module _ (ws abi area : List ℕ) (calls : List Call) where
@@ -36,7 +40,7 @@ module _ (ws abi area : List ℕ) (calls : List Call) where
 
   pub record Conditions (c : ℕ) : Type 0 where
     -- "whose parent chain, itself included, has only built and array classes, none of them an interface,"
-    pub built-or-array : (d : ℕ) → List·Memᴰ d (chain ws c) → (classKind ws d ≡ 0) ⊎ (classKind ws d ≡ 2)
+    pub kinds : (d : ℕ) → List·Memᴰ d (chain ws c) → BuiltOrArray ws d
     pub no-interface : (d : ℕ) → List·Memᴰ d (chain ws c) → isInterface (classFlags ws d) ≡ false
     -- "under an orderly ABI sheet,"
     pub orderly : Orderly ws (textOf ws) abi (abiTextOf abi) c
@@ -61,8 +65,8 @@ module _ (ws abi area : List ℕ) (calls : List Call) where
     pub kept : (p n : ℕ) → Linked (parentOf ws c) p n → Kept ws (textOf ws) abi (abiTextOf abi) c (table place slots) (table p n)
 
   pub record Claim (c place slots : ℕ) : Type 0 where
-    -- "no two known slots in a class's table have one signature"
-    pub unique : Unique ws (textOf ws) abi (abiTextOf abi) c (table place slots)
+    -- "no two known slots in a class's table have one signature": "made only for the old rule"
+    pub unique : OldRule ws c → Unique ws (textOf ws) abi (abiTextOf abi) c (table place slots)
     pub keeps-parent : parentOf ws c ≢ 0 → classAbi ws (textOf ws) abi (abiTextOf abi) c ≡ Nothing → KeepsParent c place slots
     -- "as many as the slots it answered": the table lies inside the area
     pub whole : length (table place slots) ≡ slots

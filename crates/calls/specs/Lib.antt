@@ -1,3 +1,5 @@
 pub mod Calls
 pub mod Demand
 pub mod Owners
+pub mod Takes
+pub mod KindZero

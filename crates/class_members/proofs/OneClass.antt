@@ -25,7 +25,7 @@ use Rattle.class_sheet.specs.Sections.{Sections, Formed, laidOut}
 use Rattle.class_sheet.proofs.Sections.{class-count, method-count, field-count, interface-count, compiler-count, text-length, class-word, method-word}
 use Rattle.class_sheet.proofs.Sections.{field-word, text-of, length-laid}
 use Rattle.abi_sheet.specs.AbiSheet.{abiCountAt, abiSlotsAt, abiFieldsAt, abiTextAt, abiContentEnd, abiTextOf}
-use Rattle.class_rules.specs.ClassRules.{classLimits, classFits, compilerOk, classNumbers, classLists, classRecord, methodFlagsOk, methodRecord}
+use Rattle.class_rules.specs.ClassRules.{classLimits, classFits, compilerOk, ownNumbers, classNumbers, classLists, classRecord, methodFlagsOk, methodRecord}
 use Rattle.class_rules.specs.ClassRules.{fieldRecord, interfaceNames, classRecords}
 use Rattle.apart.specs.Apart.{apartBefore, classesApart}
 use Rattle.abi_rules.specs.AbiRules.{abiLimits, abiFits, abiRecords}
@@ -209,7 +209,7 @@ module _ (name parent : List ℕ) (flags : ℕ) (fs ms : List New) (rest : List 
         )
 
     class-ok : classRecord ws text 1 ≡ true
-    unfolding classRecord classNumbers classLists compilerOk inside
+    unfolding classRecord ownNumbers classNumbers classLists compilerOk inside
     class-ok =
         let n : partOk text 0 (length name) ≡ true =
         part-ok text 0 name refl (part-is [] name (parent ++ (newText fs ++ newText ms)) 0 (length name) refl refl)

@@ -1,9 +1,10 @@
 -- Laws of row 3 for a class sheet, the reading's form as the code tests it, and of row 4's records as it reads them. Assumes nothing.
 use mathlib.Core.Path.{_≡_, refl, sym, ap, _∙_}
-use mathlib.Core.Logic.{_⊎_, inl, inr}
+use mathlib.Core.Logic.{_≢_}
 use mathlib.Core.Bool.{Bool, true, false, not, _&&_, _||_, and-false, false≢true}
 use mathlib.Core.List.{List}
-use Prim.Native.Nat.{ℕ, _+_, _*_, _≤_, _<_}
+use Prim.Native.Nat.{ℕ, zero, suc, _+_, _*_, _≤_, _<_}
+use native.Mathlib.Omega.{arith}
 use lib.ListN.{length, getD, take, drop}
 use lib.Dec.{eqb, leb, ltb}
 use borrow.Author.Tests.{eqb-true, le-leb, lt-leb, leb-true, not-true, not-false}
@@ -14,7 +15,7 @@ use Rattle.words.proofs.FoldLaws.{all-ext}
 use Rattle.block.specs.Block.{leastFit}
 use Rattle.text.specs.Text.{numberWord, zeroRest, printable, signatureClean, memberClean}
 use Rattle.text.proofs.Laws.{signature-is, member-is}
-use Rattle.class_sheet.specs.ClassSheet.{memberWidth, classLimit, methodLimit, fieldLimit, interfaceLimit, compilerLimit, textLimit, classCount, methodCount, fieldCount, interfaceCount, compilerCount, textLength, methodsAt, fieldsAt, textAt, contentEnd, methodWord, fieldWord, classKind, classTablePlace, classSlotCount, classStaticWords}
+use Rattle.class_sheet.specs.ClassSheet.{memberWidth, classLimit, methodLimit, fieldLimit, interfaceLimit, compilerLimit, textLimit, classCount, methodCount, fieldCount, interfaceCount, compilerCount, textLength, methodsAt, fieldsAt, textAt, contentEnd, methodWord, fieldWord, classKind, classTablePlace, classSlotCount, classStaticWords, isBuiltKind}
 use Rattle.class_sheet.proofs.Laws.{Within}
 use Rattle.class_rules.specs.ClassRules.{classLimits, classFits, unlinked, staticsClean, fresh, allFresh, classForm, methodFlagsOk, methodRecord, fieldRecord}
 
@@ -69,14 +70,18 @@ pub fresh-same : (ws us : List ℕ) (c d : ℕ) → classKind ws c ≡ classKind
 unfolding fresh unlinked staticsClean
 fresh-same ws us c d kind place slots statics = rw (kind, place, slots, statics)
 
-some-kind : (k : ℕ) → (k ≡ 0) ⊎ (k ≡ 2) → (eqb k 0 || eqb k 2) ≡ true
-some-kind k (inl e) = rw e
-some-kind k (inr e) = rw e
+some-kind : (k : ℕ) → k ≤ 3 → k ≢ 1 → (isBuiltKind k || eqb k 2) ≡ true
+unfolding isBuiltKind
+some-kind zero h n = refl
+some-kind (suc zero) h n = absurd (n refl)
+some-kind (suc (suc zero)) h n = refl
+some-kind (suc (suc (suc zero))) h n = refl
+some-kind (suc (suc (suc (suc k)))) h n = absurd (omega arith)
 
--- what it says: no table, and no static words of a built or array class
+-- what it says: no table, and no static words of a class of any kind but generated
 abbrev pub Fresh : List ℕ → ℕ → Type 0
 Fresh ws c =
-    (classTablePlace ws c ≡ 0) × (classSlotCount ws c ≡ 0) × ((classKind ws c ≡ 0) ⊎ (classKind ws c ≡ 2) → classStaticWords ws c ≡ 0)
+    (classTablePlace ws c ≡ 0) × (classSlotCount ws c ≡ 0) × (classKind ws c ≤ 3 → classKind ws c ≢ 1 → classStaticWords ws c ≡ 0)
 
 pub fresh-says : (ws : List ℕ) (c : ℕ) → fresh ws c ≡ true → Fresh ws c
 unfolding fresh unlinked staticsClean
@@ -85,7 +90,7 @@ fresh-says ws c h =
     let q = and-both (eqb (classTablePlace ws c) 0) (eqb (classSlotCount ws c) 0) (p .0) in (
       eqb-true _ _ (q .0),
       eqb-true _ _ (q .1),
-      λ k. eqb-true _ _ (or-left (eqb (classStaticWords ws c) 0) _ (some-kind (classKind ws c) k) (p .1)),
+      λ k n. eqb-true _ _ (or-left (eqb (classStaticWords ws c) 0) _ (some-kind (classKind ws c) k n) (p .1)),
     )
 
 -- ---- row 4's records, as the code reads them: from their section's beginning on, told whether the text is printable

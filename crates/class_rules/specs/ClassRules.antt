@@ -8,7 +8,7 @@ use Rattle.words.specs.Folds.{allOf}
 use Rattle.words.specs.Words.{inside}
 use Rattle.block.specs.Block.{leastFit}
 use Rattle.text.specs.Text.{zeroRest, partOk}
-use Rattle.class_sheet.specs.ClassSheet.{classLimit, methodLimit, fieldLimit, interfaceLimit, compilerLimit, textLimit, classCount, methodCount, fieldCount, interfaceCount, compilerCount, textLength, textAt, contentEnd, interfaceWord, classNameStart, classNameLength, classParent, classFlags, classKind, classFirstMethod, classMethodCount, classFirstField, classFieldCount, classFirstInterface, classInterfaceCount, classLinkState, classInstanceWords, classCompilerTable, classCompilerSlots, classTablePlace, classSlotCount, classStaticWords, methodNameStart, methodNameLength, methodDescriptorStart, methodDescriptorLength, methodFlags, fieldNameStart, fieldNameLength, fieldDescriptorStart, fieldDescriptorLength, fieldFlags}
+use Rattle.class_sheet.specs.ClassSheet.{classLimit, methodLimit, fieldLimit, interfaceLimit, compilerLimit, textLimit, classCount, methodCount, fieldCount, interfaceCount, compilerCount, textLength, textAt, contentEnd, interfaceWord, classNameStart, classNameLength, classParent, classFlags, classKind, classFirstMethod, classMethodCount, classFirstField, classFieldCount, classFirstInterface, classInterfaceCount, classLinkState, classInstanceWords, classCompilerTable, classCompilerSlots, classTablePlace, classSlotCount, classStaticWords, isBuiltKind, isArray, methodNameStart, methodNameLength, methodDescriptorStart, methodDescriptorLength, methodFlags, fieldNameStart, fieldNameLength, fieldDescriptorStart, fieldDescriptorLength, fieldFlags}
 use Rattle.apart.specs.Apart.{apartBefore}
 
 -- ---- row 3
@@ -32,9 +32,9 @@ unfoldable pub unlinked : List ℕ → ℕ → Bool
 unlinked ws c = eqb (classTablePlace ws c) 0 && eqb (classSlotCount ws c) 0
 
 -- "row 3, in reading and ticket 3's step, and 17 also take a nonzero value in an unlinked built or array class": this does not hold, of class c's static
--- words; built is kind 0, array kind 2
+-- words
 unfoldable pub staticsClean : List ℕ → ℕ → Bool
-staticsClean ws c = eqb (classStaticWords ws c) 0 || not (eqb (classKind ws c) 0 || eqb (classKind ws c) 2)
+staticsClean ws c = eqb (classStaticWords ws c) 0 || not (isBuiltKind (classKind ws c) || isArray ws c)
 
 -- no link has written to class c's record, as far as its words tell; the same of each class
 unfoldable pub fresh : List ℕ → ℕ → Bool
@@ -58,17 +58,20 @@ classForm ws =
 unfoldable pub compilerOk : ℕ → ℕ → ℕ → Bool
 compilerOk first slots total = cond (eqb first 0) (eqb slots 0) (inside (first - 1) slots total)
 
--- "a parent's number is below the child's", "class and field flags, link state and instance words ≤ 65,535", "kind ≤ 2", "linked
--- slot count, table size and compiler slots ≤ 1,024"
-unfoldable pub classNumbers : List ℕ → ℕ → Bool
-classNumbers ws c =
-    ltb (classParent ws c) c
-    && leb (classFlags ws c) 65535
-    && leb (classKind ws c) 2
+-- "class and field flags, link state and instance words ≤ 65,535", "kind ≤ 2" and "class kind 3, admitted by row 4", "linked slot count, table size and
+-- compiler slots ≤ 1,024"
+unfoldable pub ownNumbers : List ℕ → ℕ → Bool
+ownNumbers ws c =
+    leb (classFlags ws c) 65535
+    && leb (classKind ws c) 3
     && leb (classLinkState ws c) 65535
     && leb (classInstanceWords ws c) 65535
     && leb (classCompilerSlots ws c) 1024
     && (eqb (classTablePlace ws c) 0 || leb (classSlotCount ws c) 1024)
+
+-- and "a parent's number is below the child's"
+unfoldable pub classNumbers : List ℕ → ℕ → Bool
+classNumbers ws c = ownNumbers ws c && ltb (classParent ws c) c
 
 -- "every list and text part lies inside its section": the four lists of class c
 unfoldable pub classLists : List ℕ → ℕ → Bool

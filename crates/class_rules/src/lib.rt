@@ -40,7 +40,8 @@ fn statics_clean(ws: &[u32], c: u32) -> bool
     ensures { λ r. ⌜ r ≡ staticsClean (now (ws .entry)) c ⌝ }
 {
     let kind = class_sheet::class_kind(ws, c);
-    (class_sheet::class_static_words(ws, c) == 0) | !((kind == 0) | (kind == 2))
+    (class_sheet::class_static_words(ws, c) == 0)
+        | !(class_sheet::is_built_kind(kind) | (kind == class_sheet::ARRAY))
 }
 
 // Whether class c has what a sheet may bring: no table, and no static words that a link would write.
@@ -91,18 +92,18 @@ fn compiler_ok(first: u32, slots: u32, total: u32) -> bool
     words::is_inside(first - 1, slots, total)
 }
 
-// Whether class c's parent is below it, and its numbers are within their limits.
+// Whether class c's numbers are within their limits, and its parent is below it.
 fn numbers_ok(ws: &[u32], c: u32) -> bool
     ensures { λ r. ⌜ r ≡ classNumbers (now (ws .entry)) c ⌝ }
 {
-    (class_sheet::class_parent(ws, c) < c)
-        & (class_sheet::class_flags(ws, c) <= 65535)
-        & (class_sheet::class_kind(ws, c) <= 2)
+    (class_sheet::class_flags(ws, c) <= 65535)
+        & (class_sheet::class_kind(ws, c) <= class_sheet::PACKAGED)
         & (class_sheet::class_link_state(ws, c) <= 65535)
         & (class_sheet::class_instance_words(ws, c) <= 65535)
         & (class_sheet::class_compiler_slots(ws, c) <= 1024)
         & ((class_sheet::class_table_place(ws, c) == 0)
             | (class_sheet::class_slot_count(ws, c) <= 1024))
+        & (class_sheet::class_parent(ws, c) < c)
 }
 
 // Whether the four lists of class c lie inside their sections.

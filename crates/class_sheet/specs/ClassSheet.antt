@@ -2,8 +2,10 @@
 -- "Class sheet: six counts (classes ≤ 64, methods ≤ 512, fields ≤ 512, interface words ≤ 256, compiler words ≤ 2,048, text bytes
 -- ≤ 8,192), then those sections; text is four bytes a word, lowest byte first."
 use Prim.Native.Nat.{ℕ, _+_, _*_, _-_, _/_}
+use mathlib.Core.Bool.{Bool, _||_}
 use mathlib.Core.List.{List, [], _∷_}
 use lib.ListN.{getD, set, drop}
+use lib.Dec.{eqb}
 use Rattle.words.specs.Words.{wordsFor}
 use Rattle.text.specs.Text.{nameStartWord, nameLengthWord, descriptorStartWord, descriptorLengthWord, textOfWords, nameAt}
 
@@ -258,6 +260,21 @@ classSlotCount ws c = classWord ws c slotCountWord
 abbrev pub classStaticWords : List ℕ → ℕ → ℕ
 classStaticWords ws c = classWord ws c staticWordsWord
 
+-- ---- kinds: "kind (0 built, 1 generated, 2 array)", and "class kind 3, admitted by row 4: a built class, not an interface, linked by JVMS 5.4.5, in all else as kind 0"
+
+-- a built class is of kind 0, or of kind 3, which is "in all else as kind 0"
+unfoldable pub isBuiltKind : ℕ → Bool
+isBuiltKind kind = eqb kind 0 || eqb kind 3
+
+abbrev pub isGenerated : List ℕ → ℕ → Bool
+isGenerated ws c = eqb (classKind ws c) 1
+
+abbrev pub isArray : List ℕ → ℕ → Bool
+isArray ws c = eqb (classKind ws c) 2
+
+abbrev pub isPackaged : List ℕ → ℕ → Bool
+isPackaged ws c = eqb (classKind ws c) 3
+
 -- ---- "Method and field records, 6 words: name start and length, descriptor start and length, flags, then target or word index."
 
 abbrev pub methodNameStart : List ℕ → ℕ → ℕ
@@ -329,6 +346,9 @@ putTextLength ws v = putCount ws textLengthNumber v
 
 abbrev pub putClassWord : List ℕ → ℕ → ℕ → ℕ → List ℕ
 putClassWord ws c k v = set ws (countsWidth + classWidth * (c - 1) + k) v
+
+abbrev pub putClassKind : List ℕ → ℕ → ℕ → List ℕ
+putClassKind ws c v = putClassWord ws c kindWord v
 
 abbrev pub putClassFirstMethod : List ℕ → ℕ → ℕ → List ℕ
 putClassFirstMethod ws c v = putClassWord ws c firstMethodWord v

@@ -2,7 +2,7 @@
 ghost use mathlib.Core.Path.{_≡_};
 ghost use Prim.Native.Nat.{_<_, _^_};
 ghost use Rattle.text.specs.Text.{unpackedText};
-ghost use Rattle.class_sheet.specs.ClassSheet.{countAt, classCount, methodCount, fieldCount, interfaceCount, compilerCount, textLength, methodsAt, fieldsAt, interfacesAt, compilersAt, textAt, contentEnd, classWord, methodWord, fieldWord, interfaceWord, textWords, classNameStart, classNameLength, classParent, classFlags, classKind, classFirstMethod, classMethodCount, classFirstField, classFieldCount, classFirstInterface, classInterfaceCount, classLinkState, classInstanceWords, classCompilerTable, classCompilerSlots, classTablePlace, classSlotCount, classStaticWords, methodNameStart, methodNameLength, methodDescriptorStart, methodDescriptorLength, methodFlags, methodTarget, fieldNameStart, fieldNameLength, fieldDescriptorStart, fieldDescriptorLength, fieldFlags, fieldIndex, className, methodName, methodDescriptor, fieldName, fieldDescriptor, putCount, putMethodCount, putFieldCount, putTextLength, putClassWord, putClassFirstMethod, putClassMethodCount, putClassFirstField, putClassFieldCount, putClassInstanceWords, putClassTablePlace, putClassSlotCount, putClassStaticWords, putMember};
+ghost use Rattle.class_sheet.specs.ClassSheet.{countAt, classCount, methodCount, fieldCount, interfaceCount, compilerCount, textLength, methodsAt, fieldsAt, interfacesAt, compilersAt, textAt, contentEnd, classWord, methodWord, fieldWord, interfaceWord, textWords, classNameStart, classNameLength, classParent, classFlags, classKind, classFirstMethod, classMethodCount, classFirstField, classFieldCount, classFirstInterface, classInterfaceCount, classLinkState, classInstanceWords, classCompilerTable, classCompilerSlots, classTablePlace, classSlotCount, classStaticWords, isBuiltKind, methodNameStart, methodNameLength, methodDescriptorStart, methodDescriptorLength, methodFlags, methodTarget, fieldNameStart, fieldNameLength, fieldDescriptorStart, fieldDescriptorLength, fieldFlags, fieldIndex, className, methodName, methodDescriptor, fieldName, fieldDescriptor, putCount, putMethodCount, putFieldCount, putTextLength, putClassWord, putClassFirstMethod, putClassMethodCount, putClassFirstField, putClassFieldCount, putClassInstanceWords, putClassTablePlace, putClassSlotCount, putClassStaticWords, putMember};
 
 // Widths, in words: of the counts, of a class record, and of a method or field record.
 pub const COUNTS_WIDTH: usize = 6;
@@ -10,6 +10,13 @@ pub const COUNTS_WIDTH: usize = 6;
 pub const CLASS_WIDTH: usize = 18;
 
 pub const MEMBER_WIDTH: usize = 6;
+
+// The kinds of classes by name, but for 0, built.
+pub const GENERATED: u32 = 1;
+
+pub const ARRAY: u32 = 2;
+
+pub const PACKAGED: u32 = 3;
 
 // What each count may be at most.
 pub const CLASS_LIMIT: u32 = 64;
@@ -232,6 +239,13 @@ pub fn class_kind(ws: &[u32], c: u32) -> u32
     ensures { λ r. ⌜ r ≡ classKind (now (ws .entry)) c ⌝ }
 {
     class_word(ws, c, 4)
+}
+
+// Whether a class of this kind is built.
+pub fn is_built_kind(kind: u32) -> bool
+    ensures { λ r. ⌜ r ≡ isBuiltKind kind ⌝ }
+{
+    (kind == 0) | (kind == PACKAGED)
 }
 
 pub fn class_first_method(ws: &[u32], c: u32) -> u32

@@ -79,18 +79,6 @@ module _ (ws : List ℕ) (fits : contentEnd ws ≤ length ws) where
       ap (λ (x : List ℕ). take (contentEnd ws) x) (sym (content-words ws fits))
       ∙ take-at C (sectionsOf ws .rest) (contentEnd ws) (content-length ws fits)
 
--- a built or array class that is clean has no static words
-no-statics : (n k : ℕ) → k ≤ 2 → k ≢ 1 → (eqb n 0 || not (eqb k 0 || eqb k 2)) ≡ true → n ≡ 0
-no-statics n k h m e =
-    by (eqb n 0) (λ t. eqb-true _ _ t)
-    (λ t.
-    by (eqb k 0)
-    (λ u. absurd (false≢true (rw (t, u) at e)))
-    (λ u.
-    let a = eqb-false k 0 u in
-    let two : k ≡ 2 = omega arith in
-    absurd (false≢true (rw (t, u, eq-eqb k 2 two) at e))))
-
 pub old-some : (ws : List ℕ) → 6 ≤ oldEnd ws
 unfolding endBy
 old-some ws = omega arith
@@ -193,7 +181,7 @@ module _ (ws : List ℕ) (accepted : classRows ws ≡ 0) where
       F = forwardStatics (judged Q) (textOf (judged Q))
 
       kept-statics : (c : ℕ) → 1 ≤ c → c ≤ classCount ws → F c ≡ classStaticWords ws c
-      unfolding forwardStatics dropsStatics keepsStatics fresh staticsClean
+      unfolding forwardStatics dropsStatics keepsStatics
       kept-statics c l h =
           let k : IsClass K c = (l, omega (arith, K-count)) in
           let now : classKind (judged Q) c ≡ classKind K c = judged-alike .classes c (k .0) (k .1) kindWord refl in
@@ -209,10 +197,9 @@ module _ (ws : List ℕ) (accepted : classRows ws ≡ 0) where
           rw (now, t) (sum ∙ sym (eqb-true _ _ same)))
           (λ t.
           let each = rw z at (all-each (classCount ws) (λ i. fresh ws (i + 1)) (four .3) (c - 1) (omega arith)) in
-          let clean = and-both (unlinked ws c) _ each .1 in
           let kind = K-valid .class c k .kind in
           let n = eqb-false (classKind K c) 1 t in
-          rw (now, t) (sym (no-statics (classStaticWords ws c) (classKind ws c) (omega (arith, then)) (omega (arith, then)) clean)))
+          rw (now, t) (sym (class.fresh-says ws c each .2 (omega (arith, then)) (omega (arith, then)))))
 
       pub forward-content : forward Q ≡ K
       unfolding forward

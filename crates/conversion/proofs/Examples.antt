@@ -7,6 +7,7 @@ use Rattle.words.specs.Words.{byteOf, leWord}
 use Rattle.words.specs.Folds.{sumOf, allOf, table}
 use Rattle.block.specs.Block.{leastFit, blocksFor, wordOf, block, blockCount, checkOk, content, sheetWords, shapeOk, checkWord, packedWord, blockByte, sheetBytes}
 use Rattle.text.specs.Text.{zeroAt, zeroRest}
+use Rattle.class_sheet.specs.ClassSheet.{isBuiltKind}
 use Rattle.class_sheet.specs.Sections.{laidOut, sectionsBy, endBy}
 use Rattle.class_rules.specs.ClassRules.{unlinked}
 use Rattle.set_rules.specs.SetRules.{classRefusal}
@@ -25,5 +26,5 @@ pub record Rows : Type 0 where
 pub rows : Rows
 unfolding widenRefusal roomRefusal oldSheetRefusal sheetRefusal blockRefusal shapeOk checkOk sheetWords content block blockCount wordOf leWord sheetBytes
     blockByte packedWord checkWord byteOf sumOf table allOf opened joined cut laidOut sectionsBy endBy widen narrow widened narrowed forwardStatics forward
-    oldFits oldForm oldRows blocksFor leastFit zeroAt zeroRest unlinked classRefusal
+    oldFits oldForm oldRows blocksFor leastFit zeroAt zeroRest unlinked isBuiltKind classRefusal
 rows = record { accepted = refl }

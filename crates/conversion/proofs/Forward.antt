@@ -14,7 +14,7 @@ use Rattle.words.proofs.Bools.{by, and-both, passed}
 use Rattle.words.proofs.FoldLaws.{all-each, all-if}
 use Rattle.block.specs.Block.{sheetWords, blocksFor}
 use Rattle.text.specs.Text.{textByte, zeroRest}
-use Rattle.class_sheet.specs.ClassSheet.{countsWidth, classWidth, staticWordsWord, kindWord, tablePlaceWord, slotCountWord, classCountNumber, methodCountNumber, fieldCountNumber, interfaceCountNumber, compilerCountNumber, textLengthNumber, countAt, classCount, textLength, methodsAt, fieldsAt, interfacesAt, compilersAt, textAt, contentEnd, classKind, classStaticWords, textOf}
+use Rattle.class_sheet.specs.ClassSheet.{countsWidth, classWidth, staticWordsWord, kindWord, tablePlaceWord, slotCountWord, classCountNumber, methodCountNumber, fieldCountNumber, interfaceCountNumber, compilerCountNumber, textLengthNumber, countAt, classCount, textLength, methodsAt, fieldsAt, interfacesAt, compilersAt, textAt, contentEnd, classKind, isBuiltKind, classStaticWords, textOf}
 use Rattle.class_sheet.specs.Sections.{sectionsBy}
 use Rattle.class_sheet.proofs.Sections as S
 use Rattle.class_rules.specs.ClassRules.{classLimits, classFits, unlinked, staticsClean, fresh, allFresh, classRecords}
@@ -203,7 +203,7 @@ module _ (ws : List ℕ) (accepted : oldRows ws ≡ 0) where
       rw (forward-alike .classes c (k .0) (k .1) tablePlaceWord refl, forward-alike .classes c (k .0) (k .1) slotCountWord refl)
 
   class-clean : (c : ℕ) → 1 ≤ c → c ≤ classCount ws → staticsClean (forward ws) c ≡ true
-  unfolding staticsClean forwardStatics
+  unfolding isBuiltKind staticsClean forwardStatics
   class-clean c l h =
       by (eqb (classKind J c) 1)
       (λ t.

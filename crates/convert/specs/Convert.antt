@@ -11,7 +11,7 @@ use Rattle.words.specs.Folds.{allOf}
 use Rattle.block.specs.Block.{sheetWords, leastFit, blocksFor, sheetBytes}
 use Rattle.text.specs.Text.{zeroRest}
 use Rattle.class_sheet.specs.ClassSheet as layout
-use Rattle.class_sheet.specs.ClassSheet.{staticWordsWord, blockLimit, classCount, textLength, classKind, classStaticWords, textOf}
+use Rattle.class_sheet.specs.ClassSheet.{staticWordsWord, blockLimit, classCount, textLength, isGenerated, classStaticWords, textOf}
 use Rattle.class_sheet.specs.Sections.{Sections, laidOut, sectionsBy, sectionsOf, endBy, withClasses, withRest}
 use Rattle.class_rules.specs.ClassRules.{classLimits, unlinked}
 use Rattle.set_rules.specs.SetRules.{classRefusal}
@@ -82,11 +82,11 @@ newSheetRefusal bs = classSheetRefusal bs layout.sheetWords
 
 -- "Going forward, a generated class gets the sum of its static field widths." A built or array class is not linked, and gets 0.
 unfoldable pub forwardStatics : List ℕ → List ℕ → ℕ → ℕ
-forwardStatics ws text c = cond (eqb (classKind ws c) 1) (staticWords ws text c) 0
+forwardStatics ws text c = cond (isGenerated ws c) (staticWords ws text c) 0
 
 -- "23, after them, if going back drops a generated class's word that is not that sum": this does not hold of class c; and it does of some class
 unfoldable pub keepsStatics : List ℕ → List ℕ → ℕ → Bool
-keepsStatics ws text c = not (eqb (classKind ws c) 1) || eqb (classStaticWords ws c) (staticWords ws text c)
+keepsStatics ws text c = not (isGenerated ws c) || eqb (classStaticWords ws c) (staticWords ws text c)
 
 unfoldable pub dropsStatics : List ℕ → Bool
 dropsStatics ws = not (allOf (classCount ws) (λ i. keepsStatics ws (textOf ws) (i + 1)))

@@ -108,7 +108,7 @@ fn old_fits(ws: &[u32]) -> bool
 fn forward_statics(ws: &[u32], text: &[u8], c: u32) -> u32
     ensures { λ r. ⌜ r ≡ forwardStatics (now (ws .entry)) (now (text .entry)) c ⌝ }
 {
-    if class_sheet::class_kind(ws, c) == 1 {
+    if class_sheet::class_kind(ws, c) == class_sheet::GENERATED {
         return field::static_words(ws, text, c);
     }
     0
@@ -217,7 +217,7 @@ pub fn widen_class_sheet(bytes: &[u8], out: &mut [u8]) -> writer::Written
 fn keeps_statics(ws: &[u32], text: &[u8], c: u32) -> bool
     ensures { λ r. ⌜ r ≡ keepsStatics (now (ws .entry)) (now (text .entry)) c ⌝ }
 {
-    if class_sheet::class_kind(ws, c) != 1 {
+    if class_sheet::class_kind(ws, c) != class_sheet::GENERATED {
         return true;
     }
     class_sheet::class_static_words(ws, c) == field::static_words(ws, text, c)

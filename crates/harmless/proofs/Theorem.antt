@@ -11,7 +11,7 @@ use Rattle.words.specs.Folds.{allOf}
 use Rattle.words.specs.declared.Found.{Found}
 use Rattle.words.specs.declared.Found.the-variants.{At, Nothing}
 use Rattle.block.specs.Block.{blockCount, checkOk, shapeOk}
-use Rattle.class_sheet.specs.ClassSheet.{blockLimit, classKind, classFlags, classCompilerTable, textOf, methodName, methodDescriptor}
+use Rattle.class_sheet.specs.ClassSheet.{blockLimit, isBuiltKind, isGenerated, isPackaged, classKind, classFlags, classCompilerTable, textOf, methodName, methodDescriptor}
 use Rattle.abi_sheet.specs.AbiSheet.{abiBlockLimit, abiTextOf}
 use Rattle.class_rules.specs.ClassRules.{classForm, classRecords}
 use Rattle.abi_rules.specs.AbiRules.{abiForm, abiRecords}
@@ -30,6 +30,7 @@ use Rattle.convert.specs.Convert.{blocksOrRow, forward, narrowed, widenRefusal,
 use Rattle.block.specs.Block.{sheetWords}
 use Rattle.linking.specs.Chain.{isInterface, eligible, onFound, ownFields}
 use Rattle.linking.specs.Abi.{classAbi}
+use Rattle.linking.specs.Packages.{badPackages}
 use Rattle.linking.specs.Fields.{tooManyWords, standFrom, generatedBase, generatedRefusal, instanceWords, declaredWords}
 use Rattle.linking.specs.Vtable.{Entry, Built, built, refused, onBuilt, entryIsOther, empty, putMethod, addMethod, addMethods, buildMethods, tableEntries}
 use Rattle.linking.specs.Link.{Plan, Planned, planned, unplanned, withinSlots, planBuilt, planGenerated, planArray, plan, builtTable, generatedTable, listsFull, setShort, noRoom, refusedCall, finishLink, onPlan, onTable, badClass, badArea, linkDef, Outcome}
@@ -212,7 +213,8 @@ module _ (Q : ℕ → Type 0) (all : (n : ℕ) → 3 ≤ n → n ≤ 15 → Q n)
   unfolding planBuilt builtTable
   built-row c =
       plans-either Q (tooManyWords ws text abi labels (classAbi ws text abi labels c) c) (unplanned 10) _ (no-plan 10 (λ h. all 10 (omega arith) (omega arith)))
-      (on-table Q (table-either Q (isInterface (classFlags ws c)) _ _ (a-table _) (build-row c)) (λ T. slots-row _))
+      (on-table Q (table-either Q (isPackaged ws c) _ _ (a-table _) (table-either Q (isInterface (classFlags ws c)) _ _ (a-table _) (build-row c)))
+      (λ T. slots-row _))
 
   fields-row : (c : ℕ) → Num Q (generatedRefusal ws text c)
   unfolding generatedRefusal
@@ -229,11 +231,11 @@ module _ (Q : ℕ → Type 0) (all : (n : ℕ) → 3 ≤ n → n ≤ 15 → Q n)
   plan-row : (c : ℕ) → Plans Q (plan ws text abi labels area c)
   unfolding plan planArray
   plan-row c =
-      plans-either Q (eqb (classKind ws c) 0) _ _ (built-row c) (plans-either Q (eqb (classKind ws c) 1) _ _ (generated-row c) (slots-row _))
+      plans-either Q (isBuiltKind (classKind ws c)) _ _ (built-row c) (plans-either Q (isGenerated ws c) _ _ (generated-row c) (slots-row _))
 
 -- ---- a link
 
-module _ (Q : ℕ → Type 0) (all : (n : ℕ) → 3 ≤ n → n ≤ 15 → Q n) (ws abi : List ℕ) (c : ℕ) (area stubs : List ℕ) where
+module _ (Q : ℕ → Type 0) (all : (n : ℕ) → 3 ≤ n → n ≤ 15 → Q n) (packages : Q 26) (ws abi : List ℕ) (c : ℕ) (area stubs : List ℕ) where
   finish-ends : (p : Plan) → Ends Q ws area (finishLink ws abi c area stubs p)
   unfolding finishLink
   finish-ends p =
@@ -249,7 +251,8 @@ module _ (Q : ℕ → Type 0) (all : (n : ℕ) → 3 ≤ n → n ≤ 15 → Q n)
       (within-set Q (all 3 (omega arith) (omega arith)) (all 4 (omega arith) (omega arith)) (all 5 (omega arith) (omega arith)) ws abi))
       (ends-either Q (badClass ws (textOf ws) c) _ _ (ends-refused Q ws area 6 (λ h. all 6 (omega arith) (omega arith)))
       (ends-either Q (badArea ws area) _ _ (ends-refused Q ws area 7 (λ h. all 7 (omega arith) (omega arith)))
-      (on-plan Q ws area (plan-row Q all ws (textOf ws) abi (abiTextOf abi) area c) finish-ends)))
+      (ends-either Q (badPackages ws (textOf ws) abi (abiTextOf abi) c) _ _ (ends-refused Q ws area 26 (λ h. packages))
+      (on-plan Q ws area (plan-row Q all ws (textOf ws) abi (abiTextOf abi) area c) finish-ends))))
 
 -- ---- an ask
 
@@ -329,13 +332,13 @@ abi-few abi =
 -- ---- THE THEOREM
 
 abbrev OfLink : ℕ → Type 0
-OfLink n = (3 ≤ n) × (n ≤ 15)
+OfLink n = ((3 ≤ n) × (n ≤ 15)) ⊎ (n ≡ 26)
 
 abbrev OfAsk : ℕ → Type 0
 OfAsk n = ((3 ≤ n) × (n ≤ 7)) ⊎ ((15 ≤ n) × (n ≤ 16))
 
 of-link : (ws abi : List ℕ) (c : ℕ) (area stubs : List ℕ) → Ends OfLink ws area (linkDef ws abi c area stubs)
-of-link ws abi c area stubs = link-ends OfLink (λ n h k. (h, k)) ws abi c area stubs
+of-link ws abi c area stubs = link-ends OfLink (λ n h k. inl (h, k)) (inr refl) ws abi c area stubs
 
 of-ask : (ws abi : List ℕ) (c i : ℕ) (area stubs : List ℕ) → Ends OfAsk ws area (askDef ws abi c i area stubs)
 of-ask ws abi c i area stubs =

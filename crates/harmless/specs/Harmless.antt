@@ -57,9 +57,9 @@ pub record Harmless : Type 0 where
   pub class-file : (bs targets fields methods text : List ℕ)
       → Refused (λ o. o .refusal) (λ n. refusedBy n fields methods text) (readClassFile bs targets fields methods text)
   pub file-head : (bs : List ℕ) → Refused (λ o. o .refusal) (λ n. refusedBy n [] [] []) (classFileHead bs)
-  -- 2. and which: a link 3 to 15, an ask 3 to 7, 15 and 16, a reading 1 to 5, one in any order 1 to 3
+  -- 2. and which: a link 3 to 15 and 26, an ask 3 to 7, 15 and 16, a reading 1 to 5, one in any order 1 to 3
   pub link-rows : (ws abi : List ℕ) (c : ℕ) (area stubs : List ℕ) → linkDef ws abi c area stubs .refusal ≢ 0
-      → (3 ≤ linkDef ws abi c area stubs .refusal) × (linkDef ws abi c area stubs .refusal ≤ 15)
+      → ((3 ≤ linkDef ws abi c area stubs .refusal) × (linkDef ws abi c area stubs .refusal ≤ 15)) ⊎ (linkDef ws abi c area stubs .refusal ≡ 26)
   pub ask-rows : (ws abi : List ℕ) (c i : ℕ) (area stubs : List ℕ) → askDef ws abi c i area stubs .refusal ≢ 0
       → ((3 ≤ askDef ws abi c i area stubs .refusal) × (askDef ws abi c i area stubs .refusal ≤ 7))
       ⊎ ((15 ≤ askDef ws abi c i area stubs .refusal) × (askDef ws abi c i area stubs .refusal ≤ 16))

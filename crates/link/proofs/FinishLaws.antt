@@ -5,7 +5,7 @@ use mathlib.Core.List.{List, []}
 use Prim.Native.Nat.{ℕ}
 use lib.Dec.{eqb}
 use Rattle.words.proofs.Bools.{by}
-use Rattle.class_sheet.specs.ClassSheet.{classKind, methodCount, fieldCount, classMethodCount, classFieldCount}
+use Rattle.class_sheet.specs.ClassSheet.{classKind, isBuiltKind, methodCount, fieldCount, classMethodCount, classFieldCount}
 use Rattle.linking.specs.Link.{isNone, nextFree, listsFull, setShort, noRoom, Outcome, refusedCall}
 use Rattle.growth.specs.News.{news, named}
 use Rattle.growth.proofs.GrowthLaws.{full-same, end-same}
@@ -22,7 +22,7 @@ module _ (ws text abi labels refs flags lasts : List ℕ) where
       ≡ listsFull ws c (membersPlan ws c (news ws text abi labels refs flags lasts))
   unfolding listsFull
   names-full c =
-      by (eqb (classKind ws c) 0)
+      by (isBuiltKind (classKind ws c))
       (λ q. rw q (rw (none-same, full-same ws text abi labels refs flags lasts (fieldCount ws) (classFieldCount ws c))))
       (λ q. rw q (rw (none-same, full-same ws text abi labels refs flags lasts (methodCount ws) (classMethodCount ws c))))
 
@@ -30,7 +30,7 @@ module _ (ws text abi labels refs flags lasts : List ℕ) where
       ≡ setShort ws c (membersPlan ws c (news ws text abi labels refs flags lasts))
   unfolding setShort
   names-short c =
-      by (eqb (classKind ws c) 0)
+      by (isBuiltKind (classKind ws c))
       (λ q. rw q (rw (none-same, end-same ws text abi labels refs flags lasts (classFieldCount ws c))))
       (λ q. rw q (rw (none-same, end-same ws text abi labels refs flags lasts (classMethodCount ws c))))
 

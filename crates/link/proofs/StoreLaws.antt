@@ -9,7 +9,7 @@ use lib.ListN.{length}
 use lib.Dec.{eqb, ltb}
 use borrow.Author.Tests.{eq-eqb, ne-eqb, eqb-true, not-false}
 use Rattle.words.proofs.Bools.{by}
-use Rattle.class_sheet.specs.ClassSheet.{methodCount, fieldCount, classKind, classMethodCount, classFirstField, classFieldCount, fieldsAt, putClassInstanceWords, putClassTablePlace, putClassSlotCount, putClassStaticWords}
+use Rattle.class_sheet.specs.ClassSheet.{methodCount, fieldCount, classKind, isBuiltKind, classMethodCount, classFirstField, classFieldCount, fieldsAt, putClassInstanceWords, putClassTablePlace, putClassSlotCount, putClassStaticWords}
 use Rattle.linking.specs.Compiler.{New}
 use Rattle.linking.specs.Set.{putIndices, sectionFull, grownEnd}
 use Rattle.linking.specs.Fields.{staticWords}
@@ -21,13 +21,14 @@ use Rattle.link.specs.Stored.{membersPlan, numbered, withMethods, stored
 
 -- ---- the static words
 
-pub statics-built : (ws text : List ℕ) (c : ℕ) {k n : ℕ} → k ≡ classKind ws c → k ≡ 0 → n ≡ staticWords ws text c → n ≡ newStatics ws text c
+pub statics-built : (ws text : List ℕ) (c : ℕ) {k n : ℕ} {b : Bool} → k ≡ classKind ws c → b ≡ isBuiltKind k → b ≡ true → n ≡ staticWords ws text c
+    → n ≡ newStatics ws text c
 unfolding newStatics
-statics-built ws text c {k} kind e f = f ∙ rw (← kind, e)
+statics-built ws text c kind t e f = f ∙ rw (← kind, ← t, e)
 
-pub statics-other : (ws text : List ℕ) (c : ℕ) {k : ℕ} → k ≡ classKind ws c → k ≢ 0 → 0 ≡ newStatics ws text c
+pub statics-other : (ws text : List ℕ) (c : ℕ) {k : ℕ} {b : Bool} → k ≡ classKind ws c → b ≡ isBuiltKind k → b ≡ false → 0 ≡ newStatics ws text c
 unfolding newStatics
-statics-other ws text c {k} kind n = rw (← kind) (simp (ne-eqb k 0 n))
+statics-other ws text c kind t n = rw (← kind, ← t, n)
 
 -- ---- the record
 
@@ -91,66 +92,63 @@ module _ (ws text abi labels refs flags lasts : List ℕ) where
 
 -- ---- rows 14 and 15 of the set: a built class adds fields, any other methods
 
-module _ (ws : List ℕ) (c : ℕ) (l : List New) {k : ℕ} (kind : k ≡ classKind ws c) where
+module _ (ws : List ℕ) (c : ℕ) (l : List New) {k : ℕ} {x : Bool} (kind : k ≡ classKind ws c) (test : x ≡ isBuiltKind k) where
   or-last : (b : Bool) → (b || false) ≡ b
   or-last true = refl
   or-last false = refl
 
-  pub full-fields : {b : Bool} {n o : ℕ} → k ≡ 0 → isNone l ≡ false → n ≡ fieldCount ws → o ≡ classFieldCount ws c
+  pub full-fields : {b : Bool} {n o : ℕ} → x ≡ true → isNone l ≡ false → n ≡ fieldCount ws → o ≡ classFieldCount ws c
       → b ≡ sectionFull ws n o l → b ≡ listsFull ws c (membersPlan ws c l)
   unfolding listsFull
-  full-fields e h f g r = r ∙ rw (f, g, ← kind) (simp (eq-eqb k 0 e) (rw h))
+  full-fields e h f g r = r ∙ rw (f, g, ← kind, ← test, e, h)
 
-  pub full-methods : {b : Bool} {n o : ℕ} → k ≢ 0 → isNone l ≡ false → n ≡ methodCount ws → o ≡ classMethodCount ws c
+  pub full-methods : {b : Bool} {n o : ℕ} → x ≡ false → isNone l ≡ false → n ≡ methodCount ws → o ≡ classMethodCount ws c
       → b ≡ sectionFull ws n o l → b ≡ listsFull ws c (membersPlan ws c l)
   unfolding listsFull
   full-methods e h f g r =
-      r ∙ rw (f, g, ← kind) (simp (ne-eqb k 0 e) (rw h (sym (or-last (sectionFull ws (methodCount ws) (classMethodCount ws c) l)))))
+      r ∙ rw (f, g, ← kind, ← test, e, h) (sym (or-last (sectionFull ws (methodCount ws) (classMethodCount ws c) l)))
 
-  pub short-fields : {n o : ℕ} → k ≡ 0 → isNone l ≡ false → o ≡ classFieldCount ws c → n ≡ grownEnd ws o l
+  pub short-fields : {n o : ℕ} → x ≡ true → isNone l ≡ false → o ≡ classFieldCount ws c → n ≡ grownEnd ws o l
       → ltb (length ws) n ≡ setShort ws c (membersPlan ws c l)
   unfolding setShort
-  short-fields e h g r = rw (r, g, ← kind) (simp (eq-eqb k 0 e) (rw h))
+  short-fields e h g r = rw (r, g, ← kind, ← test, e, h)
 
-  pub short-methods : {n o : ℕ} → k ≢ 0 → isNone l ≡ false → o ≡ classMethodCount ws c → n ≡ grownEnd ws o l
+  pub short-methods : {n o : ℕ} → x ≡ false → isNone l ≡ false → o ≡ classMethodCount ws c → n ≡ grownEnd ws o l
       → ltb (length ws) n ≡ setShort ws c (membersPlan ws c l)
   unfolding setShort
   short-methods e h g r =
-      rw (r, g, ← kind) (simp (ne-eqb k 0 e) (rw h (sym (or-last (ltb (length ws) (grownEnd ws (classMethodCount ws c) l))))))
+      rw (r, g, ← kind, ← test, e, h) (sym (or-last (ltb (length ws) (grownEnd ws (classMethodCount ws c) l))))
 
 pub full-none : (ws : List ℕ) (c : ℕ) (l : List New) → isNone l ≡ true → false ≡ listsFull ws c (membersPlan ws c l)
 unfolding listsFull
-full-none ws c l h = by (eqb (classKind ws c) 0) (λ q. rw q (rw h)) (λ q. rw q (rw h))
+full-none ws c l h = by (isBuiltKind (classKind ws c)) (λ q. rw q (rw h)) (λ q. rw q (rw h))
 
 pub short-none : (ws : List ℕ) (c : ℕ) (l : List New) → isNone l ≡ true → false ≡ setShort ws c (membersPlan ws c l)
 unfolding setShort
-short-none ws c l h = by (eqb (classKind ws c) 0) (λ q. rw q (rw h)) (λ q. rw q (rw h))
+short-none ws c l h = by (isBuiltKind (classKind ws c)) (λ q. rw q (rw h)) (λ q. rw q (rw h))
 
 -- ---- what a link stores
 
-module _ (ws : List ℕ) (c place slots words statics : ℕ) (indices : List ℕ) (l : List New) {k m : ℕ} (kind : k ≡ classKind ws c)
-    (sum : m ≡ statics) where
-  pub stored-fields : {s t : List ℕ} → k ≡ 0 → isNone l ≡ false → s ≡ fieldsGrown ws c indices l → t ≡ linkedRecord s c place slots words m
+module _ (ws : List ℕ) (c place slots words statics : ℕ) (indices : List ℕ) (l : List New) {k m : ℕ} {x : Bool} (kind : k ≡ classKind ws c)
+    (test : x ≡ isBuiltKind k) (sum : m ≡ statics) where
+  pub stored-fields : {s t : List ℕ} → x ≡ true → isNone l ≡ false → s ≡ fieldsGrown ws c indices l → t ≡ linkedRecord s c place slots words m
       → t ≡ storedNews ws c place slots words statics indices l
   unfolding stored
-  stored-fields e h f g = g ∙ rw (sum, f, ← kind) (simp (eq-eqb k 0 e) (rw h))
+  stored-fields e h f g = g ∙ rw (sum, f, ← kind, ← test, e, h)
 
-  stored-built : {s t : List ℕ} → k ≡ 0 → isNone l ≡ true → s ≡ withMethods ws c l → t ≡ numbered s c place slots words m indices
+  stored-built : {s t : List ℕ} → x ≡ true → isNone l ≡ true → s ≡ withMethods ws c l → t ≡ numbered s c place slots words m indices
       → t ≡ storedNews ws c place slots words statics indices l
   unfolding stored withMethods
-  stored-built e h f g = g ∙ rw (sum, f, ← kind) (simp (eq-eqb k 0 e) (rw h))
+  stored-built e h f g = g ∙ rw (sum, f, ← kind, ← test, e, h)
 
-  stored-other : {s t : List ℕ} → k ≢ 0 → s ≡ withMethods ws c l → t ≡ numbered s c place slots words m indices
+  stored-other : {s t : List ℕ} → x ≡ false → s ≡ withMethods ws c l → t ≡ numbered s c place slots words m indices
       → t ≡ storedNews ws c place slots words statics indices l
   unfolding stored withMethods
-  stored-other e f g = g ∙ rw (sum, f, ← kind) (simp (ne-eqb k 0 e))
+  stored-other e f g = g ∙ rw (sum, f, ← kind, ← test, e)
 
-  pub stored-methods : {s t : List ℕ} {z : Bool} → isNone l ≡ z → (eqb k 0 && not z) ≡ false → s ≡ withMethods ws c l
+  pub stored-methods : {s t : List ℕ} {z : Bool} → isNone l ≡ z → (x && not z) ≡ false → s ≡ withMethods ws c l
       → t ≡ numbered s c place slots words m indices → t ≡ storedNews ws c place slots words statics indices l
   stored-methods {z = z} e h f g =
-      by (eqb k 0)
-      (λ q. stored-built (eqb-true k 0 q) (e ∙ not-false z (rw q at h)) f g)
-      (λ q. stored-other (ne k q) f g)
-    where
-      ne : (k : ℕ) → eqb k 0 ≡ false → k ≢ 0
-      ne k q z = let t : true ≡ false = sym (eq-eqb k 0 z) ∙ q in absurd (let o : _≡_ {A = ℕ} 0 1 = cc in omega arith)
+      by x
+      (λ q. stored-built q (e ∙ not-false z (rw q at h)) f g)
+      (λ q. stored-other q f g)

@@ -8,6 +8,7 @@ use Rattle.abi_sheet.specs.AbiSheet.{abiTextOf}
 use Rattle.set_rules.specs.SetRules.{setFits, setRefusal}
 use Rattle.linking.specs.Compiler.{New}
 use Rattle.linking.specs.Set.{putIndices}
+use Rattle.linking.specs.Packages.{badPackages}
 use Rattle.linking.specs.Link.{Plan, isNone, linkedRecord, nextFree, listsFull, setShort, noRoom, badClass, badArea, Outcome, refusedCall}
 use Rattle.growth.specs.Growth.{methodsGrown, fieldsGrown}
 use Rattle.area.specs.Area.{tableWritten}
@@ -64,8 +65,9 @@ pub record Texts (ws abi text labels : List ℕ) : Type 0 where
   pub text-is : text ≡ textOf ws
   pub labels-are : labels ≡ abiTextOf abi
 
--- and rows 6 and 7 the class and the area
+-- and rows 6, 7 and 26 the class and the area
 pub record Accepted (ws abi : List ℕ) (c : ℕ) (area text labels : List ℕ) : Type 0 where
   pub texts : Texts ws abi text labels
   pub class : badClass ws (textOf ws) c ≡ false
   pub tables : badArea ws area ≡ false
+  pub packages : badPackages ws (textOf ws) abi (abiTextOf abi) c ≡ false

@@ -1,4 +1,4 @@
-// `link`: rows 3 to 15 in the table's order, and what an accepted link leaves in the class words and the area.
+// `link`: rows 3 to 15 and 26 in the table's order, and what an accepted link leaves in the class words and the area.
 use area::Answer;
 ghost use mathlib.Core.Path.{_≡_};
 ghost use Rattle.linking.specs.Link.{newStatics, linkedRecord, listsFull, setShort, linkDef};
@@ -10,7 +10,7 @@ ghost use Rattle.area.specs.Area.{outcome};
 fn new_statics(set: &[u32], text: &[u8], c: u32) -> u32
     ensures { λ r. ⌜ r ≡ newStatics (now (set .entry)) (now (text .entry)) c ⌝ }
 {
-    if class_sheet::class_kind(set, c) == 0 {
+    if class_sheet::is_built_kind(class_sheet::class_kind(set, c)) {
         return field::static_words(set, text, c);
     }
     0
@@ -24,7 +24,7 @@ fn record_link(set: &mut [u32], c: u32, place: u32, slots: u32, words: u32, stat
     let kind = class_sheet::class_kind(set, c);
     class_sheet::put_class_table_place(set, c, place);
     class_sheet::put_class_slot_count(set, c, slots);
-    if kind != 1 {
+    if kind != class_sheet::GENERATED {
         class_sheet::put_class_instance_words(set, c, words);
         class_sheet::put_class_static_words(set, c, statics);
     }
@@ -85,7 +85,7 @@ fn store_link<'a>(
     ensures { λ _. ⌜ now (set .exit) ≡ storedNews (now (set .entry)) c place slots words (newStatics (now (set .entry)) (now (text .entry)) c) (now (indices .entry)) (news (now (set .entry)) (now (text .entry)) (now (abi .entry)) (now (labels .entry)) (now (refs .entry)) (now (flags .entry)) (now (lasts .entry))) ⌝ }
 {
     let statics = new_statics(set, text, c);
-    if (class_sheet::class_kind(set, c) == 0) & (refs.len() != 0) {
+    if class_sheet::is_built_kind(class_sheet::class_kind(set, c)) & (refs.len() != 0) {
         growth::grow_fields(set, c, indices, text, abi, labels, refs, flags, lasts);
         record_link(set, c, place, slots, words, statics);
         return;
@@ -108,7 +108,7 @@ fn lists_full<'a>(
     if refs.len() == 0 {
         return false;
     }
-    if class_sheet::class_kind(ws, c) == 0 {
+    if class_sheet::is_built_kind(class_sheet::class_kind(ws, c)) {
         let count = class_sheet::field_count(ws);
         let own = class_sheet::class_field_count(ws, c);
         return growth::section_full(ws, count, own, text, abi, labels, refs);
@@ -132,7 +132,7 @@ fn set_short<'a>(
     if refs.len() == 0 {
         return false;
     }
-    if class_sheet::class_kind(ws, c) == 0 {
+    if class_sheet::is_built_kind(class_sheet::class_kind(ws, c)) {
         let own = class_sheet::class_field_count(ws, c);
         return ws.len() < growth::grown_end(ws, own, text, abi, labels, refs);
     }
@@ -185,7 +185,7 @@ fn finish_link<'a>(
     Answer::Done(place, n)
 }
 
-// Rows 8 to 15 and the effect, of a set, a class and an area that rows 3 to 7 accept, and the sheets' texts.
+// Rows 8 to 15 and the effect, of a set, a class and an area that rows 3 to 7 and 26 accept, and the sheets' texts.
 fn link_planned<'a>(
     set: &mut [u32],
     c: u32,
@@ -241,7 +241,7 @@ fn link_planned<'a>(
     )
 }
 
-// Rows 6 to 15 and the effect, of sheets that rows 3 to 5 accept, and their texts.
+// Rows 6, 7, 26 and 8 to 15, and the effect, of sheets that rows 3 to 5 accept, and their texts.
 fn link_read<'a>(
     set: &mut [u32],
     c: u32,
@@ -260,10 +260,13 @@ fn link_read<'a>(
     if call_rules::bad_area(set, area) {
         return Answer::Refused(7);
     }
+    if packages::bad_packages(set, text, abi, labels, c) {
+        return Answer::Refused(26);
+    }
     link_planned(set, c, text, abi, labels, area, stubs)
 }
 
-// Rows 4 to 15 and the effect, of sheets that row 3 accepts, and their texts.
+// Rows 4 to 15 and 26, and the effect, of sheets that row 3 accepts, and their texts.
 fn link_fitting<'a>(
     set: &mut [u32],
     c: u32,

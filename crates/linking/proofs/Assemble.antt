@@ -102,6 +102,22 @@ renumbered f c =
       compiled = c .compiled;
     }
 
+-- of this kind
+abbrev pub ofKind : ℕ → Class → Class
+ofKind kind c =
+    renumbered
+    (λ n. record {
+      parent = n .parent;
+      flags = n .flags;
+      kind = kind;
+      state = n .state;
+      words = n .words;
+      place = n .place;
+      slots = n .slots;
+      statics = n .statics;
+    })
+    c
+
 -- linked at the place with so many slots, by hand
 abbrev pub linkedAt : ℕ → ℕ → Class → Class
 linkedAt place slots c =

@@ -2,7 +2,7 @@
 -- a number. Assumes nothing.
 use mathlib.Core.Path.{_≡_, refl, sym, ap, _∙_}
 use mathlib.Core.Logic.{_≢_, _⊎_, inl, inr}
-use mathlib.Core.Bool.{false, cond, not, true≢false}
+use mathlib.Core.Bool.{true, false, cond, not, true≢false}
 use mathlib.Core.List.{List, [], _∷_}
 use Prim.Native.Nat.{ℕ, suc, _+_, _≤_}
 use native.Mathlib.Omega.{arith}
@@ -15,15 +15,34 @@ use Rattle.words.specs.declared.Found.the-variants.{At, Nothing}
 use Rattle.words.proofs.Bools.{by}
 use Rattle.words.proofs.ListLaws.{by-found}
 use Rattle.words.specs.Words.{AreBytes}
-use Rattle.class_sheet.specs.ClassSheet.{classKind, classFlags, classFieldCount, classCompilerTable, fieldFlags, fieldName, fieldDescriptor, methodName, methodDescriptor}
+use Rattle.class_sheet.specs.ClassSheet.{classKind, isBuiltKind, isPackaged, classFlags, classFieldCount, classCompilerTable, fieldFlags, fieldName, fieldDescriptor, methodName, methodDescriptor}
 use Rattle.linking.proofs.ChainLaws.{own-fields-length}
-use Rattle.linking.specs.Chain.{onFound, ownMethods, ownFields, parentOf, isStatic, isInterface, eligible}
+use Rattle.linking.specs.Chain.{onFound, ownMethods, ownFields, parentOf, isStatic, isInterface, eligible, sameMethods}
 use Rattle.linking.specs.Abi.{classAbi, chainAbi, fixedField}
 use Rattle.linking.specs.Vtable.{Entry, empty, Built, built, refused, onBuilt, parentEntries, inheritedTable, buildMethods, entryIsOther, fixedOf, slotOf, putMethod, addMethod, addMethods}
+use Rattle.linking.specs.Packages.{buildPackages}
 use Rattle.linking.specs.Fields.{Numbering, numberField, numberFields, addedFields, tooManyWords, generatedRefusal, indicesPlus, generatedIndices, generatedBase, standFrom, ownGiven, runtimeWords, instanceWords}
 use Rattle.linking.specs.Link.{Plan, planned, unplanned, isNone, onTable, withinSlots, builtTable, planBuilt, generatedTable, planGenerated, planArray, plan, newFieldsOf, generatedMethods}
 use Rattle.linking.specs.Set.{newText}
 use Rattle.linking.proofs.Names.{no-bytes, field-bytes, method-bytes}
+
+-- ---- kinds
+
+pub built-kind : (k : ℕ) → (k ≡ 0) ⊎ (k ≡ 3) → isBuiltKind k ≡ true
+unfolding isBuiltKind
+built-kind k (inl e) = rw e
+built-kind k (inr e) = rw e
+
+pub kind-built : (k : ℕ) → isBuiltKind k ≡ true → (k ≡ 0) ⊎ (k ≡ 3)
+unfolding isBuiltKind
+kind-built k h = by (eqb k 0) (λ t. inl (eqb-true k 0 t)) (λ t. inr (eqb-true k 3 (rw t at h)))
+
+pub kind-other : (k : ℕ) → k ≢ 0 → k ≢ 3 → isBuiltKind k ≡ false
+kind-other k n m = by (isBuiltKind k) (λ t. elim (kind-built k t) [ inl e ↦ absurd (n e) | inr e ↦ absurd (m e) ]) (λ t. t)
+
+-- a kind that is not built
+no-kind : {k : ℕ} (j : ℕ) → k ≡ j → isBuiltKind j ≡ false → isBuiltKind k ≡ true → ⊥
+no-kind j e f t = true≢false (sym t ∙ ap isBuiltKind e ∙ f)
 
 -- ---- how many indices
 
@@ -133,7 +152,10 @@ module _ (ws text abi labels : List ℕ) where
 
     built-refused : (n : ℕ) → builtTable ws text abi labels area c ≡ refused n → n ≢ 0
     unfolding builtTable
-    built-refused n e = by (isInterface (classFlags ws c)) (λ t. not-built (sym (rw t at e))) (λ t. build-refused n (rw t at e))
+    built-refused n e =
+        by (isPackaged ws c) (λ t. not-built (sym (rw t at e)))
+        (λ t.
+        let r = rw t at e in by (isInterface (classFlags ws c)) (λ u. not-built (sym (rw u at r))) (λ u. build-refused n (rw u at r)))
 
     generated-refused : (n : ℕ) → generatedTable ws text abi labels area c ≡ refused n → n ≢ 0
     unfolding generatedTable
@@ -183,6 +205,7 @@ module _ (ws text abi labels area : List ℕ) (c : ℕ) where
     pub method-bytes : AreBytes text → AreBytes labels → AreBytes (newText (p .newMethods))
     pub field-bytes : AreBytes text → AreBytes labels → AreBytes (newText (p .newFields))
     pub built : classKind ws c ≡ 0 → isInterface (classFlags ws c) ≡ false → buildMethods ws text abi labels area c ≡ built (p .table)
+    pub packaged : classKind ws c ≡ 3 → buildPackages (sameMethods ws text) ws text abi labels area c ≡ p .table
     pub array : classKind ws c ≡ 2 → parentEntries ws text abi labels area c ≡ p .table
 
   abbrev builtPlan : List Entry → Plan
@@ -198,12 +221,17 @@ module _ (ws text abi labels area : List ℕ) (c : ℕ) where
   generatedPlan T =
       record { table = T; indices = generatedIndices ws text c; newMethods = generatedMethods ws text abi labels area c; newFields = [] }
 
-  plain-table : isInterface (classFlags ws c) ≡ false → (T : List Entry) → builtTable ws text abi labels area c ≡ built T
+  plain-table : classKind ws c ≡ 0 → isInterface (classFlags ws c) ≡ false → (T : List Entry) → builtTable ws text abi labels area c ≡ built T
       → buildMethods ws text abi labels area c ≡ built T
   unfolding builtTable
-  plain-table f T e = rw f at e
+  plain-table k f T e = rw (k, f) at e
 
-  plans-built : classKind ws c ≡ 0 → (p : Plan) → planBuilt ws text abi labels area c ≡ planned p → Plans p
+  packaged-table : classKind ws c ≡ 3 → (T : List Entry) → builtTable ws text abi labels area c ≡ built T
+      → buildPackages (sameMethods ws text) ws text abi labels area c ≡ T
+  unfolding builtTable
+  packaged-table k T e = built-same (rw k at e)
+
+  plans-built : isBuiltKind (classKind ws c) ≡ true → (p : Plan) → planBuilt ws text abi labels area c ≡ planned p → Plans p
   unfolding planBuilt
   plans-built kind p e =
       by (tooManyWords ws text abi labels (classAbi ws text abi labels c) c) (λ t. not-planned (rw t at e))
@@ -215,8 +243,9 @@ module _ (ws text abi labels area : List ℕ) (c : ℕ) where
         generated = λ n. absurd (true≢false n);
         method-bytes = λ t l. no-bytes;
         field-bytes = λ t l. field-bytes abi labels (addedFields ws text abi labels (classAbi ws text abi labels c) c) l;
-        built = λ k f. plain-table f (r .0) (r .1);
-        array = λ k. absurd (omega arith);
+        built = λ k f. plain-table k f (r .0) (r .1);
+        packaged = λ k. packaged-table k (r .0) (r .1);
+        array = λ k. absurd (no-kind 2 k (kind-other 2 (omega arith) (omega arith)) kind);
       }))
 
   plans-generated : classKind ws c ≡ 1 → (p : Plan) → planGenerated ws text abi labels area c ≡ planned p → Plans p
@@ -232,11 +261,12 @@ module _ (ws text abi labels area : List ℕ) (c : ℕ) where
         method-bytes = λ t l. method-bytes ws text abi labels t l area c;
         field-bytes = λ t l. no-bytes;
         built = λ k f. absurd (omega arith);
+        packaged = λ k. absurd (omega arith);
         array = λ k. absurd (omega arith);
       }))
       (λ t. not-planned (rw t at e))
 
-  plans-array : classKind ws c ≢ 0 → (p : Plan) → planArray ws text abi labels area c ≡ planned p → Plans p
+  plans-array : isBuiltKind (classKind ws c) ≡ false → (p : Plan) → planArray ws text abi labels area c ≡ planned p → Plans p
   unfolding planArray
   plans-array kind p e =
       let r = within-planned (record { table = parentEntries ws text abi labels area c; indices = []; newMethods = []; newFields = [] }) p e in
@@ -246,18 +276,19 @@ module _ (ws text abi labels area : List ℕ) (c : ℕ) where
         generated = λ n. absurd (true≢false n);
         method-bytes = λ t l. no-bytes;
         field-bytes = λ t l. no-bytes;
-        built = λ k f. absurd (kind k);
+        built = λ k f. absurd (true≢false (sym (built-kind (classKind ws c) (inl k)) ∙ kind));
+        packaged = λ k. absurd (true≢false (sym (built-kind (classKind ws c) (inr k)) ∙ kind));
         array = λ k. refl;
       })
 
   pub plans : (p : Plan) → plan ws text abi labels area c ≡ planned p → Plans p
   unfolding plan
   plans p e =
-      by (eqb (classKind ws c) 0) (λ t. plans-built (eqb-true (classKind ws c) 0 t) p (rw t at e))
+      by (isBuiltKind (classKind ws c)) (λ t. plans-built t p (rw t at e))
       (λ t.
       let r = rw t at e in
       by (eqb (classKind ws c) 1) (λ u. plans-generated (eqb-true (classKind ws c) 1 u) p (rw u at r))
-      (λ u. plans-array (eqb-false (classKind ws c) 0 t) p (rw u at r)))
+      (λ u. plans-array t p (rw u at r)))
 
   -- ---- a plan that is refused has the number of its row
 
@@ -277,7 +308,7 @@ module _ (ws text abi labels area : List ℕ) (c : ℕ) where
   pub unplanned-number : (n : ℕ) → plan ws text abi labels area c ≡ unplanned n → n ≢ 0
   unfolding plan planArray
   unplanned-number n e =
-      by (eqb (classKind ws c) 0) (λ t. unplanned-built n (rw t at e))
+      by (isBuiltKind (classKind ws c)) (λ t. unplanned-built n (rw t at e))
       (λ t.
       let r = rw t at e in
       by (eqb (classKind ws c) 1) (λ u. unplanned-generated n (rw u at r))

@@ -1,6 +1,7 @@
 -- A class's own members, its parents, and what its methods are. Every definition is total: a list that runs past its section's limit,
 -- which row 4 refuses, is cut there, and a parent that is not below its child, which row 4 refuses too, counts as none. Assumes nothing.
 use Prim.Native.Nat.{ℕ, zero, suc, _-_, _/_, _%_, min}
+use mathlib.Core.Path.{_≡_}
 use mathlib.Core.Bool.{Bool, cond, not, _&&_}
 use mathlib.Core.List.{List, [], _∷_}
 use lib.ListN.{getD}
@@ -74,6 +75,14 @@ eligible ws text m = isEligible (methodFlags ws m) (methodName ws text m)
 unfoldable pub methodIs : List ℕ → List ℕ → ℕ → List ℕ → List ℕ → Bool
 methodIs ws text m name descriptor =
     sameBytes (methodName ws text m) name && sameBytes (methodDescriptor ws text m) descriptor
+
+-- two methods have one name and one descriptor
+unfoldable pub sameMethods : List ℕ → List ℕ → ℕ → ℕ → Bool
+sameMethods ws text m k = methodIs ws text k (methodName ws text m) (methodDescriptor ws text m)
+
+pub record SameSignature (ws text : List ℕ) (m k : ℕ) : Type 0 where
+  pub name : methodName ws text m ≡ methodName ws text k
+  pub descriptor : methodDescriptor ws text m ≡ methodDescriptor ws text k
 
 -- ---- searches along the chain: "class first, then ancestors"
 

@@ -1,4 +1,4 @@
--- `link`: rows 3 to 15 in the table's order, and what an accepted link leaves. Assumes nothing.
+-- `link`: rows 3 to 15 and 26 in the table's order, and what an accepted link leaves. Assumes nothing.
 use Prim.Native.Nat.{ℕ, _+_, _-_}
 use mathlib.Core.Bool.{Bool, true, false, cond, not, _&&_, _||_}
 use mathlib.Core.List.{List, [], _∷_, _++_}
@@ -7,12 +7,13 @@ use lib.Dec.{eqb, leb, ltb}
 use Rattle.words.specs.Folds.{allOf}
 use Rattle.words.specs.declared.Found.{Found}
 use Rattle.text.specs.Text.{sameBytes}
-use Rattle.class_sheet.specs.ClassSheet.{classCount, methodCount, fieldCount, textOf, classParent, classFlags, classKind, classFirstField, classMethodCount, classFieldCount, classCompilerTable, classTablePlace, classSlotCount, className, fieldsAt, putClassInstanceWords, putClassTablePlace, putClassSlotCount, putClassStaticWords}
+use Rattle.class_sheet.specs.ClassSheet.{classCount, methodCount, fieldCount, textOf, classParent, classFlags, classKind, classFirstField, classMethodCount, classFieldCount, classCompilerTable, classTablePlace, classSlotCount, isBuiltKind, isGenerated, isArray, isPackaged, className, fieldsAt, putClassInstanceWords, putClassTablePlace, putClassSlotCount, putClassStaticWords}
 use Rattle.abi_sheet.specs.AbiSheet.{abiTextOf, abiFieldName, abiFieldDescriptor}
 use Rattle.set_rules.specs.SetRules.{setRefusal}
-use Rattle.linking.specs.Chain.{parentOf, isInterface}
+use Rattle.linking.specs.Chain.{parentOf, isInterface, sameMethods}
 use Rattle.linking.specs.Abi.{classAbi, fixedFieldIndex}
 use Rattle.linking.specs.Vtable.{Entry, Built, built, refused, parentEntries, buildMethods, buildInterfaceMethods, slotWords}
+use Rattle.linking.specs.Packages.{buildPackages, badPackages}
 use Rattle.linking.specs.Fields.{numberFields, addedFields, builtWords, tooManyWords, generatedRefusal, generatedIndices, staticWords}
 use Rattle.linking.specs.Compiler.{New, addedMethods, compilerTable}
 use Rattle.linking.specs.Set.{putIndices, newText, grownMethods, grownFields, sectionFull, grownEnd}
@@ -33,7 +34,7 @@ isLinked ws c = not (eqb (classTablePlace ws c) 0)
 -- "an array class with members, no parent or a parent not named `java/lang/Object`"
 unfoldable pub badArray : List ℕ → List ℕ → ℕ → Bool
 badArray ws text c =
-    eqb (classKind ws c) 2
+    isArray ws c
     && (not (eqb (classMethodCount ws c) 0)
     || not (eqb (classFieldCount ws c) 0)
     || eqb (parentOf ws c) 0
@@ -100,7 +101,9 @@ newFieldsOf abi labels (g ∷ gs) =
 module _ (ws text abi labels area : List ℕ) where
   unfoldable pub builtTable : ℕ → Built
   builtTable c =
-      cond (isInterface (classFlags ws c)) (built (buildInterfaceMethods ws text c)) (buildMethods ws text abi labels area c)
+      cond (isPackaged ws c)
+      (built (buildPackages (sameMethods ws text) ws text abi labels area c))
+      (cond (isInterface (classFlags ws c)) (built (buildInterfaceMethods ws text c)) (buildMethods ws text abi labels area c))
 
   unfoldable pub planBuilt : ℕ → Planned
   planBuilt c =
@@ -137,15 +140,15 @@ module _ (ws text abi labels area : List ℕ) where
   planArray c = withinSlots (record { table = parentEntries ws text abi labels area c; indices = []; newMethods = []; newFields = [] })
 
   unfoldable pub plan : ℕ → Planned
-  plan c = cond (eqb (classKind ws c) 0) (planBuilt c) (cond (eqb (classKind ws c) 1) (planGenerated c) (planArray c))
+  plan c = cond (isBuiltKind (classKind ws c)) (planBuilt c) (cond (isGenerated ws c) (planGenerated c) (planArray c))
 
 -- the instance words that linking sets, of a class that is not generated: "An array class has 0."
 unfoldable pub newWords : List ℕ → List ℕ → List ℕ → List ℕ → ℕ → ℕ
-newWords ws text abi labels c = cond (eqb (classKind ws c) 0) (builtWords ws text abi labels (classAbi ws text abi labels c) c) 0
+newWords ws text abi labels c = cond (isBuiltKind (classKind ws c)) (builtWords ws text abi labels (classAbi ws text abi labels c) c) 0
 
 -- "linking puts there the sum of the static field widths for a built class, 0 for an array class; a generated class brings its own"
 unfoldable pub newStatics : List ℕ → List ℕ → ℕ → ℕ
-newStatics ws text c = cond (eqb (classKind ws c) 0) (staticWords ws text c) 0
+newStatics ws text c = cond (isBuiltKind (classKind ws c)) (staticWords ws text c) 0
 
 -- ---- rows 14 and 15
 
@@ -182,7 +185,7 @@ linkedArea area c T stubs =
 unfoldable pub linkedRecord : List ℕ → ℕ → ℕ → ℕ → ℕ → ℕ → List ℕ
 linkedRecord ws c place slots words statics =
     let placed : List ℕ = putClassSlotCount (putClassTablePlace ws c place) c slots in
-    cond (eqb (classKind ws c) 1) placed (putClassStaticWords (putClassInstanceWords placed c words) c statics)
+    cond (isGenerated ws c) placed (putClassStaticWords (putClassInstanceWords placed c words) c statics)
 
 unfoldable pub linkedWords : List ℕ → ℕ → ℕ → ℕ → ℕ → Plan → List ℕ
 linkedWords ws c place words statics p =
@@ -232,4 +235,6 @@ linkDef ws abi c area stubs =
     (refusedCall 6 ws area)
     (cond (badArea ws area)
     (refusedCall 7 ws area)
-    (onPlan (plan ws (textOf ws) abi (abiTextOf abi) area c) (finishLink ws abi c area stubs) (λ n. refusedCall n ws area))))
+    (cond (badPackages ws (textOf ws) abi (abiTextOf abi) c)
+    (refusedCall 26 ws area)
+    (onPlan (plan ws (textOf ws) abi (abiTextOf abi) area c) (finishLink ws abi c area stubs) (λ n. refusedCall n ws area)))))

@@ -11,7 +11,7 @@ use lib.Seq.{getD-set-same, getD-take}
 use lib.Dec.{eqb, ltb}
 use borrow.Author.Tests.{eqb-true, eqb-false, ne-eqb, eq-eqb, ltb-true, ltb-false}
 use Rattle.words.proofs.Bools.{by}
-use Rattle.class_sheet.specs.ClassSheet.{classCount, fieldCount, classKind, classFirstField, classFieldCount, classWord, classInstanceWords, classSlotCount, textOf, sheetWords, classLimit}
+use Rattle.class_sheet.specs.ClassSheet.{classCount, fieldCount, classKind, isBuiltKind, classFirstField, classFieldCount, classWord, classInstanceWords, classSlotCount, textOf, sheetWords, classLimit}
 use Rattle.abi_sheet.specs.AbiSheet.{abiTextOf, abiSheetWords}
 use Rattle.set_rules.specs.SetRules.{setRefusal}
 use Rattle.set_rules.specs.Valid.{IsClass, Valid, ValidAbi}
@@ -91,7 +91,7 @@ module _ (ws text abi labels area : List ℕ) (c : ℕ) (p : Plan) where
   plan-news : plan ws text abi labels area c ≡ planned p → News
   unfolding plan planArray
   plan-news e =
-      by (eqb (classKind ws c) 0) (λ t. built-news (rw t at e))
+      by (isBuiltKind (classKind ws c)) (λ t. built-news (rw t at e))
       (λ t.
       let r = rw t at e in
       by (eqb (classKind ws c) 1) (λ u. generated-news (rw u at r)) (λ u. inl (within-news (record { table = parentEntries ws text abi labels area c; indices = []; newMethods = []; newFields = [] }) p (rw u at r))))

@@ -17,7 +17,7 @@ use Rattle.text.proofs.Laws.{same-is, same-refl}
 use Rattle.class_sheet.specs.ClassSheet.{classCountNumber, compilerCountNumber, compilerSlotsWord, compilerTableWord, fieldCountNumber, fieldCountWord, firstFieldWord, firstInterfaceWord, firstMethodWord, flagsWord, instanceWordsWord, interfaceCountNumber, interfaceCountWord, kindWord, linkStateWord, methodCountNumber, methodCountWord, slotCountWord, tablePlaceWord, textLengthNumber, parentWord, countsWidth, classWidth, memberWidth, countAt, classCount, methodCount, fieldCount, interfaceCount, classWord, methodWord, fieldWord, interfaceWord, textOf, classParent, classFirstMethod, classMethodCount, classFirstField, classFieldCount, className}
 use Rattle.apart.specs.Apart.{apart, methodsApart, fieldsApart, classesApart, apartBefore}
 use Rattle.apart.proofs.Laws.{apart-is, apart-if}
-use Rattle.class_rules.specs.ClassRules.{classLimits, classFits, allFresh, classNumbers, classLists, classRecord, methodRecord, fieldRecord, interfaceNames, classRecords}
+use Rattle.class_rules.specs.ClassRules.{classLimits, classFits, allFresh, ownNumbers, classNumbers, classLists, classRecord, methodRecord, fieldRecord, interfaceNames, classRecords}
 use Rattle.set_rules.specs.SetRules.{methodTyped, fieldTyped, classDescriptors, setRefusal}
 use Rattle.set_rules.specs.Valid.{IsClass, ValidAbi}
 use Rattle.set_rules.proofs.Valid.{valid-class, class-tests, valid, accepted}
@@ -133,7 +133,7 @@ module _ (ws : List ℕ) (ok : Orderable ws) where
   at-class i h = element-class ws l (each-order ws) i (rw (whole ws ok) h)
 
   record-at : (text : List ℕ) (i : ℕ) → i < n → classRecord new text (i + 1) ≡ looseRecord ws text (getD l i 0)
-  unfolding classRecord classNumbers classLists looseRecord looseNumbers
+  unfolding classRecord ownNumbers classNumbers classLists looseRecord looseNumbers
   record-at text i h =
       let below : ltb (classParent new (i + 1)) (i + 1) ≡ true = lt-ltb _ _ (parent-below (i + 1) (omega arith, omega arith)) in
       let named : leb (classParent ws (getD l i 0)) n ≡ true = le-leb _ _ (parents-named ws ok (getD l i 0) (at-class i h)) in

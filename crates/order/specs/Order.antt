@@ -3,17 +3,17 @@
 use Prim.Native.Nat.{ℕ, _+_, _-_, _≤_, _<_}
 use mathlib.Core.Path.{_≡_}
 use mathlib.Core.Logic.{_≢_, _↔_}
-use mathlib.Core.Bool.{Bool, true, _&&_, _||_}
+use mathlib.Core.Bool.{Bool, true, _&&_}
 use mathlib.Core.List.{List, _++_}
 use lib.ListN.{length, getD, take, drop}
-use lib.Dec.{eqb, leb}
+use lib.Dec.{leb}
 use Rattle.words.specs.Folds.{allOf}
 use Rattle.words.specs.Lists.{numbers}
-use Rattle.class_sheet.specs.ClassSheet.{parentWord, countsWidth, classWidth, memberWidth, countAt, classCount, methodCount, fieldCount, interfaceCount, compilerCount, contentEnd, classWord, methodWord, fieldWord, interfaceWord, compilerWord, textOf, classNameStart, classNameLength, classParent, classFlags, classKind, classLinkState, classInstanceWords, classCompilerSlots, classTablePlace, classSlotCount, className}
+use Rattle.class_sheet.specs.ClassSheet.{parentWord, countsWidth, classWidth, memberWidth, countAt, classCount, methodCount, fieldCount, interfaceCount, compilerCount, contentEnd, classWord, methodWord, fieldWord, interfaceWord, compilerWord, textOf, classNameStart, classNameLength, classParent, className}
 use Rattle.text.specs.Text.{partOk}
 use Rattle.block.specs.Block.{sheetWords}
 use Rattle.apart.specs.Apart.{apartBefore}
-use Rattle.class_rules.specs.ClassRules.{classFits, classLists, methodRecord, fieldRecord, interfaceNames, classRecords}
+use Rattle.class_rules.specs.ClassRules.{classFits, ownNumbers, classLists, methodRecord, fieldRecord, interfaceNames, classRecords}
 use Rattle.set_rules.specs.SetRules.{classDescriptors, classRefusal, setRefusal}
 use Rattle.set_rules.specs.Valid.{IsClass, ValidAbi}
 use Rattle.sheet.specs.Sheet.{readClassSheet, readUnorderedSheet}
@@ -80,14 +80,7 @@ pub record Follows (ws l new : List ℕ) : Type 0 where
 
 -- row 4 but for "a parent's number is below the child's": it is at most the count
 unfoldable pub looseNumbers : List ℕ → ℕ → Bool
-looseNumbers ws c =
-    leb (classParent ws c) (classCount ws)
-    && leb (classFlags ws c) 65535
-    && leb (classKind ws c) 2
-    && leb (classLinkState ws c) 65535
-    && leb (classInstanceWords ws c) 65535
-    && leb (classCompilerSlots ws c) 1024
-    && (eqb (classTablePlace ws c) 0 || leb (classSlotCount ws c) 1024)
+looseNumbers ws c = ownNumbers ws c && leb (classParent ws c) (classCount ws)
 
 unfoldable pub looseRecord : List ℕ → List ℕ → ℕ → Bool
 looseRecord ws text c = partOk text (classNameStart ws c) (classNameLength ws c) && looseNumbers ws c && classLists ws c

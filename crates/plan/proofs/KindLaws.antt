@@ -12,7 +12,9 @@ use Rattle.words.proofs.Bools.{by}
 use Rattle.words.specs.Lists.{listFrom}
 use Rattle.words.proofs.FoldLaws.{length-stores}
 use Rattle.words.proofs.ListLaws.{length-list-from}
-use Rattle.class_sheet.specs.ClassSheet.{classKind, classFlags, classCompilerTable, fieldLimit}
+use Rattle.class_sheet.specs.ClassSheet.{classKind, isPackaged, isBuiltKind, classFlags, classCompilerTable, fieldLimit}
+use Rattle.linking.specs.Chain.{sameMethods}
+use Rattle.linking.specs.Packages.{buildPackages}
 use Rattle.linking.specs.Set.{overlaid}
 use Rattle.linking.specs.Vtable.{Entry, Built, built, parentEntries, buildInterfaceMethods, buildMethods}
 use Rattle.linking.specs.Abi.{classAbi}
@@ -33,6 +35,11 @@ use Rattle.plan.specs.declared.Plan.{Plan}
 use Rattle.plan.specs.declared.Table.{Table}
 use Rattle.plan.specs.Plans.{bare, bareBuilt, fewSlots, tableFrom, tableOf, methodsOf, fieldsOf, noPlan, planFrom, Planning}
 use Rattle.plan.proofs.TableLaws.{bare-entries, table-is, length-bare, Passed, table-passes, table-stops}
+
+-- ---- the test of the kind
+
+pub kind-is : (ws : List ℕ) (c : ℕ) {k : ℕ} {b : Bool} → k ≡ classKind ws c → b ≡ isBuiltKind k → isBuiltKind (classKind ws c) ≡ b
+kind-is ws c kind test = ap isBuiltKind (sym kind) ∙ sym test
 
 -- ---- the answer, from the fields and the table
 
@@ -88,18 +95,29 @@ length-news abi labels (g ∷ gs) = ap suc (length-news abi labels gs)
 module _ (ws text abi labels area : List ℕ) (c : ℕ) where
   -- ---- the table of a built class
 
-  module _ {f : ℕ} (flags : f ≡ classFlags ws c) where
+  pub packages-table : {k : ℕ} (n : ℕ) (ts ms : List ℕ) {t : Table} → k ≡ classKind ws c → k ≡ 3
+      → entriesOf ts ms n ≡ buildPackages (sameMethods ws text) ws text abi labels area c
+      → t ≡ tableFrom (Next n) 0 → tableOf t ts ≡ bareBuilt (fewSlots (L.builtTable ws text abi labels area c))
+  unfolding L.builtTable
+  packages-table n ts ms kind h e g =
+      let q : isPackaged ws c ≡ true = eq-eqb (classKind ws c) 3 (sym kind ∙ h) in
+      table-is (Next n) 0 ts ms (L.builtTable ws text abi labels area c) g (ap built e ∙ rw q)
+
+  module _ {f k : ℕ} (flags : f ≡ classFlags ws c) (kind : k ≡ classKind ws c) (other : k ≢ 3) where
+    not-packaged : isPackaged ws c ≡ false
+    not-packaged = ne-eqb (classKind ws c) 3 (λ z. other (kind ∙ z))
+
     pub interface-table : (n : ℕ) (ts ms : List ℕ) {t : Table} → f / 512 % 2 ≡ 1 → entriesOf ts ms n ≡ buildInterfaceMethods ws text c
         → t ≡ tableFrom (Next n) 0 → tableOf t ts ≡ bareBuilt (fewSlots (L.builtTable ws text abi labels area c))
     unfolding L.builtTable
     interface-table n ts ms h e g =
         table-is (Next n) 0 ts ms (L.builtTable ws text abi labels area c) g
-        (ap built e ∙ rw (← flags) (simp (eq-eqb (f / 512 % 2) 1 h)))
+        (ap built e ∙ rw (not-packaged, ← flags) (simp (eq-eqb (f / 512 % 2) 1 h)))
 
     pub class-table : (s : Step) (ts ms : List ℕ) {t : Table} → f / 512 % 2 ≢ 1 → stepOf s ts ms ≡ buildMethods ws text abi labels area c
         → t ≡ tableFrom s 0 → tableOf t ts ≡ bareBuilt (fewSlots (L.builtTable ws text abi labels area c))
     unfolding L.builtTable
-    class-table s ts ms h e g = table-is s 0 ts ms (L.builtTable ws text abi labels area c) g (e ∙ rw (← flags) (simp (ne-eqb (f / 512 % 2) 1 h)))
+    class-table s ts ms h e g = table-is s 0 ts ms (L.builtTable ws text abi labels area c) g (e ∙ rw (not-packaged, ← flags) (simp (ne-eqb (f / 512 % 2) 1 h)))
 
   -- ---- a built class
 
@@ -133,11 +151,11 @@ module _ (ws text abi labels area : List ℕ) (c : ℕ) where
       built-passes q =
           rw (built-accepted ws text abi labels c numbers zero .0, q .table, le-ltb 1024 (length (q .slots)) (q .few))
 
-      built-words : classKind ws c ≡ 0 → L.newWords ws text abi labels c ≡ builtWords ws text abi labels (classAbi ws text abi labels c) c
+      built-words : isBuiltKind (classKind ws c) ≡ true → L.newWords ws text abi labels c ≡ builtWords ws text abi labels (classAbi ws text abi labels c) c
       unfolding L.newWords
       built-words k = rw k
 
-      pub built-plan : (a d b : List ℕ) {r : Plan} {refs flags lasts : List ℕ} → classKind ws c ≡ 0 → t .added ≡ 0 → refs ≡ namesOver gs a
+      pub built-plan : (a d b : List ℕ) {r : Plan} {refs flags lasts : List ℕ} → isBuiltKind (classKind ws c) ≡ true → t .added ≡ 0 → refs ≡ namesOver gs a
           → flags ≡ flagsOver gs d → lasts ≡ indicesOver abi gs b → (length refs ≡ 1024) × (length flags ≡ 1024) × (length lasts ≡ 1024)
           → r ≡ planFrom f t
           → Planning ws text abi labels c (L.newWords ws text abi labels c) (L.planBuilt ws text abi labels area c) r ts refs flags lasts
@@ -162,13 +180,13 @@ module _ (ws text abi labels area : List ℕ) (c : ℕ) where
 
   -- ---- a class that gets no instance words
 
-  no-words : classKind ws c ≢ 0 → L.newWords ws text abi labels c ≡ 0
+  no-words : isBuiltKind (classKind ws c) ≡ false → L.newWords ws text abi labels c ≡ 0
   unfolding L.newWords
-  no-words h = simp (ne-eqb (classKind ws c) 0 h)
+  no-words h = rw h
 
   -- ---- an array class
 
-  pub array-plan : (ts ms : List ℕ) (n : ℕ) → classKind ws c ≢ 0 → entriesOf ts ms n ≡ parentEntries ws text abi labels area c → n ≤ 1024
+  pub array-plan : (ts ms : List ℕ) (n : ℕ) → isBuiltKind (classKind ws c) ≡ false → entriesOf ts ms n ≡ parentEntries ws text abi labels area c → n ≤ 1024
       → (refs flags lasts : List ℕ)
       → Planning ws text abi labels c (L.newWords ws text abi labels c) (L.planArray ws text abi labels area c)
       (record { indices = replicate fieldLimit 0; n = n; own = 0; instance = 0; added = 0; row = 0 }) ts refs flags lasts
@@ -179,7 +197,7 @@ module _ (ws text abi labels area : List ℕ) (c : ℕ) where
       (record { table = parentEntries ws text abi labels area c; indices = []; newMethods = []; newFields = [] })
       (record { indices = replicate fieldLimit 0; n = 0; words = 0; added = 0; row = 0 }) (record { n = n; added = 0; row = 0 }) 0 0
       (rw (← table, length-entries ts ms n, le-ltb 1024 n few)) refl refl (sym (bare-entries ts ms n) ∙ ap bare table) refl refl
-      (either (eqb (classKind ws c) 0)) (either (eqb (classKind ws c) 0)) (omega arith))
+      (either (isBuiltKind (classKind ws c))) (either (isBuiltKind (classKind ws c))) (omega arith))
     where
       either : (b : Bool) → [] ≡ cond {A = List New} b [] []
       either true = refl
@@ -238,7 +256,7 @@ module _ (ws text abi labels area : List ℕ) (c : ℕ) where
       generated-passes q =
           rw (generated-accepted ws text c numbers zero .0, q .table, le-ltb 1024 (length (q .slots)) (q .few))
 
-      pub generated-plan : {r : Plan} (refs flags lasts : List ℕ) → classKind ws c ≢ 0
+      pub generated-plan : {r : Plan} (refs flags lasts : List ℕ) → isBuiltKind (classKind ws c) ≡ false
           → firstNews ws text abi labels refs flags lasts (t .added) ≡ L.generatedMethods ws text abi labels area c → t .added ≤ 1024
           → r ≡ planFrom f t → Planning ws text abi labels c (L.newWords ws text abi labels c) (L.planGenerated ws text abi labels area c) r ts refs flags lasts
       unfolding firstNews
@@ -251,8 +269,8 @@ module _ (ws text abi labels area : List ℕ) (c : ℕ) where
           let s : 0 + t .added ≡ t .added = omega arith in
           rw (no-words kind)
           (accepted-plan ws text abi labels c ts refs flags lasts (made-of q) f t 0 0 (generated-passes q) g o (q .words)
-          (generated-accepted ws text c numbers zero .1) (omega arith) (rw s (simp (ne-eqb (classKind ws c) 0 kind) (sym new)))
-          (simp (ne-eqb (classKind ws c) 0 kind)) (omega arith)))
+          (generated-accepted ws text c numbers zero .1) (omega arith) (rw s (rw kind (sym new)))
+          (rw kind) (omega arith)))
           (λ z.
           let h = eqb-false (t .row) 0 z in
           refused-plan ws text abi labels c ts refs flags lasts (L.newWords ws text abi labels c) (t .row) (g ∙ rw (ne-eqb (t .row) 0 h)) h
@@ -260,15 +278,15 @@ module _ (ws text abi labels area : List ℕ) (c : ℕ) where
 
   -- ---- by the kind
 
-  module _ {k : ℕ} (kind : k ≡ classKind ws c) where
-    pub kind-built : k ≡ 0 → L.planBuilt ws text abi labels area c ≡ L.plan ws text abi labels area c
+  module _ {k : ℕ} (kind : k ≡ classKind ws c) {b : Bool} (test : b ≡ isBuiltKind k) where
+    pub kind-built : b ≡ true → L.planBuilt ws text abi labels area c ≡ L.plan ws text abi labels area c
     unfolding L.plan
-    kind-built e = rw (← kind) (simp (eq-eqb k 0 e))
+    kind-built e = rw (kind-is ws c kind test, e)
 
-    pub kind-generated : k ≢ 0 → k ≡ 1 → L.planGenerated ws text abi labels area c ≡ L.plan ws text abi labels area c
+    pub kind-generated : b ≡ false → k ≡ 1 → L.planGenerated ws text abi labels area c ≡ L.plan ws text abi labels area c
     unfolding L.plan
-    kind-generated h e = rw (← kind) (simp (ne-eqb k 0 h, eq-eqb k 1 e))
+    kind-generated h e = rw (kind-is ws c kind test, h, ← kind) (simp (eq-eqb k 1 e))
 
-    pub kind-array : k ≢ 0 → k ≢ 1 → L.planArray ws text abi labels area c ≡ L.plan ws text abi labels area c
+    pub kind-array : b ≡ false → k ≢ 1 → L.planArray ws text abi labels area c ≡ L.plan ws text abi labels area c
     unfolding L.plan
-    kind-array h e = rw (← kind) (simp (ne-eqb k 0 h, ne-eqb k 1 e))
+    kind-array h e = rw (kind-is ws c kind test, h, ← kind) (simp (ne-eqb k 1 e))

@@ -7,7 +7,7 @@ use mathlib.Core.Logic.{_≢_}
 use lib.ListN.{length, replicate}
 use lib.Dec.{eqb, ltb}
 use Rattle.words.specs.declared.Found.the-variants.{Nothing}
-use Rattle.class_sheet.specs.ClassSheet.{classKind, fieldLimit}
+use Rattle.class_sheet.specs.ClassSheet.{classKind, isBuiltKind, fieldLimit}
 use Rattle.linking.specs.Set.{overlaid}
 use Rattle.linking.specs.Vtable.{Entry, Built, built, refused}
 use Rattle.linking.specs.Compiler.{New}
@@ -58,10 +58,10 @@ tableOf t ts = cond (eqb (t .row) 0) (built (entriesOf ts [] (t .n))) (refused (
 
 -- a built class adds fields, any other methods
 abbrev pub methodsOf : List ℕ → ℕ → List New → List New
-methodsOf ws c new = cond (eqb (classKind ws c) 0) [] new
+methodsOf ws c new = cond (isBuiltKind (classKind ws c)) [] new
 
 abbrev pub fieldsOf : List ℕ → ℕ → List New → List New
-fieldsOf ws c new = cond (eqb (classKind ws c) 0) new []
+fieldsOf ws c new = cond (isBuiltKind (classKind ws c)) new []
 
 -- a refused plan: the row, and zeros
 abbrev pub noPlan : ℕ → Plan

@@ -2,11 +2,11 @@
 // caller.
 use vtable::Step;
 ghost use mathlib.Core.Path.{_≡_};
-ghost use mathlib.Core.Logic.{_≢_};
+ghost use mathlib.Core.Bool.{true, false};
 ghost use mathlib.Core.List.{List, []};
 ghost use Prim.Native.Nat.{ℕ, _≤_};
 ghost use lib.ListN.{length};
-ghost use Rattle.class_sheet.specs.ClassSheet.{classKind};
+ghost use Rattle.class_sheet.specs.ClassSheet.{classLimit, classKind, isBuiltKind};
 ghost use Rattle.linking.specs.Link.{builtTable, generatedTable, generatedMethods, planBuilt, planGenerated, planArray, plan};
 ghost use Rattle.vtable.specs.Arrays.{stepCount};
 ghost use Rattle.growth.specs.News.{firstNews};
@@ -117,12 +117,17 @@ fn built_table<'a>(
     c: u32,
     ts: &mut [u32; 3584],
 ) -> Table
+    requires { ⌜ (1 ≤ c) × (c ≤ classLimit) ⌝ }
     ensures is { λ r. ⌜ tableOf r (now (ts .exit))
         ≡ bareBuilt (fewSlots (builtTable (now (ws .entry)) (now (text .entry)) (now (abi .entry)) (now (labels .entry)) (now (area .entry)) c)) ⌝ }
     ensures members { λ r. ⌜ r .added ≡ 0 ⌝ }
     ensures array { λ r. ⌜ length (now (ts .exit)) ≡ 3584 ⌝ }
 {
     let mut ms = [0u32; 3584];
+    if class_sheet::class_kind(ws, c) == class_sheet::PACKAGED {
+        let n = packages::build_packages(ws, text, abi, labels, area, c, ts, &mut ms);
+        return step_table(Step::Next(n), 0);
+    }
     if class_sheet::class_flags(ws, c) / 512 % 2 == 1 {
         let n = vtable::build_interface_methods(ws, text, c, ts, &mut ms);
         return step_table(Step::Next(n), 0);
@@ -187,7 +192,7 @@ fn plan_built<'a>(
     flags: &mut [u32; 1024],
     lasts: &mut [u32; 1024],
 ) -> Plan
-    requires { ⌜ classKind (now ws) c ≡ 0 ⌝ }
+    requires { ⌜ (isBuiltKind (classKind (now ws) c) ≡ true) × (1 ≤ c) × (c ≤ classLimit) ⌝ }
     ensures is { λ r. ⌜ Plans planBuilt (now (ws .entry)) (now (text .entry)) (now (abi .entry)) (now (labels .entry)) (now (area .entry)) c
         r (now (ts .exit)) (now (refs .exit)) (now (flags .exit)) (now (lasts .exit)) ⌝ }
     ensures arrays { λ r. ⌜ KeepAll (now (ts .entry)) (now (refs .entry)) (now (flags .entry)) (now (lasts .entry))
@@ -214,7 +219,7 @@ fn plan_generated<'a>(
     flags: &mut [u32; 1024],
     lasts: &mut [u32; 1024],
 ) -> Plan
-    requires { ⌜ classKind (now ws) c ≢ 0 ⌝ }
+    requires { ⌜ isBuiltKind (classKind (now ws) c) ≡ false ⌝ }
     ensures is { λ r. ⌜ Plans planGenerated (now (ws .entry)) (now (text .entry)) (now (abi .entry)) (now (labels .entry)) (now (area .entry)) c
         r (now (ts .exit)) (now (refs .exit)) (now (flags .exit)) (now (lasts .exit)) ⌝ }
     ensures arrays { λ r. ⌜ KeepAll (now (ts .entry)) (now (refs .entry)) (now (flags .entry)) (now (lasts .entry))
@@ -238,7 +243,7 @@ fn plan_array(
     c: u32,
     ts: &mut [u32; 3584],
 ) -> Plan
-    requires { ⌜ classKind (now ws) c ≢ 0 ⌝ }
+    requires { ⌜ isBuiltKind (classKind (now ws) c) ≡ false ⌝ }
     ensures is { λ r. ⌜ ((refs flags lasts : List ℕ) → Plans planArray (now (ws .entry)) (now (text .entry)) (now (abi .entry)) (now (labels .entry))
         (now (area .entry)) c r (now (ts .exit)) refs flags lasts) ⌝ }
     ensures array { λ r. ⌜ Keeps 3584 (now (ts .entry)) (now (ts .exit)) ⌝ }
@@ -270,16 +275,17 @@ pub fn plan_link<'a>(
     flags: &mut [u32; 1024],
     lasts: &mut [u32; 1024],
 ) -> Plan
+    requires { ⌜ (1 ≤ c) × (c ≤ classLimit) ⌝ }
     ensures is { λ r. ⌜ Plans plan (now (ws .entry)) (now (text .entry)) (now (abi .entry)) (now (labels .entry)) (now (area .entry)) c
         r (now (ts .exit)) (now (refs .exit)) (now (flags .exit)) (now (lasts .exit)) ⌝ }
     ensures arrays { λ r. ⌜ KeepAll (now (ts .entry)) (now (refs .entry)) (now (flags .entry)) (now (lasts .entry))
         (now (ts .exit)) (now (refs .exit)) (now (flags .exit)) (now (lasts .exit)) ⌝ }
 {
     let kind = class_sheet::class_kind(ws, c);
-    if kind == 0 {
+    if class_sheet::is_built_kind(kind) {
         return plan_built(ws, text, abi, labels, area, c, ts, refs, flags, lasts);
     }
-    if kind == 1 {
+    if kind == class_sheet::GENERATED {
         return plan_generated(ws, text, abi, labels, area, c, ts, refs, flags, lasts);
     }
     plan_array(ws, text, abi, labels, area, c, ts)

@@ -6,7 +6,7 @@ use Prim.Native.Nat.{ℕ}
 use Rattle.words.specs.Folds.{allOf}
 use Rattle.words.specs.Lists.{listFrom, find, position, some}
 use Rattle.words.specs.Rows.{joined, cut}
-use Rattle.class_sheet.specs.ClassSheet.{countAt, classWord, interfaceWord, methodsAt, fieldsAt, interfacesAt, compilersAt, textAt, contentEnd}
+use Rattle.class_sheet.specs.ClassSheet.{countAt, classWord, isBuiltKind, interfaceWord, methodsAt, fieldsAt, interfacesAt, compilersAt, textAt, contentEnd}
 use Rattle.class_sheet.specs.Sections.{laidOut, sectionsBy}
 use Rattle.class_rules.specs.ClassRules.{classLimits, classFits, unlinked, staticsClean, fresh, interfaceNames}
 use Rattle.renumber.specs.Renumber.{placed, ready, nextClass, orderFrom, orderOf, newNumber, movedRecord, renumbered, renumberForm, strayParent, namesClasses, returnsFrom, returns, cyclic, renumberRefusal, renumberDef}
@@ -35,6 +35,6 @@ pub record Rows : Type 0 where
 
 pub rows : Rows
 unfolding allOf listFrom find position some joined cut countAt classWord interfaceWord methodsAt fieldsAt interfacesAt compilersAt textAt contentEnd
-    laidOut sectionsBy classLimits classFits unlinked staticsClean fresh interfaceNames placed ready nextClass orderFrom orderOf newNumber movedRecord
+    laidOut sectionsBy classLimits classFits unlinked isBuiltKind staticsClean fresh interfaceNames placed ready nextClass orderFrom orderOf newNumber movedRecord
     renumbered renumberForm strayParent namesClasses returnsFrom returns cyclic renumberRefusal renumberDef
 rows = record { interfaces = refl }

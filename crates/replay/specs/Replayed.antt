@@ -10,7 +10,7 @@ use Rattle.class_sheet.specs.ClassSheet.{textOf}
 use Rattle.abi_sheet.specs.AbiSheet.{abiTextOf}
 use Rattle.linking.specs.Chain.{parentOf}
 use Rattle.linking.specs.Abi.{classAbi}
-use Rattle.slots.specs.Slots.{Unique, Kept}
+use Rattle.slots.specs.Slots.{OldRule, Unique, Kept}
 use Rattle.calls.specs.Calls.{run, Unlinked, tableAt}
 use Rattle.calls.specs.Demand.{Linked, Conditions}
 use Rattle.replay.specs.Replay.{callsOf, state, answersOf, over}
@@ -44,7 +44,7 @@ module _ (ws abi area answers calls stubs ws′ area′ answers′ : List ℕ) w
 
   -- demand 3's claim, of the tables in the area that `replay` leaves
   pub record Holds (c place slots : ℕ) : Type 0 where
-    pub unique : Unique ws (textOf ws) abi (abiTextOf abi) c (tableAt area′ place slots)
+    pub unique : OldRule ws c → Unique ws (textOf ws) abi (abiTextOf abi) c (tableAt area′ place slots)
     pub keeps-parent : parentOf ws c ≢ 0 → classAbi ws (textOf ws) abi (abiTextOf abi) c ≡ Nothing → Keeps c place slots
     pub whole : length (tableAt area′ place slots) ≡ slots
 

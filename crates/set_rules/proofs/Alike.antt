@@ -7,7 +7,7 @@ use native.Mathlib.Omega.{arith}
 use lib.Dec.{ltb}
 use Rattle.words.proofs.FoldLaws.{all-ext}
 use Rattle.class_sheet.specs.ClassSheet.{countsWidth, staticWordsWord, memberWidth, classCountNumber, methodCountNumber, fieldCountNumber, interfaceCountNumber, countAt, classWord, methodWord, fieldWord, interfaceWord, classCount, methodCount, fieldCount, interfaceCount}
-use Rattle.class_rules.specs.ClassRules.{classLimits, classNumbers, classLists, classRecord, methodRecord, fieldRecord, interfaceNames, classRecords}
+use Rattle.class_rules.specs.ClassRules.{classLimits, ownNumbers, classNumbers, classLists, classRecord, methodRecord, fieldRecord, interfaceNames, classRecords}
 use Rattle.apart.specs.Apart.{methodsApart, fieldsApart, classesApart, apartBefore}
 use Rattle.set_rules.specs.SetRules.{methodTyped, fieldTyped, classDescriptors, classRefusal}
 
@@ -26,7 +26,7 @@ module _ (vs ws : List ℕ) (a : Alike vs ws) where
 
   module _ (text : List ℕ) where
     class-alike : (c : ℕ) → 1 ≤ c → c ≤ classCount ws → classRecord vs text c ≡ classRecord ws text c
-    unfolding classRecord classNumbers classLists
+    unfolding classRecord ownNumbers classNumbers classLists
     class-alike c l h = search (a .classes c l h, a .counts)
 
     method-alike : (m : ℕ) → m < methodCount ws → methodRecord vs text m ≡ methodRecord ws text m

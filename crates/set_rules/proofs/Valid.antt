@@ -22,7 +22,7 @@ use Rattle.descriptor.specs.Words.{ValidDescriptor, isMethod}
 use Rattle.descriptor.proofs.Meaning.{meaning}
 use Rattle.class_sheet.specs.ClassSheet.{classLimit, methodLimit, fieldLimit, interfaceLimit, compilerLimit, textLimit, classCount, methodCount, fieldCount, interfaceCount, compilerCount, textLength, contentEnd, textOf, interfaceWord, classNameStart, classNameLength, classParent, classFlags, classKind, classFirstMethod, classMethodCount, classFirstField, classFieldCount, classFirstInterface, classInterfaceCount, classLinkState, classInstanceWords, classCompilerTable, classCompilerSlots, classTablePlace, classSlotCount, className, methodNameStart, methodNameLength, methodDescriptorStart, methodDescriptorLength, methodFlags, methodDescriptor, fieldNameStart, fieldNameLength, fieldDescriptorStart, fieldDescriptorLength, fieldFlags, fieldDescriptor}
 use Rattle.abi_sheet.specs.AbiSheet.{abiClassLimit, abiSlotLimit, abiFieldLimit, abiTextLimit, abiClassCount, abiSlotCount, abiFieldCount, abiTextLength, abiContentEnd, abiTextOf, abiClassNameStart, abiClassNameLength, abiClassTableSizePlusOne, abiClassInstanceWordsPlusOne, abiClassFirstSlot, abiClassSlotCount, abiClassFirstField, abiClassFieldCount, abiSlotNameStart, abiSlotNameLength, abiSlotDescriptorStart, abiSlotDescriptorLength, abiSlotIndex, abiSlotDescriptor, abiFieldNameStart, abiFieldNameLength, abiFieldDescriptorStart, abiFieldDescriptorLength, abiFieldIndex, abiFieldDescriptor}
-use Rattle.class_rules.specs.ClassRules.{classLimits, classFits, compilerOk, classNumbers, classLists, classRecord, methodFlagsOk, methodRecord, fieldRecord, interfaceNames, classRecords}
+use Rattle.class_rules.specs.ClassRules.{classLimits, classFits, compilerOk, ownNumbers, classNumbers, classLists, classRecord, methodFlagsOk, methodRecord, fieldRecord, interfaceNames, classRecords}
 use Rattle.apart.specs.Apart.{methodsApart, fieldsApart, classesApart, apartBefore}
 use Rattle.apart.proofs.Laws.{apart-is, apart-if}
 use Rattle.abi_rules.specs.AbiRules.{abiLimits, abiFits, abiClassRecord, abiSlotRecord, abiFieldRecord, abiRecords}
@@ -73,21 +73,21 @@ same-class c d h k = omega (arith, h, k)
 
 module _ (ws : List ℕ) (c : ℕ) where
   class-numbers : classNumbers ws c ≡ true
-      → (classParent ws c < c) × (classFlags ws c ≤ 65535) × (classKind ws c ≤ 2) × (classLinkState ws c ≤ 65535)
+      → (classParent ws c < c) × (classFlags ws c ≤ 65535) × (classKind ws c ≤ 3) × (classLinkState ws c ≤ 65535)
       × (classInstanceWords ws c ≤ 65535) × (classCompilerSlots ws c ≤ 1024)
       × ((classTablePlace ws c ≡ 0 → ⊥) → classSlotCount ws c ≤ 1024)
-  unfolding classNumbers
+  unfolding classNumbers ownNumbers
   class-numbers h =
-      let p = and-7 (ltb (classParent ws c) c) (leb (classFlags ws c) 65535) (leb (classKind ws c) 2) (leb (classLinkState ws c) 65535)
+      let p = and-7 (leb (classFlags ws c) 65535) (leb (classKind ws c) 3) (leb (classLinkState ws c) 65535)
       (leb (classInstanceWords ws c) 65535) (leb (classCompilerSlots ws c) 1024)
-      (eqb (classTablePlace ws c) 0 || leb (classSlotCount ws c) 1024) h in (
-        ltb-true _ _ (p .0),
+      (eqb (classTablePlace ws c) 0 || leb (classSlotCount ws c) 1024) (ltb (classParent ws c) c) h in (
+        ltb-true _ _ (p .6),
+        leb-true _ _ (p .0),
         leb-true _ _ (p .1),
         leb-true _ _ (p .2),
         leb-true _ _ (p .3),
         leb-true _ _ (p .4),
-        leb-true _ _ (p .5),
-        λ n. leb-true _ _ (rw (ne-eqb (classTablePlace ws c) 0 n) at (p .6)),
+        λ n. leb-true _ _ (rw (ne-eqb (classTablePlace ws c) 0 n) at (p .5)),
       )
 
   compiler-none : (t s n : ℕ) → compilerOk t s n ≡ true → t ≡ 0 → s ≡ 0
@@ -99,12 +99,12 @@ module _ (ws : List ℕ) (c : ℕ) where
   compiler-some t s n h e = inside-is (t - 1) s n (rw (ne-eqb t 0 e) at h)
 
   numbers-ok : ValidClass ws c → classNumbers ws c ≡ true
-  unfolding classNumbers
+  unfolding classNumbers ownNumbers
   numbers-ok v =
       simp (
         lt-ltb (classParent ws c) c (v .parent-below),
         le-leb (classFlags ws c) 65535 (v .flags),
-        le-leb (classKind ws c) 2 (v .kind),
+        le-leb (classKind ws c) 3 (v .kind),
         le-leb (classLinkState ws c) 65535 (v .link-state),
         le-leb (classInstanceWords ws c) 65535 (v .instance-words),
         le-leb (classCompilerSlots ws c) 1024 (v .compiler-slots),

@@ -33,7 +33,7 @@ pub record ValidClass (ws : List ℕ) (c : ℕ) : Type 0 where
   pub name : Part (textOf ws) (classNameStart ws c) (classNameLength ws c)
   pub parent-below : classParent ws c < c
   pub flags : classFlags ws c ≤ 65535
-  pub kind : classKind ws c ≤ 2
+  pub kind : classKind ws c ≤ 3
   pub link-state : classLinkState ws c ≤ 65535
   pub instance-words : classInstanceWords ws c ≤ 65535
   pub compiler-slots : classCompilerSlots ws c ≤ 1024

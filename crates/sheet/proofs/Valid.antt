@@ -127,7 +127,7 @@ module _ (bs out : List ℕ) (e : (readClassSheet bs out) .refusal ≡ 0) where
       let u = class-sheet-unlinked bs (length out) accepted c (k .0, h) in (
         word tablePlaceWord (omega arith) ∙ u .0,
         word slotCountWord (omega arith) ∙ u .1,
-        λ kind. word staticWordsWord (omega arith) ∙ u .2 (rw (word kindWord (omega arith)) at kind),
+        λ kind n. word staticWordsWord (omega arith) ∙ u .2 (rw (word kindWord (omega arith)) at kind) (λ e. n (word kindWord (omega arith) ∙ e)),
       )
 
   pub read-fresh : (c : ℕ) → IsClass ((readClassSheet bs out) .memory) c → Fresh ((readClassSheet bs out) .memory) c

@@ -166,7 +166,7 @@ module _ (ws text abi labels : List ℕ) where
   pub stays-same : (ms : List ℕ) (e f : Entry) (m : ℕ) → e .method ≡ At m → f ≡ e → Stays ms (methodSignature ws text m) e f
   stays-same ms e f m k q = rw q (record { method = m; holds = k; is = refl; word = inl refl })
 
-  stays-own : (ms : List ℕ) (s : Signature) (e f : Entry) (m : ℕ) → List·Memᴰ m ms → eligible ws text m ≡ true → methodSignature ws text m ≡ s
+  pub stays-own : (ms : List ℕ) (s : Signature) (e f : Entry) (m : ℕ) → List·Memᴰ m ms → eligible ws text m ≡ true → methodSignature ws text m ≡ s
       → f ≡ methodEntry ws m → Stays ms s e f
   stays-own ms s e f m i q k r =
       rw r (record { method = m; holds = refl; is = k; word = inr (record { method = m; own = i; eligible = q; is = k; target = refl }) })

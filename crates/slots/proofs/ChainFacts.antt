@@ -72,18 +72,17 @@ module _ (ws : List ℕ) (c t : ℕ) where
   pub target-absent : ((m : ℕ) → ChainMethod ws c m → methodTarget ws m ≢ t) → findByTarget ws c t ≡ Nothing
   target-absent none = by-found (findByTarget ws c t) (λ m e. let r = target-of e in absurd (none m (r .method) (r .target))) (λ e. e)
 
-module _ (ws text abi labels : List ℕ) (c t : ℕ) where
   -- the method itself, where the chain's targets are all different
-  pub target-own : {P : ℕ → Type 0} → Conditions ws text abi labels P c → (m : ℕ) → ChainMethod ws c m → methodTarget ws m ≡ t
-      → findByTarget ws c t ≡ At m
+  pub target-own : ((m n : ℕ) → ChainMethod ws c m → ChainMethod ws c n → methodTarget ws m ≡ methodTarget ws n → m ≡ n)
+      → (m : ℕ) → ChainMethod ws c m → methodTarget ws m ≡ t → findByTarget ws c t ≡ At m
   unfolding findByTarget
-  target-own k m i e = found-only (ownTarget ws t) m (i .along) first (λ d n j f. only n (own-target-of ws c t j f))
+  target-own different m i e = found-only (ownTarget ws t) m (i .along) first (λ d n j f. only n (own-target-of j f))
     where
-      only : (n : ℕ) → Targeted ws c t n → n ≡ m
-      only n r = k .targets-different n m (r .method) i (r .target ∙ sym e)
+      only : (n : ℕ) → Targeted n → n ≡ m
+      only n r = different n m (r .method) i (r .target ∙ sym e)
 
       misses : ownTarget ws t (i .owner) ≡ Nothing → ⊥
       misses f = eqb-false (methodTarget ws m) t (find-misses (λ n. eqb (methodTarget ws n) t) (i .own) (unfold ownTarget in f)) e
 
       first : ownTarget ws t (i .owner) ≡ At m
-      first = by-found (ownTarget ws t (i .owner)) (λ n f. f ∙ ap At (only n (own-target-of ws c t (i .along) f))) (λ f. absurd (misses f))
+      first = by-found (ownTarget ws t (i .owner)) (λ n f. f ∙ ap At (only n (own-target-of (i .along) f))) (λ f. absurd (misses f))

@@ -1,12 +1,12 @@
 -- A chain on which the premises hold, tables that links wrote, and what the claims then say of them. Assumes nothing.
 use mathlib.Core.Path.{_≡_, refl, sym, ap, _∙_}
-use mathlib.Core.Logic.{inl, inr, _≢_}
+use mathlib.Core.Logic.{_⊎_, inl, inr, _≢_}
 use mathlib.Core.List.{List, [], _∷_, List·Memᴰ, List·Memᴰ·head, List·Memᴰ·cases-cons}
 use Prim.Native.Nat.{ℕ, suc, _+_, _-_, _*_, _≤_, _<_}
 use native.Mathlib.Omega.{arith}
 use lib.ListN.{getD}
 use Rattle.words.specs.declared.Found.the-variants.{At, Nothing}
-use Rattle.class_sheet.specs.ClassSheet.{textOf, methodTarget}
+use Rattle.class_sheet.specs.ClassSheet.{textOf, classKind, methodTarget}
 use Rattle.abi_sheet.specs.AbiSheet.{abiTextOf, abiSlotName}
 use Rattle.linking.specs.Chain.{ownMethods, parentOf, chain}
 use Rattle.linking.specs.Abi.{abiSlots, slotIndex, classAbi}
@@ -14,8 +14,8 @@ use Rattle.linking.specs.Vtable.{empty, methodEntry}
 use Rattle.linking.proofs.Assemble.{Lent, method, built, array, slot, abi, lent, link, answers, after, tableOf}
 use Rattle.linking.proofs.Opened.{opened}
 use Rattle.words.proofs.ListLaws.{getD-list-from}
-use Rattle.slots.specs.Slots.{Unique, Keeps, Kept, ChainMethod, ChainSlot}
-use Rattle.slots.specs.Made.{Made, Conditions, readWords, startFrom, tableFrom, inheritedFrom}
+use Rattle.slots.specs.Slots.{OldRule, Unique, Keeps, Kept, ChainMethod, ChainSlot}
+use Rattle.slots.specs.Made.{Made, Conditions, readWords, startFrom, tableFrom, inheritedFrom, madeFrom}
 use Rattle.slots.proofs.ListFacts.{not-found, found-same, in-none}
 use Rattle.slots.proofs.Tables.{table-unique, table-kept}
 
@@ -128,7 +128,7 @@ lent-stubs : (i : ℕ) → i < 8 → P (getD (world .stubs) i 0)
 lent-stubs i h = rw (getD-list-from (λ k. 901 + k) 0 8 i 0 h) (omega arith, omega arith)
 
 made : (c : ℕ) → List·Memᴰ c (3 ∷ 2 ∷ 1 ∷ []) → Made ws text sheet labels tables P c
-unfolding opened ws text sheet labels startFrom tableFrom inheritedFrom readWords
+unfolding opened ws text sheet labels startFrom tableFrom inheritedFrom madeFrom readWords
 made = each (Made ws text sheet labels tables P) (3 ∷ 2 ∷ 1 ∷ []) (third, (second, (first, tt)))
   where
     first : Made ws text sheet labels tables P 1
@@ -177,11 +177,19 @@ overridden = record {
 
 -- ---- so the claims hold of them
 
+the-kinds : (d : ℕ) → List·Memᴰ d (3 ∷ 2 ∷ 1 ∷ []) → (classKind ws d ≡ 0) ⊎ (classKind ws d ≡ 2)
+unfolding opened ws
+the-kinds =
+    each (λ d. (classKind ws d ≡ 0) ⊎ (classKind ws d ≡ 2)) (3 ∷ 2 ∷ 1 ∷ []) (inl refl, (inr refl, (inl refl, tt)))
+
+kinds : OldRule ws 3
+kinds d i = the-kinds d (rw along at i)
+
 pub unique : Unique ws text sheet labels 3 (tables 3)
-unique = table-unique ws text sheet labels tables P 3 (omega arith) conditions (λ d i. made d (rw along at i))
+unique = table-unique ws text sheet labels tables P 3 (omega arith) kinds conditions (λ d i. made d (rw along at i))
 
 pub kept : Kept ws text sheet labels 3 (tables 3) (tables (parentOf ws 3))
-kept = table-kept ws text sheet labels tables P 3 (omega arith) conditions (λ d i. made d (rw along at i)) some-parent no-entry
+kept = table-kept ws text sheet labels tables P 3 (omega arith) kinds conditions (λ d i. made d (rw along at i)) some-parent no-entry
   where
     some-parent : parentOf ws 3 ≢ 0
     some-parent e = let p : parentOf ws 3 ≡ 2 = unfold opened in unfold ws in refl in omega arith

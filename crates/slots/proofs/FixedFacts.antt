@@ -15,12 +15,12 @@ use Rattle.text.specs.Text.{sameBytes}
 use Rattle.text.proofs.Laws.{same-is, same-refl}
 use Rattle.class_sheet.specs.ClassSheet.{classKind, methodName, methodDescriptor}
 use Rattle.abi_sheet.specs.AbiSheet.{abiSlotName, abiSlotDescriptor, abiClassTableSizePlusOne}
-use Rattle.linking.specs.Chain.{ownMethods, parentOf, chain, methodIs, ownMethod}
+use Rattle.linking.specs.Chain.{ownMethods, parentOf, chain, methodIs, SameSignature, ownMethod}
 use Rattle.linking.specs.Abi.{abiSlots, slotIndex, slotIs, vtableIndex, slotAt, classSize, classAbi, chainAbi, fixedIndex, minimumSize}
 use Rattle.linking.specs.Vtable.{ownFixed, findByIndex, fixedOf}
 use Rattle.linking.proofs.ChainLaws.{along-up, own-method-member, own-method-is}
 use Rattle.linking.proofs.AbiLaws.{chain-abi-whole, slot-at-is, minimum-size-member}
-use Rattle.slots.specs.Slots.{SameSignature, ChainSlot}
+use Rattle.slots.specs.Slots.{ChainSlot}
 use Rattle.slots.specs.Made.{OneSlotIndex}
 use Rattle.slots.proofs.ListFacts.{FoundBy, not-found, found-same, in-none, find-misses, found-in, found-misses, all-found, found-of-all}
 use Rattle.slots.proofs.ChainFacts.{chain-cases}

@@ -7,5 +7,9 @@ pub mod AddFacts
 pub mod StartFacts
 pub mod ReadFacts
 pub mod Tables
+pub mod TakenFacts
+pub mod PackageTables
+pub mod PackageZero
 pub mod LinkFacts
+pub mod PackageLinks
 pub mod Examples

@@ -99,7 +99,7 @@ module _ (ws text abi labels : List ℕ) where
     module _ (c : ℕ) (k : Conditions ws text abi labels P c) (i w : ℕ) where
       pub read-target : (m : ℕ) → ChainMethod ws c m → w ≡ methodTarget ws m → (readEntry ws text abi labels c i w) .method ≡ At m
       unfolding readEntry
-      read-target m h e = rw (target-own ws text abi labels c w k m h (sym e)) refl
+      read-target m h e = rw (target-own ws c w (k .targets-different) m h (sym e)) refl
 
       pub read-stub : P w → (readEntry ws text abi labels c i w) .method ≡ findByIndex ws text abi labels c i
       unfolding readEntry

@@ -17,8 +17,8 @@ use Rattle.linking.specs.Abi.{classAbi, chainAbi, minimumSize}
 use Rattle.linking.specs.Vtable.{Entry, built, readEntry, relayed, extended, addMethods, slotWords}
 use Rattle.linking.proofs.ChainLaws.{parent-below, parent-within}
 use Rattle.linking.proofs.Plans.{built-same}
-use Rattle.slots.specs.Slots.{Unique, Redeclares, Keeps, Kept}
-use Rattle.slots.specs.Made.{readWords, startFrom, tableFrom, inheritedFrom, Made, Conditions}
+use Rattle.slots.specs.Slots.{OldRule, Unique, Redeclares, Keeps, Kept}
+use Rattle.slots.specs.Made.{readWords, startFrom, tableFrom, inheritedFrom, madeFrom, Made, Conditions}
 use Rattle.slots.proofs.ListFacts.{not-found}
 use Rattle.slots.proofs.ChainFacts.{chain-here, chain-up, method-here, conditions-up}
 use Rattle.slots.proofs.PlaceFacts.{OneIndex, Good, one-sub, good-sub, good-none}
@@ -37,7 +37,7 @@ module _ (ws text abi labels : List ℕ) (tables : ℕ → List ℕ) (P : ℕ �
 
   -- ---- one class over its parent
 
-  module _ (c : ℕ) (h : 0 < c) (within : c ≤ 64) (k : Conditions ws text abi labels P c)
+  module _ (c : ℕ) (h : 0 < c) (within : c ≤ 64) (old : OldRule ws c) (k : Conditions ws text abi labels P c)
       (made : (d : ℕ) → List·Memᴰ d (chain ws c) → Made ws text abi labels tables P d) (parent : parentOf ws c ≢ 0 → Linked (parentOf ws c)) where
     abbrev inherited : List Entry
     inherited = inheritedFrom ws text abi labels tables c
@@ -136,6 +136,10 @@ module _ (ws text abi labels : List ℕ) (tables : ℕ → List ℕ) (P : ℕ �
         (λ q. rw (← built-same (rw q at e)) (array-makes (eqb-true (classKind ws c) 2 q)))
         (λ q. built-makes T (rw q at e))
 
+    old-from : (T : List Entry) → madeFrom ws text abi labels tables c ≡ built T → tableFrom ws text abi labels c inherited ≡ built T
+    unfolding madeFrom
+    old-from T e = elim (old c (chain-here ws c h)) [ inl q ↦ rw q at e | inr q ↦ rw q at e ]
+
     -- ---- its words, written and read back
 
     bare : (d : ℕ) → List·Memᴰ d (chain ws c) → classKind ws d ≡ 2 → ownMethods ws d ≡ []
@@ -179,7 +183,7 @@ module _ (ws text abi labels : List ℕ) (tables : ℕ → List ℕ) (P : ℕ �
     link : Linked c
     link =
         let t = made c (chain-here ws c h) in
-        let m = makes (t .entries) (t .from) in
+        let m = makes (t .entries) (old-from (t .entries) (t .from)) in
         record {
           origin = rw (t .words) (table-origin ws text abi labels P c k (t .stubs) (t .entries) (t .enough) (t .lent) (m .firm));
           good = rw (t .words)
@@ -190,24 +194,24 @@ module _ (ws text abi labels : List ℕ) (tables : ℕ → List ℕ) (P : ℕ �
 
   -- ---- along the chain, from its root
 
-  all : (bound c : ℕ) → c ≤ bound → 0 < c → c ≤ 64 → Conditions ws text abi labels P c
+  all : (bound c : ℕ) → c ≤ bound → 0 < c → c ≤ 64 → OldRule ws c → Conditions ws text abi labels P c
       → ((d : ℕ) → List·Memᴰ d (chain ws c) → Made ws text abi labels tables P d) → Linked c
-  all zero c b h within k made = absurd (omega arith)
-  all (suc bound) c b h within k made =
+  all zero c b h within old k made = absurd (omega arith)
+  all (suc bound) c b h within old k made =
       let f = parent-below ws c h in
-      link c h within k made
+      link c h within old k made
       (λ n.
-      all bound (parentOf ws c) (omega arith) (omega arith) (omega arith) (conditions-up ws text abi labels c h k)
+      all bound (parentOf ws c) (omega arith) (omega arith) (omega arith) (λ d i. old d (chain-up ws c h i)) (conditions-up ws text abi labels c h k)
       (λ d i. made d (chain-up ws c h i)))
 
   -- ---- the claims
 
   -- "no two known slots in a class's table have one signature"
-  pub table-unique : (c : ℕ) → c ≤ 64 → Conditions ws text abi labels P c
+  pub table-unique : (c : ℕ) → c ≤ 64 → OldRule ws c → Conditions ws text abi labels P c
       → ((d : ℕ) → List·Memᴰ d (chain ws c) → Made ws text abi labels tables P d) → Unique ws text abi labels c (tables c)
-  table-unique zero within k made i j m n p q s = not-found (sym (read-no-class ws text abi labels i (getD (tables 0) i 0)) ∙ p .reads)
-  table-unique (suc c) within k made i j m n p q s =
-      let l = all (suc c) (suc c) (omega arith) (omega arith) within k made in
+  table-unique zero within old k made i j m n p q s = not-found (sym (read-no-class ws text abi labels i (getD (tables 0) i 0)) ∙ p .reads)
+  table-unique (suc c) within old k made i j m n p q s =
+      let l = all (suc c) (suc c) (omega arith) (omega arith) within old k made in
       let a = known-read ws text abi labels (suc c) (tables (suc c)) i m p in
       let b = known-read ws text abi labels (suc c) (tables (suc c)) j n q in
       l .good .unique i j (methodSignature ws text n)
@@ -215,9 +219,9 @@ module _ (ws text abi labels : List ℕ) (tables : ℕ → List ℕ) (P : ℕ �
 
   -- "In a child without an ABI entry, each known slot of its parent's table is known at the same index with the same signature, and the child's
   -- target there is the parent's or that of an eligible method of that signature which the child declares."
-  pub table-kept : (c : ℕ) → c ≤ 64 → Conditions ws text abi labels P c
+  pub table-kept : (c : ℕ) → c ≤ 64 → OldRule ws c → Conditions ws text abi labels P c
       → ((d : ℕ) → List·Memᴰ d (chain ws c) → Made ws text abi labels tables P d) → parentOf ws c ≢ 0 → classAbi ws text abi labels c ≡ Nothing
       → Kept ws text abi labels c (tables c) (tables (parentOf ws c))
-  table-kept c within k made n none =
+  table-kept c within old k made n none =
       let f = parent-within ws c in
-      all c c (omega arith) (omega arith) within k made .kept n none
+      all c c (omega arith) (omega arith) within old k made .kept n none

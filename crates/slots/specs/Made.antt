@@ -3,16 +3,18 @@
 use Prim.Native.Nat.{ℕ, _<_, _≤_}
 use mathlib.Core.Path.{_≡_}
 use mathlib.Core.Logic.{_≢_}
-use mathlib.Core.Bool.{cond}
+use mathlib.Core.Bool.{false, cond}
 use mathlib.Core.List.{List, []}
 use lib.ListN.{length, getD}
-use lib.Dec.{eqb}
-use Rattle.words.specs.Lists.{listFrom}
-use Rattle.class_sheet.specs.ClassSheet.{classKind, methodTarget}
+use lib.Dec.{eqb, ltb}
+use Rattle.words.specs.Lists.{listFrom, andThen}
+use Rattle.words.specs.declared.Found.{Found}
+use Rattle.class_sheet.specs.ClassSheet.{classKind, isArray, isPackaged, methodTarget}
 use Rattle.abi_sheet.specs.AbiSheet.{abiSlotName, abiSlotDescriptor}
-use Rattle.linking.specs.Chain.{onFound, ownMethods, parentOf}
+use Rattle.linking.specs.Chain.{onFound, ownMethods, parentOf, chain, sameMethods}
 use Rattle.linking.specs.Abi.{slotIndex, classAbi, chainAbi}
 use Rattle.linking.specs.Vtable.{Entry, Built, built, readEntry, relayed, extended, addMethods, slotWords}
+use Rattle.linking.specs.Packages.{topmost, packagesOver}
 use Rattle.slots.specs.Slots.{ChainMethod, ChainSlot}
 
 module _ (ws text abi labels : List ℕ) where
@@ -20,7 +22,7 @@ module _ (ws text abi labels : List ℕ) where
   unfoldable pub readWords : ℕ → List ℕ → List Entry
   readWords c t = listFrom (λ i. readEntry ws text abi labels c i (getD t i 0)) 0 (length t)
 
-  -- ---- what the linker made: the table of a built or array class from its parent's entries
+  -- ---- what the linker made: the table of a class of kind 0 or 2 from its parent's entries
 
   unfoldable pub startFrom : ℕ → List Entry → List Entry
   startFrom c P =
@@ -30,21 +32,35 @@ module _ (ws text abi labels : List ℕ) where
   -- "Array: the parent's entries."
   unfoldable pub tableFrom : ℕ → List Entry → Built
   tableFrom c P =
-      cond (eqb (classKind ws c) 2) (built P)
+      cond (isArray ws c) (built P)
       (addMethods ws text abi labels (chainAbi ws text abi labels c) (ownMethods ws c) (startFrom c P))
 
   -- the parent's entries, where each class d has the table `tables d`
   unfoldable pub inheritedFrom : (ℕ → List ℕ) → ℕ → List Entry
   inheritedFrom tables c = cond (eqb (parentOf ws c) 0) [] (readWords (parentOf ws c) (tables (parentOf ws c)))
 
-  -- class c's table is what a link makes of its parent's, with some list of stubs that P holds of
+  -- ---- and of a class of kind 3, from the tables of its parent's chain
+
+  -- "what Reading finds there in the topmost chain class whose table has it", of slot i in the table of class p
+  unfoldable pub introducedFrom : (ℕ → List ℕ) → ℕ → ℕ → Found
+  introducedFrom tables p i =
+      andThen (topmost (λ d. ltb i (length (tables d))) (chain ws p)) (λ d. readEntry ws text abi labels d i (getD (tables d) i 0) .method)
+
+  unfoldable pub packagesFrom : (ℕ → List ℕ) → ℕ → List Entry
+  packagesFrom tables c =
+      packagesOver (sameMethods ws text) ws text (introducedFrom tables (parentOf ws c)) c (inheritedFrom tables c)
+
+  unfoldable pub madeFrom : (ℕ → List ℕ) → ℕ → Built
+  madeFrom tables c = cond (isPackaged ws c) (built (packagesFrom tables c)) (tableFrom c (inheritedFrom tables c))
+
+  -- class c's table is what a link makes of the tables of its parent's chain, with some list of stubs that P holds of
   pub record Made (tables : ℕ → List ℕ) (P : ℕ → Type 0) (c : ℕ) : Type 0 where
     pub entries : List Entry
     pub stubs : List ℕ
     pub enough : length entries ≤ length stubs
     pub lent : (i : ℕ) → i < length stubs → P (getD stubs i 0)
     pub bare : classKind ws c ≡ 2 → ownMethods ws c ≡ []
-    pub from : tableFrom c (inheritedFrom tables c) ≡ built entries
+    pub from : madeFrom tables c ≡ built entries
     pub words : tables c ≡ slotWords stubs 0 entries
 
   -- "over the ABI classes the chain names, each signature (name and descriptor) has one index": of orderly, the half that the claims rest on

@@ -7,16 +7,27 @@ use mathlib.Core.Bool.{true}
 use mathlib.Core.List.{List, List·Memᴰ}
 use lib.ListN.{length, getD}
 use Rattle.words.specs.declared.Found.the-variants.{At}
-use Rattle.class_sheet.specs.ClassSheet.{methodName, methodDescriptor, methodTarget}
+use Rattle.class_sheet.specs.ClassSheet.{classKind, methodTarget}
 use Rattle.abi_sheet.specs.AbiSheet.{abiSlotName, abiSlotDescriptor}
-use Rattle.linking.specs.Chain.{ownMethods, parentOf, chain, eligible}
+use Rattle.linking.specs.Chain.{ownMethods, parentOf, chain, eligible, SameSignature}
 use Rattle.linking.specs.Abi.{abiSlots, slotIndex, classAbi}
 use Rattle.linking.specs.Vtable.{readEntry}
 
--- "and has its signature"
-pub record SameSignature (ws text : List ℕ) (m k : ℕ) : Type 0 where
-  pub name : methodName ws text m ≡ methodName ws text k
-  pub descriptor : methodDescriptor ws text m ≡ methodDescriptor ws text k
+-- ---- by which rule a class's chain, itself included, is linked
+
+-- "the old rule": only classes of kinds 0 and 2
+abbrev pub OldRule : List ℕ → ℕ → Type 0
+OldRule ws c = (d : ℕ) → List·Memᴰ d (chain ws c) → (classKind ws d ≡ 0) ⊎ (classKind ws d ≡ 2)
+
+-- only classes of kind 3
+abbrev pub PackageRule : List ℕ → ℕ → Type 0
+PackageRule ws c = (d : ℕ) → List·Memᴰ d (chain ws c) → classKind ws d ≡ 3
+
+-- m is a method of the chain of class c, of any flags
+pub record ChainMethod (ws : List ℕ) (c m : ℕ) : Type 0 where
+  pub owner : ℕ
+  pub along : List·Memᴰ owner (chain ws c)
+  pub own : List·Memᴰ m (ownMethods ws owner)
 
 -- "an eligible method of that signature which the child declares", and its target
 pub record Redeclares (ws text : List ℕ) (c m target : ℕ) : Type 0 where
@@ -26,12 +37,6 @@ pub record Redeclares (ws text : List ℕ) (c m target : ℕ) : Type 0 where
   pub signature : SameSignature ws text method m
   pub target-is : methodTarget ws method ≡ target
 
--- m is a method of the chain of class c, of any flags
-pub record ChainMethod (ws : List ℕ) (c m : ℕ) : Type 0 where
-  pub owner : ℕ
-  pub along : List·Memᴰ owner (chain ws c)
-  pub own : List·Memᴰ m (ownMethods ws owner)
-
 module _ (ws text abi labels : List ℕ) where
   -- ---- slots of a class's table, by Reading
 
@@ -40,7 +45,7 @@ module _ (ws text abi labels : List ℕ) where
     pub slot : i < length t
     pub reads : readEntry ws text abi labels c i (getD t i 0) .method ≡ At m
 
-  -- "no two known slots in a class's table have one signature"
+  -- "and has its signature": "no two known slots in a class's table have one signature"
   abbrev pub Unique : ℕ → List ℕ → Type 0
   Unique c t = (i j m k : ℕ) → Known c t i m → Known c t j k → SameSignature ws text m k → i ≡ j
 

@@ -17,7 +17,7 @@ use Rattle.linking.specs.Chain.{listCount, ownFields}
 use Rattle.linking.specs.Fields.{addStatic, staticWords}
 use Rattle.linking.specs.Link.{linkDef, Outcome}
 use Rattle.calls.specs.Calls.{Call, link, ask, State, step, run}
-use Rattle.calls.proofs.Like.{Like, like-same, like-next}
+use Rattle.calls.proofs.Like.{Like, like-same, like-next, alike}
 use Rattle.calls.proofs.View.{name-same}
 use Rattle.calls.proofs.Rows.{Accepted, link-cases, ask-cases}
 use Rattle.statics.specs.Statics.{Start, After}
@@ -47,7 +47,7 @@ module _ (ws abi : List ℕ) (start : Start ws) where
         record {
           unlinked = λ k z. start .clean c i k;
           built = λ k n. absurd (n (start .unlinked c (i .0) (i .1)));
-          array = λ k. start .clean c i (inr k);
+          array = λ k. start .clean c i (λ e. omega arith);
           generated = λ k. refl;
         };
   }
@@ -63,7 +63,7 @@ module _ (ws abi : List ℕ) (start : Start ws) where
           inv .field f 4 h (omega arith),
           inv .field f descriptorStartWord h (omega arith),
           inv .field f descriptorLengthWord h (omega arith),
-          name-same ws now (start .valid) (inv .like) _ _ p,
+          name-same ws now (start .valid) (alike (inv .like)) _ _ p,
         )
 
     own-below : (c f : ℕ) → IsClass ws c → List·Memᴰ f (ownFields ws c) → f < fieldCount ws
@@ -109,7 +109,7 @@ module _ (ws abi : List ℕ) (start : Start ws) where
         let l = left (s .set) abi c (s .area) stubs o acc in
         record {
           unlinked = λ k z. absurd (placed z);
-          built = λ k n. l .built (kind-is c own-class ∙ k) ∙ sum-same (s .set) inv c own-class (acc .class .new);
+          built = λ k n. l .built (rw (kind-is c own-class) k) ∙ sum-same (s .set) inv c own-class (acc .class .new);
           array = λ k. l .array (kind-is c own-class ∙ k);
           generated = λ k. l .generated (kind-is c own-class ∙ k) ∙ inv .after c own-class .generated k;
         }

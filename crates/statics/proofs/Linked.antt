@@ -1,7 +1,7 @@
 -- Theorem 1, and what a link leaves of the field records that were there: flags and descriptors. By the sections that a link lays out. Assumes nothing.
 use mathlib.Core.Path.{_≡_, refl, sym, ap, _∙_, subst}
 use mathlib.Core.Logic.{_≢_, inl, inr}
-use mathlib.Core.Bool.{true}
+use mathlib.Core.Bool.{true, false≢true}
 use mathlib.Core.List.{List, [], _++_}
 use Prim.Native.Nat.{ℕ, _+_, _-_, _≤_, _<_}
 use native.Mathlib.Omega.{arith}
@@ -10,7 +10,7 @@ use borrow.Author.Tests.{eq-eqb, ne-eqb}
 use Rattle.words.specs.Rows.{rowWord}
 use Rattle.words.proofs.Bools.{by}
 use Rattle.words.specs.Words.{AreBytes}
-use Rattle.class_sheet.specs.ClassSheet.{classWidth, memberWidth, kindWord, firstMethodWord, methodCountWord, firstFieldWord, fieldCountWord, staticWordsWord, indexWord, classCount, methodCount, fieldCount, contentEnd, textLength, textWords, textOf, classWord, classKind, classFirstMethod, classMethodCount, classFirstField, classFieldCount, classStaticWords, fieldWord}
+use Rattle.class_sheet.specs.ClassSheet.{classWidth, memberWidth, kindWord, firstMethodWord, methodCountWord, firstFieldWord, fieldCountWord, staticWordsWord, indexWord, classCount, methodCount, fieldCount, contentEnd, textLength, textWords, textOf, classWord, classKind, isBuiltKind, classFirstMethod, classMethodCount, classFirstField, classFieldCount, classStaticWords, fieldWord}
 use Rattle.class_sheet.specs.Sections.{Sections, Formed, laidOut, sectionsOf}
 use Rattle.class_sheet.proofs.Sections.{field-count, class-word, field-word, formed-of, class-of, field-of}
 use Rattle.abi_sheet.specs.AbiSheet.{abiTextLength, abiTextWords, abiTextOf}
@@ -29,7 +29,7 @@ use Rattle.linking.proofs.Packed.{text-bytes}
 use Rattle.linking.proofs.LinkedBack as back
 use Rattle.calls.proofs.Linked.{Leaves, link-leaves}
 use Rattle.calls.proofs.Rows.{Accepted, link-cases}
-use Rattle.statics.specs.Statics.{Left}
+use Rattle.statics.specs.Statics.{IsBuilt, Left}
 
 more-rows : (a b : List (List ℕ)) → length a ≤ length (a ++ b)
 more-rows a b = omega (arith, length-append a b)
@@ -159,10 +159,18 @@ module _ (ws abi : List ℕ) (c : ℕ) (area stubs : List ℕ) (o : Outcome) (ac
   new-statics : classKind ws c ≢ 1 → classStaticWords (o .set) c ≡ newStatics ws (textOf ws) c
   new-statics n = statics-word ∙ own-statics s formed c (nextFree area) words statics p some within (λ e. n (kind-row ∙ e))
 
-  pub left : Left ws (o .set) c
+  not-one : IsBuilt ws c → classKind ws c ≢ 1
+  unfolding isBuiltKind
+  not-one e f = false≢true (rw f at e)
+
+  built-sum : IsBuilt ws c → newStatics ws (textOf ws) c ≡ staticWords ws (textOf ws) c
   unfolding newStatics
+  built-sum e = rw e
+
+  pub left : Left ws (o .set) c
+  unfolding newStatics isBuiltKind
   left = record {
-    built = λ e. new-statics (λ f. omega arith) ∙ rw e;
+    built = λ e. new-statics (not-one e) ∙ built-sum e;
     array = λ e. new-statics (λ f. omega arith) ∙ rw e;
     generated = λ e.
         statics-word ∙ own-brought s formed c (nextFree area) words statics p some within (sym kind-row ∙ e) ∙ sym (own staticWordsWord (omega arith));

@@ -32,9 +32,10 @@ use Rattle.linking.proofs.Grown.{rows-indices, length-row-indices, index-other,
 use Rattle.linking.proofs.FieldsBack.{copied-field, copied-index, new-field, own-first, own-count}
 use Rattle.linking.proofs.LinkedSections.{lies-of, length-record, record-word, formed-recorded}
 use Rattle.linking.proofs.Plans.{planned-same, not-planned}
+use Rattle.calls.proofs.Like.{alike}
 use Rattle.calls.proofs.View.{name-same}
 use Rattle.calls.proofs.Rows.{Accepted, link-cases}
-use Rattle.statics.specs.Statics.{Standing}
+use Rattle.statics.specs.Statics.{IsBuilt, Standing}
 use Rattle.statics.proofs.Numbering.{ends, indices-length}
 use Rattle.statics.proofs.Linked as one
 
@@ -70,7 +71,7 @@ module _ (ws text abi labels area : List ℕ) (c : ℕ) (p : Plan) where
   by-table (built T) e = within T e
   by-table (refused n) e = not-planned e
 
-  pub built-plan : classKind ws c ≡ 0 → plan ws text abi labels area c ≡ planned p → BuiltPlan
+  pub built-plan : IsBuilt ws c → plan ws text abi labels area c ≡ planned p → BuiltPlan
   unfolding plan planBuilt
   built-plan k e =
       let f : planBuilt ws text abi labels area c ≡ planned p = rw k at e in
@@ -181,7 +182,7 @@ module _ (s : Sections) (f : Formed classWidth s) (c place words statics : ℕ) 
 
 -- ---- an accepted link of a built class
 
-module _ (ws abi : List ℕ) (c : ℕ) (area stubs : List ℕ) (o : Outcome) (acc : Accepted ws abi c area stubs o) (kind : classKind ws c ≡ 0) where
+module _ (ws abi : List ℕ) (c : ℕ) (area stubs : List ℕ) (o : Outcome) (acc : Accepted ws abi c area stubs o) (kind : IsBuilt ws c) where
   abbrev text : List ℕ
   text = textOf ws
 
@@ -241,7 +242,7 @@ module _ (ws abi : List ℕ) (c : ℕ) (area stubs : List ℕ) (o : Outcome) (ac
   width-same i h =
       let q = ok .field (was i) (omega (arith, h, fields-in)) .descriptor .inside in
       rw (word-same i descriptorStartWord h (omega arith), word-same i descriptorLengthWord h (omega arith))
-      (ap width (name-same ws (o .set) ok (one.leaves ws abi c area stubs o acc .like) _ _ q))
+      (ap width (name-same ws (o .set) ok (alike (one.leaves ws abi c area stubs o acc .like)) _ _ q))
 
   own-stands : (i : ℕ) → i < classFieldCount ws c → isStatic (fieldFlags (o .set) (now i)) ≡ true
       → fieldIndex (o .set) (now i) + fieldWidth (o .set) (textOf (o .set)) (now i) ≤ classStaticWords (o .set) c
@@ -273,6 +274,6 @@ module _ (ws abi : List ℕ) (c : ℕ) (area stubs : List ℕ) (o : Outcome) (ac
       (λ q. absurd (true≢false (sym s ∙ added-not i (ltb-false i (classFieldCount ws c) q) h)))
 
 module _ (ws abi : List ℕ) (c : ℕ) (area stubs : List ℕ) where
-  pub link-stand : linkDef ws abi c area stubs .refusal ≡ 0 → classKind ws c ≡ 0 → Standing (linkDef ws abi c area stubs .set) c
+  pub link-stand : linkDef ws abi c area stubs .refusal ≡ 0 → IsBuilt ws c → Standing (linkDef ws abi c area stubs .set) c
   link-stand e k =
       elim (link-cases ws abi c area stubs) [ inl r ↦ absurd (r .number e) | inr a ↦ standing ws abi c area stubs (linkDef ws abi c area stubs) a k ]

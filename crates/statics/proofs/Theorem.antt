@@ -14,7 +14,7 @@ read : (bs out : List ℕ) → readClassSheet bs out .refusal ≡ 0 → Start (r
 read bs out e = record {
   valid = read-valid bs out e;
   unlinked = λ c s a. read-fresh bs out e c (s, a) .0;
-  clean = λ c k. read-fresh bs out e c k .2;
+  clean = λ c k. read-fresh bs out e c k .2 (read-valid bs out e .class c k .kind);
 }
 
 pub statics : Statics

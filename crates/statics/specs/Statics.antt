@@ -2,13 +2,13 @@
 -- holds after any list of calls. `statics` of proofs/Theorem.antt proves them. Assumes nothing.
 use Prim.Native.Nat.{ℕ, _+_, _≤_, _<_}
 use mathlib.Core.Path.{_≡_}
-use mathlib.Core.Logic.{_≢_, _⊎_}
+use mathlib.Core.Logic.{_≢_}
 use mathlib.Core.Bool.{true}
 use mathlib.Core.List.{List}
 use lib.ListN.{length, getD, take}
 use Rattle.words.specs.Lists.{fold}
 use Rattle.words.specs.declared.Found.{Found}
-use Rattle.class_sheet.specs.ClassSheet.{textOf, classKind, classFirstField, classFieldCount, classTablePlace, classStaticWords, fieldFlags, fieldIndex}
+use Rattle.class_sheet.specs.ClassSheet.{textOf, classKind, isBuiltKind, classFirstField, classFieldCount, classTablePlace, classStaticWords, fieldFlags, fieldIndex}
 use Rattle.set_rules.specs.Valid.{IsClass, Valid}
 use Rattle.sheet.specs.Sheet.{readClassSheet}
 use Rattle.linking.specs.Chain.{ownFields, isStatic}
@@ -16,10 +16,14 @@ use Rattle.linking.specs.Fields.{fieldWidth, numberFields, addStatic, staticWor
 use Rattle.linking.specs.Link.{linkDef}
 use Rattle.calls.specs.Calls.{Call, run, Unlinked}
 
+-- class c is built: of kind 0, or of kind 3
+abbrev pub IsBuilt : List ℕ → ℕ → Type 0
+IsBuilt ws c = isBuiltKind (classKind ws c) ≡ true
+
 -- the words `new` after an accepted link of class c: "the sum of the static field widths for a built class, 0 for an array class; a generated class
 -- brings its own"; every other class has what it had
 pub record Left (ws new : List ℕ) (c : ℕ) : Type 0 where
-  pub built : classKind ws c ≡ 0 → classStaticWords new c ≡ staticWords ws (textOf ws) c
+  pub built : IsBuilt ws c → classStaticWords new c ≡ staticWords ws (textOf ws) c
   pub array : classKind ws c ≡ 2 → classStaticWords new c ≡ 0
   pub generated : classKind ws c ≡ 1 → classStaticWords new c ≡ classStaticWords ws c
   pub others : (d : ℕ) → IsClass ws d → d ≢ c → classStaticWords new d ≡ classStaticWords ws d
@@ -30,16 +34,16 @@ Standing ws c =
     (i : ℕ) → i < classFieldCount ws c → isStatic (fieldFlags ws (classFirstField ws c + i)) ≡ true
     → fieldIndex ws (classFirstField ws c + i) + fieldWidth ws (textOf ws) (classFirstField ws c + i) ≤ classStaticWords ws c
 
--- words that a list of calls starts from: valid, "every table place is 0", and no static words of a built or array class
+-- words that a list of calls starts from: valid, "every table place is 0", and static words of generated classes alone
 pub record Start (ws : List ℕ) : Type 0 where
   pub valid : Valid ws
   pub unlinked : Unlinked ws
-  pub clean : (c : ℕ) → IsClass ws c → (classKind ws c ≡ 0) ⊎ (classKind ws c ≡ 2) → classStaticWords ws c ≡ 0
+  pub clean : (c : ℕ) → IsClass ws c → classKind ws c ≢ 1 → classStaticWords ws c ≡ 0
 
 -- class c after a list of calls that started from ws and left the words `new`
 pub record After (ws new : List ℕ) (c : ℕ) : Type 0 where
-  pub unlinked : (classKind ws c ≡ 0) ⊎ (classKind ws c ≡ 2) → classTablePlace new c ≡ 0 → classStaticWords new c ≡ 0
-  pub built : classKind ws c ≡ 0 → classTablePlace new c ≢ 0 → classStaticWords new c ≡ staticWords ws (textOf ws) c
+  pub unlinked : classKind ws c ≢ 1 → classTablePlace new c ≡ 0 → classStaticWords new c ≡ 0
+  pub built : IsBuilt ws c → classTablePlace new c ≢ 0 → classStaticWords new c ≡ staticWords ws (textOf ws) c
   pub array : classKind ws c ≡ 2 → classStaticWords new c ≡ 0
   pub generated : classKind ws c ≡ 1 → classStaticWords new c ≡ classStaticWords ws c
 
@@ -59,7 +63,7 @@ pub record Statics : Type 0 where
   pub ends : (ws text abi labels : List ℕ) (own : Found) (c i : ℕ) → i < length (ownFields ws c)
       → isStatic (fieldFlags ws (getD (ownFields ws c) i 0)) ≡ true
       → getD (numberFields ws text abi labels own c .indices) i 0 + fieldWidth ws text (getD (ownFields ws c) i 0) ≤ staticWords ws text c
-  pub stand : (ws abi : List ℕ) (c : ℕ) (area stubs : List ℕ) → linkDef ws abi c area stubs .refusal ≡ 0 → classKind ws c ≡ 0
+  pub stand : (ws abi : List ℕ) (c : ℕ) (area stubs : List ℕ) → linkDef ws abi c area stubs .refusal ≡ 0 → IsBuilt ws c
       → Standing (linkDef ws abi c area stubs .set) c
   -- 4. After any list of calls, from words that a reading left, whatever follows the sheet in them.
   pub read : (bs out : List ℕ) → readClassSheet bs out .refusal ≡ 0 → Start (readClassSheet bs out .memory)

@@ -45,7 +45,7 @@ sameBytes [] (y ∷ ys) = false
 sameBytes (x ∷ xs) [] = false
 sameBytes (x ∷ xs) (y ∷ ys) = eqb x y && sameBytes xs ys
 
--- ---- how many pairs of bytes a comparison reads: "names of equal length compared last byte first. [..] The comparison also counts the byte
+-- ---- how many pairs of bytes a comparison reads: "We want names of equal length compared last byte first." "The comparison also counts the byte
 -- pairs it read: 0 for unequal lengths, all for equal names, else the length minus the last differing place (from 0)."
 
 -- the place after this one, or this one where nothing is found later and the bytes here differ

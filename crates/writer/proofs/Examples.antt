@@ -8,8 +8,8 @@ use Rattle.words.specs.Words.{byteOf, inside}
 use Rattle.words.specs.Folds.{sumOf, allOf, table}
 use Rattle.block.specs.Block.{blocksFor, checkWord, packedWord, blockByte, sheetBytes}
 use Rattle.text.specs.Text.{textByte, textOfWords, zeroAt, zeroRest, nameAt, printable, partOk}
-use Rattle.class_sheet.specs.ClassSheet.{countAt, methodsAt, fieldsAt, interfacesAt, compilersAt, textAt, contentEnd, classWord}
-use Rattle.class_rules.specs.ClassRules.{classLimits, classFits, unlinked, staticsClean, fresh, compilerOk, classNumbers}
+use Rattle.class_sheet.specs.ClassSheet.{countAt, methodsAt, fieldsAt, interfacesAt, compilersAt, textAt, contentEnd, classWord, isBuiltKind}
+use Rattle.class_rules.specs.ClassRules.{classLimits, classFits, unlinked, staticsClean, fresh, compilerOk, ownNumbers, classNumbers}
 use Rattle.class_rules.specs.ClassRules.{classLists, classRecord, classRecords}
 use Rattle.apart.specs.Apart.{apartBefore}
 use Rattle.set_rules.specs.SetRules.{classDescriptors, classRefusal}
@@ -25,7 +25,7 @@ pub record Rows : Type 0 where
   pub check : take 4 (drop 508 ((writeClassSheet a (replicate 512 7)) .memory)) ≡ 70 ∷ 0 ∷ 0 ∷ 0 ∷ []
 
 pub rows : Rows
-unfolding writeRefusal linkRows storable writeClassSheet classFits classLimits unlinked staticsClean fresh compilerOk classNumbers classLists
+unfolding writeRefusal linkRows storable writeClassSheet classFits classLimits unlinked isBuiltKind staticsClean fresh compilerOk ownNumbers classNumbers classLists
     classRecord classRecords classRefusal classDescriptors apartBefore countAt methodsAt fieldsAt interfacesAt compilersAt textAt contentEnd classWord
     textByte textOfWords zeroAt zeroRest nameAt printable partOk byteOf inside sumOf allOf table blocksFor checkWord packedWord blockByte sheetBytes
 rows = record { blocks = refl; check = refl }

@@ -18,7 +18,7 @@ use crate::model::parts::{AbiSheet, ClassSheet, text_of_abi_words, text_of_class
 pub use names::{BUCKETS, Bucket};
 
 /// One more than the largest number that refuses any call.
-pub const ROWS: usize = 26;
+pub const ROWS: usize = 27;
 
 /// Counts over a run.
 pub struct Counts {

@@ -78,6 +78,7 @@ fn show_set(f: &mut Formatter<'_>, set: &Set, lent: usize) -> fmt::Result {
             0 => "built".to_owned(),
             1 => "generated".to_owned(),
             2 => "array".to_owned(),
+            3 => "packaged".to_owned(),
             other => format!("kind {other}"),
         };
         writeln!(

@@ -5,11 +5,14 @@ pub mod answers;
 mod format;
 pub mod widened;
 
+use std::collections::{BTreeMap, BTreeSet};
+
 use crate::buckets::Counts;
 use crate::case::{Call, Case};
 use crate::compare::{State, Step, perform};
 use crate::generate;
 use crate::oracle::Oracle;
+use crate::packages::{self, PackageCounts};
 use crate::random::Random;
 use crate::readings;
 use crate::side::{Answer, Linker};
@@ -44,6 +47,52 @@ pub fn make(seed: u64, count: usize) -> (Vec<u32>, Summary) {
     let mut oracle = Oracle::default();
     let chosen: Vec<_> = choose(&mut oracle, seed, count).into_iter().map(|number| (generate::case(seed, number), None)).collect();
     build(&mut oracle, seed, &chosen, [READINGS, DESCRIPTORS], false, &format!("oracle/corpus {seed} {count}"))
+}
+
+/// Cases of kind 3, which the Rust does not judge: for each bucket the smallest that reaches it, then others up to `count`.
+pub fn packages(seed: u64, count: usize) -> (Vec<u32>, Summary) {
+    let mut oracle = Oracle::default();
+    let chosen = choose_packages(&mut oracle, seed, count);
+    let mut counts = PackageCounts::default();
+    for case in &chosen {
+        observe_packages(&mut oracle, case, &mut counts);
+    }
+    let (reached, buckets) = (counts.reached().len(), PackageCounts::BUCKETS);
+    let chosen: Vec<_> = chosen.into_iter().map(|case| (case, None)).collect();
+    let (words, summary) = build(&mut oracle, seed, &chosen, [0, 0], false, &format!("oracle/corpus packages {seed} {count}"));
+    (words, Summary { reached, buckets, ..summary })
+}
+
+/// Makes a case's calls and what is claimed of them beside kind 0, and counts what they reach; answers the words that they take.
+fn observe_packages(oracle: &mut Oracle, case: &Case, counts: &mut PackageCounts) -> usize {
+    oracle.new_case(case.rebuilds);
+    let mut state = State { set: case.set.clone(), area: case.area.clone() };
+    let mut answers = Vec::new();
+    for &call in &case.calls {
+        let before = state.clone();
+        let answer = perform(oracle, case, call, &mut state);
+        counts.observe(&Step { case, call, before: &before, answer, after: &state });
+        answers.push(answer);
+    }
+    packages::as_kind_0(oracle, case, &answers, &state.area, counts).expect("a run has shown it");
+    let mut writer = Writer::default();
+    write_case(&mut writer, oracle, case, &mut Counts::default(), None);
+    writer.len()
+}
+
+fn choose_packages(oracle: &mut Oracle, seed: u64, count: usize) -> Vec<Case> {
+    let mut smallest: BTreeMap<&'static str, (usize, u64)> = BTreeMap::new();
+    for number in 0..LOOKED_AT / 4 {
+        let mut counts = PackageCounts::default();
+        let size = observe_packages(oracle, &generate::packages(seed, number), &mut counts);
+        for bucket in counts.reached() {
+            let best = smallest.entry(bucket).or_insert((size, number));
+            *best = (*best).min((size, number));
+        }
+    }
+    let mut chosen: BTreeSet<u64> = smallest.into_values().map(|(_, number)| number).collect();
+    chosen.extend((0..count as u64).take(count.saturating_sub(chosen.len())));
+    chosen.into_iter().map(|number| generate::packages(seed, number)).collect()
 }
 
 /// The telling rows with the Rust's answers; a row that says otherwise is an error.

@@ -1,5 +1,5 @@
 //! Demand 3, checked on the lists of calls that a run makes: no two known slots of a class's
-//! table have one signature; in a child without an ABI entry, each known slot of its parent's
+//! table have one signature, unless the class is of kind 3; in a child without an ABI entry, each known slot of its parent's
 //! table is known at the same index with the same signature, and its target is the parent's
 //! or that of an eligible method of that signature which the child declares.
 
@@ -46,10 +46,12 @@ pub struct Demand3Counts {
     known_by_abi: u64,
     beside_generated: u64,
     after_refusals: u64,
+    packaged: u64,
+    second_slots: u64,
 }
 
 impl Demand3Counts {
-    fn lines(&self) -> [(u64, &'static str); 9] {
+    fn lines(&self) -> [(u64, &'static str); 11] {
         [
             (self.classes, "demand 3: class judged"),
             (self.known_slots, "demand 3: known slot"),
@@ -60,6 +62,8 @@ impl Demand3Counts {
             (self.known_by_abi, "demand 3: slot known by the ABI rule"),
             (self.beside_generated, "demand 3: a generated class linked in the list"),
             (self.after_refusals, "demand 3: a refused call in the list"),
+            (self.packaged, "demand 3: chain of kind 3"),
+            (self.second_slots, "demand 3: a second slot of one signature, in a chain of kind 3"),
         ]
     }
 
@@ -149,11 +153,15 @@ fn conclusions(
     let signature = |entry: &Entry| entry.method.map(|method| (method.name.to_vec(), method.descriptor.to_vec()));
     let table = reading(sheet, abi, area, class);
     let mut seen = HashSet::new();
+    let is_packaged = sheet.class(class).kind == 3;
+    counts.packaged += u64::from(is_packaged);
     for (index, entry) in table.iter().enumerate() {
         if let Some(known) = signature(entry) {
             counts.known_slots += 1;
             counts.known_by_abi += u64::from(entry.method.is_some_and(|method| method.target != entry.target));
-            if !seen.insert(known) {
+            let is_second = !seen.insert(known);
+            counts.second_slots += u64::from(is_second && is_packaged);
+            if is_second && !is_packaged {
                 return Err(format!("slot {index} has the signature of another"));
             }
         }

@@ -8,6 +8,7 @@ use crate::compare::compare;
 use crate::demand3::{self, Demand3Counts};
 use crate::generate;
 use crate::oracle::Oracle;
+use crate::packages::{self, PackageCounts};
 use crate::random::Random;
 use crate::readings::{self, ReadingCounts};
 use crate::references;
@@ -50,16 +51,51 @@ pub fn run(seed: u64, count: u64, other: &mut dyn Linker) -> bool {
         }
         number += 1;
     }
+    let Some(package_counts) = run_packages(seed, count, &mut oracle, other, &mut demand3_counts) else { return false };
+    let (package_summary, packages_reached) = package_counts.summary();
     let (reading_summary, readings_reached) = reading_counts.summary();
     let (demand3_summary, demand3_reached) = demand3_counts.summary();
     let (summary, reached) = counts.summary();
-    println!("{reading_summary}\n{demand3_summary}\n{summary}");
+    println!("{reading_summary}\n{demand3_summary}\n{package_summary}\n{summary}");
     println!("seed {seed}: {number} cases in {:.1} s, no disagreement", start.elapsed().as_secs_f64());
-    let all_reached = reached && readings_reached && demand3_reached;
+    let all_reached = reached && readings_reached && demand3_reached && packages_reached;
     if !all_reached {
         println!("a bucket was never reached");
     }
     all_reached
+}
+
+/// At least `count` calls of class kind 3, judged by the harness alone; none if the sides disagree.
+fn run_packages(
+    seed: u64,
+    count: u64,
+    oracle: &mut Oracle,
+    other: &mut dyn Linker,
+    demand3_counts: &mut Demand3Counts,
+) -> Option<PackageCounts> {
+    let mut counts = PackageCounts::default();
+    let mut number = 0;
+    while counts.calls < count {
+        let case = generate::packages(seed, number);
+        let mut answers = Vec::new();
+        let result = compare(oracle, other, &case, &mut |step| {
+            counts.observe(step);
+            answers.push(step.answer);
+        });
+        let Ok(after) = result else {
+            println!("seed {seed}, case {number} of kind 3 fails; the smallest case found:");
+            report(oracle, other, case);
+            return None;
+        };
+        let judged = demand3::judge(&case, &answers, &after.area, None, demand3_counts)
+            .and_then(|()| packages::as_kind_0(oracle, &case, &answers, &after.area, &mut counts));
+        if let Err(message) = judged {
+            println!("seed {seed}, case {number} of kind 3: {message}\n{case}");
+            return None;
+        }
+        number += 1;
+    }
+    Some(counts)
 }
 
 /// Shrinks a failing case and prints it.

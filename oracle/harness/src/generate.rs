@@ -3,6 +3,7 @@
 mod draft;
 mod members;
 mod memory;
+mod packages;
 mod spoil;
 mod spoilers;
 mod statics;
@@ -23,5 +24,12 @@ pub fn case(seed: u64, number: u64) -> Case {
     if random.chance(14) {
         spoil::spoil(&mut random, &mut case);
     }
+    case
+}
+
+/// Case `number` of the run with `seed` of the cases of kind 3, which the Rust does not judge.
+pub fn packages(seed: u64, number: u64) -> Case {
+    let mut case = packages::case(&mut Random::for_case(seed.rotate_left(16), number));
+    statics::fill(&mut Random::for_case(seed.rotate_left(48), number), &mut case);
     case
 }

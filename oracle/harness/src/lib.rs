@@ -14,6 +14,7 @@ pub mod listings;
 pub mod names;
 pub mod oracle;
 pub mod orders;
+pub mod packages;
 pub mod random;
 pub mod readings;
 pub mod references;

@@ -27,9 +27,12 @@ pub struct Folder {
     pub listing: String,
 }
 
-/// The sheets of a case, as if no class were linked; none of a case whose words are no sections.
+/// The sheets of a case, as if no class were linked; none of a case whose words are no sections, or have a class of kind 3, which is not the original's to list.
 pub fn folder(oracle: &mut Oracle, seed: u64, number: u64, counts: &mut Counts) -> Option<Folder> {
     let case = generate::case(seed, number);
+    if Set::decode(&case.set)?.classes.iter().any(|class| class.get(class_word::KIND) == 3) {
+        return None;
+    }
     let (abi, classes) = (blocks(&Abi::decode(&case.abi)?.encode()), blocks(&unlinked(&case.set)?));
     let listing = listing(oracle, &abi, &classes, counts);
     Some(Folder { abi, classes, listing })

@@ -1,10 +1,12 @@
 //! The oracle: the Rust judges tables, indices, lists and rows 8, 9, 11, 12 and 16; the
-//! harness itself decides the added rows, the places and how grown sections are laid out.
+//! harness itself decides the added rows, the places and how grown sections are laid out, and
+//! all of class kind 3, which is never given to the Rust (`packages`).
 
 pub mod class_files;
 mod descriptors;
 mod layout;
 mod machine;
+pub mod packages;
 mod references;
 mod rows;
 
@@ -30,7 +32,7 @@ pub struct Oracle {
 impl Oracle {
     /// Begins a case. If `rebuilds`, every call lays the linked classes out anew from the
     /// words it is lent; else the machine keeps what the Rust itself built in the case's
-    /// calls, which must hand on their memory.
+    /// calls, which must hand on their memory; from a call that has kind 3 on, it is laid out anew, too.
     pub fn new_case(&mut self, rebuilds: bool) {
         self.machine.clear();
         self.rebuilds = rebuilds;
@@ -75,9 +77,15 @@ impl Oracle {
         let (set, abi) = rows::sheets(words, abi_words)?;
         rows::link_class(&set, class)?;
         rows::area(&set, area)?;
-        self.fresh_call();
-        self.machine.install_abi(abi_words, &abi);
-        let (definition, linked) = self.machine.link(&set, class, area, stubs)?;
+        packages::row_26(&set, &abi, class)?;
+        let (definition, linked) = if packages::has_packages(&set, class) {
+            (None, packages::link(&set, &abi, class, area, stubs)?)
+        } else {
+            self.fresh_call();
+            self.machine.install_abi(abi_words, &abi);
+            let (definition, linked) = self.machine.link(&set, class, area, stubs)?;
+            (Some(definition), linked)
+        };
 
         let slots = linked.table.len();
         if slots > 1024 {
@@ -95,7 +103,10 @@ impl Oracle {
         area[place + 1..][..slots].copy_from_slice(&linked.table);
         area[place + 1 + slots] = 0;
         area[0] += slots as u32 + 2;
-        self.machine.keep(class, definition);
+        match definition {
+            Some(definition) => self.machine.keep(class, definition),
+            None => self.rebuilds = true,
+        }
         Ok(Answer::accepted(place as u32, slots as u32))
     }
 
@@ -112,16 +123,24 @@ impl Oracle {
         rows::ask_classes(&set, class, interface)?;
         rows::area(&set, area)?;
         let nodes = rows::nodes(&set, class, interface, area)?;
-        self.fresh_call();
-        self.machine.install_abi(abi_words, &abi);
-        let asked = self.machine.ask(&set, class, interface, area, &nodes, stubs)?;
+        let is_own = packages::has_packages(&set, class) || packages::has_packages(&set, interface);
+        let asked = if is_own {
+            self.rebuilds = true;
+            packages::ask(&set, &abi, class, interface, area, &nodes, stubs)?
+        } else {
+            self.fresh_call();
+            self.machine.install_abi(abi_words, &abi);
+            self.machine.ask(&set, class, interface, area, &nodes, stubs)?
+        };
         let Some(table) = asked.built else {
             return Ok(Answer::accepted(asked.found, asked.nodes));
         };
 
         let free = area.len() - area[0] as usize;
         if stubs.len() < table.len() || free < table.len() + 2 {
-            self.machine.forget_built();
+            if !is_own {
+                self.machine.forget_built();
+            }
             return Err(15);
         }
         let node = area[0];
@@ -131,7 +150,9 @@ impl Oracle {
         area[node as usize + 2..][..table.len()].copy_from_slice(&table);
         area[head] = node;
         area[0] += table.len() as u32 + 2;
-        self.machine.keep_built(node + 1);
+        if !is_own {
+            self.machine.keep_built(node + 1);
+        }
         Ok(Answer::accepted(node + 1, asked.nodes))
     }
 }

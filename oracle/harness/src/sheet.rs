@@ -50,7 +50,7 @@ impl ClassRecord {
     /// Whether linking has not written it: no table place, no slot count, and no static words but a generated class's own. Of a kind that
     /// there is not, nothing is asked of the static words.
     pub fn is_untouched(&self) -> bool {
-        let is_counted = matches!(self.get(class_word::KIND), 0 | 2) && self.get(class_word::STATIC_WORDS) != 0;
+        let is_counted = matches!(self.get(class_word::KIND), 0 | 2 | 3) && self.get(class_word::STATIC_WORDS) != 0;
         self.span(class_word::PLACE) == (0, 0) && !is_counted
     }
 }

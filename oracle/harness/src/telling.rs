@@ -1,5 +1,5 @@
 //! Inputs that tell readings of the specification apart, by hand: calls on small sets, with the
-//! answers and what a reader sees afterwards. Each row is executed on the original Rust, on the
+//! answers and what a reader sees afterwards. Each row is executed on the original Rust (those of kind 3 on the harness's own judge), on the
 //! model (tests/telling.rs) and, as a stored corpus, on the proved linker (crates/corpus).
 
 mod areas;
@@ -12,6 +12,7 @@ mod growth;
 mod links;
 mod lists;
 mod lookups;
+mod packages;
 mod sheets;
 mod statics;
 mod tables;
@@ -36,6 +37,7 @@ pub fn rows() -> Vec<Row> {
         growth::rows(),
         asks::rows(),
         lists::rows(),
+        packages::rows(),
         arguments::rows(),
     ]
     .concat()

@@ -101,21 +101,22 @@ impl Linker for Explained {
 /// `replay` holds each row to the stored one.
 #[test]
 fn of_the_corpus() {
-    let path = concat!(env!("CARGO_MANIFEST_DIR"), "/../../crates/corpus/data/rust.bin");
-    let bytes = std::fs::read(path).expect("the corpus is stored");
-    let words: Vec<u32> = bytes.chunks_exact(4).map(|word| u32::from_le_bytes(word.try_into().unwrap())).collect();
     let mut explained = Explained::default();
-    replay(&words, &mut explained).expect("the model answers as stored");
+    for file in ["rust.bin", "packages.bin"] {
+        let path = concat!(env!("CARGO_MANIFEST_DIR"), "/../../crates/corpus/data/").to_owned() + file;
+        let bytes = std::fs::read(path).expect("the corpus is stored");
+        let words: Vec<u32> = bytes.chunks_exact(4).map(|word| u32::from_le_bytes(word.try_into().unwrap())).collect();
+        replay(&words, &mut explained).expect("the model answers as stored");
+    }
     let rows: Vec<u32> = explained.0.keys().copied().collect();
-    assert_eq!(rows, (3..=16).collect::<Vec<u32>>(), "rows 1 and 2 are a reading's alone");
+    assert_eq!(rows, (3..=16).chain([26]).collect::<Vec<u32>>(), "rows 1 and 2 are a reading's alone");
 }
 
 /// Every kind of reason, by a word of its sentence.
 #[test]
 fn of_generated_cases() {
     let mut explained = Explained::default();
-    for number in 0..3000 {
-        let case = generate::case(5, number);
+    for case in (0..3000).flat_map(|number| [generate::case(5, number), generate::packages(5, number)]) {
         let (mut set, mut area) = (case.set.clone(), case.area.clone());
         for call in &case.calls {
             match *call {
@@ -132,6 +133,7 @@ fn of_generated_cases() {
             &["the set has no class", "linked already", "its parent class", "has no members", "and this one has", "both classes linked"][..],
         ),
         (7, &["the next free place, is", "ends at", "more than 64 nodes", "leads to place"]),
+        (26, &["has an ABI entry", "is an interface", "is of kind ", "it is not of kind 3"]),
         (8, &["its instance fields take"]),
         (9, &["not all relative"]),
         (10, &["instance words", "runtime words"]),

@@ -68,7 +68,7 @@ pub fn case(seed: u64, number: u64) -> Case {
         let calls = (0..4).map(|_| call(random, 1)).collect();
         return Case { set, abi, area, stubs, calls, rebuilds: true, spoiled: None };
     }
-    let mut case = generate::case(seed, number);
+    let mut case = if number % 8 == 5 { generate::packages(seed, number) } else { generate::case(seed, number) };
     case.rebuilds = true;
     let changes = random.pick(&[1, 2, 8]);
     for words in [&mut case.set, &mut case.abi, &mut case.area] {

@@ -10,6 +10,7 @@ mod forms;
 mod link;
 mod names;
 mod order;
+mod packages;
 mod reading;
 mod references;
 mod rules;
@@ -37,6 +38,7 @@ pub use writing::write_class_sheet;
 /// The parts that other modules look at to tell which branches a case reaches.
 pub mod parts {
     pub use super::fields::{BuiltFields, built_fields, generated_fields, runtime_words, width};
+    pub use super::packages::{introducing, overridden, package};
     pub use super::sheets::{AbiClass, AbiRecord, AbiSheet, ClassSheet, Method, text_of_abi_words, text_of_class_words};
     pub use super::tables::{Entry, eligible, fixed_index, minimum_size, native_view, reading};
 }

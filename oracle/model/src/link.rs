@@ -1,10 +1,11 @@
 //! Linking a class.
 
 use super::fields::{built_fields, generated_fields};
+use super::packages::{build_packages, row_26};
 use super::rules::{row_3, rows_4_and_5};
 use super::sheets::{
-    ARRAY, AbiSheet, BUILT, CLASS_WORDS, ClassSheet, GENERATED, INTERFACE, MEMBER_WORDS, class_content, pack, record, text_of_abi_words,
-    text_of_class_words,
+    ARRAY, AbiSheet, BUILT, CLASS_WORDS, ClassSheet, GENERATED, INTERFACE, MEMBER_WORDS, PACKAGED, class_content, pack, record,
+    text_of_abi_words, text_of_class_words,
 };
 use super::tables::{Entry, build_interface_methods, build_methods, compiler_table, parent_entries};
 use super::why::{Refused, Why};
@@ -40,6 +41,7 @@ pub fn link(set: &mut [u32], abi: &[u32], class: u32, area: &mut [u32], stubs: &
     rows_4_and_5(&sheet, &abi)?;
     row_6(&sheet, class)?;
     row_7(&sheet, area)?;
+    row_26(&sheet, &abi, class)?;
     let linked = prepare(&sheet, &abi, class, area)?;
     let grown = row_14(&sheet, class, &linked)?;
     row_15(&linked, set.len(), area, stubs, &grown)?;
@@ -89,7 +91,7 @@ pub fn row_7(sheet: &ClassSheet, area: &[u32]) -> Result<(), Refused> {
 /// Rows 8 to 13, kind by kind.
 fn prepare(sheet: &ClassSheet, abi: &AbiSheet, class: u32, area: &[u32]) -> Result<Linked, Refused> {
     let linked = match sheet.class(class).kind {
-        BUILT => prepare_built(sheet, abi, class, area)?,
+        BUILT | PACKAGED => prepare_built(sheet, abi, class, area)?,
         GENERATED => prepare_generated(sheet, abi, class, area)?,
         _ => prepare_array(sheet, abi, class, area),
     };
@@ -106,7 +108,10 @@ fn prepare_built(sheet: &ClassSheet, abi: &AbiSheet, class: u32, area: &[u32]) -
         false => Why::RuntimeWords { words: fields.runtime_words },
     };
     refuse(10, fields.instance_words > 65535 || fields.runtime_words > 65535).because(why)?;
-    let table = if sheet.class(class).flags & INTERFACE != 0 {
+    let record = sheet.class(class);
+    let table = if record.kind == PACKAGED {
+        build_packages(sheet, abi, area, class)
+    } else if record.flags & INTERFACE != 0 {
         build_interface_methods(sheet, class)
     } else {
         build_methods(sheet, abi, area, class)?

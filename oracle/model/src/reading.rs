@@ -2,7 +2,9 @@
 
 use super::refuse;
 use super::rules::{abi_descriptors_hold, abi_records_keep_the_rules, class_descriptors_hold, class_records_keep_the_rules};
-use super::sheets::{ARRAY, AbiSheet, BUILT, Class, ClassSheet, abi_content, class_content, text_of_abi_words, text_of_class_words};
+use super::sheets::{
+    ARRAY, AbiSheet, BUILT, Class, ClassSheet, PACKAGED, abi_content, class_content, text_of_abi_words, text_of_class_words,
+};
 use super::why::Refused;
 
 /// "blocks of 512 bytes, 128 little-endian u32 words"
@@ -30,7 +32,7 @@ pub fn unlinked(sheet: &ClassSheet) -> Result<(), Refused> {
 
 /// What a set does not hold before its first link. A class of another kind brings its static words.
 pub fn is_linked_or_counted(class: &Class) -> bool {
-    let is_counted = matches!(class.kind, BUILT | ARRAY) && class.static_words != 0;
+    let is_counted = matches!(class.kind, BUILT | ARRAY | PACKAGED) && class.static_words != 0;
     class.place != 0 || class.slots != 0 || is_counted
 }
 

@@ -2,7 +2,7 @@
 
 use super::descriptors::{is_field_descriptor, is_method_descriptor};
 use super::refuse;
-use super::sheets::{AbiSheet, ClassSheet, abi_content, class_content};
+use super::sheets::{AbiSheet, ClassSheet, PACKAGED, abi_content, class_content};
 use super::why::Refused;
 
 /// "Link and ask take words already read: of rows 1 to 3 only the count limits and the
@@ -30,7 +30,7 @@ pub fn class_records_keep_the_rules(sheet: &ClassSheet) -> bool {
         is_name(text, class.name_start, class.name_length)
             && class.parent < number
             && class.flags <= 65535
-            && class.kind <= 2
+            && class.kind <= PACKAGED
             && inside(class.first_method, class.method_count, methods)
             && inside(class.first_field, class.field_count, fields)
             && inside(class.first_interface, class.interface_count, interface_words)

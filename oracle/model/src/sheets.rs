@@ -16,7 +16,7 @@ pub const ABI_CLASS_WORDS: usize = 8;
 pub const ABI_RECORD_WORDS: usize = 5;
 
 /// "name start, name length, parent number (0 none), access flags, kind (0 built, 1
-/// generated, 2 array), first method, method count, first field, field count, first
+/// generated, 2 array)", with kind 3 added, "first method, method count, first field, field count, first
 /// interface word, interface count, link state, instance words, compiler table (0 none,
 /// else first word counted from 1), compiler slots, table place (0 unlinked), slot count,
 /// static words"
@@ -34,9 +34,13 @@ pub mod record {
 pub const BUILT: u32 = 0;
 pub const GENERATED: u32 = 1;
 pub const ARRAY: u32 = 2;
+/// "Add class kind 3 ...: a built class, not an interface, linked by JVMS 5.4.5, in all else as kind 0."
+pub const PACKAGED: u32 = 3;
 
-pub const STATIC: u32 = 0x0008;
+pub const PUBLIC: u32 = 0x0001;
 pub const PRIVATE: u32 = 0x0002;
+pub const PROTECTED: u32 = 0x0004;
+pub const STATIC: u32 = 0x0008;
 pub const ABSTRACT: u32 = 0x0400;
 pub const INTERFACE: u32 = 0x0200;
 
@@ -77,7 +81,7 @@ pub struct Member {
 
 /// A method as the tables see it: its signature as parts of a text, its flags, its target,
 /// and the class whose list holds it.
-#[derive(Clone, Copy)]
+#[derive(Clone, Copy, PartialEq, Eq)]
 pub struct Method<'a> {
     pub name: &'a [u8],
     pub descriptor: &'a [u8],

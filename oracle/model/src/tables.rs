@@ -18,7 +18,7 @@ pub fn eligible(method: &Method) -> bool {
     method.flags & (STATIC | PRIVATE) == 0 && !method.name.starts_with(b"<")
 }
 
-fn entry_of(method: Method) -> Entry {
+pub fn entry_of(method: Method) -> Entry {
     Entry { target: method.target, method: Some(method) }
 }
 

@@ -103,6 +103,21 @@ pub enum Why {
         node: u32,
         next: u32,
     },
+    /// Row 26: the chain of a class of kind 3 has a class with an ABI entry, with the interface flag, or of another kind.
+    PackagesEntry {
+        class: u32,
+    },
+    PackagesInterface {
+        class: u32,
+    },
+    PackagesKind {
+        class: u32,
+        kind: u32,
+    },
+    /// Row 26: a class of another kind has one of kind 3 above it.
+    PackagesAbove {
+        class: u32,
+    },
     OwnWords {
         own: u64,
         total: u64,
@@ -224,6 +239,18 @@ impl Refused {
             Why::ManyNodes => "its list of interface tables has more than 64 nodes".to_owned(),
             Why::NodeOutside { node, next } => {
                 format!("its list of interface tables leads to place {node}, whose two words are not below the next free place {next}")
+            }
+            Why::PackagesEntry { class } => {
+                format!("it is of kind 3, linked by packages, and in its chain {} has an ABI entry", names.class(*class))
+            }
+            Why::PackagesInterface { class } => {
+                format!("it is of kind 3, linked by packages, and in its chain {} is an interface", names.class(*class))
+            }
+            Why::PackagesKind { class, kind } => {
+                format!("it is of kind 3, linked by packages, and in its chain {} is of kind {kind}", names.class(*class))
+            }
+            Why::PackagesAbove { class } => {
+                format!("it is not of kind 3, and in its chain {} is, which is linked by packages", names.class(*class))
             }
             Why::OwnWords { own, total } => format!("its instance fields take {own} words, and it says {total} in all"),
             Why::Indices { relative, absolute } => {

@@ -11,4 +11,4 @@ returns-2 : tie.Need-returns-2
 returns-2 c = search statics-other
 
 pub new-statics-spec : {M : Type 1} → statement M
-new-statics-spec = tie.close (tie.spec (λ c κs. search needs) (λ c κs. search needs) returns returns-2)
+new-statics-spec = tie.close (tie.spec (λ c κs. search needs) (λ c κs. search needs) (λ c κs. search needs) returns returns-2)

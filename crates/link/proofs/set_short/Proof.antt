@@ -9,13 +9,21 @@ returns c = search (news-empty, short-none)
 
 returns-2 : tie.Need-returns-2
 returns-2 c =
-    short-fields _ _ _ (c .before .before .before .class-kind .ensures) (c .before .before .if2 .taken)
-    (news-some _ _ _ _ _ _ _ (c .before .before .before .before .if1 .left)) (c .before .class-field-count .ensures) (c .grown-end .ensures)
+    let kind : tie.After-class-kind = search in
+    let built : tie.After-is-built-kind = search in
+    let yes : tie.Then2 = search in
+    let some : tie.Else1 = search in
+    short-fields _ _ _ (kind .class-kind .ensures) (built .is-built-kind .ensures) (yes .if2 .taken)
+    (news-some _ _ _ _ _ _ _ (some .if1 .left)) (c .before .class-field-count .ensures) (c .grown-end .ensures)
 
 returns-3 : tie.Need-returns-3
 returns-3 c =
-    short-methods _ _ _ (c .before .before .before .class-kind .ensures) (c .before .before .if2 .left)
-    (news-some _ _ _ _ _ _ _ (c .before .before .before .before .if1 .left)) (c .before .class-method-count .ensures)
+    let kind : tie.After-class-kind = search in
+    let built : tie.After-is-built-kind = search in
+    let no : tie.Else2 = search in
+    let some : tie.Else1 = search in
+    short-methods _ _ _ (kind .class-kind .ensures) (built .is-built-kind .ensures) (no .if2 .left)
+    (news-some _ _ _ _ _ _ _ (some .if1 .left)) (c .before .class-method-count .ensures)
     (c .grown-end2 .ensures)
 
 pub set-short-spec : {M : Type 1} → statement M

@@ -1,5 +1,5 @@
 //! `corpus SEED N FILE` writes a corpus; `corpus telling FILE` that of the telling rows; `corpus
-//! spoiled SEED FILE` one that no linker replays; `corpus answers SEED N FILE` stored answers of the
+//! spoiled SEED FILE` one that no linker replays; `corpus packages SEED N FILE` one of class kind 3; `corpus answers SEED N FILE` stored answers of the
 //! other functions; `corpus answers-spoiled SEED FILE` some that no linker gives; `corpus replay FILE`
 //! replays either on the model.
 
@@ -19,6 +19,10 @@ fn main() -> ExitCode {
             Ok(seed) => write(seed, corpus::spoiled(seed), file).map(|(message, _)| message),
             _ => Err("SEED is a number".to_owned()),
         },
+        ["packages", seed, count, file] => match (seed.parse(), count.parse()) {
+            (Ok(seed), Ok(count)) => covered(write(seed, corpus::packages(seed, count), file)),
+            _ => Err("SEED and N are numbers".to_owned()),
+        },
         ["answers", seed, count, file] => match (seed.parse(), count.parse()) {
             (Ok(seed), Ok(count)) => write_answers(seed, answers::make(seed, count), file),
             _ => Err("SEED and N are numbers".to_owned()),
@@ -28,13 +32,10 @@ fn main() -> ExitCode {
             _ => Err("SEED is a number".to_owned()),
         },
         [seed, count, file] => match (seed.parse(), count.parse()) {
-            (Ok(seed), Ok(count)) => match write(seed, corpus::make(seed, count), file) {
-                Ok((message, true)) => Ok(message),
-                Ok((message, false)) | Err(message) => Err(message),
-            },
+            (Ok(seed), Ok(count)) => covered(write(seed, corpus::make(seed, count), file)),
             _ => Err("SEED and N are numbers".to_owned()),
         },
-        _ => Err("usage: corpus SEED N FILE, corpus telling FILE, corpus spoiled SEED FILE, corpus answers SEED N FILE, \
+        _ => Err("usage: corpus SEED N FILE, corpus telling FILE, corpus spoiled SEED FILE, corpus packages SEED N FILE, corpus answers SEED N FILE, \
                   corpus answers-spoiled SEED FILE, or corpus replay FILE"
             .to_owned()),
     };
@@ -47,6 +48,14 @@ fn main() -> ExitCode {
             eprintln!("{message}");
             ExitCode::FAILURE
         }
+    }
+}
+
+/// An error if a bucket is not covered.
+fn covered(written: Result<(String, bool), String>) -> Result<String, String> {
+    match written {
+        Ok((message, true)) => Ok(message),
+        Ok((message, false)) | Err(message) => Err(message),
     }
 }
 

@@ -14,10 +14,11 @@ use std::collections::BTreeMap;
 use std::process::ExitCode;
 
 use harness::buckets::Counts;
-use harness::case::Call;
+use harness::case::{Call, Case};
 use harness::compare::{State, Step, perform};
 use harness::generate;
 use harness::oracle::Oracle;
+use harness::packages::PackageCounts;
 use harness::random::Random;
 use harness::side::{Answer, Linker};
 use harness::{class_files, forms, names, orders, readings, references, writings};
@@ -29,6 +30,9 @@ const MOST_WORDS: usize = 12_000;
 const KEPT: usize = 3;
 const KEPT_SMALL: usize = 16;
 const FEW_WORDS: usize = 800;
+/// How many cases of kind 3 are looked at, and the calls kept for a bucket of theirs.
+const PACKAGES: u64 = 3_000;
+const KEPT_PACKAGES: usize = 16;
 /// How many calls of each other function are kept, and their most words.
 const OTHERS: usize = 200;
 const OTHERS_WORDS: usize = 3_000;
@@ -40,6 +44,7 @@ fn main() -> ExitCode {
         return ExitCode::from(2);
     };
     let mut kept: BTreeMap<usize, Vec<Vec<u32>>> = BTreeMap::new();
+    let mut packaged: BTreeMap<&str, Vec<Vec<u32>>> = BTreeMap::new();
     let mut oracle = Oracle::default();
     for number in 0..LOOKED_AT {
         for (buckets, words) in calls(&mut oracle, seed.parse().unwrap_or(1), number) {
@@ -52,12 +57,28 @@ fn main() -> ExitCode {
             }
         }
     }
+    for number in 0..PACKAGES {
+        let case = generate::packages(seed.parse().unwrap_or(1), number);
+        let observe = |step: &Step| {
+            let mut counts = PackageCounts::default();
+            counts.observe(step);
+            counts.reached()
+        };
+        for (buckets, words) in calls_of(&mut oracle, &case, observe) {
+            for bucket in buckets {
+                let list = packaged.entry(bucket).or_default();
+                if list.len() < KEPT_PACKAGES {
+                    list.push(words.clone());
+                }
+            }
+        }
+    }
     let others = others(&mut oracle, seed.parse().unwrap_or(1));
-    let mut chosen: Vec<&Vec<u32>> = kept.values().flatten().chain(&others).collect();
+    let mut chosen: Vec<&Vec<u32>> = kept.values().chain(packaged.values()).flatten().chain(&others).collect();
     chosen.sort();
     chosen.dedup();
     let bytes: Vec<u8> = chosen.iter().flat_map(|words| words.iter()).flat_map(|word| word.to_le_bytes()).collect();
-    println!("{} buckets, {} calls, {} bytes", kept.len(), chosen.len(), bytes.len());
+    println!("{} and {} buckets, {} calls, {} bytes", kept.len(), packaged.len(), chosen.len(), bytes.len());
     if std::fs::write(file, bytes).is_ok() { ExitCode::SUCCESS } else { ExitCode::FAILURE }
 }
 
@@ -165,15 +186,21 @@ fn conversion_call(oracle: &mut Oracle, conversion: &forms::Conversion) -> Vec<u
 
 /// The calls of a case, with the buckets that each reaches.
 fn calls(oracle: &mut Oracle, seed: u64, number: u64) -> Vec<(Vec<usize>, Vec<u32>)> {
-    let case = generate::case(seed, number);
+    calls_of(oracle, &generate::case(seed, number), |step| {
+        let mut counts = Counts::default();
+        counts.observe(step);
+        counts.reached()
+    })
+}
+
+fn calls_of<B>(oracle: &mut Oracle, case: &Case, reached: impl Fn(&Step) -> Vec<B>) -> Vec<(Vec<B>, Vec<u32>)> {
     oracle.new_case(case.rebuilds);
     let mut before = State { set: case.set.clone(), area: case.area.clone() };
     let mut found = Vec::new();
     for &call in &case.calls {
         let mut after = before.clone();
-        let answer = perform(oracle, &case, call, &mut after);
-        let mut counts = Counts::default();
-        counts.observe(&Step { case: &case, call, before: &before, answer, after: &after });
+        let answer = perform(oracle, case, call, &mut after);
+        let buckets = reached(&Step { case, call, before: &before, answer, after: &after });
         let stubs = &case.stubs[call.stubs()];
         let (kind, class, interface) = match call {
             Call::Link { class, .. } => (0, class, 0),
@@ -186,7 +213,7 @@ fn calls(oracle: &mut Oracle, seed: u64, number: u64) -> Vec<(Vec<usize>, Vec<u3
             lent.iter().for_each(|slice| words.extend_from_slice(slice));
             words.extend_from_slice(&after.set);
             words.extend_from_slice(&after.area);
-            found.push((counts.reached(), words));
+            found.push((buckets, words));
         }
         before = after;
     }

@@ -11,6 +11,9 @@ pub fn link(view: &View, class: u32, hits: &mut Hits) {
         _ => {}
     }
     let record = view.sheet.class(class);
+    if record.kind == 3 || view.step.answer.refusal == 26 {
+        return;
+    }
     surroundings(view, class, hits);
     match record.kind {
         0 => fields::of_built(view, class, hits),

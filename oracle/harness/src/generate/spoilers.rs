@@ -1,7 +1,7 @@
 //! The spoilers: each breaks one clause of rows 3 to 5, or touches a limit and keeps it.
 
 use crate::random::Random;
-use crate::sheet::{Abi, MemberRecord, Set, class_word};
+use crate::sheet::{Abi, ClassRecord, MemberRecord, Set, class_word};
 
 use super::members::of_words;
 use super::spoil::Spoiler::{self, Abi as OfAbi, AbiWords, Set as OfSet, SetWords};
@@ -64,7 +64,7 @@ pub const SPOILERS: &[(&str, Spoiler)] = &[
         }),
     ),
     ("4 class flags", OfSet(|random, set| set_class_word(random, set, class_word::FLAGS, 0x1_0000))),
-    ("4 kind", OfSet(|random, set| set_class_word(random, set, class_word::KIND, 3))),
+    ("4 kind", OfSet(|random, set| set_class_word(random, set, class_word::KIND, 4))),
     ("4 link state", OfSet(|random, set| set_class_word(random, set, class_word::LINK_STATE, 0x1_0000))),
     ("4 instance words", OfSet(|random, set| set_class_word(random, set, class_word::INSTANCE_WORDS, 0x1_0000))),
     ("4 method list outside", OfSet(|random, set| list_outside(random, set, class_word::METHODS, set.methods.len()))),
@@ -325,6 +325,22 @@ pub const SPOILERS: &[(&str, Spoiler)] = &[
     (
         "kept: ABI slot of 255 argument words",
         OfAbi(|random, abi| on_abi_slot(random, abi, |_, abi, at| abi.slots[at].descriptor = append(&mut abi.text, &of_words(254)))),
+    ),
+    (
+        "kept: a class of kind 3 beside",
+        OfSet(|_, set| {
+            let fits = set.classes.len() < 64 && set.text.len() <= 8190;
+            if fits {
+                let (start, length) = append(&mut set.text, "~3");
+                set.classes.push(ClassRecord(std::array::from_fn(|word| match word {
+                    0 => start,
+                    1 => length,
+                    class_word::KIND => 3,
+                    _ => 0,
+                })));
+            }
+            fits
+        }),
     ),
     ("kept: class flags at the limit", OfSet(|random, set| set_class_word(random, set, class_word::FLAGS, 0xFFFF))),
     ("kept: link state at the limit", OfSet(|random, set| set_class_word(random, set, class_word::LINK_STATE, 0xFFFF))),

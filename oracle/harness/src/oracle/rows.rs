@@ -208,7 +208,7 @@ fn set_follows_row_4(set: &Set) -> bool {
         is_name(&set.text, class.span(class_word::NAME))
             && class.get(class_word::PARENT) as usize <= position
             && class.get(class_word::FLAGS) <= 0xFFFF
-            && class.get(class_word::KIND) <= 2
+            && class.get(class_word::KIND) <= 3
             && lies_inside(class.span(class_word::METHODS), set.methods.len())
             && lies_inside(class.span(class_word::FIELDS), set.fields.len())
             && lies_inside(class.span(class_word::INTERFACES), set.interfaces.len())

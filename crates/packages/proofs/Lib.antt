@@ -1,0 +1,5 @@
+pub mod NameLaws
+pub mod OverLaws
+pub mod TopLaws
+pub mod TakeLaws
+pub mod RowLaws
