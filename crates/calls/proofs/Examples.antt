@@ -46,20 +46,20 @@ calls =
     ∷ link 3 (909 ∷ 910 ∷ 911 ∷ []) ∷ ask 3 6 (912 ∷ []) ∷ link 3 (913 ∷ []) ∷ ask 3 6 [] ∷ link 99 [] ∷ []
 
 pub record Rows : Type 0 where
-  pub answered : answers sheet (start ws sheet area calls) calls
+  pub answered : answers sheet (start ws area) calls
       ≡ (6, 0, 0) ∷ (0, 1, 2) ∷ (0, 5, 0) ∷ (0, 7, 2) ∷ (0, 11, 1) ∷ (0, 14, 2) ∷ (0, 18, 3) ∷ (0, 24, 0) ∷ (6, 0, 0) ∷ (0, 24, 1) ∷ (6, 0, 0) ∷ []
-  pub first : tableAt (run sheet calls (start ws sheet area calls) .area) 1 2 ≡ 902 ∷ 100 ∷ []
-  pub second : tableAt (run sheet calls (start ws sheet area calls) .area) 14 2 ≡ 902 ∷ 100 ∷ []
-  pub third : tableAt (run sheet calls (start ws sheet area calls) .area) 18 3 ≡ 902 ∷ 200 ∷ 300 ∷ []
+  pub first : tableAt (run sheet calls (start ws area) .area) 1 2 ≡ 902 ∷ 100 ∷ []
+  pub second : tableAt (run sheet calls (start ws area) .area) 14 2 ≡ 902 ∷ 100 ∷ []
+  pub third : tableAt (run sheet calls (start ws area) .area) 18 3 ≡ 902 ∷ 200 ∷ 300 ∷ []
   -- the known slots, by Reading at the start: those that demand 3's conclusions are about
   pub parent-known : readEntry ws (textOf ws) sheet (abiTextOf sheet) 2 1 100 .method ≡ At 0
   pub child-known : readEntry ws (textOf ws) sheet (abiTextOf sheet) 3 1 200 .method ≡ At 1
   pub child-new : readEntry ws (textOf ws) sheet (abiTextOf sheet) 3 2 300 .method ≡ At 2
   pub child-unknown : readEntry ws (textOf ws) sheet (abiTextOf sheet) 3 0 902 .method ≡ Nothing
   -- a field, a method and their names were added before classes 2 and 3 were linked
-  pub methods : methodCount ws ∷ methodCount (run sheet calls (start ws sheet area calls) .set) ∷ [] ≡ 4 ∷ 5 ∷ []
-  pub fields : fieldCount ws ∷ fieldCount (run sheet calls (start ws sheet area calls) .set) ∷ [] ≡ 0 ∷ 1 ∷ []
-  pub bytes : textLength ws ∷ textLength (run sheet calls (start ws sheet area calls) .set) ∷ [] ≡ 46 ∷ 54 ∷ []
+  pub methods : methodCount ws ∷ methodCount (run sheet calls (start ws area) .set) ∷ [] ≡ 4 ∷ 5 ∷ []
+  pub fields : fieldCount ws ∷ fieldCount (run sheet calls (start ws area) .set) ∷ [] ≡ 0 ∷ 1 ∷ []
+  pub bytes : textLength ws ∷ textLength (run sheet calls (start ws area) .set) ∷ [] ≡ 46 ∷ 54 ∷ []
 
 pub rows : Rows
 unfolding opened shown ws sheet
@@ -83,9 +83,9 @@ passes = record {
   no-stub = refl;
 }
 
-linked : LinkedIn sheet 3 18 3 (start ws sheet area calls) calls
+linked : LinkedIn sheet 3 18 3 (start ws area) calls
 unfolding opened shown ws sheet
 linked = later (later (later (later (later (later (now (909 ∷ 910 ∷ 911 ∷ []) refl refl refl))))))
 
 pub instance : Claim ws sheet area calls 3 18 3
-instance = demand-3 ws sheet area (unlinked-holds ws unlinked) calls 3 18 3 linked (conditions ws sheet area calls 3 passes)
+instance = demand-3 ws sheet area (unlinked-holds ws unlinked) calls 3 18 3 linked (conditions ws sheet calls 3 passes)

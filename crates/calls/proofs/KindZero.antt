@@ -168,8 +168,8 @@ module _ (ws text abi labels : List ℕ) where
 -- ---- both runs
 
 module _ (ws abi area₃ area₀ : List ℕ) (unlinked : Unlinked ws) (calls₃ calls₀ : List Call) (c p n q k : ℕ)
-    (linked₃ : LinkedIn abi c p n (start ws abi area₃ calls₃) calls₃)
-    (linked₀ : LinkedIn abi c q k (start (unpackaged ws) abi area₀ calls₀) calls₀) (premises : Premises ws c) where
+    (linked₃ : LinkedIn abi c p n (start ws area₃) calls₃)
+    (linked₀ : LinkedIn abi c q k (start (unpackaged ws) area₀) calls₀) (premises : Premises ws c) where
   abbrev text : List ℕ
   text = textOf ws
 

@@ -34,10 +34,10 @@ from cs entries ks = record { set = classSheet cs; sheet = abiSheet entries; are
 
 module _ (x : Case) where
   abbrev pub LinkedAt : ℕ → ℕ → ℕ → Type 0
-  LinkedAt c p n = LinkedIn (x .sheet) c p n (start (x .set) (x .sheet) (x .area) (x .calls)) (x .calls)
+  LinkedAt c p n = LinkedIn (x .sheet) c p n (start (x .set) (x .area)) (x .calls)
 
   abbrev pub finalTable : ℕ → ℕ → List ℕ
-  finalTable p n = tableAt (run (x .sheet) (x .calls) (start (x .set) (x .sheet) (x .area) (x .calls)) .area) p n
+  finalTable p n = tableAt (run (x .sheet) (x .calls) (start (x .set) (x .area)) .area) p n
 
   abbrev pub Holds : ℕ → ℕ → ℕ → Type 0
   Holds c p n = Claim (x .set) (x .sheet) (x .area) (x .calls) c p n
@@ -97,7 +97,7 @@ module _ (x : Case) where
 pub record Breaks (x : Case) (c p n : ℕ) (unlinked : Bool) (tests : List Bool) : Type 0 where
   pub start-is : isUnlinked (x .set) ≡ unlinked
   pub premises : verdicts (x .set) (x .sheet) (x .calls) c ≡ tests
-  pub outside : Unlinked (x .set) → Conditions (x .set) (x .sheet) (x .area) (x .calls) c → ⊥
+  pub outside : Unlinked (x .set) → Conditions (x .set) (x .sheet) (x .calls) c → ⊥
   pub linked : LinkedAt x c p n
   pub fails : Holds x c p n → ⊥
 

@@ -220,8 +220,8 @@ pub record Passes (ws abi : List ℕ) (calls : List Call) (c : ℕ) : Type 0 whe
   pub targets-different : targetsDifferent ws abi calls c ≡ true
   pub no-stub : noStub ws abi calls c ≡ true
 
-pub conditions : (ws abi area : List ℕ) (calls : List Call) (c : ℕ) → Passes ws abi calls c → Conditions ws abi area calls c
-conditions ws abi area calls c p = record {
+pub conditions : (ws abi : List ℕ) (calls : List Call) (c : ℕ) → Passes ws abi calls c → Conditions ws abi calls c
+conditions ws abi calls c p = record {
   kinds = kinds-hold ws abi calls c (p .kinds);
   no-interface = flags-hold ws abi calls c (p .no-interface);
   orderly = orderly-holds ws abi calls c (p .orderly);

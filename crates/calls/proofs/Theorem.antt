@@ -62,12 +62,12 @@ module _ (ws abi area : List ℕ) (valid₀ : Valid ws) (unlinked : Unlinked ws)
   P x = Lent x calls
 
   abbrev pub final : State
-  final = run abi calls (start ws abi area calls)
+  final = run abi calls (start ws area)
 
   none : (c : ℕ) → Linked ws c → ⊥
   none c l = l .has (unlinked c (l .some) (l .among))
 
-  start-inv : Inv ws abi valid₀ P (start ws abi area calls)
+  start-inv : Inv ws abi valid₀ P (start ws area)
   start-inv = record {
     like = like-same ws;
     parent = λ c l. absurd (none c l);
@@ -77,10 +77,10 @@ module _ (ws abi area : List ℕ) (valid₀ : Valid ws) (unlinked : Unlinked ws)
     apart = λ c d l. absurd (none c l);
   }
 
-  goes : Goes ws abi valid₀ P (start ws abi area calls) final
-  goes = run-goes ws abi valid₀ P calls (start ws abi area calls) start-inv (λ x i. i)
+  goes : Goes ws abi valid₀ P (start ws area) final
+  goes = run-goes ws abi valid₀ P calls (start ws area) start-inv (λ x i. i)
 
-  after : {c p n : ℕ} → LinkedIn abi c p n (start ws abi area calls) calls → Answered ws abi valid₀ P final c p n
+  after : {c p n : ℕ} → LinkedIn abi c p n (start ws area) calls → Answered ws abi valid₀ P final c p n
   after i = answered ws abi valid₀ P i start-inv (λ x j. j)
 
   -- the chain of a linked class is linked
@@ -98,38 +98,38 @@ module _ (ws abi area : List ℕ) (valid₀ : Valid ws) (unlinked : Unlinked ws)
       ]
 
   -- the table that a link answered
-  pub table-is : {d p n : ℕ} → LinkedIn abi d p n (start ws abi area calls) calls → tableOf final d ≡ tableAt (final .area) p n
+  pub table-is : {d p n : ℕ} → LinkedIn abi d p n (start ws area) calls → tableOf final d ≡ tableAt (final .area) p n
   table-is {d} {p} {n} i =
       let a = after i in
       ap (λ (x : ℕ). tableAt (final .area) x (classSlotCount (final .set) d)) (a .place)
       ∙ ap (λ (x : ℕ). tableAt (final .area) p x) (a .slots)
 
   -- as many as the slots it answered
-  pub whole-is : {d p n : ℕ} → LinkedIn abi d p n (start ws abi area calls) calls → length (tableAt (final .area) p n) ≡ n
+  pub whole-is : {d p n : ℕ} → LinkedIn abi d p n (start ws area) calls → length (tableAt (final .area) p n) ≡ n
   whole-is {d} i = sym (ap length (table-is i)) ∙ goes .inv .whole d (after i .linked) ∙ after i .slots
 
-  pub chain-made : {c p n : ℕ} → LinkedIn abi c p n (start ws abi area calls) calls → Plain ws c
+  pub chain-made : {c p n : ℕ} → LinkedIn abi c p n (start ws area) calls → Plain ws c
       → (d : ℕ) → List·Memᴰ d (chain ws c) → Made ws (textOf ws) abi (abiTextOf abi) (tableOf final) P d
   chain-made {c} linked plain d i = let r = chain-linked c c (omega arith) (after linked .linked) plain d i in goes .inv .made d (r .0) (r .1)
 
-  pub class-within : {c p n : ℕ} → LinkedIn abi c p n (start ws abi area calls) calls → (1 ≤ c) × (c ≤ classCount ws)
+  pub class-within : {c p n : ℕ} → LinkedIn abi c p n (start ws area) calls → (1 ≤ c) × (c ≤ classCount ws)
   class-within linked = (after linked .linked .some, omega (arith, after linked .linked .among, goes .inv .like .classes))
 
   -- so is its chain, in the list
-  pub chain-in : {c p n : ℕ} → LinkedIn abi c p n (start ws abi area calls) calls → (d : ℕ) → List·Memᴰ d (chain ws c)
-      → (place : ℕ) × (slots : ℕ) × LinkedIn abi d place slots (start ws abi area calls) calls
+  pub chain-in : {c p n : ℕ} → LinkedIn abi c p n (start ws area) calls → (d : ℕ) → List·Memᴰ d (chain ws c)
+      → (place : ℕ) × (slots : ℕ) × LinkedIn abi d place slots (start ws area) calls
   chain-in {c} linked d i =
-      elim (history ws abi valid₀ P calls (start ws abi area calls) start-inv (λ x j. j) d
+      elim (history ws abi valid₀ P calls (start ws area) start-inv (λ x j. j) d
       (runs.chain-linked ws abi valid₀ P (goes .inv) c c (omega arith) (after linked .linked) d i)) [
         | inl l ↦ absurd (none d l)
         | inr r ↦ (r .place, r .slots, r .found)
       ]
 
   -- row 26 passed it
-  pub link-fits : {c p n : ℕ} → LinkedIn abi c p n (start ws abi area calls) calls → badPackages ws (textOf ws) abi (abiTextOf abi) c ≡ false
+  pub link-fits : {c p n : ℕ} → LinkedIn abi c p n (start ws area) calls → badPackages ws (textOf ws) abi (abiTextOf abi) c ≡ false
   link-fits {c} linked = goes .inv .fits c (after linked .linked)
 
-  module _ (c place slots : ℕ) (linked : LinkedIn abi c place slots (start ws abi area calls) calls) (plain : Plain ws c)
+  module _ (c place slots : ℕ) (linked : LinkedIn abi c place slots (start ws area) calls) (plain : Plain ws c)
       (conditions : tables.Conditions ws (textOf ws) abi (abiTextOf abi) P c) where
     made : (d : ℕ) → List·Memᴰ d (chain ws c) → Made ws (textOf ws) abi (abiTextOf abi) (tableOf final) P d
     made = chain-made linked plain
@@ -154,7 +154,7 @@ module _ (ws abi area : List ℕ) (valid₀ : Valid ws) (unlinked : Unlinked ws)
 
     keeps-parent : parentOf ws c ≢ 0 → classAbi ws (textOf ws) abi (abiTextOf abi) c ≡ Nothing → KeepsParent ws abi area calls c place slots
     keeps-parent n e =
-        elim (history ws abi valid₀ P calls (start ws abi area calls) start-inv (λ x i. i) (parentOf ws c) (goes .inv .parent c (after linked .linked) n)) [
+        elim (history ws abi valid₀ P calls (start ws area) start-inv (λ x i. i) (parentOf ws c) (goes .inv .parent c (after linked .linked) n)) [
           | inl l ↦ absurd (none (parentOf ws c) l)
           | inr r ↦ record {
             parent-place = r .place;
@@ -177,7 +177,7 @@ module _ (ws abi area : List ℕ) (valid₀ : Valid ws) (unlinked : Unlinked ws)
 -- ---- THE THEOREM
 
 -- a set from which a class was linked is valid
-pub linked-valid : (ws abi area : List ℕ) (calls : List Call) (c place slots : ℕ) → LinkedIn abi c place slots (start ws abi area calls) calls → Valid ws
+pub linked-valid : (ws abi area : List ℕ) (calls : List Call) (c place slots : ℕ) → LinkedIn abi c place slots (start ws area) calls → Valid ws
 linked-valid ws abi area calls c place slots linked =
     by (eqb (setRefusal ws abi) 0)
     (λ t. valid ws abi (eqb-true (setRefusal ws abi) 0 t) .0)
@@ -186,7 +186,7 @@ linked-valid ws abi area calls c place slots linked =
 -- for every class whose chain is plain and meets the conditions of Made.antt: of orderly, "each signature (name and descriptor) has one index" is
 -- enough, whatever signatures share an index
 pub one-index-enough : (ws abi area : List ℕ) → Unlinked ws → (calls : List Call) (c place slots : ℕ)
-    → LinkedIn abi c place slots (start ws abi area calls) calls → Plain ws c
+    → LinkedIn abi c place slots (start ws area) calls → Plain ws c
     → tables.Conditions ws (textOf ws) abi (abiTextOf abi) (λ x. Lent x calls) c → Claim ws abi area calls c place slots
 one-index-enough ws abi area unlinked calls c place slots linked plain k =
     claim ws abi area (linked-valid ws abi area calls c place slots linked) unlinked calls c place slots linked plain k

@@ -19,40 +19,36 @@ use Rattle.calls.specs.Calls.{Call, State, run, Unlinked, LinkedIn, tabl
 abbrev pub BuiltOrArray : List ℕ → ℕ → Type 0
 BuiltOrArray ws d = (classKind ws d ≡ 0) ⊎ ((classKind ws d ≡ 2) ⊎ (classKind ws d ≡ 3))
 
--- "with one ABI sheet and whatever the area holds": the sheet and the area at the list's start
-module _ (ws abi area : List ℕ) (calls : List Call) where
-  abbrev pub start : State
-  start = record { set = ws; area = area }
+-- "from an unlinked sheet, with one ABI sheet and whatever the area holds": the set and the area at the list's start
+abbrev pub start : List ℕ → List ℕ → State
+start ws area = record { set = ws; area = area }
 
+-- ---- the conditions: "This is claimed for every class linked in the list"
+
+pub record Conditions (ws abi : List ℕ) (calls : List Call) (c : ℕ) : Type 0 where
+  -- "whose parent chain, itself included, has only built and array classes, none of them an interface,"
+  pub kinds : (d : ℕ) → List·Memᴰ d (chain ws c) → BuiltOrArray ws d
+  pub no-interface : (d : ℕ) → List·Memᴰ d (chain ws c) → isInterface (classFlags ws d) ≡ false
+  -- "under an orderly ABI sheet,"
+  pub orderly : Orderly ws (textOf ws) abi (abiTextOf abi) c
+  -- "where the chain's method targets and all stubs lent are nonzero,"
+  pub targets-nonzero : (m : ℕ) → ChainMethod ws c m → methodTarget ws m ≢ 0
+  pub stubs-nonzero : (x : ℕ) → Lent x calls → x ≢ 0
+  -- "the targets all different"
+  pub targets-different : (m k : ℕ) → ChainMethod ws c m → ChainMethod ws c k → methodTarget ws m ≡ methodTarget ws k → m ≡ k
+  -- "and none of them a stub"
+  pub no-stub : (x m : ℕ) → Lent x calls → ChainMethod ws c m → methodTarget ws m ≢ x
+
+-- ---- the claim
+
+module _ (ws abi area : List ℕ) (calls : List Call) where
   -- "after it": the table of a class whose accepted link answered this place and so many slots
   abbrev pub table : ℕ → ℕ → List ℕ
-  table place slots = tableAt (run abi calls start .area) place slots
+  table place slots = tableAt (run abi calls (start ws area) .area) place slots
 
   -- a link of class c in the list was accepted, and answered so
   abbrev pub Linked : ℕ → ℕ → ℕ → Type 0
-  Linked c place slots = LinkedIn abi c place slots start calls
-
-  -- m is one of the chain's methods, of any flags
-  abbrev pub Method : ℕ → ℕ → Type 0
-  Method c m = ChainMethod ws c m
-
-  -- ---- the conditions: "This is claimed for every class linked in the list"
-
-  pub record Conditions (c : ℕ) : Type 0 where
-    -- "whose parent chain, itself included, has only built and array classes, none of them an interface,"
-    pub kinds : (d : ℕ) → List·Memᴰ d (chain ws c) → BuiltOrArray ws d
-    pub no-interface : (d : ℕ) → List·Memᴰ d (chain ws c) → isInterface (classFlags ws d) ≡ false
-    -- "under an orderly ABI sheet,"
-    pub orderly : Orderly ws (textOf ws) abi (abiTextOf abi) c
-    -- "where the chain's method targets and all stubs lent are nonzero,"
-    pub targets-nonzero : (m : ℕ) → Method c m → methodTarget ws m ≢ 0
-    pub stubs-nonzero : (x : ℕ) → Lent x calls → x ≢ 0
-    -- "the targets all different"
-    pub targets-different : (m k : ℕ) → Method c m → Method c k → methodTarget ws m ≡ methodTarget ws k → m ≡ k
-    -- "and none of them a stub"
-    pub no-stub : (x m : ℕ) → Lent x calls → Method c m → methodTarget ws m ≢ x
-
-  -- ---- the claim
+  Linked c place slots = LinkedIn abi c place slots (start ws area) calls
 
   -- "In a child without an ABI entry": its parent is linked in the list, and whatever link of it was accepted, the child's table keeps the known
   -- slots of the parent's
@@ -78,4 +74,4 @@ module _ (ws abi area : List ℕ) (calls : List Call) where
 abbrev pub Demand3 : Type 0
 Demand3 =
     (ws abi area : List ℕ) → Unlinked ws → (calls : List Call) (c place slots : ℕ) → Linked ws abi area calls c place slots
-    → Conditions ws abi area calls c → Claim ws abi area calls c place slots
+    → Conditions ws abi calls c → Claim ws abi area calls c place slots

@@ -84,7 +84,7 @@ module _ (ws abi area answers calls stubs ws′ area′ answers′ : List ℕ) (
   area-is = sym (ap (λ (s : State). s .area) (made .0))
 
   pub holds : {c place slots : ℕ} → Claim ws abi area (callsOf calls stubs) c place slots
-      → Holds ws abi area answers calls stubs ws′ area′ answers′ c place slots
+      → Holds ws abi area calls stubs area′ c place slots
   holds {c} {place} {slots} k = record {
     unique = λ old. subst (λ (a : List ℕ). Unique ws (textOf ws) abi (abiTextOf abi) c (tableAt a place slots)) area-is (k .unique old);
     keeps-parent = λ n e. let p = k .keeps-parent n e in record {

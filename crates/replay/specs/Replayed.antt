@@ -26,14 +26,15 @@ pub record Told (calls answers : List ℕ) (c place slots : ℕ) : Type 0 where
   pub place-is : getD answers (3 * call + 1) 0 ≡ place
   pub slots-is : getD answers (3 * call + 2) 0 ≡ slots
 
--- memory before and after, and the words of the calls
-module _ (ws abi area answers calls stubs ws′ area′ answers′ : List ℕ) where
-  -- the contract of `replay`: the set and the area are as the calls leave them, and their answers are laid over the lent ones
-  abbrev pub Made : Type 0
-  Made =
-      (state ws′ area′ ≡ run abi (callsOf calls stubs) (state ws area))
-      × (answers′ ≡ over (answersOf abi (callsOf calls stubs) (state ws area)) answers)
+-- the contract of `replay`, of memory before and after and the words of the calls: the set and the area are as the calls leave them, and their
+-- answers are laid over the lent ones
+abbrev pub Made : (ws abi area answers calls stubs ws′ area′ answers′ : List ℕ) → Type 0
+Made ws abi area answers calls stubs ws′ area′ answers′ =
+    (state ws′ area′ ≡ run abi (callsOf calls stubs) (state ws area))
+    × (answers′ ≡ over (answersOf abi (callsOf calls stubs) (state ws area)) answers)
 
+-- the sheets and the area at the start, the words of the calls, and the area that is left
+module _ (ws abi area calls stubs area′ : List ℕ) where
   -- the parent is linked in the list, and whatever link of it was accepted, the child's table keeps the known slots of the parent's
   pub record Keeps (c place slots : ℕ) : Type 0 where
     pub parent-place : ℕ
@@ -53,5 +54,5 @@ module _ (ws abi area answers calls stubs ws′ area′ answers′ : List ℕ) w
 abbrev pub Replayed : Type 0
 Replayed =
     (ws abi area answers calls stubs ws′ area′ answers′ : List ℕ) → Unlinked ws → Made ws abi area answers calls stubs ws′ area′ answers′
-    → (c place slots : ℕ) → Told calls answers′ c place slots → Conditions ws abi area (callsOf calls stubs) c
-    → Holds ws abi area answers calls stubs ws′ area′ answers′ c place slots
+    → (c place slots : ℕ) → Told calls answers′ c place slots → Conditions ws abi (callsOf calls stubs) c
+    → Holds ws abi area calls stubs area′ c place slots
