@@ -336,7 +336,7 @@ module _ (ws₀ abi : List ℕ) (valid₀ : Valid ws₀) (P : ℕ → Type 0) wh
     packages-from-start : Plain ws₀ c → classKind ws₀ c ≡ 3 → packagesFrom ws₀ (textOf ws₀) abi (abiTextOf abi) (tableOf s) c ≡ T
     packages-from-start p k =
         sym (packages-same ws₀ (s .set) valid₀ (alike (inv .like)) abi (abiTextOf abi) c some among₀ (plain-kinds p) (tableOf s))
-        ∙ sym (packages-from (s .set) (textOf (s .set)) abi (abiTextOf abi) (s .area) (tableOf s) c lies)
+        ∙ sym (packages-from (s .set) (textOf (s .set)) abi (abiTextOf abi) (s .area) (tableOf s) c (omega (arith, among₀, valid₀ .class-count)) lies)
         ∙ planning .packaged (here-kind ∙ k)
 
     new-from : Plain ws₀ c → madeFrom ws₀ (textOf ws₀) abi (abiTextOf abi) (tableOf s) c ≡ built T

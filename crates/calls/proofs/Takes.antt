@@ -12,14 +12,15 @@ use Rattle.words.specs.Lists.{listFrom, numbers, fold}
 use Rattle.words.specs.declared.Found.{Found}
 use Rattle.words.proofs.Bools.{by}
 use Rattle.words.proofs.ListLaws.{numbers-within}
-use Rattle.class_sheet.specs.ClassSheet.{textOf, classKind, classFirstMethod, classMethodCount, methodLimit}
+use Rattle.class_sheet.specs.ClassSheet.{classLimit, textOf, classKind, classFirstMethod, classMethodCount, methodLimit}
 use Rattle.abi_sheet.specs.AbiSheet.{abiTextOf}
+use Rattle.set_rules.proofs.Valid.{valid}
 use Rattle.linking.specs.Chain.{listCount, ownMethods, parentOf, eligible, sameMethods}
 use Rattle.linking.specs.Vtable.{Entry, empty, methodEntry, methodEntries}
 use Rattle.linking.specs.Packages.{overridden, introducing, takenSlots, putTaken, takeSlots, packagesOver, buildPackages}
 use Rattle.linking.specs.Link.{linkDef}
 use Rattle.linking.proofs.Overriding.{overridden-overrides, overrides-overridden}
-use Rattle.linking.proofs.Plans.{plans}
+use Rattle.linking.proofs.Plans.{packages-within, plans}
 use Rattle.slots.proofs.EntryFacts.{at}
 use Rattle.slots.proofs.TakenFacts.{taken-of, taken-in, PutAt, stored, left, added, put-at, put-length, stores-length}
 use Rattle.calls.specs.Takes as spec
@@ -200,7 +201,7 @@ module _ (ws text abi labels : List ℕ) (c : ℕ) (introduced : ℕ → Found) 
 
 -- ---- by the section
 
-module _ (ws abi area : List ℕ) (c : ℕ) (some : 0 < c) where
+module _ (ws abi area : List ℕ) (c : ℕ) (some : 0 < c) (room : c ≤ classLimit) where
   abbrev text : List ℕ
   text = textOf ws
 
@@ -257,8 +258,8 @@ module _ (ws abi area : List ℕ) (c : ℕ) (some : 0 < c) where
   build = buildPackages (sameMethods ws text) ws text abi labels area c
 
   build-is : build ≡ fold (takeSlots (sameMethods ws text) ws text first (length inherited) c) inherited (ownMethods ws c)
-  unfolding buildPackages packagesOver
-  build-is = refl
+  unfolding packagesOver
+  build-is = packages-within (sameMethods ws text) ws text abi labels area c room
 
   abbrev first-own : ℕ
   first-own = classFirstMethod ws c
@@ -293,7 +294,7 @@ accepted-takes : (ws abi : List ℕ) (c : ℕ) (area stubs : List ℕ) → class
     → LinkTakes ws abi c area stubs
 accepted-takes ws abi c area stubs kind a = record {
   table = a .coming .table;
-  takes = table-takes ws abi area c (a .class .some) (a .coming .table)
+  takes = table-takes ws abi area c (a .class .some) (omega (arith, a .class .among, valid ws abi (a .valid) .0 .class-count)) (a .coming .table)
       (plans ws (textOf ws) abi (abiTextOf abi) area c (a .coming) (a .comes) .packaged kind);
   answered = a .answers-slots;
   written = a .new-area;

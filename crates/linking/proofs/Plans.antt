@@ -2,25 +2,25 @@
 -- a number. Assumes nothing.
 use mathlib.Core.Path.{_≡_, refl, sym, ap, _∙_}
 use mathlib.Core.Logic.{_≢_, _⊎_, inl, inr}
-use mathlib.Core.Bool.{true, false, cond, not, true≢false}
+use mathlib.Core.Bool.{Bool, true, false, cond, not, true≢false}
 use mathlib.Core.List.{List, [], _∷_}
-use Prim.Native.Nat.{ℕ, suc, _+_, _≤_}
+use Prim.Native.Nat.{ℕ, suc, _+_, _≤_, _<_}
 use native.Mathlib.Omega.{arith}
 use lib.ListN.{length, getD, length-append}
 use lib.Dec.{eqb, ltb}
-use borrow.Author.Tests.{eqb-true, eqb-false}
+use borrow.Author.Tests.{eqb-true, eqb-false, lt-ltb, le-ltb}
 use Rattle.words.specs.Lists.{andThen, fold}
 use Rattle.words.specs.declared.Found.{Found}
 use Rattle.words.specs.declared.Found.the-variants.{At, Nothing}
 use Rattle.words.proofs.Bools.{by}
 use Rattle.words.proofs.ListLaws.{by-found}
 use Rattle.words.specs.Words.{AreBytes}
-use Rattle.class_sheet.specs.ClassSheet.{classKind, isBuiltKind, isPackaged, classFlags, classFieldCount, classCompilerTable, fieldFlags, fieldName, fieldDescriptor, methodName, methodDescriptor}
+use Rattle.class_sheet.specs.ClassSheet.{classLimit, classKind, isBuiltKind, isPackaged, classFlags, classFieldCount, classCompilerTable, fieldFlags, fieldName, fieldDescriptor, methodName, methodDescriptor}
 use Rattle.linking.proofs.ChainLaws.{own-fields-length}
 use Rattle.linking.specs.Chain.{onFound, ownMethods, ownFields, parentOf, isStatic, isInterface, eligible, sameMethods}
 use Rattle.linking.specs.Abi.{classAbi, chainAbi, fixedField}
 use Rattle.linking.specs.Vtable.{Entry, empty, Built, built, refused, onBuilt, parentEntries, inheritedTable, buildMethods, entryIsOther, fixedOf, slotOf, putMethod, addMethod, addMethods}
-use Rattle.linking.specs.Packages.{buildPackages}
+use Rattle.linking.specs.Packages.{introducing, packagesOver, buildPackages}
 use Rattle.linking.specs.Fields.{Numbering, numberField, numberFields, addedFields, tooManyWords, generatedRefusal, indicesPlus, generatedIndices, generatedBase, standFrom, ownGiven, runtimeWords, instanceWords}
 use Rattle.linking.specs.Link.{Plan, planned, unplanned, isNone, onTable, withinSlots, builtTable, planBuilt, generatedTable, planGenerated, planArray, plan, newFieldsOf, generatedMethods}
 use Rattle.linking.specs.Set.{newText}
@@ -43,6 +43,18 @@ kind-other k n m = by (isBuiltKind k) (λ t. elim (kind-built k t) [ inl e ↦ a
 -- a kind that is not built
 no-kind : {k : ℕ} (j : ℕ) → k ≡ j → isBuiltKind j ≡ false → isBuiltKind k ≡ true → ⊥
 no-kind j e f t = true≢false (sym t ∙ ap isBuiltKind e ∙ f)
+
+-- ---- kind 3: the number of a class of a set is within the limit
+
+module _ (same : ℕ → ℕ → Bool) (ws text abi labels area : List ℕ) (c : ℕ) where
+  pub packages-within : c ≤ classLimit → buildPackages same ws text abi labels area c
+      ≡ packagesOver same ws text (introducing ws text abi labels area (parentOf ws c)) c (parentEntries ws text abi labels area c)
+  unfolding buildPackages
+  packages-within h = rw (le-ltb classLimit c h)
+
+  pub packages-beyond : classLimit < c → buildPackages same ws text abi labels area c ≡ []
+  unfolding buildPackages
+  packages-beyond h = rw (lt-ltb classLimit c h)
 
 -- ---- how many indices
 

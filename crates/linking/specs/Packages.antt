@@ -13,7 +13,7 @@ use Rattle.words.specs.Lists.{numbers, orElse, andThen, fold, keep, some}
 use Rattle.words.specs.declared.Found.{Found}
 use Rattle.words.specs.declared.Found.the-variants.{At, Nothing}
 use Rattle.text.specs.Text.{sameBytes}
-use Rattle.class_sheet.specs.ClassSheet.{textOf, classFlags, isPackaged, classTablePlace, classSlotCount, className, methodFlags}
+use Rattle.class_sheet.specs.ClassSheet.{classLimit, textOf, classFlags, isPackaged, classTablePlace, classSlotCount, className, methodFlags}
 use Rattle.set_rules.specs.Valid.{IsClass, Valid}
 use Rattle.linking.specs.Chain.{onFound, ownMethods, parentOf, chain, isPrivate, isStatic, isInterface, isVirtual, eligible, sameMethods, SameSignature}
 use Rattle.linking.specs.Abi.{classAbi}
@@ -112,9 +112,12 @@ module _ (same : ℕ → ℕ → Bool) (ws text : List ℕ) where
   packagesOver introduced c P = fold (takeSlots introduced (length P) c) P (ownMethods ws c)
 
 module _ (same : ℕ → ℕ → Bool) (ws text abi labels : List ℕ) where
+  -- (rows 3 and 6 refuse a class number above `classLimit`: it has no table)
   unfoldable pub buildPackages : List ℕ → ℕ → List Entry
   buildPackages area c =
-      packagesOver same ws text (introducing ws text abi labels area (parentOf ws c)) c (parentEntries ws text abi labels area c)
+      cond (ltb classLimit c)
+      []
+      (packagesOver same ws text (introducing ws text abi labels area (parentOf ws c)) c (parentEntries ws text abi labels area c))
 
 -- ---- row 26: "if a kind 3 class's chain has an ABI entry, an interface or another kind, or another class's chain has kind 3"
 

@@ -12,10 +12,10 @@ use borrow.Author.Tests.{eq-eqb, ne-eqb, not-true, not-false}
 use Rattle.words.specs.Lists.{numbers, fold, keep, some}
 use Rattle.words.proofs.Bools.{by}
 use Rattle.words.proofs.ListLaws.{restFrom, rest-start, rest-turn, rest-end, someFrom, some-start, some-turn, some-found, some-end}
-use Rattle.class_sheet.specs.ClassSheet.{classFirstMethod, classMethodCount, methodFlags, methodName, methodDescriptor, methodLimit}
+use Rattle.class_sheet.specs.ClassSheet.{classLimit, classFirstMethod, classMethodCount, methodFlags, methodName, methodDescriptor, methodLimit}
 use Rattle.linking.specs.Chain.{listCount, ownMethods, parentOf, chain, isPrivate, isStatic, isVirtual, methodIs, sameMethods}
 use Rattle.linking.specs.Packages.{openTo, isOverridden, overriddenIn, reachedWith, overriddenAlong, overridden}
-use Rattle.linking.proofs.ChainLaws.{parent-below, chain-none, chain-more}
+use Rattle.linking.proofs.ChainLaws.{parent-below, parent-within, chain-none, chain-more}
 use Rattle.packages.specs.Marks.{mark, isSome}
 
 -- ---- whether a method is overridden
@@ -131,34 +131,29 @@ module _ (ws text : List ℕ) (m : ℕ) where
   abbrev pub along : List ℕ → ℕ → List ℕ
   along R a = overriddenAlong (sameMethods ws text) ws text m R (chain ws a)
 
-  pub along-start : (c : ℕ) {p f : ℕ} {b : Bool} {R : List ℕ} (marks : List ℕ) → f ≡ methodFlags ws m → b ≡ isVirtual f → not b ≡ false → R ≡ c ∷ []
-      → p ≡ parentOf ws c → fold mark marks (along R p) ≡ fold mark marks (overridden (sameMethods ws text) ws text c m)
-  unfolding overridden
-  along-start c {b = b} marks f v t r e =
-      let q : isVirtual (methodFlags ws m) ≡ true = sym (rw f at v) ∙ not-false b t in rw (q, e, r)
+  pub along-none : (a : ℕ) (marks R : List ℕ) → a ≡ 0 → marks ≡ fold mark marks (along R a)
+  unfolding overriddenAlong fold
+  along-none a marks R e = rw (chain-none ws a e)
 
-  pub along-none : (c : ℕ) {f : ℕ} {b : Bool} (marks : List ℕ) → f ≡ methodFlags ws m → b ≡ isVirtual f → not b ≡ true
-      → marks ≡ fold mark marks (overridden (sameMethods ws text) ws text c m)
-  unfolding overridden fold
-  along-none c {b = b} marks f v t = let q : isVirtual (methodFlags ws m) ≡ false = sym (rw f at v) ∙ not-true b t in rw q
-
-  pub along-turn : (a : ℕ) (r : Bool) {p : ℕ} (marks R : List ℕ) {ns S goal : List ℕ} → 0 < a → p ≡ parentOf ws a
+  pub along-up : (a : ℕ) (r : Bool) {p : ℕ} (marks R : List ℕ) {ns S out : List ℕ} → 0 < a → p ≡ parentOf ws a
       → ns ≡ fold mark marks (overriddenIn (sameMethods ws text) ws text m R a)
       → r ≡ some (λ k. not (isPrivate (methodFlags ws k))) (overriddenIn (sameMethods ws text) ws text m R a)
-      → S ≡ cond r (R ++ (a ∷ [])) R → fold mark marks (along R a) ≡ goal → fold mark ns (along S p) ≡ goal
+      → S ≡ cond r (R ++ (a ∷ [])) R → out ≡ fold mark ns (along S p) → out ≡ fold mark marks (along R a)
   unfolding overriddenAlong reachedWith
-  along-turn a true marks R h e n r s g =
-      rw (n, e, s)
-      (sym (fold-append mark marks (overriddenIn (sameMethods ws text) ws text m R a) (along (R ++ (a ∷ [])) (parentOf ws a)))
-      ∙ (rw (chain-more ws a h, ← r) at g))
-  along-turn a false marks R h e n r s g =
-      rw (n, e, s)
-      (sym (fold-append mark marks (overriddenIn (sameMethods ws text) ws text m R a) (along R (parentOf ws a)))
-      ∙ (rw (chain-more ws a h, ← r) at g))
+  along-up a r marks R h e n t s o =
+      let here = overriddenIn (sameMethods ws text) ws text m R a in
+      o ∙ rw (n, s, e, chain-more ws a h, ← t) (sym (fold-append mark marks here (along (cond r (R ++ (a ∷ [])) R) (parentOf ws a))))
 
-  pub along-end : (a : ℕ) (marks R : List ℕ) {goal : List ℕ} → a ≡ 0 → fold mark marks (along R a) ≡ goal → marks ≡ goal
-  unfolding overriddenAlong fold
-  along-end a marks R e g = rw (chain-none ws a e) at g
+  pub marks-virtual : (c : ℕ) {p f : ℕ} {b : Bool} {R : List ℕ} (marks : List ℕ) {out : List ℕ} → f ≡ methodFlags ws m → b ≡ isVirtual f → not b ≡ false
+      → R ≡ c ∷ [] → p ≡ parentOf ws c → out ≡ fold mark marks (along R p) → out ≡ fold mark marks (overridden (sameMethods ws text) ws text c m)
+  unfolding overridden
+  marks-virtual c {b = b} marks f v t r e o =
+      let q : isVirtual (methodFlags ws m) ≡ true = sym (rw f at v) ∙ not-false b t in o ∙ rw (q, e, r)
+
+  pub marks-none : (c : ℕ) {f : ℕ} {b : Bool} (marks : List ℕ) → f ≡ methodFlags ws m → b ≡ isVirtual f → not b ≡ true
+      → marks ≡ fold mark marks (overridden (sameMethods ws text) ws text c m)
+  unfolding overridden fold
+  marks-none c {b = b} marks f v t = let q : isVirtual (methodFlags ws m) ≡ false = sym (rw f at v) ∙ not-true b t in rw q
 
 -- one class more
 reached-more : (reached : List ℕ) (n a : ℕ) → n < length reached → take (n + 1) (set reached n a) ≡ take n reached ++ (a ∷ [])
@@ -211,15 +206,19 @@ module _ (p : ℕ → Bool) (reached : List ℕ) (n : ℕ) where
 pub parent-less : (ws : List ℕ) (d : ℕ) {q : ℕ} → q ≡ parentOf ws d → 0 < d → q < d
 parent-less ws d e h = rw e (parent-below ws d h)
 
-module _ (ws : List ℕ) (p : ℕ → Bool) where
-  pub seek-up : (d : ℕ) {q : ℕ} {b goal : Bool} → 0 < d → q ≡ parentOf ws d → b ≡ p d → b ≡ false → some p (chain ws d) ≡ goal → some p (chain ws q) ≡ goal
-  unfolding some
-  seek-up d h e f t g = let u = sym f ∙ t in rw e (rw (chain-more ws d h, u) at g)
+pub parent-room : (ws : List ℕ) (c : ℕ) {q : ℕ} → q ≡ parentOf ws c → c ≤ classLimit → q < classLimit
+parent-room ws zero e h = omega (arith, e, parent-within ws 0)
+parent-room ws (suc c) e h = omega (arith, parent-less ws (suc c) e (omega arith))
 
-  pub seek-found : (d : ℕ) {b goal : Bool} → 0 < d → b ≡ p d → b ≡ true → some p (chain ws d) ≡ goal → true ≡ goal
+module _ (ws : List ℕ) (p : ℕ → Bool) (c : ℕ) where
+  pub seek-none : c ≡ 0 → false ≡ some p (chain ws c)
   unfolding some
-  seek-found d h f t g = let u = sym f ∙ t in rw (chain-more ws d h, u) at g
+  seek-none e = rw (chain-none ws c e)
 
-  pub seek-none : (d : ℕ) {goal : Bool} → d ≡ 0 → some p (chain ws d) ≡ goal → false ≡ goal
+  pub seek-found : {b : Bool} → 0 < c → b ≡ p c → b ≡ true → true ≡ some p (chain ws c)
   unfolding some
-  seek-none d e g = rw (chain-none ws d e) at g
+  seek-found h e t = let u = sym e ∙ t in rw (chain-more ws c h, u)
+
+  pub seek-up : {q : ℕ} {b r : Bool} → 0 < c → q ≡ parentOf ws c → b ≡ p c → b ≡ false → r ≡ some p (chain ws q) → r ≡ some p (chain ws c)
+  unfolding some
+  seek-up h e f t g = let u = sym f ∙ t in rw (chain-more ws c h, u, ← e) g

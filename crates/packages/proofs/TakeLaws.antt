@@ -14,12 +14,13 @@ use Rattle.words.specs.declared.Found.{Found}
 use Rattle.words.specs.declared.Found.the-variants.{At, Nothing}
 use Rattle.words.proofs.Bools.{by}
 use Rattle.words.proofs.ListLaws.{by-found, numbers-within, restFrom, rest-start, rest-turn, rest-end, foldFrom, fold-start, fold-turn, fold-end}
-use Rattle.class_sheet.specs.ClassSheet.{classFirstMethod, classMethodCount, methodFlags, methodTarget, methodLimit}
+use Rattle.class_sheet.specs.ClassSheet.{classLimit, classFirstMethod, classMethodCount, methodFlags, methodTarget, methodLimit}
 use Rattle.linking.specs.Chain.{listCount, onFound, ownMethods, parentOf, chain, isVirtual, eligible, sameMethods}
 use Rattle.linking.specs.Vtable.{Entry, methodEntry, parentEntries}
 use Rattle.linking.specs.Packages.{isOverridden, overriddenIn, overriddenAlong, reachedWith, overridden, introducing, takenSlots, putTaken, takeSlots, packagesOver, buildPackages}
 use Rattle.linking.proofs.ChainLaws.{own-method-room}
 use Rattle.linking.proofs.Overriding.{keep-of}
+use Rattle.linking.proofs.Plans.{packages-within, packages-beyond}
 use Rattle.reading.specs.Arrays.{markOf, methodOf, entriesOf}
 use Rattle.reading.proofs.ArrayLaws.{method-back, length-entries, put-slot, push-slot}
 use Rattle.packages.proofs.OverLaws.{left, left-start, left-fold-turn, left-fold-end, left-is-turn, left-is-end}
@@ -207,16 +208,20 @@ module _ (ws text abi labels area : List ℕ) (c : ℕ) where
   takes-ext f g n h (m ∷ ms) T =
       rw (take-ext f g n h T m) (takes-ext f g n h ms (takeSlots (sameMethods ws text) ws text g n c T m))
 
+  pub no-table : (ts ms : List ℕ) → classLimit < c → entriesOf ts ms 0 ≡ buildPackages (sameMethods ws text) ws text abi labels area c
+  unfolding entriesOf listFrom
+  no-table ts ms h = sym (packages-beyond (sameMethods ws text) ws text abi labels area c h)
+
   pub packages-are : (ts ms tops : List ℕ) (n p : ℕ) {U : List Entry} → entriesOf ts ms n ≡ parentEntries ws text abi labels area c → n ≤ 1024
       → p ≡ parentOf ws c → Tops ws text abi labels area p tops
       → U ≡ fold (takeSlots (sameMethods ws text) ws text (topOf tops) n c) (entriesOf ts ms n) (ownMethods ws c)
-      → U ≡ buildPackages (sameMethods ws text) ws text abi labels area c
-  unfolding buildPackages packagesOver
-  packages-are ts ms tops n p e l q tells u =
+      → c ≤ classLimit → U ≡ buildPackages (sameMethods ws text) ws text abi labels area c
+  unfolding packagesOver
+  packages-are ts ms tops n p e l q tells u room =
       let k : n ≡ length (parentEntries ws text abi labels area c) = sym (length-entries ts ms n) ∙ ap length e in
       u
       ∙ takes-ext (topOf tops) (introducing ws text abi labels area p) n (λ i h. tells i (omega arith)) (ownMethods ws c) (entriesOf ts ms n)
-      ∙ rw (q, e, ← k)
+      ∙ rw (packages-within (sameMethods ws text) ws text abi labels area c room, q, e, ← k)
 
 module _ (ws text : List ℕ) (c : ℕ) (first count : ℕ) (g : List Entry → ℕ → List Entry) where
   pub takes-start : (T : List Entry) → first ≡ classFirstMethod ws c → count ≡ listCount (classFirstMethod ws c) (classMethodCount ws c) methodLimit

@@ -22,7 +22,7 @@ use Rattle.linking.proofs.ChainLaws.{chain-none, chain-more}
 use Rattle.reading.specs.Arrays.{methodOf, entryAt, entriesOf}
 use Rattle.reading.proofs.ArrayLaws.{length-entries, entry-is, no-method}
 use Rattle.reading.proofs.MarkLaws.{stores-at, stores-rest}
-use Rattle.packages.specs.Marks.{topOf, Tops}
+use Rattle.packages.specs.Marks.{topOf, LaidUp, Tops}
 
 blank : (n i : ℕ) → _≡_ {A = ℕ} (getD (replicate n 0) i 0) 0
 blank zero i = refl
@@ -85,40 +85,29 @@ module _ (ws text abi labels area : List ℕ) (d : ℕ) where
       let b = ltb-false x (min (classSlotCount ws d) 1024) v in
       rw (u, v, s, q, stores-rest n (λ j. getD qs j 0) tops x (omega arith)))
 
-  -- ---- up the chain
-
-  -- the introducing methods once the classes from d up are laid over what is there
-  abbrev pub Above : List ℕ → ℕ → Found
-  Above tops i = onFound (topmost (tableHas ws i) (chain ws d)) (λ e. readSlot ws text abi labels area e i .method) (topOf tops i)
+-- ---- up the chain
 
 module _ (ws text abi labels area : List ℕ) where
-  abbrev pub Goes : ℕ → List ℕ → ℕ → Type 0
-  Goes p tops d = (i : ℕ) → i < 1024 → Above ws text abi labels area d tops i ≡ introducing ws text abi labels area p i
+  pub laid-none : (d : ℕ) (tops : List ℕ) → d ≡ 0 → LaidUp ws text abi labels area d tops tops
+  unfolding topmost
+  laid-none d tops e i h = rw (chain-none ws d e)
+
+  pub laid-up : (d : ℕ) {q : ℕ} (tops mid new : List ℕ) → 0 < d → q ≡ parentOf ws d → Laid ws text abi labels area d tops mid
+      → LaidUp ws text abi labels area q mid new → LaidUp ws text abi labels area d tops new
+  unfolding topmost topOf
+  laid-up d tops mid new h e laid up i l =
+      by-found (topmost (tableHas ws i) (chain ws (parentOf ws d)))
+      (λ k q. rw (chain-more ws d h, q) (rw (e, q) at (up i l)))
+      (λ q.
+      (rw (e, q) at (up i l))
+      ∙ (laid i l ∙ rw (chain-more ws d h, q) (by (tableHas ws i d) (λ t. rw t) (λ t. rw t))))
 
   blank-top : (n i : ℕ) → topOf (replicate n 0) i ≡ Nothing
   unfolding topOf
   blank-top n i = ap methodOf (blank n i) ∙ no-method
 
-  pub goes-start : (p : ℕ) {tops : List ℕ} → tops ≡ replicate 1024 0 → Goes p tops p
+  pub laid-tops : (p : ℕ) (tops new : List ℕ) → tops ≡ replicate 1024 0 → LaidUp ws text abi labels area p tops new → Tops ws text abi labels area p new
   unfolding introducing
-  goes-start p e i h =
-      rw (e, blank-top 1024 i)
-      (by-found (topmost (tableHas ws i) (chain ws p)) (λ d q. rw q) (λ q. rw q))
-
-  pub goes-on : (p d : ℕ) {q : ℕ} (tops new : List ℕ) → 0 < d → q ≡ parentOf ws d → Laid ws text abi labels area d tops new → Goes p tops d
-      → Goes p new q
-  unfolding topmost topOf
-  goes-on p d tops new h e laid goes i l =
-      rw e
-      (by-found (topmost (tableHas ws i) (chain ws (parentOf ws d)))
-      (λ k q. rw q (rw (chain-more ws d h, q) at (goes i l)))
-      (λ q.
-      rw q
-      (laid i l
-      ∙ by (tableHas ws i d)
-      (λ t. rw t (rw (chain-more ws d h, q, t) at (goes i l)))
-      (λ t. rw t (rw (chain-more ws d h, q, t) at (goes i l))))))
-
-  pub goes-end : (p d : ℕ) (tops : List ℕ) → d ≡ 0 → Goes p tops d → Tops ws text abi labels area p tops
-  unfolding topmost
-  goes-end p d tops e goes i h = rw (chain-none ws d e) at (goes i h)
+  laid-tops p tops new e laid i h =
+      laid i h
+      ∙ rw (e, blank-top 1024 i) (by-found (topmost (tableHas ws i) (chain ws p)) (λ d q. rw q) (λ q. rw q))

@@ -8,8 +8,9 @@ use lib.ListN.{getD, set}
 use lib.Dec.{eqb}
 use Rattle.words.specs.Lists.{numbers, keep}
 use Rattle.words.specs.declared.Found.{Found}
-use Rattle.linking.specs.Chain.{onFound}
-use Rattle.linking.specs.Packages.{introducing}
+use Rattle.linking.specs.Chain.{onFound, chain}
+use Rattle.linking.specs.Vtable.{Entry, readSlot}
+use Rattle.linking.specs.Packages.{topmost, tableHas, introducing}
 use Rattle.reading.specs.Arrays.{methodOf}
 
 -- method k is marked
@@ -31,6 +32,12 @@ takenIn tops marks n = keep (λ i. takenBy (topOf tops i) marks) (numbers 0 n)
 abbrev pub isSome : List ℕ → Bool
 isSome [] = false
 isSome (x ∷ xs) = true
+
+-- once the tables of d's chain are laid over the array `tops`, it is `new`
+abbrev pub LaidUp : List ℕ → List ℕ → List ℕ → List ℕ → List ℕ → ℕ → List ℕ → List ℕ → Type 0
+LaidUp ws text abi labels area d tops new =
+    (i : ℕ) → i < 1024
+    → topOf new i ≡ onFound (topmost (tableHas ws i) (chain ws d)) (λ e. readSlot ws text abi labels area e i .method) (topOf tops i)
 
 -- the array holds the introducing methods of the slots of class p's table
 abbrev pub Tops : List ℕ → List ℕ → List ℕ → List ℕ → List ℕ → ℕ → List ℕ → Type 0

@@ -12,9 +12,9 @@ ghost use Rattle.class_sheet.specs.ClassSheet.{classLimit, methodLimit, methodF
 ghost use Rattle.linking.specs.Chain.{isPrivate, chain, ownMethods, sameMethods};
 ghost use Rattle.words.specs.Lent.{was, after};
 ghost use Rattle.linking.specs.Vtable.{readSlot, methodEntry};
-ghost use Rattle.linking.specs.Packages.{packageOf, packageAt, openTo, isOverridden, overriddenIn, overridden, tableHas, putTaken, takeSlots, buildPackages, unfitForPackages, badPackages};
+ghost use Rattle.linking.specs.Packages.{packageOf, packageAt, openTo, isOverridden, overriddenIn, overriddenAlong, overridden, tableHas, putTaken, takeSlots, buildPackages, unfitForPackages, badPackages};
 ghost use Rattle.reading.specs.Arrays.{methodOf, entriesOf};
-ghost use Rattle.packages.specs.Marks.{mark, isSome, takenBy, takenIn, topOf, Tops};
+ghost use Rattle.packages.specs.Marks.{mark, isSome, takenBy, takenIn, topOf, LaidUp, Tops};
 
 // ---- packages
 
@@ -142,9 +142,30 @@ fn push_if(reached: &mut [u32], n: u32, a: u32, yes: bool) -> u32
     n
 }
 
+// Marks the methods of a's chain that method m overrides, which has reached the first n classes of the list.
+fn mark_above(
+    ws: &[u32],
+    text: &[u8],
+    m: u32,
+    reached: &mut [u32; 64],
+    n: u32,
+    a: u32,
+    marks: &mut [u32; 512],
+)
+    requires { ⌜ n + a ≤ classLimit ⌝ }
+    ensures { λ _. ⌜ after marks ≡ fold mark (was marks) (overriddenAlong (sameMethods (was ws) (was text)) (was ws) (was text) m (take n (was reached)) (chain (was ws) a)) ⌝ }
+{
+    if a == 0 {
+        return;
+    }
+    let yes = mark_class(ws, text, m, reached, n, a, marks);
+    let k = push_if(reached, n, a, yes);
+    mark_above(ws, text, m, reached, k, chain::parent_of(ws, a), marks);
+}
+
 // Marks the methods that method m of class c overrides; what is marked before stays so.
 fn mark_overridden(ws: &[u32], text: &[u8], c: u32, m: u32, marks: &mut [u32; 512])
-    requires { ⌜ (1 ≤ c) × (c ≤ classLimit) ⌝ }
+    requires { ⌜ c ≤ classLimit ⌝ }
     ensures { λ _. ⌜ after marks ≡ fold mark (was marks) (overridden (sameMethods (was ws) (was text)) (was ws) (was text) c m) ⌝ }
 {
     if !chain::is_virtual(class_sheet::method_flags(ws, m)) {
@@ -152,13 +173,7 @@ fn mark_overridden(ws: &[u32], text: &[u8], c: u32, m: u32, marks: &mut [u32; 51
     }
     let mut reached = [0u32; 64];
     reached[0] = c;
-    let mut n: u32 = 1;
-    let mut a = chain::parent_of(ws, c);
-    while a != 0 {
-        let yes = mark_class(ws, text, m, &reached, n, a, marks);
-        n = push_if(&mut reached, n, a, yes);
-        a = chain::parent_of(ws, a);
-    }
+    mark_above(ws, text, m, &mut reached, 1, chain::parent_of(ws, c), marks);
 }
 
 // ---- the introducing methods
@@ -191,7 +206,40 @@ fn lay_class(
     }
 }
 
-// The marks of the methods that introduced the slots of class p's table. The topmost class of the chain that has a slot is laid last.
+// Lays the marks of the tables of d's chain over the first of `tops`. The topmost class of the chain that has a slot is laid last.
+fn lay_chain(
+    ws: &[u32],
+    text: &[u8],
+    abi: &[u32],
+    labels: &[u8],
+    area: &[u32],
+    d: u32,
+    ps: &mut [u32; 1024],
+    qs: &mut [u32; 1024],
+    cs: &mut [u32; 1024],
+    tops: &mut [u32; 1024],
+)
+    ensures { λ _. ⌜ LaidUp (was ws) (was text) (was abi) (was labels) (was area) d (was tops) (after tops) ⌝ }
+{
+    if d == 0 {
+        return;
+    }
+    lay_class(ws, text, abi, labels, area, d, ps, qs, cs, tops);
+    lay_chain(
+        ws,
+        text,
+        abi,
+        labels,
+        area,
+        chain::parent_of(ws, d),
+        ps,
+        qs,
+        cs,
+        tops,
+    );
+}
+
+// The marks of the methods that introduced the slots of class p's table.
 fn introducing_marks(
     ws: &[u32],
     text: &[u8],
@@ -207,22 +255,18 @@ fn introducing_marks(
     let mut ps = [0u32; 1024];
     let mut qs = [0u32; 1024];
     let mut cs = [0u32; 1024];
-    let mut d = p;
-    while d != 0 {
-        lay_class(
-            ws,
-            text,
-            abi,
-            labels,
-            area,
-            d,
-            &mut ps,
-            &mut qs,
-            &mut cs,
-            tops,
-        );
-        d = chain::parent_of(ws, d);
-    }
+    lay_chain(
+        ws,
+        text,
+        abi,
+        labels,
+        area,
+        p,
+        &mut ps,
+        &mut qs,
+        &mut cs,
+        tops,
+    );
 }
 
 // ---- the table
@@ -310,7 +354,7 @@ fn take_slots(
     ms: &mut [u32],
     size: u32,
 ) -> u32
-    requires { ⌜ (1 ≤ c) × (c ≤ classLimit) × (m < methodLimit) × (n ≤ 1024) × (n ≤ size) × (size < 3584) × (size < length (now ts)) × (size < length (now ms)) ⌝ }
+    requires { ⌜ (c ≤ classLimit) × (m < methodLimit) × (n ≤ 1024) × (n ≤ size) × (size < 3584) × (size < length (now ts)) × (size < length (now ms)) ⌝ }
     ensures is { λ r. ⌜ entriesOf (after ts) (after ms) r
         ≡ takeSlots (sameMethods (was ws) (was text)) (was ws) (was text) (topOf (was tops)) n c (entriesOf (was ts) (was ms) size) m ⌝ }
     ensures count { λ r. ⌜ (size ≤ r) × (r ≤ size + 1) ⌝ }
@@ -333,7 +377,7 @@ fn take_all(
     ts: &mut [u32],
     ms: &mut [u32],
 ) -> u32
-    requires { ⌜ (1 ≤ c) × (c ≤ classLimit) × (n ≤ 1024) × (3584 ≤ length (now ts)) × (3584 ≤ length (now ms)) ⌝ }
+    requires { ⌜ (c ≤ classLimit) × (n ≤ 1024) × (3584 ≤ length (now ts)) × (3584 ≤ length (now ms)) ⌝ }
     ensures is { λ r. ⌜ entriesOf (after ts) (after ms) r
         ≡ fold (takeSlots (sameMethods (was ws) (was text)) (was ws) (was text) (topOf (was tops)) n c) (entriesOf (was ts) (was ms) n) (ownMethods (was ws) c) ⌝ }
     ensures count { λ r. ⌜ r ≤ 1536 ⌝ }
@@ -349,8 +393,8 @@ fn take_all(
     size
 }
 
-// Fills the arrays with class c's table: the parent's entries, and its own methods. Answers how many slots it has. What the arrays hold past those
-// slots is the program's choice and means nothing; their lengths stay.
+// Fills the arrays with class c's table: the parent's entries, and its own methods. Answers how many slots it has: none for a number above the
+// limit, which rows 3 and 6 refuse. What the arrays hold past those slots is the program's choice and means nothing; their lengths stay.
 pub fn build_packages(
     ws: &[u32],
     text: &[u8],
@@ -361,13 +405,15 @@ pub fn build_packages(
     ts: &mut [u32; 3584],
     ms: &mut [u32; 3584],
 ) -> u32
-    requires { ⌜ (1 ≤ c) × (c ≤ classLimit) ⌝ }
     ensures is { λ r. ⌜ entriesOf (after ts) (after ms) r
         ≡ buildPackages (sameMethods (was ws) (was text)) (was ws) (was text) (was abi) (was labels) (was area) c ⌝ }
     ensures count { λ r. ⌜ r ≤ 1536 ⌝ }
     ensures arrays { λ r. ⌜ (length (after ts) ≡ 3584) × (length (after ms) ≡ 3584) ⌝ }
 {
     let n = reading::inherited_entries(ws, text, abi, labels, area, c, ts, ms);
+    if class_sheet::CLASS_LIMIT < c {
+        return 0;
+    }
     let mut tops = [0u32; 1024];
     introducing_marks(
         ws,
@@ -403,28 +449,26 @@ fn is_unfit(ws: &[u32], text: &[u8], abi: &[u32], labels: &[u8], d: u32) -> bool
 fn has_unfit(ws: &[u32], text: &[u8], abi: &[u32], labels: &[u8], c: u32) -> bool
     ensures { λ r. ⌜ r ≡ some (unfitForPackages (was ws) (was text) (was abi) (was labels)) (chain (was ws) c) ⌝ }
 {
-    let mut d = c;
-    while d != 0 {
-        if is_unfit(ws, text, abi, labels, d) {
-            return true;
-        }
-        d = chain::parent_of(ws, d);
+    if c == 0 {
+        return false;
     }
-    false
+    if is_unfit(ws, text, abi, labels, c) {
+        return true;
+    }
+    has_unfit(ws, text, abi, labels, chain::parent_of(ws, c))
 }
 
 // Whether a class of c's chain is of kind 3.
 fn has_packaged(ws: &[u32], c: u32) -> bool
     ensures { λ r. ⌜ r ≡ some (isPackaged (was ws)) (chain (was ws) c) ⌝ }
 {
-    let mut d = c;
-    while d != 0 {
-        if class_sheet::class_kind(ws, d) == class_sheet::PACKAGED {
-            return true;
-        }
-        d = chain::parent_of(ws, d);
+    if c == 0 {
+        return false;
     }
-    false
+    if class_sheet::class_kind(ws, c) == class_sheet::PACKAGED {
+        return true;
+    }
+    has_packaged(ws, chain::parent_of(ws, c))
 }
 
 // Row 26.

@@ -6,7 +6,7 @@ ghost use mathlib.Core.Bool.{true, false};
 ghost use mathlib.Core.List.{List, []};
 ghost use Prim.Native.Nat.{ℕ, _≤_};
 ghost use lib.ListN.{length};
-ghost use Rattle.class_sheet.specs.ClassSheet.{classLimit, classKind, isBuiltKind};
+ghost use Rattle.class_sheet.specs.ClassSheet.{classKind, isBuiltKind};
 ghost use Rattle.linking.specs.Link.{builtTable, generatedTable, generatedMethods, planBuilt, planGenerated, planArray, plan};
 ghost use Rattle.vtable.specs.Arrays.{stepCount};
 ghost use Rattle.growth.specs.News.{firstNews};
@@ -117,7 +117,6 @@ fn built_table<'a>(
     c: u32,
     ts: &mut [u32; 3584],
 ) -> Table
-    requires { ⌜ (1 ≤ c) × (c ≤ classLimit) ⌝ }
     ensures is { λ r. ⌜ tableOf r (now (ts .exit))
         ≡ bareBuilt (fewSlots (builtTable (now (ws .entry)) (now (text .entry)) (now (abi .entry)) (now (labels .entry)) (now (area .entry)) c)) ⌝ }
     ensures members { λ r. ⌜ r .added ≡ 0 ⌝ }
@@ -192,7 +191,7 @@ fn plan_built<'a>(
     flags: &mut [u32; 1024],
     lasts: &mut [u32; 1024],
 ) -> Plan
-    requires { ⌜ (isBuiltKind (classKind (now ws) c) ≡ true) × (1 ≤ c) × (c ≤ classLimit) ⌝ }
+    requires { ⌜ isBuiltKind (classKind (now ws) c) ≡ true ⌝ }
     ensures is { λ r. ⌜ Plans planBuilt (now (ws .entry)) (now (text .entry)) (now (abi .entry)) (now (labels .entry)) (now (area .entry)) c
         r (now (ts .exit)) (now (refs .exit)) (now (flags .exit)) (now (lasts .exit)) ⌝ }
     ensures arrays { λ r. ⌜ KeepAll (now (ts .entry)) (now (refs .entry)) (now (flags .entry)) (now (lasts .entry))
@@ -275,7 +274,6 @@ pub fn plan_link<'a>(
     flags: &mut [u32; 1024],
     lasts: &mut [u32; 1024],
 ) -> Plan
-    requires { ⌜ (1 ≤ c) × (c ≤ classLimit) ⌝ }
     ensures is { λ r. ⌜ Plans plan (now (ws .entry)) (now (text .entry)) (now (abi .entry)) (now (labels .entry)) (now (area .entry)) c
         r (now (ts .exit)) (now (refs .exit)) (now (flags .exit)) (now (lasts .exit)) ⌝ }
     ensures arrays { λ r. ⌜ KeepAll (now (ts .entry)) (now (refs .entry)) (now (flags .entry)) (now (lasts .entry))

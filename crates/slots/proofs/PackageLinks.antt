@@ -15,11 +15,12 @@ use Rattle.words.specs.declared.Found.the-variants.{At, Nothing}
 use Rattle.words.proofs.Bools.{by}
 use Rattle.words.proofs.ListLaws.{by-found}
 use Rattle.words.proofs.Lists.{part-at, length-part}
-use Rattle.class_sheet.specs.ClassSheet.{classTablePlace, classSlotCount}
+use Rattle.class_sheet.specs.ClassSheet.{classLimit, classTablePlace, classSlotCount}
 use Rattle.linking.specs.Chain.{parentOf, chain, sameMethods}
 use Rattle.linking.specs.Vtable.{Entry, readEntry, readSlot, parentEntries}
 use Rattle.linking.specs.Packages.{topmost, tableHas, introducing, packagesOver, buildPackages}
 use Rattle.linking.proofs.ChainLaws.{chain-more}
+use Rattle.linking.proofs.Plans.{packages-within}
 use Rattle.slots.specs.Made.{inheritedFrom, introducedFrom, packagesFrom}
 use Rattle.slots.proofs.ListFacts.{found-same, not-found}
 use Rattle.slots.proofs.LinkFacts.{read-area}
@@ -93,10 +94,10 @@ module _ (ws text abi labels area : List ℕ) (tables : ℕ → List ℕ) where
       (sym
       (read-area ws text abi labels area (parentOf ws c) (classSlotCount ws (parentOf ws c)) (omega (arith, l .slots)) (l .inside))))
 
-  pub packages-from : (c : ℕ) → ((d : ℕ) → List·Memᴰ d (chain ws (parentOf ws c)) → Lies d)
+  pub packages-from : (c : ℕ) → c ≤ classLimit → ((d : ℕ) → List·Memᴰ d (chain ws (parentOf ws c)) → Lies d)
       → buildPackages (sameMethods ws text) ws text abi labels area c ≡ packagesFrom ws text abi labels tables c
-  unfolding buildPackages packagesFrom
-  packages-from c lies =
+  unfolding packagesFrom
+  packages-from c room lies =
       let q : introducing ws text abi labels area (parentOf ws c) ≡ introducedFrom ws text abi labels tables (parentOf ws c) =
       fun-ext (introducing-is (parentOf ws c) lies) in
-      rw (q, parent-is c lies)
+      packages-within (sameMethods ws text) ws text abi labels area c room ∙ rw (q, parent-is c lies)

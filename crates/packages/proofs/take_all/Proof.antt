@@ -19,7 +19,7 @@ use Rattle.packages.proofs.take_all.Tie as tie
 
 abbrev Inv-loop : tie.InvT-loop
 Inv-loop ws text tops c n ts₀ ms₀ first count size₀ i₀ ts ms size i =
-    ((i ≤ count) × (n ≤ size) × (size ≤ n + i) × (count ≤ methodLimit - first) × (1 ≤ c) × (c ≤ classLimit) × (n ≤ 1024) × (3584 ≤ length ts₀)
+    ((i ≤ count) × (n ≤ size) × (size ≤ n + i) × (count ≤ methodLimit - first) × (c ≤ classLimit) × (n ≤ 1024) × (3584 ≤ length ts₀)
     × (length ts ≡ length ts₀) × (3584 ≤ length ms₀) × (length ms ≡ length ms₀))
     × (foldFrom (λ k. k) (takeSlots (sameMethods ws text) ws text (topOf tops) n c) (entriesOf ts ms size) first count i
     ≡ fold (takeSlots (sameMethods ws text) ws text (topOf tops) n c) (entriesOf ts₀ ms₀ n) (ownMethods ws c))

@@ -21,11 +21,6 @@ returns c =
       (λ l. l, λ l. k .0, λ l. k .1, λ l. k .2),
     )
 
-built-table-requires : tie.Need-built-table-requires
-built-table-requires c κs =
-    let fields : tie.After-built-fields = search in
-    let p = start fields .pre in (p .1, p .2)
-
 planned-requires : tie.Need-planned-requires
 planned-requires c κs =
     let fields : tie.After-built-fields = search in
@@ -40,10 +35,10 @@ returns-2 c =
     let f = fields .built-fields in
     let t = tabled .built-table in
     let k = f .ensures .1 .1 .1 .1 in (
-      built-plan _ _ _ _ _ _ (f .result) (f .ensures .0) (t .result) _ (t .ensures .0) (test .if1 .left) _ _ _ (start fields .pre .0) (t .ensures .1 .0)
+      built-plan _ _ _ _ _ _ (f .result) (f .ensures .0) (t .result) _ (t .ensures .0) (test .if1 .left) _ _ _ (start fields .pre) (t .ensures .1 .0)
           (f .ensures .1 .0) (f .ensures .1 .1 .0) (f .ensures .1 .1 .1 .0) k (c .planned .ensures),
       (λ l. t .ensures .1 .1, λ l. k .0, λ l. k .1, λ l. k .2),
     )
 
 pub plan-built-spec : {M : Type 1} → statement M
-plan-built-spec = tie.close (search (tie.spec, returns, built-table-requires, planned-requires, returns-2, needs))
+plan-built-spec = tie.close (search (tie.spec, returns, planned-requires, returns-2, needs))

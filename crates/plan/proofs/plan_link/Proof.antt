@@ -1,5 +1,4 @@
 -- By the class's kind, the plan of its own function. Assumes nothing.
-use native.Mathlib.Omega.{arith}
 use mathlib.Core.Path.{_∙_}
 use Rattle.plan.proofs.KindLaws.{kind-is, kind-built, kind-generated, kind-array, plan-by}
 use borrow.Author.Needs.{needs}
@@ -11,7 +10,7 @@ plan-built-requires c κs =
     let kind : tie.After-class-kind = search in
     let test : tie.After-is-built-kind = search in
     let yes : tie.Then1 = search in
-    (kind-is _ _ (kind .class-kind .ensures) (test .is-built-kind .ensures) ∙ yes .if1 .taken, omega arith, omega arith)
+    kind-is _ _ (kind .class-kind .ensures) (test .is-built-kind .ensures) ∙ yes .if1 .taken
 
 returns : tie.Need-returns
 returns c =
