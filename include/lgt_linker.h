@@ -50,7 +50,8 @@
 #define LGT_REFUSED_RECORD 4u
 /* a descriptor */
 #define LGT_REFUSED_DESCRIPTOR 5u
-/* a class number: none of the set, linked already or not yet, its parent unlinked, or a wrong array class */
+/* a class number: none of the set, linked already or not yet, its parent unlinked, or a wrong array class; of a count of missing slots a class
+   that is not linked */
 #define LGT_REFUSED_CLASS 6u
 /* the area: empty, a wrong next free place, a table or a node outside, a list of more than LGT_MOST_NODES nodes */
 #define LGT_REFUSED_AREA 7u
@@ -73,7 +74,7 @@
 /* more than LGT_MOST_METHODS methods, LGT_MOST_FIELDS fields or LGT_MOST_TEXT_BYTES text bytes; of a class file also lists that are too
  * short, or a number of targets that is not that of the methods */
 #define LGT_REFUSED_SECTION_FULL 14u
-/* too few stub words, free words of the area, class words, or words of a renumbering's list */
+/* too few stub words, free words of the area, class words, words of the list of missing slots, or words of a renumbering's list */
 #define LGT_REFUSED_NO_ROOM 15u
 /* a set that cannot be stored: a table place or slot count that is not 0, static words of a built or array class, or a byte that is
    not 0 after the text in its last word */
@@ -117,6 +118,10 @@
 
 /* A node of that list: the next node's place, the interface number, the slots. */
 #define LGT_NODE_WORDS(slots) ((slots) + 2)
+
+/* Words of the list of missing slots: of each class its count, then a bit for each of LGT_MOST_SLOTS slots, and enough for every set. */
+#define LGT_MISSING_CLASS_WORDS 33
+#define LGT_MISSING_WORDS 2112
 
 /* Stack for a thread that calls the library; the gate holds every call to it. */
 #define LGT_STACK_BYTES 262144
@@ -317,7 +322,7 @@ static inline const char *lgt_refusal_text(uint32_t refusal)
     case LGT_REFUSED_CLASS:
         return "Ask for a class that is in the set, from 1 to the number of classes, and not yet linked; link its "
                "parent first. An array class has no methods or fields and the parent `java/lang/Object`. For an "
-               "interface table, link both classes first.";
+               "interface table, link both classes first; for a count of missing slots, the class.";
     case LGT_REFUSED_AREA:
         return "Lend the area as the last call left it, or a fresh one: word 0 holds the next free place (1 in a fresh "
                "area), which is at most the area's length; no linked table and no node of the class's list reaches past "
@@ -350,7 +355,8 @@ static inline const char *lgt_refusal_text(uint32_t refusal)
                "for each method, as `lgt_class_file_head` counts them.";
     case LGT_REFUSED_NO_ROOM:
         return "Lend more memory: a stub word for each slot of the table, free words in the area for the table and two "
-               "more, and class words for the sections that grow; for a renumbering, a list word for each class.";
+               "more, class words for the sections that grow, and 33 words of the list of missing slots for each class of "
+               "the set; for a renumbering, a list word for each class.";
     case LGT_REFUSED_NO_IMPLEMENTATION:
         return "The class has no method that implements one of the interface's methods: declare it, not static and not "
                "private, in the class or an ancestor.";
@@ -465,6 +471,8 @@ uint32_t lgt_renumber_classes(uint32_t *set, size_t set_len, uint32_t *order, si
 /*
  * Links a class. `set` is the class words as read, or as earlier links left them; `abi` the ABI words. `area` is as the last
  * call left it, or fresh: word 0 is the next free place, 1 in a fresh area. `stubs` are the words for slots without a target.
+ * `missing` is the list of missing slots, LGT_MISSING_CLASS_WORDS words for each class of the set or more: lend one list, which nobody
+ * else writes, from the first link on; it may hold anything before.
  * Classes count from 1, and a parent is linked before its child. The chain of a class, itself included, is of kind 3
  * as a whole, without interfaces and ABI entries, or has no class of kind 3.
  * Answers: answer[0], the place of the class's table in the area; answer[1], its slots.
@@ -472,14 +480,28 @@ uint32_t lgt_renumber_classes(uint32_t *set, size_t set_len, uint32_t *order, si
  * Leaves in the set: the class's table place and slot count; unless it is generated, its instance words and static words, the
  * latter where the indices of its own static fields end and 0 for an array class; the indices of its fields. A built class gets the ABI's fields that it lacks, a generated one the methods of its compiler table that it
  * lacks: its list is then copied to the end of its section, and the sections behind move up. The class's link state stays.
+ * Leaves in the list, from word LGT_MISSING_CLASS_WORDS * (class_number - 1) on: the number of slots that took a stub word or are copies of
+ * slots that the parent's count includes, then a bit for each slot, set if it is counted, the first slot's lowest in the first word, and
+ * zeros. All other words of the list stay.
  * Refuses by 3 to 7, 26, 8 to 15.
  */
 LGT_MUST_USE
 uint32_t lgt_link(uint32_t *set, size_t set_len, const uint32_t *abi, size_t abi_len, uint32_t class_number,
-                  uint32_t *area, size_t area_len, const uint32_t *stubs, size_t stubs_len, uint32_t answer[2]);
+                  uint32_t *area, size_t area_len, const uint32_t *stubs, size_t stubs_len, uint32_t *missing,
+                  size_t missing_len, uint32_t answer[2]);
 
 /*
- * Asks for a class's table of an interface; both are linked classes. The rest is lent as to a link.
+ * How many slots of a linked class hold no real method: the count that its link left in the list of missing slots. Set and ABI words are
+ * lent as to a link, and the list as the last link left it; all are only read, and no area is asked for.
+ * Answers: answer[0], the number, which is the word of the list, whatever it is. Leaves nothing else written.
+ * Refuses by 3 to 5 as a link, by 6 a class that is not linked, by 15 a list of fewer than LGT_MISSING_CLASS_WORDS words for each class.
+ */
+LGT_MUST_USE
+uint32_t lgt_missing_slots(const uint32_t *set, size_t set_len, const uint32_t *abi, size_t abi_len, const uint32_t *missing,
+                           size_t missing_len, uint32_t class_number, uint32_t answer[1]);
+
+/*
+ * Asks for a class's table of an interface; both are linked classes. The rest is lent as to a link, without the list of missing slots.
  * Answers: answer[0], the place after the node's link word, where the interface number and then the slots stand, as many as
  * the interface's table has; answer[1], how many nodes of the class's list were read on the way, at most 64.
  * Leaves: nothing changed if the class's list has a node of the interface. Else, from the next free place on, a node: the

@@ -84,7 +84,9 @@ class Header(unittest.TestCase):
                 ("BLOCK_BYTES", BLOCK_BYTES), ("BLOCK_WORDS", BLOCK_WORDS), ("MOST_SLOTS", most(CLASS_SHEET, "class", "compiler slots")),
                 ("MOST_INSTANCE_WORDS", most(CLASS_SHEET, "class", "instance words")),
                 ("MOST_ABI_INDEX", most(ABI_SHEET, "slot", "index")), ("MOST_ABI_FIELD_INDEX", most(ABI_SHEET, "field", "index")),
-                ("MOST_ABI_INSTANCE_WORDS", most(ABI_SHEET, "class", "instance words plus 1") - 1)):
+                ("MOST_ABI_INSTANCE_WORDS", most(ABI_SHEET, "class", "instance words plus 1") - 1),
+                ("MISSING_CLASS_WORDS", 1 + most(CLASS_SHEET, "class", "compiler slots") // 32),
+                ("MISSING_WORDS", self.numbers["LGT_MISSING_CLASS_WORDS"] * CLASS_SHEET.section("class").limit)):
             self.assertEqual(self.numbers["LGT_" + name], value, name)
 
     def test_kinds(self):
@@ -120,7 +122,7 @@ int main(void)
     uint32_t refusal = lgt_argument_words((const uint8_t *)descriptor, strlen(descriptor), LGT_FLAG_STATIC, words);
 
     printf("%s %" PRIu32 " %" PRIu64 "\n", LGT_LINKER_VERSION, refusal, words[0]);
-    refusal = lgt_link(NULL, 0, NULL, 0, 1, NULL, 0, NULL, 0, (uint32_t[2]){0});
+    refusal = lgt_link(NULL, 0, NULL, 0, 1, NULL, 0, NULL, 0, NULL, 0, (uint32_t[2]){0});
     printf("%s\n", lgt_refusal_text(refusal));
     return refusal != LGT_REFUSED_SHEET_COUNTS;
 }

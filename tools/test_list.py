@@ -4,6 +4,7 @@
 import os
 import platform
 import random
+import re
 import shutil
 import stat
 import subprocess
@@ -465,6 +466,27 @@ class Why(unittest.TestCase):
         self.assertIn("class 2 refused 12\n  class 2 Q: `c()V` is fixed at 0 by ABI class Q; slot 0 holds `a()V` of class 1 P\n  To mend: ", out)
         self.assertIn("class 4 interface 3 refused 16\n  class 4 D: neither it nor an ancestor implements `run()V` of class 3 I\n  To mend: ", out)
         self.assertTrue(out.endswith("\n3 of 4 classes link, 0 of 1 interface tables are built\n"))
+
+    def test_missing(self):
+        """Of each class its slots, how many are missing, and their names: by the method that took the slot, by the parent's slot, by the ABI."""
+        for folder in folders():
+            status, out, err = script("why", "--missing", folder)
+            listed = script("list", "--quick", folder)[1]
+            if not listed.startswith(("abi refused", "classes refused")):
+                heads = [re.sub(r" words \d+ (slots \d+)$", r" \1", line) for line in listed.splitlines() if not line[0].isdigit()]
+                self.assertEqual([line.split(" missing ")[0] for line in out.splitlines() if not line.startswith(" ")], heads, folder)
+            counts = [int(line.split()[-1]) for line in out.splitlines() if " missing " in line]
+            self.assertEqual(sum(counts), sum(line.startswith("  ") and line[2].isdigit() for line in out.splitlines()), folder)
+            self.assertEqual((status, err), (int(" refused " in out), ""), folder)
+            if folder.startswith(EXAMPLES):
+                linked = contents(folder, "linked.txt")
+                self.assertEqual([count for count in counts if count], [int(number) for number in re.findall(r"^  missing (\d+) of", linked, re.M)], folder)
+        with tempfile.TemporaryDirectory() as folder:
+            write(folder, sheetform.parse("class P\n method open ()V 0\n method close ()V 5\nclass Q extends P\n method mark ()V 0\n"),
+                  sheetform.parse("abi class P\n slot lock ()V 3\n"))
+            self.assertEqual(script("why", "--missing", folder),
+                             (0, "class 1 P slots 6 missing 5\n  0 - -\n  1 - -\n  2 - -\n  3 lock ()V\n  4 open ()V\n"
+                                 "class 2 Q slots 7 missing 6\n  0 - -\n  1 - -\n  2 - -\n  3 lock ()V\n  4 open ()V\n  6 mark ()V\n", ""))
 
     def test_statuses(self):
         self.assertEqual(script("why", "gone")[::2], (3, "why: gone: there is no such folder\n"))

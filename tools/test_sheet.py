@@ -1012,7 +1012,7 @@ class Corpus(unittest.TestCase):
         self.assertEqual((found.row, bool(found.where)), (row, True))
 
     def case(self):
-        words, abi, area = self.list(), self.list(), self.list()
+        words, abi, area, missing = self.list(), self.list(), self.list(), self.list()
         for _ in range(next(self.words)):
             self.list()
         refused = 0
@@ -1024,11 +1024,12 @@ class Corpus(unittest.TestCase):
                 self.told(row, min(found, key=lambda fault: fault.row))
             self.change(words)
             self.change(area)
+            self.change(missing)
         return refused
 
     def test_every_refusal(self):
         _, _, _, _, cases, readings, _ = self.take(7)
-        self.take(7)
+        self.take(8)
         self.bytes()
         refused = sum(self.case() for _ in range(cases))
         for _ in range(readings):

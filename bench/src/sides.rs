@@ -49,6 +49,7 @@ pub struct Ours<'a> {
     /// The memory of the links.
     words: Vec<u32>,
     area: Vec<u32>,
+    missing: Vec<u32>,
     /// Linked words, the area before any ask and after all asks.
     linked: Vec<u32>,
     unasked: Vec<u32>,
@@ -66,6 +67,7 @@ impl<'a> Ours<'a> {
             set,
             words: case.set.clone(),
             area: case.area.clone(),
+            missing: case.missing.clone(),
             linked: Vec::new(),
             unasked: Vec::new(),
             asked: Vec::new(),
@@ -86,11 +88,11 @@ impl<'a> Ours<'a> {
     }
 
     fn link(&mut self, watch: Watch) {
-        let (case, words, area) = (&self.set.case, &mut self.words, &mut self.area);
+        let (case, words, area, missing) = (&self.set.case, &mut self.words, &mut self.area, &mut self.missing);
         words.copy_from_slice(&case.set);
         area[0] = 1;
         for class in 1..=words[0] {
-            watch(&mut || assert_eq!(Library::default().link(words, &case.abi, class, area, &case.stubs[0]).refusal, 0));
+            watch(&mut || assert_eq!(Library::default().link(words, &case.abi, class, area, &case.stubs[0], missing).refusal, 0));
         }
     }
 

@@ -19,7 +19,7 @@ const SIZE: usize = 1 << 20;
 const PAINT: u8 = 0xA5;
 
 /// The exported functions, in the order of `Painted`'s stacks.
-const FUNCTIONS: [&str; 15] = [
+const FUNCTIONS: [&str; 16] = [
     "lgt_read_class_sheet",
     "lgt_read_abi_sheet",
     "lgt_link",
@@ -35,6 +35,7 @@ const FUNCTIONS: [&str; 15] = [
     "lgt_narrow_class_sheet",
     "lgt_read_class_file",
     "lgt_class_file_head",
+    "lgt_missing_slots",
 ];
 
 /// A stack whose touched bytes show.
@@ -105,8 +106,12 @@ impl Linker for Painted {
         self.stacks[1].run(|| self.library.read_abi_sheet(bytes, words))
     }
 
-    fn link(&mut self, set: &mut [u32], abi: &[u32], class: u32, area: &mut [u32], stubs: &[u32]) -> Answer {
-        self.stacks[2].run(|| self.library.link(set, abi, class, area, stubs))
+    fn link(&mut self, set: &mut [u32], abi: &[u32], class: u32, area: &mut [u32], stubs: &[u32], missing: &mut [u32]) -> Answer {
+        self.stacks[2].run(|| self.library.link(set, abi, class, area, stubs, missing))
+    }
+
+    fn missing_slots(&mut self, set: &[u32], abi: &[u32], missing: &[u32], class: u32) -> Answer {
+        self.stacks[15].run(|| self.library.missing_slots(set, abi, missing, class))
     }
 
     fn ask(&mut self, set: &mut [u32], abi: &[u32], class: u32, interface: u32, area: &mut [u32], stubs: &[u32]) -> Answer {
@@ -160,7 +165,7 @@ impl Linker for Painted {
 
 /// Reads a set's sheets and makes its calls.
 fn run_set(painted: &mut Painted, set: &ClassSet) {
-    let mut state = State { set: set.case.set.clone(), area: set.case.area.clone() };
+    let mut state = State::of(&set.case);
     let mut words = state.set.clone();
     painted.read_class_sheet(&set.class_sheet, &mut words);
     painted.read_abi_sheet(&set.abi_sheet, &mut words);

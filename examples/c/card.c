@@ -1,4 +1,4 @@
-/* Links the classes of a folder's two sheets, prints their tables, and asks for an interface table. Usage: card FOLDER */
+/* Links the classes of a folder's two sheets, prints their tables and missing slots, and asks for an interface table. Usage: card FOLDER */
 #include <inttypes.h>
 #include <stdio.h>
 #include <string.h>
@@ -13,6 +13,7 @@ static uint32_t set[LGT_CLASS_WORDS];
 static uint32_t abi[LGT_ABI_WORDS];
 static uint32_t area[AREA_WORDS] = {1};
 static uint32_t stubs[LGT_MOST_SLOTS];
+static uint32_t missing[LGT_MISSING_WORDS];
 
 /* Reads a file into `bytes`; answers its length, 0 if it cannot be read. */
 static size_t read_file(const char *folder, const char *name)
@@ -65,6 +66,15 @@ static void print_slots(uint32_t first, uint32_t slots)
         printf("%" PRIu32 " %" PRIu32 "\n", slot, area[first + slot]);
 }
 
+/* How many slots of a linked class are missing. */
+static uint32_t missing_slots(uint32_t number)
+{
+    uint32_t count[1];
+
+    told("missing slots", lgt_missing_slots(set, LGT_CLASS_WORDS, abi, LGT_ABI_WORDS, missing, LGT_MISSING_WORDS, number, count));
+    return count[0];
+}
+
 /* Asks for class 2's table of class 1, which has `slots`, and prints it. */
 static uint32_t ask(uint32_t slots)
 {
@@ -102,12 +112,12 @@ int main(int argc, char **argv)
 
     for (number = 1; number <= set[LGT_SET_CLASSES]; number++) {
         if (told("class", lgt_link(set, LGT_CLASS_WORDS, abi, LGT_ABI_WORDS, number, area, AREA_WORDS, stubs, LGT_MOST_SLOTS,
-                                   answer)) != 0)
+                                   missing, LGT_MISSING_WORDS, answer)) != 0)
             return 1;
         printf("class %" PRIu32 " ", number);
         print_name(class_record(number));
-        printf(" words %" PRIu32 " place %" PRIu32 " slots %" PRIu32 "\n", class_record(number)[LGT_CLASS_INSTANCE_WORDS],
-               answer[0], answer[1]);
+        printf(" words %" PRIu32 " place %" PRIu32 " slots %" PRIu32 " missing %" PRIu32 "\n",
+               class_record(number)[LGT_CLASS_INSTANCE_WORDS], answer[0], answer[1], missing_slots(number));
         print_slots(answer[0] + 1, answer[1]);
         if (number == 1)
             slots = answer[1];
@@ -116,7 +126,7 @@ int main(int argc, char **argv)
         return 1;
 
     /* A class is linked once; an empty slice may be NULL. */
-    number = lgt_link(set, LGT_CLASS_WORDS, abi, LGT_ABI_WORDS, 1, area, AREA_WORDS, NULL, 0, answer);
+    number = lgt_link(set, LGT_CLASS_WORDS, abi, LGT_ABI_WORDS, 1, area, AREA_WORDS, NULL, 0, NULL, 0, answer);
     if (number != LGT_REFUSED_CLASS)
         return 1;
     printf("class 1 again: refused %" PRIu32 ", answer %" PRIu32 " %" PRIu32 "\n", number, answer[0], answer[1]);

@@ -8,7 +8,7 @@ use std::path::Path;
 use std::process::ExitCode;
 
 use lgt_linker::layout::MOST_SLOTS;
-use lgt_linker::{AbiSheet, Area, Class, ClassSet, Linked};
+use lgt_linker::{AbiSheet, Area, Class, ClassSet, Linked, Slot};
 
 /// The listing's own: words of the area, and the first stub word.
 const AREA_WORDS: usize = 4096;
@@ -45,6 +45,28 @@ fn class_text(class: Class, linked: Linked, declared: [usize; 2]) -> String {
     }
     for method in class.methods().skip(declared[1]) {
         let _ = writeln!(text, "  method {} {} {} added", method.name, method.descriptor, method.target);
+    }
+    text
+}
+
+/// The slot's name and descriptor as the listing has them: of its method, or of the ABI row that fixes it in the nearest class.
+fn slot_named(abi: &AbiSheet, class: Class, slot: &Slot) -> String {
+    if let Some(method) = slot.method {
+        return format!("{} {}", method.name, method.descriptor);
+    }
+    let fixed = class.chain().find_map(|class| abi.class_named(class.name())?.slots().find(|row| row.index == slot.index));
+    fixed.map_or("- -".to_owned(), |row| format!("{} {}", row.name, row.descriptor))
+}
+
+/// The class's missing slots, if it has any: how many, and each with what it is called.
+fn missing_text(set: &ClassSet, abi: &AbiSheet, class: Class, area: &Area) -> String {
+    let (missing, slots) = (set.missing_indices(class.number()), set.slots(abi, area, class.number()));
+    if missing.is_empty() {
+        return String::new();
+    }
+    let mut text = format!("  missing {} of {} slots\n", missing.len(), slots.len());
+    for slot in slots.iter().filter(|slot| missing.contains(&slot.index)) {
+        let _ = writeln!(text, "    {} {}", slot.index, slot_named(abi, class, slot));
     }
     text
 }
@@ -94,7 +116,7 @@ fn told(abi_sheet: &[u8], class_sheet: &[u8]) -> (String, bool) {
             Ok(linked) => {
                 let (tables, one_refused) = interface_text(&set, &abi, class, &mut area, &stubs);
                 refused |= one_refused;
-                text += &(class_text(class, linked, declared) + &tables);
+                text += &(class_text(class, linked, declared) + &missing_text(&set, &abi, class, &area) + &tables);
             }
             Err(refusal) => {
                 refused = true;

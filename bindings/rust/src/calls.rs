@@ -3,7 +3,7 @@
 use alloc::vec;
 use alloc::vec::Vec;
 
-use crate::layout::{ABI_BLOCKS, BLOCK_BYTES, BLOCK_WORDS, CLASS_BLOCKS};
+use crate::layout::{ABI_BLOCKS, BLOCK_BYTES, BLOCK_WORDS, CLASS_BLOCKS, missing, set};
 use crate::refusal::{Refusal, accepted};
 use crate::sys;
 
@@ -15,6 +15,9 @@ pub const CLASS_BYTES: usize = CLASS_BLOCKS * BLOCK_BYTES;
 
 /// Words that hold every ABI sheet.
 pub const ABI_WORDS: usize = ABI_BLOCKS * BLOCK_WORDS;
+
+/// Words of a list of missing slots that is long enough for every set.
+pub const MISSING_WORDS: usize = missing::WIDTH * set::LIMITS[set::CLASSES];
 
 /// Where a link has put a class's table: the class number stands at `place`, `slots` slot words follow, then the head of the class's list
 /// of interface tables.
@@ -229,11 +232,13 @@ pub fn renumber_classes(set: &mut [u32], order: &mut [u32]) -> Result<u32, Refus
     accepted(row, answer[0])
 }
 
-/// Links a class of the set: its table goes to the area's next free word (word 0 of the area), its record and fields into the set.
+/// Links a class of the set: its table goes to the area's next free word (word 0 of the area), its record and fields into the set, and the
+/// count of its missing slots, with a bit for each slot, into the list `missing` ([`layout::missing`](crate::layout::missing)), which has 33
+/// words for each class. Lend one list, which nobody else writes, from the first link on; it may hold anything before.
 ///
 /// # Errors
 ///
-/// Refusals 3 to 7, 26 and 8 to 15; set and area are then as they were.
+/// Refusals 3 to 7, 26 and 8 to 15; set, area and list are then as they were.
 ///
 /// ```
 /// # use lgt_linker::*;
@@ -243,13 +248,15 @@ pub fn renumber_classes(set: &mut [u32], order: &mut [u32]) -> Result<u32, Refus
 /// read_abi_sheet(&std::fs::read("../../examples/card/abi.bin").unwrap(), &mut abi).unwrap();
 /// let mut area = [0; 64];
 /// area[0] = 1; // a fresh area
-/// assert_eq!(link(&mut set, &abi, 1, &mut area, &[9; 8]), Ok(Linked { place: 1, slots: 2 }));
+/// let mut missing = [0; MISSING_WORDS];
+/// assert_eq!(link(&mut set, &abi, 1, &mut area, &[9; 8], &mut missing), Ok(Linked { place: 1, slots: 2 }));
 /// assert_eq!(area[1..5], [1, 4096, 4112, 0]);
-/// assert_eq!(link(&mut set, &abi, 1, &mut area, &[9; 8]), Err(Refusal::Class)); // it is linked
+/// assert_eq!(link(&mut set, &abi, 1, &mut area, &[9; 8], &mut missing), Err(Refusal::Class)); // it is linked
+/// assert_eq!(link(&mut set, &abi, 2, &mut area, &[9; 8], &mut missing[..65]), Err(Refusal::NoRoom)); // two classes, 66 words
 /// ```
-pub fn link(set: &mut [u32], abi: &[u32], class: u32, area: &mut [u32], stubs: &[u32]) -> Result<Linked, Refusal> {
+pub fn link(set: &mut [u32], abi: &[u32], class: u32, area: &mut [u32], stubs: &[u32], missing: &mut [u32]) -> Result<Linked, Refusal> {
     let mut answer = [0; 2];
-    // SAFETY: the slices are whole; the two that are written are lent exclusively, and the answer has its words.
+    // SAFETY: the slices are whole; the three that are written are lent exclusively, and the answer has its words.
     let row = unsafe {
         sys::lgt_link(
             set.as_mut_ptr(),
@@ -261,10 +268,44 @@ pub fn link(set: &mut [u32], abi: &[u32], class: u32, area: &mut [u32], stubs: &
             area.len(),
             stubs.as_ptr(),
             stubs.len(),
+            missing.as_mut_ptr(),
+            missing.len(),
             &mut answer,
         )
     };
     accepted(row, Linked { place: answer[0], slots: answer[1] })
+}
+
+/// How many slots of a linked class hold no real method: the count that its link left in the list, which took a stub word or are copies of
+/// slots that the parent's count includes. Everything is only read.
+///
+/// # Errors
+///
+/// Refusals 3 to 5 as of [`link`], 6 where the class is not linked, and 15: the list has fewer than 33 words for each class, which
+/// [`MISSING_WORDS`] never are.
+///
+/// ```
+/// # use lgt_linker::*;
+/// # let mut set = [0; CLASS_WORDS];
+/// # let mut abi = [0; ABI_WORDS];
+/// # read_class_sheet(&std::fs::read("../../examples/interface/classes.bin").unwrap(), &mut set).unwrap();
+/// # read_abi_sheet(&std::fs::read("../../examples/interface/abi.bin").unwrap(), &mut abi).unwrap();
+/// # let mut area = [0; 64];
+/// # area[0] = 1;
+/// // Class 1, Openable, has open and close; close has no target.
+/// let mut missing = [0; MISSING_WORDS];
+/// link(&mut set, &abi, 1, &mut area, &[9; 8], &mut missing).unwrap();
+/// assert_eq!(missing_slots(&set, &abi, &missing, 1), Ok(1));
+/// assert_eq!(missing[..3], [1, 0b10, 0]); // the count, then a bit for each slot
+/// assert_eq!(missing_slots(&set, &abi, &missing, 2), Err(Refusal::Class)); // it is not linked yet
+/// ```
+pub fn missing_slots(set: &[u32], abi: &[u32], missing: &[u32], class: u32) -> Result<u32, Refusal> {
+    let mut answer = [0];
+    // SAFETY: the slices are whole and only read, and the answer has its word.
+    let row = unsafe {
+        sys::lgt_missing_slots(set.as_ptr(), set.len(), abi.as_ptr(), abi.len(), missing.as_ptr(), missing.len(), class, &mut answer)
+    };
+    accepted(row, answer[0])
 }
 
 /// The class's table for an interface: found in the class's list, or built and put in front of it. The set is only read.
@@ -282,8 +323,9 @@ pub fn link(set: &mut [u32], abi: &[u32], class: u32, area: &mut [u32], stubs: &
 /// # let mut area = [0; 64];
 /// # area[0] = 1;
 /// // Classes 1, Openable, and 2, Door, are linked; Door's table as an Openable is asked for.
-/// # link(&mut set, &abi, 1, &mut area, &[9; 8]).unwrap();
-/// # link(&mut set, &abi, 2, &mut area, &[9; 8]).unwrap();
+/// # let mut missing = [0; MISSING_WORDS];
+/// # link(&mut set, &abi, 1, &mut area, &[9; 8], &mut missing).unwrap();
+/// # link(&mut set, &abi, 2, &mut area, &[9; 8], &mut missing).unwrap();
 /// let asked = interface_dispatch_table(&set, &abi, 2, 1, &mut area, &[9; 8]).unwrap();
 /// assert_eq!(asked, Asked { place: 10, nodes: 0 });
 /// assert_eq!(area[10..13], [1, 8192, 9]); // the interface's number, Door's open, a stub

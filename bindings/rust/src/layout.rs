@@ -188,6 +188,27 @@ pub mod abi_row {
     pub const WIDTH: usize = 5;
 }
 
+/// The words of a class in a list of missing slots.
+pub mod missing {
+    /// How many of its slots are missing.
+    pub const COUNT: usize = 0;
+    /// The first word of the bits, one for each slot, set if it is counted, the first slot's lowest.
+    pub const BITS: usize = 1;
+    /// How many words a class has.
+    pub const WIDTH: usize = BITS + super::MOST_SLOTS / 32;
+
+    /// Where the words of a class begin, which is counted from 1.
+    ///
+    /// ```
+    /// use lgt_linker::layout::missing;
+    /// assert_eq!([missing::words(1), missing::words(2)], [0, 33]);
+    /// ```
+    #[must_use]
+    pub const fn words(number: u32) -> usize {
+        WIDTH * (number as usize).saturating_sub(1)
+    }
+}
+
 /// The access flags that linking looks at.
 pub mod flags {
     /// Public, which a builder gives where no flags are said.

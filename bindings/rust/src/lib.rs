@@ -1,7 +1,7 @@
 //! The proved class linker of Dautzeki, for Rust programs.
 //!
 //! Two ways to use it. Lend memory yourself: [`read_class_sheet`], [`read_abi_sheet`], [`write_class_sheet`], [`read_unordered_sheet`],
-//! [`renumber_classes`], [`widen_class_sheet`], [`narrow_class_sheet`], [`link`], [`interface_dispatch_table`], [`argument_words`],
+//! [`renumber_classes`], [`widen_class_sheet`], [`narrow_class_sheet`], [`link`], [`missing_slots`], [`interface_dispatch_table`], [`argument_words`],
 //! [`compare_names`], [`reference_count`], [`read_class_file`] and [`class_file_head`] take slices and allocate nothing; [`layout`] names
 //! their words. Or let [`ClassSet`], [`AbiSheet`], [`Area`] and [`ClassFile`] own it, read from sheets and class files or made of Rust
 //! values by [`SetBuilder`] and [`AbiBuilder`]:
@@ -23,6 +23,7 @@
 //! assert_eq!(area.slots(card), [4096, 4112]);
 //! assert_eq!(area.slots(vip), [4096, 8192, 8208]);
 //! assert_eq!(set.virtual_method_index(&abi, &area, 2, "close", "()V"), Some(1));
+//! assert_eq!(set.missing_slots(&abi, 2)?, 0); // every slot holds a real method
 //! # Ok(())
 //! # }
 //! ```
@@ -54,9 +55,9 @@ mod view;
 
 pub use build::{AbiBuilder, AbiClassBuilder, BuildError, ClassBuilder, SetBuilder};
 pub use calls::{
-    ABI_WORDS, Asked, CLASS_BYTES, CLASS_WORDS, Compared, FileHead, Linked, argument_words, class_file_head, compare_names,
-    interface_dispatch_table, link, narrow_class_sheet, read_abi_sheet, read_class_file, read_class_sheet, read_unordered_sheet,
-    reference_count, reference_words, renumber_classes, widen_class_sheet, write_class_sheet,
+    ABI_WORDS, Asked, CLASS_BYTES, CLASS_WORDS, Compared, FileHead, Linked, MISSING_WORDS, argument_words, class_file_head, compare_names,
+    interface_dispatch_table, link, missing_slots, narrow_class_sheet, read_abi_sheet, read_class_file, read_class_sheet,
+    read_unordered_sheet, reference_count, reference_words, renumber_classes, widen_class_sheet, write_class_sheet,
 };
 pub use file::{ClassFile, FileField, FileMethod};
 pub use forms::{narrow, widen};

@@ -132,9 +132,10 @@ const REFUSALS: &[Row] = &[
         number: 6,
         refusal: Refusal::Class,
         wrong: "no such class, already linked, its parent not linked yet, or an array class with members or another parent than \
-         java/lang/Object; for an interface table, one of the two is not linked",
+         java/lang/Object; for an interface table, one of the two is not linked; for a count of missing slots, the class is not",
         mend: "Ask for a class that is in the set, from 1 to the number of classes, and not yet linked; link its parent first. An array \
-         class has no methods or fields and the parent `java/lang/Object`. For an interface table, link both classes first.",
+         class has no methods or fields and the parent `java/lang/Object`. For an interface table, link both classes first; for a count \
+         of missing slots, the class.",
     },
     Row {
         number: 7,
@@ -202,8 +203,9 @@ const REFUSALS: &[Row] = &[
         number: 15,
         refusal: Refusal::NoRoom,
         wrong: "too few stubs, free area words, class words or list words were lent",
-        mend: "Lend more memory: a stub word for each slot of the table, free words in the area for the table and two more, and class words \
-         for the sections that grow; for a renumbering, a list word for each class.",
+        mend: "Lend more memory: a stub word for each slot of the table, free words in the area for the table and two more, class words for \
+         the sections that grow, and 33 words of the list of missing slots for each class of the set; for a renumbering, a list word for \
+         each class.",
     },
     Row {
         number: 16,

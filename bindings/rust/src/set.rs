@@ -5,17 +5,19 @@ use alloc::vec::Vec;
 use core::fmt;
 
 use crate::calls::{
-    ABI_WORDS, Asked, CLASS_BYTES, CLASS_WORDS, Linked, interface_dispatch_table, link, read_abi_sheet, read_class_sheet,
-    read_unordered_sheet, reference_words, renumber_classes, write_class_sheet,
+    ABI_WORDS, Asked, CLASS_BYTES, CLASS_WORDS, Linked, MISSING_WORDS, interface_dispatch_table, link, missing_slots, read_abi_sheet,
+    read_class_sheet, read_unordered_sheet, reference_words, renumber_classes, write_class_sheet,
 };
-use crate::layout::{BLOCK_BYTES, abi, set};
+use crate::layout::{BLOCK_BYTES, abi, missing, set};
 use crate::refusal::Refusal;
 use crate::view::{AbiClass, Class, Method, Slot};
 
-/// A class set that owns its words: as many as the largest sheet has, so that sections can grow.
+/// A class set that owns its words, as many as the largest sheet has, so that sections can grow, and the list of missing slots that its
+/// links fill.
 #[derive(Clone, PartialEq, Eq)]
 pub struct ClassSet {
     words: Vec<u32>,
+    missing: Vec<u32>,
 }
 
 /// An ABI sheet that owns its words.
@@ -32,7 +34,7 @@ pub struct Area {
 
 /// Rows 3 to 5 of both: a link of class 0 is refused by 6, unless one of these comes first.
 fn judged(set: &mut [u32], abi: &[u32]) -> Result<(), Refusal> {
-    match link(set, abi, 0, &mut [], &[]) {
+    match link(set, abi, 0, &mut [], &[], &mut []) {
         Err(Refusal::Class) | Ok(_) => Ok(()),
         Err(refusal) => Err(refusal),
     }
@@ -47,6 +49,11 @@ fn owned(words: &[u32], length: usize) -> Vec<u32> {
 }
 
 impl ClassSet {
+    /// These words, with no missing slots counted yet.
+    fn of(words: Vec<u32>) -> ClassSet {
+        ClassSet { words, missing: vec![0; MISSING_WORDS] }
+    }
+
     /// Reads a class sheet.
     ///
     /// # Errors
@@ -63,7 +70,7 @@ impl ClassSet {
     pub fn read(bytes: &[u8]) -> Result<ClassSet, Refusal> {
         let mut words = vec![0; CLASS_WORDS];
         read_class_sheet(bytes, &mut words)?;
-        Ok(ClassSet { words })
+        Ok(ClassSet::of(words))
     }
 
     /// Reads a class sheet whose classes come in any order, a child before its parent, and renumbers them so that parents come first.
@@ -100,10 +107,11 @@ impl ClassSet {
         let classes = renumber_classes(&mut words, &mut order)?;
         order.truncate(classes as usize);
         judged(&mut words, &[0; abi::COUNTS])?;
-        Ok((ClassSet { words }, order))
+        Ok((ClassSet::of(words), order))
     }
 
-    /// A set of words in the sheet's layout, as [`words`](ClassSet::words) gives them: of a sheet, or as links left them.
+    /// A set of words in the sheet's layout, as [`words`](ClassSet::words) gives them: of a sheet, or as links left them. Of links, the list
+    /// of missing slots that they filled goes with them: [`with_missing`](ClassSet::with_missing).
     ///
     /// # Errors
     ///
@@ -118,7 +126,7 @@ impl ClassSet {
     /// ```
     pub fn from_words(words: &[u32]) -> Result<ClassSet, Refusal> {
         judged(&mut words.to_vec(), &[0; abi::COUNTS])?;
-        Ok(ClassSet { words: owned(words, CLASS_WORDS) })
+        Ok(ClassSet::of(owned(words, CLASS_WORDS)))
     }
 
     /// The class sheet of a set that no link has changed: the bytes that [`read`](ClassSet::read) gives back as the same set, and of a set
@@ -179,6 +187,36 @@ impl ClassSet {
     #[must_use]
     pub fn words(&self) -> &[u32] {
         &self.words
+    }
+
+    /// The list of missing slots, as its links left it ([`layout::missing`](crate::layout::missing)).
+    ///
+    /// ```
+    /// # use lgt_linker::*;
+    /// let mut set = ClassSet::read(&std::fs::read("../../examples/interface/classes.bin").unwrap())?;
+    /// set.link(&AbiBuilder::new().build().unwrap(), 1, &mut Area::fresh(64), &[9; 8])?;
+    /// assert_eq!(set.missing_words()[..3], [1, 0b10, 0]);
+    /// # Ok::<(), Refusal>(())
+    /// ```
+    #[must_use]
+    pub fn missing_words(&self) -> &[u32] {
+        &self.missing
+    }
+
+    /// The set with this list of missing slots, as [`missing_words`](ClassSet::missing_words) gives it, in place of its own: of as many words
+    /// as are lent at most, zeros after them.
+    ///
+    /// ```
+    /// # use lgt_linker::*;
+    /// let mut set = ClassSet::read(&std::fs::read("../../examples/interface/classes.bin").unwrap())?;
+    /// set.link(&AbiBuilder::new().build().unwrap(), 1, &mut Area::fresh(64), &[9; 8])?;
+    /// let again = ClassSet::from_words(set.words())?.with_missing(set.missing_words());
+    /// assert_eq!(again, set);
+    /// # Ok::<(), Refusal>(())
+    /// ```
+    #[must_use]
+    pub fn with_missing(self, missing: &[u32]) -> ClassSet {
+        ClassSet { missing: owned(missing, MISSING_WORDS), ..self }
     }
 
     /// How many classes the set has; they are numbered from 1.
@@ -247,7 +285,7 @@ impl ClassSet {
         self.class(class)?.linked()
     }
 
-    /// Links a class; see [`link`].
+    /// Links a class; see [`link`]. The set keeps the list of missing slots.
     ///
     /// # Errors
     ///
@@ -263,7 +301,7 @@ impl ClassSet {
     /// # Ok::<(), Refusal>(())
     /// ```
     pub fn link(&mut self, abi: &AbiSheet, class: u32, area: &mut Area, stubs: &[u32]) -> Result<Linked, Refusal> {
-        link(&mut self.words, &abi.words, class, &mut area.words, stubs)
+        link(&mut self.words, &abi.words, class, &mut area.words, stubs, &mut self.missing)
     }
 
     /// Links every class in the order of the numbers, and says what became of each.
@@ -278,6 +316,46 @@ impl ClassSet {
     /// ```
     pub fn link_all(&mut self, abi: &AbiSheet, area: &mut Area, stubs: &[u32]) -> Vec<Result<Linked, Refusal>> {
         (1..=self.class_count()).map(|class| self.link(abi, class, area, stubs)).collect()
+    }
+
+    /// How many slots of a linked class hold no real method; see [`missing_slots`].
+    ///
+    /// # Errors
+    ///
+    /// Refusal 6: the class is not linked, or there is none of that number.
+    ///
+    /// ```
+    /// # use lgt_linker::*;
+    /// let mut set = SetBuilder::new()
+    ///     .class(ClassBuilder::new("Card").method("open", "()V", 0).method("close", "()V", 4112))
+    ///     .class(ClassBuilder::new("VipCard").extends("Card").method("mark", "()V", 0))
+    ///     .build()?;
+    /// let abi = AbiBuilder::new().build()?;
+    /// set.link_all(&abi, &mut Area::fresh(64), &[9, 8, 7]);
+    /// assert_eq!((set.missing_slots(&abi, 1), set.missing_slots(&abi, 2)), (Ok(1), Ok(2))); // open's stub, its copy, mark's stub
+    /// assert_eq!(set.missing_indices(2), [0, 2]);
+    /// assert_eq!(set.missing_slots(&abi, 3), Err(Refusal::Class));
+    /// # Ok::<(), BuildError>(())
+    /// ```
+    pub fn missing_slots(&self, abi: &AbiSheet, class: u32) -> Result<u32, Refusal> {
+        missing_slots(&self.words, &abi.words, &self.missing, class)
+    }
+
+    /// The slots of a linked class that its count of missing slots includes, in rising order: the bits of the list. None of a class that is
+    /// not linked.
+    ///
+    /// ```
+    /// # use lgt_linker::*;
+    /// let mut set = ClassSet::read(&std::fs::read("../../examples/interface/classes.bin").unwrap())?;
+    /// set.link(&AbiBuilder::new().build().unwrap(), 1, &mut Area::fresh(64), &[9; 8])?;
+    /// assert_eq!((set.missing_indices(1), set.missing_indices(2)), (vec![1], vec![]));
+    /// # Ok::<(), Refusal>(())
+    /// ```
+    #[must_use]
+    pub fn missing_indices(&self, class: u32) -> Vec<u32> {
+        let slots = self.linked(class).map_or(0, |linked| linked.slots);
+        let bits = |slot: u32| self.missing.get(missing::words(class) + missing::BITS + slot as usize / 32);
+        (0..slots).filter(|&slot| bits(slot).is_some_and(|word| word >> (slot % 32) & 1 == 1)).collect()
     }
 
     /// The class's table for an interface; see [`interface_dispatch_table`].

@@ -25,7 +25,20 @@ unsafe extern "C" {
         area_len: usize,
         stubs: *const u32,
         stubs_len: usize,
+        missing: *mut u32,
+        missing_len: usize,
         answer: *mut [u32; 2],
+    ) -> u32;
+
+    pub fn lgt_missing_slots(
+        set: *const u32,
+        set_len: usize,
+        abi: *const u32,
+        abi_len: usize,
+        missing: *const u32,
+        missing_len: usize,
+        class: u32,
+        answer: *mut [u32; 1],
     ) -> u32;
 
     pub fn lgt_interface_dispatch_table(

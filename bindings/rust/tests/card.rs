@@ -47,7 +47,9 @@ fn a_damaged_sheet_is_refused() {
 
 #[test]
 fn no_slice_is_too_small() {
-    assert_eq!(link(&mut [], &[], 0, &mut [], &[]), Err(Refusal::SheetCounts));
+    assert_eq!(link(&mut [], &[], 0, &mut [], &[], &mut []), Err(Refusal::SheetCounts));
+    assert_eq!(missing_slots(&[], &[], &[], 0), Err(Refusal::SheetCounts));
+    assert_eq!(missing_slots(&[0; 6], &[0; 4], &[], 1), Err(Refusal::Class));
     assert_eq!(interface_dispatch_table(&[0; 6], &[0; 4], 1, 1, &mut [], &[]), Err(Refusal::Class));
     assert_eq!(argument_words(b"", 0), Err(Refusal::Descriptor));
 }

@@ -15,7 +15,8 @@ use Rattle.words.proofs.Ext.{list-more}
 use Rattle.linking.proofs.Writes.{write-none, write-more, write-set, write-next}
 use Rattle.linking.proofs.Rows.{Fits, fits}
 use Rattle.linking.specs.Vtable.{Entry, slotWord, slotWords}
-use Rattle.linking.specs.Link.{nextFree, noRoom, writeAt, linkedArea}
+use Rattle.linking.specs.Link.{nextFree, noRoom, linkedArea}
+use Rattle.linking.specs.Set.{writeAt}
 use Rattle.linking.specs.Ask.{headPlace, askedArea}
 use Rattle.reading.specs.Arrays.{entryAt, entriesOf}
 use Rattle.reading.proofs.ArrayLaws.{length-entries}

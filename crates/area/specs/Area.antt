@@ -7,7 +7,8 @@ use lib.ListN.{length, getD, set}
 use lib.Dec.{eqb, ltb}
 use Rattle.words.specs.Lists.{listFrom}
 use Rattle.linking.specs.Vtable.{slotWord}
-use Rattle.linking.specs.Link.{nextFree, noRoom, writeAt, Outcome, refusedCall}
+use Rattle.linking.specs.Link.{nextFree, noRoom, Outcome, refusedCall}
+use Rattle.linking.specs.Set.{writeAt}
 use Rattle.linking.specs.Ask.{Walk, hit, missed, broken}
 use Rattle.area.specs.declared.Walked.{Walked}
 use Rattle.area.specs.declared.Walked.the-variants.{Hit, Missed, Broken}

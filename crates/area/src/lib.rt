@@ -3,7 +3,8 @@ ghost use mathlib.Core.Path.{_≡_};
 ghost use Prim.Native.Nat.{_+_, _≤_};
 ghost use lib.ListN.{length};
 ghost use Rattle.linking.specs.Vtable.{slotWord};
-ghost use Rattle.linking.specs.Link.{noRoom, writeAt};
+ghost use Rattle.linking.specs.Set.{writeAt};
+ghost use Rattle.linking.specs.Link.{noRoom};
 ghost use Rattle.linking.specs.Ask.{walk};
 ghost use Rattle.area.specs.Area.{walkOf, nodesTo, Counted, slotsOf, tableWords, nodeWords, mayNotWrite, tableWritten, nodeWritten};
 

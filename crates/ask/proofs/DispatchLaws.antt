@@ -18,8 +18,8 @@ use Rattle.linking.specs.declared.Declared.the-variants.{By, Nobody}
 use Rattle.linking.specs.Whose.{orDeclared, declaredIn, declaredImplementation}
 use Rattle.linking.proofs.ChainLaws.{own-method-room}
 use Rattle.linking.proofs.Whose.{implementation-found}
-use Rattle.reading.specs.Arrays.{markOf, methodOf, entryAt, entriesOf}
-use Rattle.reading.proofs.ArrayLaws.{method-back, push-slot}
+use Rattle.reading.specs.Arrays.{markOf, methodOf, sourceOf, entryAt, entriesOf}
+use Rattle.reading.proofs.ArrayLaws.{no-source, method-back, push-slot}
 use Rattle.reading.proofs.ClassLaws.{declared-none, declared-step}
 use Rattle.ask.specs.Dispatch.{slotBuilt, dispatched}
 use Rattle.ask.specs.declared.Slot.{Slot}
@@ -71,20 +71,20 @@ module _ (ws text : List ℕ) where
 
   module _ (c w k : ℕ) where
     pub slot-kept : {o : Found} → o ≡ methodOf k → o ≡ Nothing
-        → built (record { word = w; method = methodOf k } ∷ []) ≡ dispatched ws text c (record { word = w; method = methodOf k })
+        → built (record { word = w; method = methodOf k; source = sourceOf k } ∷ []) ≡ dispatched ws text c (record { word = w; method = methodOf k; source = sourceOf k })
     unfolding dispatched
     slot-kept h e = rw (← h, e)
 
     module _ {o : Found} {r : Declared} (j : ℕ) (method : o ≡ methodOf k) (some : o ≡ At j) (found : r ≡ declaredImplementation ws text c j) where
       pub slot-takes : (d m t : ℕ) {q : ℕ} → r ≡ By d m → t ≡ methodTarget ws m → q ≡ markOf (At m)
-          → built (record { word = t; method = methodOf q } ∷ []) ≡ dispatched ws text c (record { word = w; method = methodOf k })
+          → built (record { word = t; method = methodOf q; source = sourceOf q } ∷ []) ≡ dispatched ws text c (record { word = w; method = methodOf k; source = sourceOf k })
       unfolding dispatched
       slot-takes d m t e f g =
           let i : implementation ws text c j ≡ At m = sym (implementation-found ws text c j) ∙ rw (← found, e) in
           let l = implementation-room c j m i in
-          rw (g, method-back m (omega arith), f) (rw (← method, some) (rw i))
+          rw (g, method-back m (omega arith), no-source (At m), f) (rw (← method, some) (rw i))
 
-      pub slot-missing : r ≡ Nobody → refused 16 ≡ dispatched ws text c (record { word = w; method = methodOf k })
+      pub slot-missing : r ≡ Nobody → refused 16 ≡ dispatched ws text c (record { word = w; method = methodOf k; source = sourceOf k })
       unfolding dispatched
       slot-missing e =
           let i : implementation ws text c j ≡ Nothing = sym (implementation-found ws text c j) ∙ rw (← found, e) in
@@ -102,7 +102,7 @@ module _ (ws text : List ℕ) where
     dispatch-start us ns = rw (rest-start (entryAt ts ms) 0 n) (cons-none (dispatchEntries ws text c (listFrom (entryAt ts ms) 0 n)))
 
     module _ (i w k : ℕ) (s : Slot) {j : ℕ} (h : i < n) (at : j ≡ i) (word : w ≡ getD ts j 0) (mark : k ≡ getD ms j 0)
-        (slot : slotBuilt s ≡ dispatched ws text c (record { word = w; method = methodOf k })) where
+        (slot : slotBuilt s ≡ dispatched ws text c (record { word = w; method = methodOf k; source = sourceOf k })) where
       here : dispatched ws text c (entryAt ts ms (0 + i)) ≡ slotBuilt s
       unfolding entryAt
       here = let z : 0 + i ≡ j = omega arith in rw (z, ← word, ← mark) (sym slot)
@@ -121,7 +121,7 @@ module _ (ws text : List ℕ) where
       dispatch-turn us ns us₂ ns₂ r q f o p =
           let t = turn us ns in
           rw (o, p, at, push-slot us ns i (s .word) (s .mark) r q)
-          (sym (t ∙ rw f (cons-two (entriesOf us ns i) (record { word = s .word; method = methodOf (s .mark) } ∷ []) (dispatchEntries ws text c (restFrom (entryAt ts ms) 0 n (i + 1))))))
+          (sym (t ∙ rw f (cons-two (entriesOf us ns i) (record { word = s .word; method = methodOf (s .mark); source = sourceOf (s .mark) } ∷ []) (dispatchEntries ws text c (restFrom (entryAt ts ms) 0 n (i + 1))))))
 
     pub dispatch-end : (us ns : List ℕ) (i : ℕ) → i ≡ n → built (entriesOf us ns n) ≡ soFar us ns i
     unfolding soFar dispatchEntries

@@ -10,12 +10,12 @@ use Rattle.linking.specs.Chain.{onFound}
 use Rattle.linking.specs.Vtable.{Entry, Built, built, refused}
 use Rattle.linking.specs.Link.{nextFree, badArea, noRoom, Outcome, refusedCall}
 use Rattle.linking.specs.Ask.{implementation, dispatchEntry, askedArea, onDispatch, badAsk}
-use Rattle.reading.specs.Arrays.{methodOf, entriesOf}
+use Rattle.reading.specs.Arrays.{methodOf, sourceOf, entriesOf}
 use Rattle.ask.specs.declared.Slot.{Slot}
 
 -- the slot that the struct stands for, or row 16
 abbrev pub slotBuilt : Slot → Built
-slotBuilt s = cond (s .missing) (refused 16) (built (record { word = s .word; method = methodOf (s .mark) } ∷ []))
+slotBuilt s = cond (s .missing) (refused 16) (built (record { word = s .word; method = methodOf (s .mark); source = sourceOf (s .mark) } ∷ []))
 
 -- "each known interface entry takes the first non-static, non-private method of its signature, class first, an unknown one keeps its
 -- target": one entry

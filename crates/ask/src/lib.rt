@@ -8,6 +8,7 @@ ghost use mathlib.Core.Bool.{_&&_, false};
 ghost use mathlib.Core.List.{List};
 ghost use Prim.Native.Nat.{ℕ, _≤_};
 ghost use lib.ListN.{length};
+ghost use Rattle.words.specs.Lent.{was, after};
 ghost use Rattle.class_sheet.specs.ClassSheet.{methodFlags, textLength, textOf, textLimit};
 ghost use Rattle.abi_sheet.specs.AbiSheet.{abiTextLength, abiTextOf, abiTextLimit};
 ghost use Rattle.set_rules.specs.SetRules.{setRefusal};
@@ -16,13 +17,13 @@ ghost use Rattle.linking.specs.Vtable.{tableEntries};
 ghost use Rattle.linking.specs.Link.{badArea};
 ghost use Rattle.linking.specs.Ask.{headPlace, ownImplementation, dispatchEntries, buildNode, askDef};
 ghost use Rattle.linking.specs.Whose.{declaredImplementation};
-ghost use Rattle.reading.specs.Arrays.{methodOf, entriesOf};
+ghost use Rattle.reading.specs.Arrays.{methodOf, sourceOf, entriesOf};
 ghost use Rattle.area.specs.Area.{outcome};
 ghost use Rattle.ask.specs.Dispatch.{slotBuilt, dispatched, tableBuilt, askRefusal, finishAsk};
 
 // Whether method m is neither static nor private and has this name and descriptor.
 fn implements(ws: &[u32], text: &[u8], m: u32, name: &[u8], descriptor: &[u8]) -> bool
-    ensures { λ r. ⌜ r ≡ (isVirtual (methodFlags (now (ws .entry)) m) && methodIs (now (ws .entry)) (now (text .entry)) m (now (name .entry)) (now (descriptor .entry))) ⌝ }
+    ensures { λ r. ⌜ r ≡ (isVirtual (methodFlags (was ws) m) && methodIs (was ws) (was text) m (was name) (was descriptor)) ⌝ }
 {
     chain::is_virtual(class_sheet::method_flags(ws, m))
         & chain::method_is(ws, text, m, name, descriptor)
@@ -30,7 +31,7 @@ fn implements(ws: &[u32], text: &[u8], m: u32, name: &[u8], descriptor: &[u8]) -
 
 // Class c's first such method.
 fn own_implementation(ws: &[u32], text: &[u8], name: &[u8], descriptor: &[u8], c: u32) -> Found
-    ensures { λ r. ⌜ r ≡ ownImplementation (now (ws .entry)) (now (text .entry)) (now (name .entry)) (now (descriptor .entry)) c ⌝ }
+    ensures { λ r. ⌜ r ≡ ownImplementation (was ws) (was text) (was name) (was descriptor) c ⌝ }
 {
     let first = class_sheet::class_first_method(ws, c);
     let n = chain::method_count(ws, c);
@@ -46,7 +47,7 @@ fn own_implementation(ws: &[u32], text: &[u8], name: &[u8], descriptor: &[u8], c
 
 // The first such method of method m's signature, with its class: class c's, then its ancestors'.
 fn implementation(ws: &[u32], text: &[u8], c: u32, m: u32) -> Declared
-    ensures { λ r. ⌜ r ≡ declaredImplementation (now (ws .entry)) (now (text .entry)) c m ⌝ }
+    ensures { λ r. ⌜ r ≡ declaredImplementation (was ws) (was text) c m ⌝ }
 {
     if c == 0 {
         return Declared::Nobody;
@@ -68,7 +69,7 @@ struct Slot {
 
 // Class c's slot for an interface's, whose word is w and whose method's mark is k.
 fn dispatch_slot(ws: &[u32], text: &[u8], c: u32, w: u32, k: u32) -> Slot
-    ensures { λ r. ⌜ slotBuilt r ≡ dispatched (now (ws .entry)) (now (text .entry)) c (record { word = w; method = methodOf k }) ⌝ }
+    ensures { λ r. ⌜ slotBuilt r ≡ dispatched (was ws) (was text) c (record { word = w; method = methodOf k; source = sourceOf k }) ⌝ }
 {
     let Found::At(j) = reading::method_of(k) else {
         return Slot {
@@ -103,7 +104,7 @@ fn dispatch_slots(
     ns: &mut [u32],
 ) -> u32
     requires { ⌜ (n ≤ length (now us)) × (n ≤ length (now ns)) ⌝ }
-    ensures { λ r. ⌜ tableBuilt (now (us .exit)) (now (ns .exit)) n r ≡ dispatchEntries (now (ws .entry)) (now (text .entry)) c (entriesOf (now (ts .entry)) (now (ms .entry)) n) ⌝ }
+    ensures { λ r. ⌜ tableBuilt (after us) (after ns) n r ≡ dispatchEntries (was ws) (was text) c (entriesOf (was ts) (was ms) n) ⌝ }
 {
     let mut i: u32 = 0;
     while i < n {
@@ -136,7 +137,8 @@ fn dispatch_table(
     ns: &mut [u32],
 ) -> Dispatch
     requires { ⌜ (textLength (now ws) ≤ textLimit) × (abiTextLength (now abi) ≤ abiTextLimit) × (1024 ≤ length (now us)) × (1024 ≤ length (now ns)) ⌝ }
-    ensures { λ r. ⌜ tableBuilt (now (us .exit)) (now (ns .exit)) (r .n) (r .row) ≡ dispatchEntries (now (ws .entry)) (textOf (now (ws .entry))) c (tableEntries (now (ws .entry)) (textOf (now (ws .entry))) (now (abi .entry)) (abiTextOf (now (abi .entry))) (now (area .entry)) i) ⌝ }
+    ensures { λ r. ⌜ tableBuilt (after us) (after ns) (r .n) (r .row)
+        ≡ dispatchEntries (was ws) (textOf (was ws)) c (tableEntries (was ws) (textOf (was ws)) (was abi) (abiTextOf (was abi)) (was area) i) ⌝ }
 {
     let mut bytes = [0u8; class_sheet::TEXT_LIMIT as usize];
     class_sheet::unpack_text(ws, &mut bytes);
@@ -154,7 +156,7 @@ fn dispatch_table(
 
 // The place of class c's list head.
 fn head_place(ws: &[u32], c: u32) -> usize
-    ensures { λ r. ⌜ r ≡ headPlace (now (ws .entry)) c ⌝ }
+    ensures { λ r. ⌜ r ≡ headPlace (was ws) c ⌝ }
 {
     words::wide(class_sheet::class_table_place(ws, c))
         + words::wide(class_sheet::class_slot_count(ws, c))
@@ -174,7 +176,7 @@ fn finish_ask(
     row: u32,
 ) -> Answer
     requires { ⌜ badArea (now ws) (now area) ≡ false ⌝ }
-    ensures { λ r. ⌜ ((ms : List ℕ) → outcome r (now (ws .entry)) (now (area .exit)) ≡ finishAsk (now (ws .entry)) c i (now (area .entry)) (now (stubs .entry)) nodes (tableBuilt (now (ts .entry)) ms n row)) ⌝ }
+    ensures { λ r. ⌜ ((ms : List ℕ) → outcome r (was ws) (after area) ≡ finishAsk (was ws) c i (was area) (was stubs) nodes (tableBuilt (was ts) ms n row)) ⌝ }
 {
     if row != 0 {
         return Answer::Refused(row);
@@ -198,7 +200,7 @@ fn build_node(
     nodes: u32,
 ) -> Answer
     requires { ⌜ (setRefusal (now ws) (now abi) ≡ 0) × (badArea (now ws) (now area) ≡ false) ⌝ }
-    ensures { λ r. ⌜ outcome r (now (ws .entry)) (now (area .exit)) ≡ buildNode (now (ws .entry)) (now (abi .entry)) c i (now (area .entry)) (now (stubs .entry)) nodes ⌝ }
+    ensures { λ r. ⌜ outcome r (was ws) (after area) ≡ buildNode (was ws) (was abi) c i (was area) (was stubs) nodes ⌝ }
 {
     let mut us = [0u32; 1024];
     let mut ns = [0u32; 1024];
@@ -208,7 +210,7 @@ fn build_node(
 
 // Rows 3 to 7 of an ask, but for the walk: the number that refuses, or 0.
 fn ask_refusal(ws: &[u32], abi: &[u32], c: u32, i: u32, area: &[u32]) -> u32
-    ensures { λ r. ⌜ r ≡ askRefusal (now (ws .entry)) (now (abi .entry)) c i (now (area .entry)) ⌝ }
+    ensures { λ r. ⌜ r ≡ askRefusal (was ws) (was abi) c i (was area) ⌝ }
 {
     let row = set_rules::set_refusal(ws, abi);
     if row != 0 {
@@ -236,7 +238,7 @@ pub fn interface_dispatch_table(
     area: &mut [u32],
     stubs: &[u32],
 ) -> Answer
-    ensures { λ r. ⌜ outcome r (now (set .entry)) (now (area .exit)) ≡ askDef (now (set .entry)) (now (abi .entry)) class interface (now (area .entry)) (now (stubs .entry)) ⌝ }
+    ensures { λ r. ⌜ outcome r (was set) (after area) ≡ askDef (was set) (was abi) class interface (was area) (was stubs) ⌝ }
 {
     let row = ask_refusal(set, abi, class, interface, area);
     if row != 0 {

@@ -9,7 +9,8 @@ use lib.Seq.{getD-set-other, take-at}
 use Rattle.words.proofs.Lists.{part-set-other}
 use Rattle.linking.proofs.Writes.{length-write, write-before, write-drop}
 use Rattle.linking.specs.Vtable.{Entry, slotWords}
-use Rattle.linking.specs.Link.{nextFree, writeAt, linkedArea}
+use Rattle.linking.specs.Link.{nextFree, linkedArea}
+use Rattle.linking.specs.Set.{writeAt}
 use Rattle.linking.specs.Ask.{headPlace, askedArea}
 use Rattle.slots.proofs.ReadFacts.{length-words}
 

@@ -6,7 +6,7 @@ use mathlib.Core.Bool.{Bool, true, false, not, _&&_, _||_}
 use mathlib.Core.List.{List, [], _∷_, List·Memᴰ}
 use Prim.Native.Nat.{ℕ}
 use native.Mathlib.Omega.{arith}
-use lib.ListN.{getD, replicate}
+use lib.ListN.{length, getD, replicate}
 use lib.Dec.{eqb}
 use borrow.Author.Tests.{eqb-true}
 use Rattle.words.proofs.Bools.{or-either}
@@ -14,7 +14,7 @@ use Rattle.class_sheet.specs.ClassSheet.{textOf, classKind, isPackaged, methodF
 use Rattle.linking.specs.Chain.{ownMethods, chain, eligible, sameMethods}
 use Rattle.linking.specs.Packages.{isPublic, isProtected}
 use Rattle.linking.proofs.Overriding.{same-true}
-use Rattle.linking.proofs.Assemble.{Class, flagged, built, linkedAt, sized, abi, classSheet, abiSheet, fresh}
+use Rattle.linking.proofs.Assemble.{Class, flagged, built, linkedAt, sized, abi, classSheet, abiSheet, fresh, sevens}
 use Rattle.linking.proofs.Packaged.{packaged}
 use Rattle.linking.proofs.Opened.{opened}
 use Rattle.calls.specs.Calls.{Call, link, now, later}
@@ -95,6 +95,9 @@ none = abiSheet []
 abbrev area : List ℕ
 area = fresh 23
 
+abbrev missing : List ℕ
+missing = sevens 3
+
 abbrev calls : List Call
 calls = link 1 (901 ∷ 902 ∷ []) ∷ link 2 (903 ∷ 904 ∷ []) ∷ link 3 (905 ∷ 906 ∷ 907 ∷ []) ∷ []
 
@@ -106,23 +109,23 @@ passes : Passes sheet 3 none
 unfolding beside sheet none
 passes = record { packages = refl; open-methods = refl; once-only = refl; targets-nonzero = refl; targets-different = refl }
 
-pub linked₃ : Linked sheet none area calls 3 9 3
+pub linked₃ : Linked sheet none area missing calls 3 9 3
 unfolding beside sheet none
 linked₃ = later (later (now (905 ∷ 906 ∷ 907 ∷ []) refl refl refl))
 
-pub linked₀ : Linked (unpackaged sheet) none area calls 3 9 3
+pub linked₀ : Linked (unpackaged sheet) none area missing calls 3 9 3
 unfolding beside sheet none
 linked₀ = later (later (now (905 ∷ 906 ∷ 907 ∷ []) refl refl refl))
 
 -- the theorem speaks to it
-pub instance : (d : ℕ) → List·Memᴰ d (chain sheet 3) → SameSlots sheet none area area calls calls d
+pub instance : (d : ℕ) → List·Memᴰ d (chain sheet 3) → SameSlots sheet none area area missing missing calls calls d
 instance =
-    throughout sheet none area area (unlinked-holds sheet unlinked) calls calls 3 9 3 9 3 linked₃ linked₀ (premises sheet 3 none passes)
+    throughout sheet none area area missing missing (unlinked-holds sheet unlinked) calls calls 3 9 3 9 3 linked₃ linked₀ (premises sheet 3 none passes)
 
 -- and so both tables are
 pub record Three : Type 0 where
-  pub packaged : table sheet none area calls 9 3 ≡ 20 ∷ 31 ∷ 30 ∷ []
-  pub built : table (unpackaged sheet) none area calls 9 3 ≡ 20 ∷ 31 ∷ 30 ∷ []
+  pub packaged : table sheet none area missing calls 9 3 ≡ 20 ∷ 31 ∷ 30 ∷ []
+  pub built : table (unpackaged sheet) none area missing calls 9 3 ≡ 20 ∷ 31 ∷ 30 ∷ []
 
 pub three-classes : Three
 unfolding beside sheet none
@@ -135,6 +138,7 @@ pub record Pair : Type 0 where
   pub sheet : List ℕ
   pub area₃ : List ℕ
   pub area₀ : List ℕ
+  pub missing : List ℕ
   pub calls₃ : List Call
   pub calls₀ : List Call
 
@@ -143,15 +147,15 @@ pub record Pair : Type 0 where
 pub record Differs (x : Pair) (c p n q k : ℕ) (unlinked : Bool) (verdicts : List Bool) (t₃ t₀ : List ℕ) : Type 0 where
   pub start-is : isUnlinked (x .set) ≡ unlinked
   pub verdicts-are : tests (x .set) c (x .sheet) ≡ verdicts
-  pub linked₃ : Linked (x .set) (x .sheet) (x .area₃) (x .calls₃) c p n
-  pub linked₀ : Linked (unpackaged (x .set)) (x .sheet) (x .area₀) (x .calls₀) c q k
-  pub table₃ : table (x .set) (x .sheet) (x .area₃) (x .calls₃) p n ≡ t₃
-  pub table₀ : table (unpackaged (x .set)) (x .sheet) (x .area₀) (x .calls₀) q k ≡ t₀
+  pub linked₃ : Linked (x .set) (x .sheet) (x .area₃) (x .missing) (x .calls₃) c p n
+  pub linked₀ : Linked (unpackaged (x .set)) (x .sheet) (x .area₀) (x .missing) (x .calls₀) c q k
+  pub table₃ : table (x .set) (x .sheet) (x .area₃) (x .missing) (x .calls₃) p n ≡ t₃
+  pub table₀ : table (unpackaged (x .set)) (x .sheet) (x .area₀) (x .missing) (x .calls₀) q k ≡ t₀
   pub slot : ℕ
   pub apart : getD t₃ slot 0 ≢ getD t₀ slot 0
 
 abbrev from : List Class → List Call → Pair
-from cs ks = record { set = classSheet cs; sheet = abiSheet []; area₃ = fresh 23; area₀ = fresh 23; calls₃ = ks; calls₀ = ks }
+from cs ks = record { set = classSheet cs; sheet = abiSheet []; area₃ = fresh 23; area₀ = fresh 23; missing = sevens (length cs); calls₃ = ks; calls₀ = ks }
 
 abbrev one : List Call
 one = link 1 (901 ∷ 902 ∷ 903 ∷ []) ∷ []
@@ -167,6 +171,7 @@ linkedBefore =
       sheet = abiSheet [];
       area₃ = 4 ∷ 1 ∷ 10 ∷ 0 ∷ replicate 8 0;
       area₀ = 4 ∷ 1 ∷ 11 ∷ 0 ∷ replicate 8 0;
+      missing = sevens 2;
       calls₃ = link 2 (901 ∷ []) ∷ [];
       calls₀ = link 2 (901 ∷ []) ∷ [];
     }
@@ -179,6 +184,7 @@ kindZero =
       sheet = abiSheet (sized 1 (abi "A" [] []) ∷ []);
       area₃ = fresh 23;
       area₀ = fresh 23;
+      missing = sevens 1;
       calls₃ = link 1 (901 ∷ []) ∷ [];
       calls₀ = link 1 (902 ∷ []) ∷ [];
     }

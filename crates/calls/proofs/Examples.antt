@@ -11,8 +11,8 @@ use Rattle.linking.specs.Vtable.{readEntry}
 use Rattle.linking.proofs.Assemble as assemble
 use Rattle.linking.proofs.Assemble.{method, built, interface, compiled, array, slot, fixed, abi, lent, spare, fresh}
 use Rattle.linking.proofs.Opened.{opened}
-use Rattle.calls.specs.Calls.{Call, link, ask, run, LinkedIn, now, later, tableAt}
-use Rattle.calls.specs.Demand.{start, Claim}
+use Rattle.calls.specs.Calls.{Call, link, ask, start, run, LinkedIn, now, later, tableAt}
+use Rattle.calls.specs.Demand.{Claim}
 use Rattle.calls.proofs.Tests.{isUnlinked, unlinked-holds, Passes, conditions, answers, shown}
 use Rattle.calls.proofs.Theorem.{demand-3}
 
@@ -38,6 +38,9 @@ sheet = world .abi
 abbrev area : List ℕ
 area = fresh 40
 
+abbrev missing : List ℕ
+missing = world .missing
+
 -- class 3 before its parent, class 1, the field section grows, the method section grows, the interface, the array class, class 3, an ask that
 -- puts a node, class 3 again, an ask that finds it, a number that is no class
 abbrev calls : List Call
@@ -46,20 +49,20 @@ calls =
     ∷ link 3 (909 ∷ 910 ∷ 911 ∷ []) ∷ ask 3 6 (912 ∷ []) ∷ link 3 (913 ∷ []) ∷ ask 3 6 [] ∷ link 99 [] ∷ []
 
 pub record Rows : Type 0 where
-  pub answered : answers sheet (start ws area) calls
+  pub answered : answers sheet (start ws area missing) calls
       ≡ (6, 0, 0) ∷ (0, 1, 2) ∷ (0, 5, 0) ∷ (0, 7, 2) ∷ (0, 11, 1) ∷ (0, 14, 2) ∷ (0, 18, 3) ∷ (0, 24, 0) ∷ (6, 0, 0) ∷ (0, 24, 1) ∷ (6, 0, 0) ∷ []
-  pub first : tableAt (run sheet calls (start ws area) .area) 1 2 ≡ 902 ∷ 100 ∷ []
-  pub second : tableAt (run sheet calls (start ws area) .area) 14 2 ≡ 902 ∷ 100 ∷ []
-  pub third : tableAt (run sheet calls (start ws area) .area) 18 3 ≡ 902 ∷ 200 ∷ 300 ∷ []
+  pub first : tableAt (run sheet calls (start ws area missing) .area) 1 2 ≡ 902 ∷ 100 ∷ []
+  pub second : tableAt (run sheet calls (start ws area missing) .area) 14 2 ≡ 902 ∷ 100 ∷ []
+  pub third : tableAt (run sheet calls (start ws area missing) .area) 18 3 ≡ 902 ∷ 200 ∷ 300 ∷ []
   -- the known slots, by Reading at the start: those that demand 3's conclusions are about
   pub parent-known : readEntry ws (textOf ws) sheet (abiTextOf sheet) 2 1 100 .method ≡ At 0
   pub child-known : readEntry ws (textOf ws) sheet (abiTextOf sheet) 3 1 200 .method ≡ At 1
   pub child-new : readEntry ws (textOf ws) sheet (abiTextOf sheet) 3 2 300 .method ≡ At 2
   pub child-unknown : readEntry ws (textOf ws) sheet (abiTextOf sheet) 3 0 902 .method ≡ Nothing
   -- a field, a method and their names were added before classes 2 and 3 were linked
-  pub methods : methodCount ws ∷ methodCount (run sheet calls (start ws area) .set) ∷ [] ≡ 4 ∷ 5 ∷ []
-  pub fields : fieldCount ws ∷ fieldCount (run sheet calls (start ws area) .set) ∷ [] ≡ 0 ∷ 1 ∷ []
-  pub bytes : textLength ws ∷ textLength (run sheet calls (start ws area) .set) ∷ [] ≡ 46 ∷ 54 ∷ []
+  pub methods : methodCount ws ∷ methodCount (run sheet calls (start ws area missing) .set) ∷ [] ≡ 4 ∷ 5 ∷ []
+  pub fields : fieldCount ws ∷ fieldCount (run sheet calls (start ws area missing) .set) ∷ [] ≡ 0 ∷ 1 ∷ []
+  pub bytes : textLength ws ∷ textLength (run sheet calls (start ws area missing) .set) ∷ [] ≡ 46 ∷ 54 ∷ []
 
 pub rows : Rows
 unfolding opened shown ws sheet
@@ -83,9 +86,9 @@ passes = record {
   no-stub = refl;
 }
 
-linked : LinkedIn sheet 3 18 3 (start ws area) calls
+linked : LinkedIn sheet 3 18 3 (start ws area missing) calls
 unfolding opened shown ws sheet
 linked = later (later (later (later (later (later (now (909 ∷ 910 ∷ 911 ∷ []) refl refl refl))))))
 
-pub instance : Claim ws sheet area calls 3 18 3
-instance = demand-3 ws sheet area (unlinked-holds ws unlinked) calls 3 18 3 linked (conditions ws sheet calls 3 passes)
+pub instance : Claim ws sheet area missing calls 3 18 3
+instance = demand-3 ws sheet area missing (unlinked-holds ws unlinked) calls 3 18 3 linked (conditions ws sheet calls 3 passes)

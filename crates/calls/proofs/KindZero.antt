@@ -15,28 +15,28 @@ use Rattle.words.specs.declared.Found.{Found}
 use Rattle.words.specs.declared.Found.the-variants.{At, Nothing}
 use Rattle.words.proofs.Bools.{by, or-neither}
 use Rattle.words.proofs.ListLaws.{by-found}
-use Rattle.class_sheet.specs.ClassSheet.{countsWidth, classWidth, memberWidth, kindWord, flagsWord, firstFieldWord, classLimit, countAt, classCount, methodCount, methodsAt, fieldsAt, interfacesAt, compilersAt, textAt, textOf, classWord, classKind, isPackaged, classFlags, classTablePlace, methodWord}
+use Rattle.class_sheet.specs.ClassSheet.{countsWidth, classWidth, memberWidth, kindWord, flagsWord, firstFieldWord, classLimit, countAt, classCount, methodsAt, fieldsAt, interfacesAt, compilersAt, textAt, textOf, classWord, classKind, isPackaged, classFlags, classTablePlace, methodWord}
 use Rattle.abi_sheet.specs.AbiSheet.{abiTextOf}
 use Rattle.set_rules.specs.Valid.{Valid}
-use Rattle.linking.specs.Chain.{onFound, ownMethods, parentOf, chain, isInterface}
+use Rattle.linking.specs.Chain.{onFound, ownMethods, chain, isInterface}
 use Rattle.linking.specs.Abi.{classAbi, chainAbi, minimumSize}
 use Rattle.linking.specs.Vtable.{Entry, empty, built, extended, addMethods}
 use Rattle.linking.specs.Packages.{badPackages}
-use Rattle.linking.proofs.ChainLaws.{parent-within}
 use Rattle.linking.proofs.Overriding.{chain-of-chain}
+use Rattle.linking.proofs.Rebuilt.{Unmoved}
 use Rattle.slots.specs.Slots.{PackageRule, ChainMethod}
 use Rattle.slots.specs.Made.{readWords, startFrom, tableFrom, inheritedFrom, madeFrom, Made}
 use Rattle.slots.proofs.ListFacts.{not-found, inside}
-use Rattle.slots.proofs.ChainFacts.{chain-here, chain-up}
+use Rattle.slots.proofs.ChainFacts.{chain-here}
 use Rattle.slots.proofs.FixedFacts.{methodSignature, signature-same}
 use Rattle.slots.proofs.PackageZero.{MadeZero, Same, same-tables}
-use Rattle.calls.specs.Calls.{Call, Unlinked, LinkedIn, tableAt}
-use Rattle.calls.specs.Demand.{start, table, Linked}
+use Rattle.calls.specs.Calls.{Call, start, Unlinked, LinkedIn, tableAt}
+use Rattle.calls.specs.Demand.{table, Linked}
 use Rattle.calls.specs.KindZero.{asBuilt, unpackaged, Premises, SameSlots, AsKindZero, Throughout}
-use Rattle.calls.proofs.Like.{Alike}
+use Rattle.calls.proofs.Like.{Alike, unmoved-kind}
 use Rattle.calls.proofs.View.{chain-same, chain-class}
-use Rattle.calls.proofs.Build.{AllOf, read-words-of, built-same}
-use Rattle.calls.proofs.Packages.{inherited-same}
+use Rattle.calls.proofs.Build.{built-same}
+use Rattle.calls.proofs.Packages.{inherited-kept}
 use Rattle.calls.proofs.Runs.{tableOf, Plain}
 use Rattle.calls.proofs.Fits.{no-interface, no-entry}
 use Rattle.calls.proofs.Theorem.{P, final, table-is, whole-is, chain-made, chain-in, class-within, link-fits, linked-valid}
@@ -167,9 +167,9 @@ module _ (ws text abi labels : List ℕ) where
 
 -- ---- both runs
 
-module _ (ws abi area₃ area₀ : List ℕ) (unlinked : Unlinked ws) (calls₃ calls₀ : List Call) (c p n q k : ℕ)
-    (linked₃ : LinkedIn abi c p n (start ws area₃) calls₃)
-    (linked₀ : LinkedIn abi c q k (start (unpackaged ws) area₀) calls₀) (premises : Premises ws c) where
+module _ (ws abi area₃ area₀ missing₃ missing₀ : List ℕ) (unlinked : Unlinked ws) (calls₃ calls₀ : List Call) (c p n q k : ℕ)
+    (linked₃ : LinkedIn abi c p n (start ws area₃ missing₃) calls₃)
+    (linked₀ : LinkedIn abi c q k (start (unpackaged ws) area₀ missing₀) calls₀) (premises : Premises ws c) where
   abbrev text : List ℕ
   text = textOf ws
 
@@ -180,10 +180,10 @@ module _ (ws abi area₃ area₀ : List ℕ) (unlinked : Unlinked ws) (calls₃ 
   vs = unpackaged ws
 
   valid₃ : Valid ws
-  valid₃ = linked-valid ws abi area₃ calls₃ c p n linked₃
+  valid₃ = linked-valid ws abi area₃ missing₃ calls₃ c p n linked₃
 
   valid₀ : Valid vs
-  valid₀ = linked-valid vs abi area₀ calls₀ c q k linked₀
+  valid₀ = linked-valid vs abi area₀ missing₀ calls₀ c q k linked₀
 
   like : Alike ws vs
   like = unpackaged-alike ws
@@ -193,10 +193,10 @@ module _ (ws abi area₃ area₀ : List ℕ) (unlinked : Unlinked ws) (calls₃ 
       same-class ws d 15 (omega arith) (omega arith) ∙ unlinked d s (rw (like .classes) at a)
 
   among : (1 ≤ c) × (c ≤ classCount ws)
-  among = class-within ws abi area₃ valid₃ unlinked calls₃ linked₃
+  among = class-within ws abi area₃ missing₃ valid₃ unlinked calls₃ linked₃
 
   class : (d : ℕ) → List·Memᴰ d (chain ws c) → (1 ≤ d) × (d ≤ classCount ws)
-  class d i = chain-class ws vs valid₃ like c d (among .1) i
+  class d i = chain-class ws c d (among .1) i
 
   plain₃ : Plain ws c
   plain₃ = record { kinds = inr (premises .packages); flags = λ d i e. absurd (three (premises .packages d i) e) }
@@ -205,11 +205,11 @@ module _ (ws abi area₃ area₀ : List ℕ) (unlinked : Unlinked ws) (calls₃ 
       three e (inl f) = omega arith
       three e (inr f) = omega arith
 
-  made₃ : (d : ℕ) → List·Memᴰ d (chain ws c) → Made ws text abi labels (tableOf (final ws abi area₃ valid₃ unlinked calls₃)) (P ws abi area₃ valid₃ unlinked calls₃) d
-  made₃ = chain-made ws abi area₃ valid₃ unlinked calls₃ linked₃ plain₃
+  made₃ : (d : ℕ) → List·Memᴰ d (chain ws c) → Made ws text abi labels (tableOf (final ws abi area₃ missing₃ valid₃ unlinked calls₃)) (P ws abi area₃ missing₃ valid₃ unlinked calls₃) d
+  made₃ = chain-made ws abi area₃ missing₃ valid₃ unlinked calls₃ linked₃ plain₃
 
   fits : badPackages ws text abi labels c ≡ false
-  fits = link-fits ws abi area₃ valid₃ unlinked calls₃ linked₃
+  fits = link-fits ws abi area₃ missing₃ valid₃ unlinked calls₃ linked₃
 
   here-kind : classKind ws c ≡ 3
   here-kind = premises .packages c (chain-here ws c (among .0))
@@ -233,10 +233,10 @@ module _ (ws abi area₃ area₀ : List ℕ) (unlinked : Unlinked ws) (calls₃ 
   }
 
   abbrev zeros : ℕ → List ℕ
-  zeros = tableOf (final vs abi area₀ valid₀ unlinked₀ calls₀)
+  zeros = tableOf (final vs abi area₀ missing₀ valid₀ unlinked₀ calls₀)
 
-  made₀ : (d : ℕ) → List·Memᴰ d (chain ws c) → Made vs (textOf vs) abi labels zeros (P vs abi area₀ valid₀ unlinked₀ calls₀) d
-  made₀ d i = chain-made vs abi area₀ valid₀ unlinked₀ calls₀ linked₀ plain₀ d (rw chain-is i)
+  made₀ : (d : ℕ) → List·Memᴰ d (chain ws c) → Made vs (textOf vs) abi labels zeros (P vs abi area₀ missing₀ valid₀ unlinked₀ calls₀) d
+  made₀ d i = chain-made vs abi area₀ missing₀ valid₀ unlinked₀ calls₀ linked₀ plain₀ d (rw chain-is i)
 
   -- what it makes, by this sheet
 
@@ -246,16 +246,8 @@ module _ (ws abi area₃ area₀ : List ℕ) (unlinked : Unlinked ws) (calls₃ 
   not-one : (d : ℕ) → List·Memᴰ d (chain ws c) → classKind ws d ≢ 1
   not-one d i e = let f = premises .packages d i in omega arith
 
-  inherited-of : (d : ℕ) → List·Memᴰ d (chain ws c) → AllOf (methodCount ws) (inheritedFrom ws text abi labels zeros d)
-  unfolding inheritedFrom
-  inherited-of d i =
-      let j = class d i in
-      let w = parent-within ws d in
-      by (eqb (parentOf ws d) 0) (λ t. rw t tt)
-      (λ t.
-      rw t
-      (read-words-of ws vs valid₃ like abi labels (parentOf ws d) (omega (arith, j .1)) (λ e y. not-one e (up d i e (chain-up ws d (j .0) y)))
-      (zeros (parentOf ws d))))
+  unmoved : (d : ℕ) → List·Memᴰ d (chain ws c) → Unmoved ws vs d
+  unmoved d i = let j = class d i in unmoved-kind like (j .0) (j .1) (not-one d i)
 
   zero-from : (d : ℕ) → List·Memᴰ d (chain ws c) → (T : List Entry) → madeFrom vs (textOf vs) abi labels zeros d ≡ built T
       → addMethods vs (textOf vs) abi labels (chainAbi vs (textOf vs) abi labels d) (ownMethods vs d)
@@ -265,7 +257,7 @@ module _ (ws abi area₃ area₀ : List ℕ) (unlinked : Unlinked ws) (calls₃ 
   zero-from d i T e = rw (zero-kind d i) at e
 
   made-zero : (d : ℕ) → List·Memᴰ d (chain ws c)
-      → MadeZero ws text abi labels (tableOf (final ws abi area₃ valid₃ unlinked calls₃)) (P ws abi area₃ valid₃ unlinked calls₃) zeros d
+      → MadeZero ws text abi labels (tableOf (final ws abi area₃ missing₃ valid₃ unlinked calls₃)) (P ws abi area₃ missing₃ valid₃ unlinked calls₃) zeros d
   made-zero d i =
       let m = made₀ d i in
       let j = class d i in
@@ -276,27 +268,25 @@ module _ (ws abi area₃ area₀ : List ℕ) (unlinked : Unlinked ws) (calls₃ 
         from = sym (ap (addMethods ws text abi labels [] (ownMethods ws d)) (start-is ws text abi labels d (inheritedFrom ws text abi labels zeros d) (j .0) none))
             ∙ ap (λ (abis : List ℕ). addMethods ws text abi labels abis (ownMethods ws d) (startFrom ws text abi labels d (inheritedFrom ws text abi labels zeros d)))
             (sym (no-abis ws text abi labels d none))
-            ∙ sym (built-same ws vs valid₃ like abi labels d (j .0) (j .1) (not-one d i) (inheritedFrom ws text abi labels zeros d) (inherited-of d i))
-            ∙ ap
-            (λ (y : List Entry). addMethods vs (textOf vs) abi labels (chainAbi vs (textOf vs) abi labels d) (ownMethods vs d) (startFrom vs (textOf vs) abi labels d y))
-            (sym (inherited-same ws vs valid₃ like abi labels d (j .0) (j .1) (λ e y. not-one e (up d i e y)) zeros))
+            ∙ built-same ws vs valid₃ like abi labels d (j .1) (λ e y. unmoved e (up d i e y)) (j .0) (inheritedFrom ws text abi labels zeros d)
+            (inheritedFrom vs (textOf vs) abi labels zeros d) (inherited-kept ws vs valid₃ like abi labels zeros d (j .0) (j .1) (λ e y. unmoved e (up d i e y)))
             ∙ zero-from d i (m .entries) (m .from);
         words = m .words;
       }
 
-  same : Same ws text abi labels (tableOf (final ws abi area₃ valid₃ unlinked calls₃)) (P ws abi area₃ valid₃ unlinked calls₃) zeros c
+  same : Same ws text abi labels (tableOf (final ws abi area₃ missing₃ valid₃ unlinked calls₃)) (P ws abi area₃ missing₃ valid₃ unlinked calls₃) zeros c
   same =
-      same-tables ws text abi labels (tableOf (final ws abi area₃ valid₃ unlinked calls₃)) (P ws abi area₃ valid₃ unlinked calls₃) zeros c c (omega arith)
+      same-tables ws text abi labels (tableOf (final ws abi area₃ missing₃ valid₃ unlinked calls₃)) (P ws abi area₃ missing₃ valid₃ unlinked calls₃) zeros c c (omega arith)
       (among .0) (premises .packages) (record { nonzero = premises .targets-nonzero; different = premises .targets-different })
       (premises .open-methods) (λ d m k i x y e f s. premises .once d m k i x y e f (signature-same ws text s)) made₃ made-zero
 
-  equal : tableAt (final ws abi area₃ valid₃ unlinked calls₃ .area) p n ≡ tableAt (final vs abi area₀ valid₀ unlinked₀ calls₀ .area) q k
+  equal : tableAt (final ws abi area₃ missing₃ valid₃ unlinked calls₃ .area) p n ≡ tableAt (final vs abi area₀ missing₀ valid₀ unlinked₀ calls₀ .area) q k
   equal =
-      sym (table-is ws abi area₃ valid₃ unlinked calls₃ linked₃) ∙ same .equal ∙ table-is vs abi area₀ valid₀ unlinked₀ calls₀ linked₀
+      sym (table-is ws abi area₃ missing₃ valid₃ unlinked calls₃ linked₃) ∙ same .equal ∙ table-is vs abi area₀ missing₀ valid₀ unlinked₀ calls₀ linked₀
 
-  as-zero : (n ≡ k) × (tableAt (final ws abi area₃ valid₃ unlinked calls₃ .area) p n ≡ tableAt (final vs abi area₀ valid₀ unlinked₀ calls₀ .area) q k)
+  as-zero : (n ≡ k) × (tableAt (final ws abi area₃ missing₃ valid₃ unlinked calls₃ .area) p n ≡ tableAt (final vs abi area₀ missing₀ valid₀ unlinked₀ calls₀ .area) q k)
   as-zero = (
-    sym (whole-is ws abi area₃ valid₃ unlinked calls₃ linked₃) ∙ ap length equal ∙ whole-is vs abi area₀ valid₀ unlinked₀ calls₀ linked₀,
+    sym (whole-is ws abi area₃ missing₃ valid₃ unlinked calls₃ linked₃) ∙ ap length equal ∙ whole-is vs abi area₀ missing₀ valid₀ unlinked₀ calls₀ linked₀,
     equal,
   )
 
@@ -314,29 +304,29 @@ module _ (ws abi area₃ area₀ : List ℕ) (unlinked : Unlinked ws) (calls₃ 
       along : {m : ℕ} → ChainMethod ws d m → ChainMethod ws c m
       along j = record { owner = j .owner; along = up d i (j .owner) (j .along); own = j .own }
 
-  linked-three : (d : ℕ) → List·Memᴰ d (chain ws c) → (place : ℕ) × (slots : ℕ) × Linked ws abi area₃ calls₃ d place slots
-  linked-three d i = chain-in ws abi area₃ valid₃ unlinked calls₃ linked₃ d i
+  linked-three : (d : ℕ) → List·Memᴰ d (chain ws c) → (place : ℕ) × (slots : ℕ) × Linked ws abi area₃ missing₃ calls₃ d place slots
+  linked-three d i = chain-in ws abi area₃ missing₃ valid₃ unlinked calls₃ linked₃ d i
 
-  linked-zero : (d : ℕ) → List·Memᴰ d (chain ws c) → (place : ℕ) × (slots : ℕ) × Linked vs abi area₀ calls₀ d place slots
-  linked-zero d i = chain-in vs abi area₀ valid₀ unlinked₀ calls₀ linked₀ d (rw chain-is i)
+  linked-zero : (d : ℕ) → List·Memᴰ d (chain ws c) → (place : ℕ) × (slots : ℕ) × Linked vs abi area₀ missing₀ calls₀ d place slots
+  linked-zero d i = chain-in vs abi area₀ missing₀ valid₀ unlinked₀ calls₀ linked₀ d (rw chain-is i)
 
 -- ---- THE THEOREMS
 
 pub as-kind-zero : AsKindZero
-as-kind-zero ws abi area₃ area₀ unlinked calls₃ calls₀ c p n q k linked₃ linked₀ premises =
-    as-zero ws abi area₃ area₀ unlinked calls₃ calls₀ c p n q k linked₃ linked₀ premises
+as-kind-zero ws abi area₃ area₀ missing₃ missing₀ unlinked calls₃ calls₀ c p n q k linked₃ linked₀ premises =
+    as-zero ws abi area₃ area₀ missing₃ missing₀ unlinked calls₃ calls₀ c p n q k linked₃ linked₀ premises
 
 pub throughout : Throughout
-throughout ws abi area₃ area₀ unlinked calls₃ calls₀ c p n q k linked₃ linked₀ premises d i =
-    let a = linked-three ws abi area₃ area₀ unlinked calls₃ calls₀ c p n q k linked₃ linked₀ premises d i in
-    let b = linked-zero ws abi area₃ area₀ unlinked calls₃ calls₀ c p n q k linked₃ linked₀ premises d i in
-    let s = as-kind-zero ws abi area₃ area₀ unlinked calls₃ calls₀ d (a .0) (a .1) (b .0) (b .1) (a .2) (b .2)
-    (premises-of ws abi area₃ area₀ unlinked calls₃ calls₀ c p n q k linked₃ linked₀ premises d i) in
+throughout ws abi area₃ area₀ missing₃ missing₀ unlinked calls₃ calls₀ c p n q k linked₃ linked₀ premises d i =
+    let a = linked-three ws abi area₃ area₀ missing₃ missing₀ unlinked calls₃ calls₀ c p n q k linked₃ linked₀ premises d i in
+    let b = linked-zero ws abi area₃ area₀ missing₃ missing₀ unlinked calls₃ calls₀ c p n q k linked₃ linked₀ premises d i in
+    let s = as-kind-zero ws abi area₃ area₀ missing₃ missing₀ unlinked calls₃ calls₀ d (a .0) (a .1) (b .0) (b .1) (a .2) (b .2)
+    (premises-of ws abi area₃ area₀ missing₃ missing₀ unlinked calls₃ calls₀ c p n q k linked₃ linked₀ premises d i) in
     record {
       place₃ = a .0;
       place₀ = b .0;
       slots = a .1;
       linked₃ = a .2;
       linked₀ = rw (s .0) (b .2);
-      words = s .1 ∙ ap (λ (x : ℕ). table (unpackaged ws) abi area₀ calls₀ (b .0) x) (sym (s .0));
+      words = s .1 ∙ ap (λ (x : ℕ). table (unpackaged ws) abi area₀ missing₀ calls₀ (b .0) x) (sym (s .0));
     }

@@ -5,7 +5,8 @@ use mathlib.Core.Logic.{_≢_}
 use mathlib.Core.List.{List, [], _++_, append-nil, append-assoc}
 use Prim.Native.Nat.{ℕ, _≤_, _<_}
 use native.Mathlib.Omega.{arith}
-use Rattle.class_sheet.specs.ClassSheet.{memberWidth, kindWord, firstMethodWord, firstFieldWord, classCount, methodCount, textOf, classWord, classKind, methodWord}
+use Rattle.class_sheet.specs.ClassSheet.{memberWidth, kindWord, firstMethodWord, methodCountWord, firstFieldWord, classCount, methodCount, textOf, classWord, classKind, methodWord}
+use Rattle.linking.proofs.Rebuilt.{Unmoved}
 
 pub record Like (old new : List ℕ) : Type 0 where
   pub classes : classCount new ≡ classCount old
@@ -60,4 +61,11 @@ alike l = record {
   method = l .method;
   more = l .more;
   text = l .text;
+}
+
+-- the own methods of a class that is not generated are listed as before
+pub unmoved-kind : {old new : List ℕ} {d : ℕ} → Alike old new → 1 ≤ d → d ≤ classCount old → classKind old d ≢ 1 → Unmoved old new d
+unmoved-kind {d = d} like s a n = record {
+  first = like .listed d firstMethodWord s a n (omega arith) (omega arith);
+  many = like .listed d methodCountWord s a n (omega arith) (omega arith);
 }

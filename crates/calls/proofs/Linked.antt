@@ -19,7 +19,7 @@ use Rattle.linking.specs.Set.{newText}
 use Rattle.linking.specs.Link.{Plan, isNone, linkedWords}
 use Rattle.linking.specs.Grown.{linkedSections}
 use Rattle.linking.proofs.LinkedSections.{lies-of, linked-laid}
-use Rattle.linking.proofs.LinkedBack.{Left, linked-left, linked-still, linked-own}
+use Rattle.linking.proofs.LinkedBack.{Left, early, linked-left, linked-still, linked-own}
 use Rattle.calls.proofs.Like.{Like}
 
 -- all records but class c's are left, which has its place and its slots
@@ -85,7 +85,7 @@ module _ (ws : List ℕ) (c place words statics : ℕ) (p : Plan) (some : 1 ≤ 
       methods = omega (arith, method-count g, left .more-methods, lies-of ws fits .methods);
       word = λ d k l h b.
           by (eqb d c)
-          (λ t. let e : d ≡ c = eqb-true d c t in rw e (kept c k some among (omega arith) (left .early k b)))
+          (λ t. let e : d ≡ c = eqb-true d c t in rw e (kept c k some among (omega arith) (left .kept k (early k b))))
           (λ f. other d k l h (omega arith) (eqb-false d c f));
       listed = λ d k l h n b.
           by (eqb d c)

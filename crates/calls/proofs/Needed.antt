@@ -14,33 +14,34 @@ use Rattle.linking.specs.Chain.{ownMethods, parentOf}
 use Rattle.linking.specs.Abi.{classAbi}
 use Rattle.linking.specs.Vtable.{readEntry}
 use Rattle.linking.proofs.Assemble as assemble
-use Rattle.linking.proofs.Assemble.{Class, AbiClass, method, flagged, built, compiled, having, linkedAt, slot, abi, sized, classSheet, abiSheet, fresh}
+use Rattle.linking.proofs.Assemble.{Class, AbiClass, method, flagged, built, compiled, having, linkedAt, slot, abi, sized, classSheet, abiSheet, fresh, sevens}
 use Rattle.linking.proofs.Packaged.{packaged, foo}
 use Rattle.linking.proofs.Opened.{opened}
 use Rattle.slots.specs.Slots.{Unique, Known, Kept}
 use Rattle.slots.proofs.ListFacts.{not-found, in-none}
-use Rattle.calls.specs.Calls.{Call, link, run, Unlinked, LinkedIn, now, later, tableAt, lent-now}
-use Rattle.calls.specs.Demand.{start, Conditions, Claim}
+use Rattle.calls.specs.Calls.{Call, link, start, run, Unlinked, LinkedIn, now, later, tableAt, lent-now}
+use Rattle.calls.specs.Demand.{Conditions, Claim}
 use Rattle.calls.proofs.Tests.{isUnlinked, oldRule, old-holds, verdicts, shown}
 
 pub record Case : Type 0 where
   pub set : List ℕ
   pub sheet : List ℕ
   pub area : List ℕ
+  pub missing : List ℕ
   pub calls : List Call
 
 abbrev pub from : List Class → List AbiClass → List Call → Case
-from cs entries ks = record { set = classSheet cs; sheet = abiSheet entries; area = fresh 23; calls = ks }
+from cs entries ks = record { set = classSheet cs; sheet = abiSheet entries; area = fresh 23; missing = sevens (length cs); calls = ks }
 
 module _ (x : Case) where
   abbrev pub LinkedAt : ℕ → ℕ → ℕ → Type 0
-  LinkedAt c p n = LinkedIn (x .sheet) c p n (start (x .set) (x .area)) (x .calls)
+  LinkedAt c p n = LinkedIn (x .sheet) c p n (start (x .set) (x .area) (x .missing)) (x .calls)
 
   abbrev pub finalTable : ℕ → ℕ → List ℕ
-  finalTable p n = tableAt (run (x .sheet) (x .calls) (start (x .set) (x .area)) .area) p n
+  finalTable p n = tableAt (run (x .sheet) (x .calls) (start (x .set) (x .area) (x .missing)) .area) p n
 
   abbrev pub Holds : ℕ → ℕ → ℕ → Type 0
-  Holds c p n = Claim (x .set) (x .sheet) (x .area) (x .calls) c p n
+  Holds c p n = Claim (x .set) (x .sheet) (x .area) (x .missing) (x .calls) c p n
 
   -- slot i of a table reads as method m
   abbrev pub Reads : ℕ → List ℕ → ℕ → ℕ → Type 0
@@ -119,6 +120,7 @@ linkedBefore =
       set = classSheet (linkedAt 1 2 (built "P" 0 (method "a" 5 ∷ []) []) ∷ built "C" 1 [] [] ∷ []);
       sheet = abiSheet [];
       area = 5 ∷ 1 ∷ 5 ∷ 5 ∷ 0 ∷ replicate 10 0;
+      missing = sevens 2;
       calls = link 2 (901 ∷ 902 ∷ []) ∷ [];
     }
 

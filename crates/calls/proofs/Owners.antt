@@ -12,7 +12,7 @@ use Rattle.class_sheet.specs.ClassSheet.{firstMethodWord, methodCountWord, clas
 use Rattle.abi_sheet.specs.AbiSheet.{abiTextLength, abiTextWords, abiTextOf}
 use Rattle.set_rules.specs.Valid.{IsClass, Valid}
 use Rattle.set_rules.proofs.Valid.{valid}
-use Rattle.linking.specs.Link.{nextFree, newWords, newStatics, linkedWords, Outcome, linkDef}
+use Rattle.linking.specs.Link.{nextFree, newWords, newStatics, linkedWords, LinkOutcome, linkDef}
 use Rattle.linking.specs.Whose.{MethodsApart}
 use Rattle.linking.proofs.Plans.{Plans, plans}
 use Rattle.linking.proofs.Whose.{whose}
@@ -29,7 +29,7 @@ Own old new c =
 
 -- ---- one link that is accepted
 
-module _ (ws abi : List ℕ) (c : ℕ) (area stubs : List ℕ) (o : Outcome) (acc : Accepted ws abi c area stubs o) where
+module _ (ws abi : List ℕ) (c : ℕ) (area stubs missing : List ℕ) (o : LinkOutcome) (acc : Accepted ws abi c area stubs missing o) where
   valid-now : Valid ws
   valid-now = valid ws abi (acc .valid) .0
 
@@ -98,7 +98,7 @@ module _ (ws abi : List ℕ) (c : ℕ) (area stubs : List ℕ) (o : Outcome) (ac
       let g′ = other-count e (here e l) r in
       valid-now .methods d e m (here d k) (here e l) (omega arith) (omega arith) (omega arith) (omega arith)))
 
-  linked-apart : MethodsApart (o .set)
+  linked-apart : MethodsApart (o .outcome .set)
   linked-apart = subst MethodsApart (sym (acc .new-set)) left-apart
 
 -- ---- any list of calls
@@ -108,8 +108,8 @@ unfolding step
 step-apart abi s (link c stubs) a =
     ⊎-elim
     (λ r. subst MethodsApart (sym (r .same-set)) a)
-    (λ acc. linked-apart (s .set) abi c (s .area) stubs (linkDef (s .set) abi c (s .area) stubs) acc)
-    (link-cases (s .set) abi c (s .area) stubs)
+    (λ acc. linked-apart (s .set) abi c (s .area) stubs (s .missing) (linkDef (s .set) abi c (s .area) stubs (s .missing)) acc)
+    (link-cases (s .set) abi c (s .area) stubs (s .missing))
 step-apart abi s (ask c i stubs) a =
     ⊎-elim (λ r. subst MethodsApart (sym (r .same-set)) a) (λ r. subst MethodsApart (sym (r .same-set)) a) (ask-cases (s .set) abi c i (s .area) stubs)
 

@@ -3,7 +3,7 @@ use mathlib.Core.Path.{_≡_, refl}
 use mathlib.Core.Logic.{_⊎_, inl, inr, _≢_}
 use mathlib.Core.Bool.{true, false, cond, not, _&&_, _||_}
 use mathlib.Core.List.{List}
-use Prim.Native.Nat.{ℕ, _+_, _≤_}
+use Prim.Native.Nat.{ℕ, _+_, _*_, _≤_}
 use native.Mathlib.Omega.{arith}
 use lib.ListN.{length, getD}
 use lib.Dec.{eqb, ltb}
@@ -16,7 +16,8 @@ use Rattle.set_rules.specs.SetRules.{setRefusal}
 use Rattle.linking.specs.Chain.{parentOf}
 use Rattle.linking.specs.Vtable.{Entry, Built, built, refused, tableEntries}
 use Rattle.linking.specs.Packages.{badPackages}
-use Rattle.linking.specs.Link.{objectName, noClass, isLinked, badArray, badClass, nextFree, badArea, Plan, Planned, planned, unplanned, plan, newWords, newStatics, listsFull, setShort, noRoom, linkedArea, linkedWords, Outcome, refusedCall, finishLink, onPlan, linkDef}
+use Rattle.linking.specs.Counts.{missingWidth, countedAfter, missingShort}
+use Rattle.linking.specs.Link.{objectName, noClass, isLinked, badArray, badClass, nextFree, badArea, Plan, Planned, planned, unplanned, plan, newWords, newStatics, listsFull, setShort, noRoom, linkedArea, linkedWords, Outcome, refusedCall, LinkOutcome, refusedLink, finishLink, onPlan, linkDef}
 use Rattle.linking.specs.Ask.{Walk, hit, missed, broken, walk, headPlace, dispatchEntries, askedArea, onDispatch, buildNode, onWalk, badAsk, askDef}
 use Rattle.linking.proofs.Plans.{unplanned-number}
 use Rattle.linking.proofs.Rows.{Fits, fits, Linked, Sound, sound}
@@ -70,43 +71,52 @@ class-ok ws text c e =
 
 -- ---- a link
 
--- it is refused, and leaves the set and the area
-pub record Refused (o : Outcome) (ws area : List ℕ) : Type 0 where
-  pub number : o .refusal ≢ 0
-  pub same-set : o .set ≡ ws
-  pub same-area : o .area ≡ area
+-- it is refused, and leaves the set, the area and the counts
+pub record Refused (o : LinkOutcome) (ws area missing : List ℕ) : Type 0 where
+  pub number : o .outcome .refusal ≢ 0
+  pub same-set : o .outcome .set ≡ ws
+  pub same-area : o .outcome .area ≡ area
+  pub same-missing : o .missing ≡ missing
 
-pub record Accepted (ws abi : List ℕ) (c : ℕ) (area stubs : List ℕ) (o : Outcome) : Type 0 where
+pub record Accepted (ws abi : List ℕ) (c : ℕ) (area stubs missing : List ℕ) (o : LinkOutcome) : Type 0 where
   pub valid : setRefusal ws abi ≡ 0
   pub class : ClassOk ws c
   pub lent : Sound ws area
   pub packages : badPackages ws (textOf ws) abi (abiTextOf abi) c ≡ false
   pub coming : Plan
   pub comes : plan ws (textOf ws) abi (abiTextOf abi) area c ≡ planned coming
+  pub lists : listsFull ws c coming ≡ false
   pub room : Fits area stubs (length (coming .table))
-  pub number : o .refusal ≡ 0
-  pub answers-place : o .first ≡ nextFree area
-  pub answers-slots : o .second ≡ length (coming .table)
-  pub new-set : o .set ≡ linkedWords ws c (nextFree area) (newWords ws (textOf ws) abi (abiTextOf abi) c) (newStatics ws (textOf ws) c) coming
-  pub new-area : o .area ≡ linkedArea area c (coming .table) stubs
+  pub long : missingWidth * classCount ws ≤ length missing
+  pub number : o .outcome .refusal ≡ 0
+  pub answers-place : o .outcome .first ≡ nextFree area
+  pub answers-slots : o .outcome .second ≡ length (coming .table)
+  pub new-set : o .outcome .set ≡ linkedWords ws c (nextFree area) (newWords ws (textOf ws) abi (abiTextOf abi) c) (newStatics ws (textOf ws) c) coming
+  pub new-area : o .outcome .area ≡ linkedArea area c (coming .table) stubs
+  pub new-missing : o .missing ≡ countedAfter ws missing c (coming .table)
 
-refused-call : (ws area : List ℕ) (n : ℕ) → n ≢ 0 → Refused (refusedCall n ws area) ws area
-refused-call ws area n h = record { number = h; same-set = refl; same-area = refl }
+refused-link : (ws area missing : List ℕ) (n : ℕ) → n ≢ 0 → Refused (refusedLink n ws area missing) ws area missing
+refused-link ws area missing n h = record { number = h; same-set = refl; same-area = refl; same-missing = refl }
 
-module _ (ws abi : List ℕ) (c : ℕ) (area stubs : List ℕ) where
-  abbrev Either : Outcome → Type 0
-  Either o = Refused o ws area ⊎ Accepted ws abi c area stubs o
+long-enough : (ws missing : List ℕ) → missingShort ws missing ≡ false → missingWidth * classCount ws ≤ length missing
+unfolding missingShort
+long-enough ws missing e = ltb-false (length missing) (missingWidth * classCount ws) e
+
+module _ (ws abi : List ℕ) (c : ℕ) (area stubs missing : List ℕ) where
+  abbrev Either : LinkOutcome → Type 0
+  Either o = Refused o ws area missing ⊎ Accepted ws abi c area stubs missing o
 
   finish : setRefusal ws abi ≡ 0 → ClassOk ws c → Sound ws area → badPackages ws (textOf ws) abi (abiTextOf abi) c ≡ false → (p : Plan) → plan ws (textOf ws) abi (abiTextOf abi) area c ≡ planned p
-      → Either (finishLink ws abi c area stubs p)
+      → Either (finishLink ws abi c area stubs missing p)
   unfolding finishLink
   finish v k a f p e =
-      by (listsFull ws c p) (λ t. rw t (inl (refused-call ws area 14 (omega arith))))
+      by (listsFull ws c p) (λ t. rw t (inl (refused-link ws area missing 14 (omega arith))))
       (λ t.
       rw t
-      (by (noRoom area stubs (length (p .table)) || setShort ws c p)
-      (λ u. rw u (inl (refused-call ws area 15 (omega arith))))
+      (by (noRoom area stubs (length (p .table)) || setShort ws c p || missingShort ws missing)
+      (λ u. rw u (inl (refused-link ws area missing 15 (omega arith))))
       (λ u.
+      let q = or-neither (noRoom area stubs (length (p .table)) || setShort ws c p) (missingShort ws missing) u in
       rw u
       (inr (record {
         valid = v;
@@ -115,37 +125,40 @@ module _ (ws abi : List ℕ) (c : ℕ) (area stubs : List ℕ) where
         packages = f;
         coming = p;
         comes = e;
-        room = fits area stubs (length (p .table)) (or-neither (noRoom area stubs (length (p .table))) (setShort ws c p) u .0);
+        lists = t;
+        room = fits area stubs (length (p .table)) (or-neither (noRoom area stubs (length (p .table))) (setShort ws c p) (q .0) .0);
+        long = long-enough ws missing (q .1);
         number = refl;
         answers-place = refl;
         answers-slots = refl;
         new-set = refl;
         new-area = refl;
+        new-missing = refl;
       })))))
 
   go-on : setRefusal ws abi ≡ 0 → ClassOk ws c → Sound ws area → badPackages ws (textOf ws) abi (abiTextOf abi) c ≡ false → (q : Planned) → plan ws (textOf ws) abi (abiTextOf abi) area c ≡ q
-      → Either (onPlan q (finishLink ws abi c area stubs) (λ n. refusedCall n ws area))
+      → Either (onPlan q (finishLink ws abi c area stubs missing) (λ n. refusedLink n ws area missing))
   go-on v k a f (planned p) e = finish v k a f p e
-  go-on v k a f (unplanned n) e = inl (refused-call ws area n (unplanned-number ws (textOf ws) abi (abiTextOf abi) area c n e))
+  go-on v k a f (unplanned n) e = inl (refused-link ws area missing n (unplanned-number ws (textOf ws) abi (abiTextOf abi) area c n e))
 
-  pub link-cases : Either (linkDef ws abi c area stubs)
+  pub link-cases : Either (linkDef ws abi c area stubs missing)
   unfolding linkDef
   link-cases =
       by (eqb (setRefusal ws abi) 0)
       (λ v.
       rw v
-      (by (badClass ws (textOf ws) c) (λ t. rw t (inl (refused-call ws area 6 (omega arith))))
+      (by (badClass ws (textOf ws) c) (λ t. rw t (inl (refused-link ws area missing 6 (omega arith))))
       (λ t.
       rw t
-      (by (badArea ws area) (λ u. rw u (inl (refused-call ws area 7 (omega arith))))
+      (by (badArea ws area) (λ u. rw u (inl (refused-link ws area missing 7 (omega arith))))
       (λ u.
       rw u
-      (by (badPackages ws (textOf ws) abi (abiTextOf abi) c) (λ k. rw k (inl (refused-call ws area 26 (omega arith))))
+      (by (badPackages ws (textOf ws) abi (abiTextOf abi) c) (λ k. rw k (inl (refused-link ws area missing 26 (omega arith))))
       (λ k.
       rw k
       (go-on (eqb-true (setRefusal ws abi) 0 v) (class-ok ws (textOf ws) c t) (sound ws area u) k
       (plan ws (textOf ws) abi (abiTextOf abi) area c) refl))))))))
-      (λ v. rw v (inl (refused-call ws area (setRefusal ws abi) (eqb-false (setRefusal ws abi) 0 v))))
+      (λ v. rw v (inl (refused-link ws area missing (setRefusal ws abi) (eqb-false (setRefusal ws abi) 0 v))))
 
 -- ---- an ask
 

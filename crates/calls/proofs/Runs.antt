@@ -21,25 +21,29 @@ use Rattle.linking.proofs.ChainLaws.{parent-below, parent-within, chain-none}
 use Rattle.linking.specs.Chain.{listCount, ownMethods, parentOf, chain, isInterface}
 use Rattle.linking.specs.Vtable.{Entry, built, readEntry, parentEntries, slotWords}
 use Rattle.linking.specs.Packages.{topmost, unfitForPackages, badPackages}
-use Rattle.linking.specs.Link.{nextFree, newWords, newStatics, linkedArea, Outcome}
+use Rattle.linking.specs.Link.{nextFree, newWords, newStatics, linkedArea, LinkOutcome}
 use Rattle.linking.proofs.Plans.{Plans, plans}
 use Rattle.linking.proofs.Rows.{Linked}
+use Rattle.linking.proofs.Pairs.{none}
+use Rattle.linking.proofs.Renumbered.{Tables}
+use Rattle.linking.proofs.RenumberedPackages.{some-ext, last-ext, last-of}
+use Rattle.linking.proofs.Rebuilt.{Unmoved}
 use Rattle.linking.proofs.Packed.{text-bytes}
 use Rattle.slots.specs.Slots.{OldRule, PackageRule}
 use Rattle.slots.specs.Made.{tableFrom, inheritedFrom, introducedFrom, packagesFrom, madeFrom, Made}
 use Rattle.slots.proofs.ListFacts.{in-none}
 use Rattle.slots.proofs.ChainFacts.{chain-here, chain-up, chain-cases}
-use Rattle.slots.proofs.PackageLinks.{last-ext, last-of, Lies, packages-from}
+use Rattle.slots.proofs.PackageLinks.{Lies, packages-from}
 use Rattle.slots.proofs.LinkFacts.{read-area, plan-table}
 use Rattle.slots.proofs.ReadFacts.{length-words}
 use Rattle.calls.specs.Calls.{State, tableAt}
 use Rattle.calls.proofs.Area.{linked-length, linked-before, linked-slots}
 use Rattle.calls.proofs.Linked.{Leaves, link-leaves}
 use Rattle.calls.proofs.Rows.{Accepted}
-use Rattle.calls.proofs.Like.{Like, like-next, alike}
-use Rattle.calls.proofs.View.{parent-same, chain-same, chain-class, class-abi, read-words-same}
-use Rattle.calls.proofs.Packages.{some-ext, packages-same}
-use Rattle.calls.proofs.Build.{AllOf, read-words-of, table-same}
+use Rattle.calls.proofs.Like.{Like, like-next, alike, unmoved-kind}
+use Rattle.calls.proofs.View.{parent-same, chain-same, chain-class, class-abi}
+use Rattle.calls.proofs.Build.{Own, read-words-kept, table-same}
+use Rattle.calls.proofs.Packages.{packages-same}
 
 -- a class's table as its record and the area have it
 abbrev pub tableOf : State → ℕ → List ℕ
@@ -89,6 +93,10 @@ not-generated k (inr e) f = omega arith
 plain-kinds : {ws : List ℕ} {c : ℕ} → Plain ws c → (d : ℕ) → List·Memᴰ d (chain ws c) → classKind ws d ≢ 1
 plain-kinds {ws} p d i =
     elim (p .kinds) [ inl k ↦ not-generated (classKind ws d) (k d i) | inr k ↦ (λ e. let q = k d i in omega arith) ]
+
+-- along such a chain every class's own methods are listed as before
+plain-still : {ws ws′ : List ℕ} {c : ℕ} → Like ws ws′ → c ≤ classCount ws → Plain ws c → (d : ℕ) → List·Memᴰ d (chain ws c) → Unmoved ws ws′ d
+plain-still {ws} {c = c} like a p d i = let k = chain-class ws c d a i in unmoved-kind (alike like) (k .0) (k .1) (plain-kinds p d i)
 
 pub plain-up : {ws : List ℕ} {c : ℕ} → 1 ≤ c → Plain ws c → Plain ws (parentOf ws c)
 plain-up {ws} {c} h p = record {
@@ -174,10 +182,10 @@ module _ (ws₀ abi : List ℕ) (valid₀ : Valid ws₀) (P : ℕ → Type 0) wh
 
   -- ---- an accepted link keeps what is linked, and adds its class
 
-  module _ (s : State) (inv : Inv s) (c : ℕ) (stubs : List ℕ) (o : Outcome) (acc : Accepted (s .set) abi c (s .area) stubs o)
+  module _ (s : State) (inv : Inv s) (c : ℕ) (stubs : List ℕ) (o : LinkOutcome) (acc : Accepted (s .set) abi c (s .area) stubs (s .missing) o)
       (lent : (x : ℕ) → List·Memᴰ x stubs → P x) where
     abbrev next : State
-    next = record { set = o .set; area = o .area }
+    next = record { set = o .outcome .set; area = o .outcome .area; missing = o .missing }
 
     abbrev T : List Entry
     T = acc .coming .table
@@ -197,7 +205,7 @@ module _ (ws₀ abi : List ℕ) (valid₀ : Valid ws₀) (P : ℕ → Type 0) wh
     planning : Plans (s .set) (textOf (s .set)) abi (abiTextOf abi) (s .area) c (acc .coming)
     planning = plans (s .set) (textOf (s .set)) abi (abiTextOf abi) (s .area) c (acc .coming) (acc .comes)
 
-    leaves : Leaves (s .set) (o .set) c (nextFree (s .area)) (length T)
+    leaves : Leaves (s .set) (o .outcome .set) c (nextFree (s .area)) (length T)
     leaves =
         let v = valid-now .class c (some, among) in
         let i = planning .indices in
@@ -215,10 +223,10 @@ module _ (ws₀ abi : List ℕ) (valid₀ : Valid ws₀) (P : ℕ → Type 0) wh
     other : (d : ℕ) → Linked (s .set) d → d ≢ c
     other d l e = l .has (rw e (acc .class .new))
 
-    place-other : (d : ℕ) → 1 ≤ d → d ≤ classCount (s .set) → d ≢ c → classTablePlace (o .set) d ≡ classTablePlace (s .set) d
+    place-other : (d : ℕ) → 1 ≤ d → d ≤ classCount (s .set) → d ≢ c → classTablePlace (o .outcome .set) d ≡ classTablePlace (s .set) d
     place-other d h a n = leaves .others d 15 h a (omega arith) n
 
-    slots-other : (d : ℕ) → 1 ≤ d → d ≤ classCount (s .set) → d ≢ c → classSlotCount (o .set) d ≡ classSlotCount (s .set) d
+    slots-other : (d : ℕ) → 1 ≤ d → d ≤ classCount (s .set) → d ≢ c → classSlotCount (o .outcome .set) d ≡ classSlotCount (s .set) d
     slots-other d h a n = leaves .others d 16 h a (omega arith) n
 
     table-other : (d : ℕ) → Linked (s .set) d → tableOf next d ≡ tableOf s d
@@ -238,63 +246,56 @@ module _ (ws₀ abi : List ℕ) (valid₀ : Valid ws₀) (P : ℕ → Type 0) wh
       table = table-other;
     }
 
-    pub new-place : classTablePlace (o .set) c ≡ nextFree (s .area)
+    pub new-place : classTablePlace (o .outcome .set) c ≡ nextFree (s .area)
     new-place = leaves .place
 
-    pub new-slots : classSlotCount (o .set) c ≡ length T
+    pub new-slots : classSlotCount (o .outcome .set) c ≡ length T
     new-slots = leaves .slots
 
-    pub new-linked : Linked (o .set) c
+    pub new-linked : Linked (o .outcome .set) c
     new-linked = record { some = some; among = rw (leaves .like .classes) among; has = rw new-place (acc .lent .some) }
 
-    new-table : tableOf next c ≡ slotWords stubs 0 T
+    pub new-table : tableOf next c ≡ slotWords stubs 0 T
     new-table =
-        ap (λ (p : ℕ). tableAt (o .area) p (classSlotCount (o .set) c)) new-place
-        ∙ ap (λ (n : ℕ). tableAt (o .area) (nextFree (s .area)) n) new-slots
+        ap (λ (p : ℕ). tableAt (o .outcome .area) p (classSlotCount (o .outcome .set) c)) new-place
+        ∙ ap (λ (n : ℕ). tableAt (o .outcome .area) (nextFree (s .area)) n) new-slots
         ∙ ap (λ (x : List ℕ). tableAt x (nextFree (s .area)) (length T)) (acc .new-area)
         ∙ linked-slots (s .area) c T stubs (acc .lent .some) room
 
-    pub was : (d : ℕ) → d ≢ c → Linked (o .set) d → Linked (s .set) d
+    pub was : (d : ℕ) → d ≢ c → Linked (o .outcome .set) d → Linked (s .set) d
     was d n l =
         let a : d ≤ classCount (s .set) = rw (← leaves .like .classes) (l .among) in
         record { some = l .some; among = a; has = rw (← place-other d (l .some) a n) (l .has) }
 
     -- its parent
-    parent-is : parentOf (s .set) c ≡ parentOf ws₀ c
+    pub parent-is : parentOf (s .set) c ≡ parentOf ws₀ c
     parent-is = parent-same ws₀ (s .set) valid₀ (alike (inv .like)) c some among₀
 
-    parent-linked : parentOf ws₀ c ≢ 0 → Linked (s .set) (parentOf ws₀ c)
+    pub parent-linked : parentOf ws₀ c ≢ 0 → Linked (s .set) (parentOf ws₀ c)
     parent-linked n =
         let b = parent-within ws₀ c in
         record { some = omega arith; among = omega (arith, among); has = rw (← parent-is) (acc .class .parent (rw parent-is n)) }
 
     -- the parent's entries, read at the link, are those of its table, read by the sheet at the start
-    parent-entries : Plain ws₀ c → parentEntries (s .set) (textOf (s .set)) abi (abiTextOf abi) (s .area) c
-        ≡ inheritedFrom ws₀ (textOf ws₀) abi (abiTextOf abi) (tableOf s) c
+    parent-entries : Plain ws₀ c
+        → Tables (Own (methodCount ws₀)) (inheritedFrom ws₀ (textOf ws₀) abi (abiTextOf abi) (tableOf s) c)
+        (parentEntries (s .set) (textOf (s .set)) abi (abiTextOf abi) (s .area) c)
     unfolding parentEntries inheritedFrom
     parent-entries p =
         rw parent-is
-        (by (eqb (parentOf ws₀ c) 0) (λ q. rw q refl)
+        (by (eqb (parentOf ws₀ c) 0) (λ q. rw q none)
         (λ q.
         let l = parent-linked (eqb-false (parentOf ws₀ c) 0 q) in
         let k = valid-now .class (parentOf ws₀ c) (l .some, l .among) .slots (l .has) in
         let b = acc .lent .below (parentOf ws₀ c) l in
         let w = acc .lent .within in
-        rw q
-        (sym (read-area (s .set) (textOf (s .set)) abi (abiTextOf abi) (s .area) (parentOf ws₀ c) (classSlotCount (s .set) (parentOf ws₀ c))
-        (omega arith) (omega arith))
-        ∙ read-words-same ws₀ (s .set) valid₀ (alike (inv .like)) abi (abiTextOf abi) (parentOf ws₀ c) (omega (arith, l .among, inv .like .classes))
-        (plain-kinds (plain-up some p)) (tableOf s (parentOf ws₀ c)))))
-
-    inherited-of : Plain ws₀ c → AllOf (methodCount ws₀) (inheritedFrom ws₀ (textOf ws₀) abi (abiTextOf abi) (tableOf s) c)
-    unfolding inheritedFrom
-    inherited-of p =
-        let b = parent-within ws₀ c in
-        by (eqb (parentOf ws₀ c) 0) (λ q. rw q tt)
-        (λ q.
-        rw q
-        (read-words-of ws₀ (s .set) valid₀ (alike (inv .like)) abi (abiTextOf abi) (parentOf ws₀ c) (omega (arith, among₀)) (plain-kinds (plain-up some p))
-        (tableOf s (parentOf ws₀ c))))
+        rw (
+          q,
+          ← (read-area (s .set) (textOf (s .set)) abi (abiTextOf abi) (s .area) (parentOf ws₀ c) (classSlotCount (s .set) (parentOf ws₀ c)) (omega arith)
+              (omega arith)),
+        )
+        (read-words-kept ws₀ (s .set) valid₀ (alike (inv .like)) abi (abiTextOf abi) (parentOf ws₀ c) (omega (arith, l .among, inv .like .classes))
+        (plain-still (inv .like) (omega (arith, l .among, inv .like .classes)) (plain-up some p)) (tableOf s (parentOf ws₀ c)))))
 
     here-kind : classKind (s .set) c ≡ classKind ws₀ c
     here-kind = inv .like .word c kindWord some among₀ (omega arith)
@@ -306,9 +307,9 @@ module _ (ws₀ abi : List ℕ) (valid₀ : Valid ws₀) (P : ℕ → Type 0) wh
         → tableFrom ws₀ (textOf ws₀) abi (abiTextOf abi) c (inheritedFrom ws₀ (textOf ws₀) abi (abiTextOf abi) (tableOf s) c) ≡ built T
     old-from p k =
         let f = p .flags c (chain-here ws₀ c some) k in
-        sym (table-same ws₀ (s .set) valid₀ (alike (inv .like)) abi (abiTextOf abi) c some among₀ (plain-kinds p c (chain-here ws₀ c some)) here-kind
-        (inheritedFrom ws₀ (textOf ws₀) abi (abiTextOf abi) (tableOf s) c) (inherited-of p))
-        ∙ ap (tableFrom (s .set) (textOf (s .set)) abi (abiTextOf abi) c) (sym (parent-entries p))
+        table-same ws₀ (s .set) valid₀ (alike (inv .like)) abi (abiTextOf abi) c among₀ (plain-still (inv .like) among₀ p) some here-kind
+        (inheritedFrom ws₀ (textOf ws₀) abi (abiTextOf abi) (tableOf s) c) (parentEntries (s .set) (textOf (s .set)) abi (abiTextOf abi) (s .area) c)
+        (parent-entries p)
         ∙ plan-table (s .set) (textOf (s .set)) abi (abiTextOf abi) (s .area) c (acc .coming) planning (rw here-kind k) (rw here-flags f)
 
     -- the parent's chain is linked
@@ -335,11 +336,11 @@ module _ (ws₀ abi : List ℕ) (valid₀ : Valid ws₀) (P : ℕ → Type 0) wh
 
     packages-from-start : Plain ws₀ c → classKind ws₀ c ≡ 3 → packagesFrom ws₀ (textOf ws₀) abi (abiTextOf abi) (tableOf s) c ≡ T
     packages-from-start p k =
-        sym (packages-same ws₀ (s .set) valid₀ (alike (inv .like)) abi (abiTextOf abi) c some among₀ (plain-kinds p) (tableOf s))
+        packages-same ws₀ (s .set) valid₀ (alike (inv .like)) abi (abiTextOf abi) (tableOf s) c some among₀ (plain-still (inv .like) among₀ p)
         ∙ sym (packages-from (s .set) (textOf (s .set)) abi (abiTextOf abi) (s .area) (tableOf s) c (omega (arith, among₀, valid₀ .class-count)) lies)
         ∙ planning .packaged (here-kind ∙ k)
 
-    new-from : Plain ws₀ c → madeFrom ws₀ (textOf ws₀) abi (abiTextOf abi) (tableOf s) c ≡ built T
+    pub new-from : Plain ws₀ c → madeFrom ws₀ (textOf ws₀) abi (abiTextOf abi) (tableOf s) c ≡ built T
     unfolding madeFrom
     new-from p =
         by (isPackaged ws₀ c)
@@ -357,7 +358,7 @@ module _ (ws₀ abi : List ℕ) (valid₀ : Valid ws₀) (P : ℕ → Type 0) wh
     chain-is = chain-same ws₀ (s .set) valid₀ (alike (inv .like)) c among₀
 
     at-class : (d : ℕ) → List·Memᴰ d (chain ws₀ c) → (1 ≤ d) × (d ≤ classCount ws₀)
-    at-class d i = chain-class ws₀ (s .set) valid₀ (alike (inv .like)) c d among₀ i
+    at-class d i = chain-class ws₀ c d among₀ i
 
     kind-same : (d : ℕ) → List·Memᴰ d (chain ws₀ c) → isPackaged (s .set) d ≡ isPackaged ws₀ d
     kind-same d i = let k = at-class d i in rw (inv .like .word d kindWord (k .0) (k .1) (omega arith))
@@ -398,12 +399,12 @@ module _ (ws₀ abi : List ℕ) (valid₀ : Valid ws₀) (P : ℕ → Type 0) wh
       words = new-table;
     }
 
-    old-below : (d : ℕ) → Linked (s .set) d → endOf next d ≤ classTablePlace (o .set) c
+    old-below : (d : ℕ) → Linked (s .set) d → endOf next d ≤ classTablePlace (o .outcome .set) c
     old-below d l = omega (arith, new-place, link-keeps .place d l, link-keeps .slots d l, acc .lent .below d l)
 
     pub link-inv : Inv next
     link-inv = record {
-      like = like-next ws₀ (s .set) (o .set) (inv .like) (leaves .like);
+      like = like-next ws₀ (s .set) (o .outcome .set) (inv .like) (leaves .like);
       parent = λ d l n.
           by (eqb d c)
           (λ t. let e : d ≡ c = eqb-true d c t in rw e (still link-keeps (parentOf ws₀ c) (parent-linked (rw e at n))))

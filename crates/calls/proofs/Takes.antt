@@ -290,9 +290,9 @@ module _ (ws abi area : List ℕ) (c : ℕ) (some : 0 < c) (room : c ≤ classLi
 
 -- ---- THE THEOREM
 
-accepted-takes : (ws abi : List ℕ) (c : ℕ) (area stubs : List ℕ) → classKind ws c ≡ 3 → Accepted ws abi c area stubs (linkDef ws abi c area stubs)
-    → LinkTakes ws abi c area stubs
-accepted-takes ws abi c area stubs kind a = record {
+accepted-takes : (ws abi : List ℕ) (c : ℕ) (area stubs missing : List ℕ) → classKind ws c ≡ 3 → Accepted ws abi c area stubs missing (linkDef ws abi c area stubs missing)
+    → LinkTakes ws abi c area stubs missing
+accepted-takes ws abi c area stubs missing kind a = record {
   table = a .coming .table;
   takes = table-takes ws abi area c (a .class .some) (omega (arith, a .class .among, valid ws abi (a .valid) .0 .class-count)) (a .coming .table)
       (plans ws (textOf ws) abi (abiTextOf abi) area c (a .coming) (a .comes) .packaged kind);
@@ -301,5 +301,5 @@ accepted-takes ws abi c area stubs kind a = record {
 }
 
 pub taken-slots : TakenSlots
-taken-slots ws abi c area stubs kind e =
-    elim (link-cases ws abi c area stubs) [ inl r ↦ absurd (r .number e) | inr a ↦ accepted-takes ws abi c area stubs kind a ]
+taken-slots ws abi c area stubs missing kind e =
+    elim (link-cases ws abi c area stubs missing) [ inl r ↦ absurd (r .number e) | inr a ↦ accepted-takes ws abi c area stubs missing kind a ]

@@ -1,26 +1,31 @@
--- Chains, methods and Reading go by the sheet at the list's start: along a chain without generated classes they are the same in the words that
--- calls left. Assumes nothing.
+-- Chains, methods and class names go by the sheet at the list's start: they are the same in the words that calls left, and so are the own methods of a
+-- class whose list is left. Assumes nothing.
 use mathlib.Core.Path.{_≡_, refl, ap}
-use mathlib.Core.Logic.{_≢_}
 use mathlib.Core.List.{List, _∷_, List·Memᴰ}
 use Prim.Native.Nat.{ℕ, zero, suc, _+_, _≤_, _<_}
 use native.Mathlib.Omega.{arith}
-use lib.ListN.{length, getD, take}
-use lib.Dec.{eqb}
-use Rattle.words.specs.Lists.{andThen}
-use Rattle.words.proofs.ListLaws.{by-found, numbers-within}
+use lib.ListN.{length}
+use Rattle.words.proofs.ListLaws.{numbers-within}
 use Rattle.text.specs.Text.{nameAt, nameStartWord, nameLengthWord}
-use Rattle.class_sheet.specs.ClassSheet.{parentWord, firstMethodWord, methodCountWord, classCount, methodCount, textOf, classKind, classFirstMethod, classMethodCount, className, methodName, methodDescriptor, methodFlags, methodTarget, methodLimit, classLimit}
-use Rattle.abi_sheet.specs.AbiSheet.{abiSlotName, abiSlotDescriptor}
+use Rattle.class_sheet.specs.ClassSheet.{parentWord, classCount, methodCount, textOf, classFirstMethod, classMethodCount, className, methodName, methodDescriptor, methodFlags, methodTarget, methodLimit}
 use Rattle.set_rules.specs.Valid.{Valid}
-use Rattle.words.proofs.Ext.{list-ext, find-ext, first-ext, founds-ext}
+use Rattle.linking.specs.Chain.{listCount, ownMethods, parentOf, chainOf, chain}
+use Rattle.linking.specs.Abi.{classAbi}
 use Rattle.linking.proofs.ChainLaws.{parent-within, chain-within}
 use Rattle.linking.proofs.Appended.{name-front}
-use Rattle.linking.specs.Chain.{listCount, ownMethods, parentOf, chainOf, chain, eligible, methodIs, ownTarget, findByTarget, ownMethod}
-use Rattle.linking.specs.Abi.{slotAt, classAbi, chainAbi}
-use Rattle.linking.specs.Vtable.{ownFixed, findByIndex, readEntry}
-use Rattle.slots.specs.Made.{readWords}
+use Rattle.linking.proofs.Rebuilt.{Unmoved}
 use Rattle.calls.proofs.Like.{Alike}
+
+-- the classes of a chain, and their own methods, are of the sheet
+
+pub chain-class : (ws : List ℕ) (c d : ℕ) → c ≤ classCount ws → List·Memᴰ d (chain ws c) → (1 ≤ d) × (d ≤ classCount ws)
+chain-class ws c d a i = let w = chain-within ws c d i in (omega arith, omega arith)
+
+pub own-below : (ws : List ℕ) → Valid ws → (d : ℕ) → 1 ≤ d → d ≤ classCount ws → (m : ℕ) → List·Memᴰ m (ownMethods ws d) → m < methodCount ws
+unfolding ownMethods
+own-below ws valid d s a m i =
+    let v = valid .class d (s, a) .methods in
+    omega (arith, numbers-within (classFirstMethod ws d) (listCount (classFirstMethod ws d) (classMethodCount ws d) methodLimit) m i)
 
 module _ (old new : List ℕ) (valid : Valid old) (like : Alike old new) where
   -- ---- names
@@ -50,14 +55,6 @@ module _ (old new : List ℕ) (valid : Valid old) (like : Alike old new) where
     pub method-target : methodTarget new m ≡ methodTarget old m
     method-target = like .method m 5 h (omega arith)
 
-    pub method-is : (name descriptor : List ℕ) → methodIs new (textOf new) m name descriptor ≡ methodIs old (textOf old) m name descriptor
-    unfolding methodIs
-    method-is name descriptor = rw (method-name, method-descriptor)
-
-    pub eligible-same : eligible new (textOf new) m ≡ eligible old (textOf old) m
-    unfolding eligible
-    eligible-same = rw (method-name, method-flags)
-
   -- ---- parents and chains
 
   pub parent-same : (c : ℕ) → 1 ≤ c → c ≤ classCount old → parentOf new c ≡ parentOf old c
@@ -76,83 +73,14 @@ module _ (old new : List ℕ) (valid : Valid old) (like : Alike old new) where
   unfolding chain
   chain-same c a = chain-of-same c c a
 
-  pub chain-class : (c d : ℕ) → c ≤ classCount old → List·Memᴰ d (chain old c) → (1 ≤ d) × (d ≤ classCount old)
-  chain-class c d a i = let w = chain-within old c d i in (omega arith, omega arith)
-
   -- ---- a class's own methods
 
-  module _ (d : ℕ) (s : 1 ≤ d) (a : d ≤ classCount old) (n : classKind old d ≢ 1) where
-    pub own-same : ownMethods new d ≡ ownMethods old d
-    unfolding ownMethods
-    own-same = rw (like .listed d firstMethodWord s a n (omega arith) (omega arith), like .listed d methodCountWord s a n (omega arith) (omega arith))
+  pub own-same : (d : ℕ) → Unmoved old new d → ownMethods new d ≡ ownMethods old d
+  unfolding ownMethods
+  own-same d u = rw (u .first, u .many)
 
-    pub own-below : (m : ℕ) → List·Memᴰ m (ownMethods old d) → m < methodCount old
-    unfolding ownMethods
-    own-below m i =
-        let v = valid .class d (s, a) .methods in
-        omega (arith, numbers-within (classFirstMethod old d) (listCount (classFirstMethod old d) (classMethodCount old d) methodLimit) m i)
+  -- ---- its ABI entry
 
-    own-target : (t : ℕ) → ownTarget new t d ≡ ownTarget old t d
-    unfolding ownTarget
-    own-target t =
-        rw own-same
-        (find-ext (λ m. eqb (methodTarget new m) t) (λ m. eqb (methodTarget old m) t) (ownMethods old d)
-        (λ m i. rw (method-target m (own-below m i))))
-
-    own-method : (name descriptor : List ℕ) → ownMethod new (textOf new) name descriptor d ≡ ownMethod old (textOf old) name descriptor d
-    unfolding ownMethod
-    own-method name descriptor =
-        rw own-same
-        (find-ext (λ m. methodIs new (textOf new) m name descriptor) (λ m. methodIs old (textOf old) m name descriptor) (ownMethods old d)
-        (λ m i. method-is m (own-below m i) name descriptor))
-
-  -- ---- its ABI entry, and its chain's
-
-  module _ (abi labels : List ℕ) where
-    pub class-abi : (c : ℕ) → 1 ≤ c → c ≤ classCount old → classAbi new (textOf new) abi labels c ≡ classAbi old (textOf old) abi labels c
-    unfolding classAbi
-    class-abi c s a = rw (class-name c s a)
-
-    pub chain-abi : (c : ℕ) → c ≤ classCount old → chainAbi new (textOf new) abi labels c ≡ chainAbi old (textOf old) abi labels c
-    unfolding chainAbi
-    chain-abi c a =
-        rw (chain-same c a)
-        (ap (take classLimit)
-        (founds-ext (classAbi new (textOf new) abi labels) (classAbi old (textOf old) abi labels) (chain old c)
-        (λ d i. let k = chain-class c d a i in class-abi d (k .0) (k .1))))
-
-    own-fixed : (i d : ℕ) → 1 ≤ d → d ≤ classCount old → classKind old d ≢ 1
-        → ownFixed new (textOf new) abi labels i d ≡ ownFixed old (textOf old) abi labels i d
-    unfolding ownFixed
-    own-fixed i d s a n =
-        rw (class-abi d s a)
-        (by-found (andThen (classAbi old (textOf old) abi labels d) (slotAt abi i))
-        (λ z e. rw e (own-method d s a n (abiSlotName abi labels z) (abiSlotDescriptor abi labels z)))
-        (λ e. rw e refl))
-
-    -- ---- Reading, along a chain without generated classes
-
-    module _ (c : ℕ) (a : c ≤ classCount old) (plain : (d : ℕ) → List·Memᴰ d (chain old c) → classKind old d ≢ 1) where
-      by-target : (t : ℕ) → findByTarget new c t ≡ findByTarget old c t
-      unfolding findByTarget
-      by-target t =
-          rw (chain-same c a)
-          (first-ext (ownTarget new t) (ownTarget old t) (chain old c)
-          (λ d i. let k = chain-class c d a i in own-target d (k .0) (k .1) (plain d i) t))
-
-      by-index : (i : ℕ) → findByIndex new (textOf new) abi labels c i ≡ findByIndex old (textOf old) abi labels c i
-      unfolding findByIndex
-      by-index i =
-          rw (chain-same c a)
-          (first-ext (ownFixed new (textOf new) abi labels i) (ownFixed old (textOf old) abi labels i) (chain old c)
-          (λ d m. let k = chain-class c d a m in own-fixed i d (k .0) (k .1) (plain d m)))
-
-      pub read-same : (i w : ℕ) → readEntry new (textOf new) abi labels c i w ≡ readEntry old (textOf old) abi labels c i w
-      unfolding readEntry
-      read-same i w = rw (by-target w, by-index i)
-
-      pub read-words-same : (t : List ℕ) → readWords new (textOf new) abi labels c t ≡ readWords old (textOf old) abi labels c t
-      unfolding readWords
-      read-words-same t =
-          list-ext (λ i. readEntry new (textOf new) abi labels c i (getD t i 0)) (λ i. readEntry old (textOf old) abi labels c i (getD t i 0)) 0 (length t)
-          (λ i h. read-same i (getD t i 0))
+  pub class-abi : (abi labels : List ℕ) (c : ℕ) → 1 ≤ c → c ≤ classCount old → classAbi new (textOf new) abi labels c ≡ classAbi old (textOf old) abi labels c
+  unfolding classAbi
+  class-abi abi labels c s a = rw (class-name c s a)

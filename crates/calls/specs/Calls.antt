@@ -13,18 +13,28 @@ pub data Call : Type 0 where
   link : ℕ → List ℕ → Call
   ask : ℕ → ℕ → List ℕ → Call
 
--- the class words and the area, between two calls
+-- the class words, the area and the list of missing slots, between two calls
 pub record State : Type 0 where
   pub set : List ℕ
   pub area : List ℕ
+  pub missing : List ℕ
 
--- a call's answers and what it leaves, accepted or refused, by the definitions of linking
+-- "from an unlinked sheet, with one ABI sheet and whatever the area holds": at the list's start
+abbrev pub start : List ℕ → List ℕ → List ℕ → State
+start ws area missing = record { set = ws; area = area; missing = missing }
+
+-- a call's answers and what it leaves of set and area, accepted or refused, by the definitions of linking
 abbrev pub outcome : List ℕ → State → Call → Outcome
-outcome abi s (link c stubs) = linkDef (s .set) abi c (s .area) stubs
+outcome abi s (link c stubs) = linkDef (s .set) abi c (s .area) stubs (s .missing) .outcome
 outcome abi s (ask c i stubs) = askDef (s .set) abi c i (s .area) stubs
 
+-- what it leaves of the list of missing slots, which only links get
+abbrev pub missingAfter : List ℕ → State → Call → List ℕ
+missingAfter abi s (link c stubs) = linkDef (s .set) abi c (s .area) stubs (s .missing) .missing
+missingAfter abi s (ask c i stubs) = s .missing
+
 unfoldable pub step : List ℕ → State → Call → State
-step abi s k = record { set = outcome abi s k .set; area = outcome abi s k .area }
+step abi s k = record { set = outcome abi s k .set; area = outcome abi s k .area; missing = missingAfter abi s k }
 
 -- what the list leaves
 unfoldable pub run : List ℕ → List Call → State → State

@@ -13,15 +13,11 @@ use Rattle.abi_sheet.specs.AbiSheet.{abiTextOf}
 use Rattle.linking.specs.Chain.{parentOf, chain, isInterface}
 use Rattle.linking.specs.Abi.{classAbi}
 use Rattle.slots.specs.Slots.{OldRule, Unique, Kept, ChainMethod, Orderly}
-use Rattle.calls.specs.Calls.{Call, State, run, Unlinked, LinkedIn, tableAt, Lent}
+use Rattle.calls.specs.Calls.{Call, start, run, Unlinked, LinkedIn, tableAt, Lent}
 
 -- class d is built, of kind 0 or 3, or an array class
 abbrev pub BuiltOrArray : List ℕ → ℕ → Type 0
 BuiltOrArray ws d = (classKind ws d ≡ 0) ⊎ ((classKind ws d ≡ 2) ⊎ (classKind ws d ≡ 3))
-
--- "from an unlinked sheet, with one ABI sheet and whatever the area holds": the set and the area at the list's start
-abbrev pub start : List ℕ → List ℕ → State
-start ws area = record { set = ws; area = area }
 
 -- ---- the conditions: "This is claimed for every class linked in the list"
 
@@ -41,14 +37,14 @@ pub record Conditions (ws abi : List ℕ) (calls : List Call) (c : ℕ) : Type 0
 
 -- ---- the claim
 
-module _ (ws abi area : List ℕ) (calls : List Call) where
+module _ (ws abi area missing : List ℕ) (calls : List Call) where
   -- "after it": the table of a class whose accepted link answered this place and so many slots
   abbrev pub table : ℕ → ℕ → List ℕ
-  table place slots = tableAt (run abi calls (start ws area) .area) place slots
+  table place slots = tableAt (run abi calls (start ws area missing) .area) place slots
 
   -- a link of class c in the list was accepted, and answered so
   abbrev pub Linked : ℕ → ℕ → ℕ → Type 0
-  Linked c place slots = LinkedIn abi c place slots (start ws area) calls
+  Linked c place slots = LinkedIn abi c place slots (start ws area missing) calls
 
   -- "In a child without an ABI entry": its parent is linked in the list, and whatever link of it was accepted, the child's table keeps the known
   -- slots of the parent's
@@ -70,8 +66,9 @@ module _ (ws abi area : List ℕ) (calls : List Call) where
     pub one-table : (p n : ℕ) → Linked c p n → (p ≡ place) × (n ≡ slots)
 
 -- "For every list of links and interface asks, accepted or refused, of whatever class numbers and stub lists, from an unlinked sheet, with one
--- ABI sheet and whatever the area holds": for every class linked in the list that meets the conditions, the claim
+-- ABI sheet and whatever the area holds", and whatever the list of missing slots holds: for every class linked in the list that meets the conditions, the
+-- claim
 abbrev pub Demand3 : Type 0
 Demand3 =
-    (ws abi area : List ℕ) → Unlinked ws → (calls : List Call) (c place slots : ℕ) → Linked ws abi area calls c place slots
-    → Conditions ws abi calls c → Claim ws abi area calls c place slots
+    (ws abi area missing : List ℕ) → Unlinked ws → (calls : List Call) (c place slots : ℕ) → Linked ws abi area missing calls c place slots
+    → Conditions ws abi calls c → Claim ws abi area missing calls c place slots

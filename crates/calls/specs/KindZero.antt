@@ -9,7 +9,6 @@ use mathlib.Core.Bool.{true, cond}
 use mathlib.Core.List.{List, List·Memᴰ}
 use Rattle.words.specs.Lists.{numbers, fold}
 use Rattle.class_sheet.specs.ClassSheet.{classCount, textOf, isPackaged, putClassKind, methodFlags, methodTarget}
-use Rattle.abi_sheet.specs.AbiSheet.{abiTextOf}
 use Rattle.linking.specs.Chain.{ownMethods, chain, eligible, SameSignature}
 use Rattle.linking.specs.Packages.{isPublic, isProtected}
 use Rattle.slots.specs.Slots.{PackageRule, ChainMethod}
@@ -38,26 +37,26 @@ module _ (ws : List ℕ) where
     pub targets-different : (m k : ℕ) → ChainMethod ws c m → ChainMethod ws c k
         → methodTarget ws m ≡ methodTarget ws k → m ≡ k
 
--- class c is linked in both lists, of the sheet and of the sheet with kind 0, whatever the areas and the stubs lent
-module _ (ws abi area₃ area₀ : List ℕ) (calls₃ calls₀ : List Call) where
+-- class c is linked in both lists, of the sheet and of the sheet with kind 0, whatever the areas, the lists of missing slots and the stubs lent
+module _ (ws abi area₃ area₀ missing₃ missing₀ : List ℕ) (calls₃ calls₀ : List Call) where
   -- with as many slots, and the same words in them
   pub record SameSlots (c : ℕ) : Type 0 where
     pub place₃ : ℕ
     pub place₀ : ℕ
     pub slots : ℕ
-    pub linked₃ : Linked ws abi area₃ calls₃ c place₃ slots
-    pub linked₀ : Linked (unpackaged ws) abi area₀ calls₀ c place₀ slots
-    pub words : table ws abi area₃ calls₃ place₃ slots ≡ table (unpackaged ws) abi area₀ calls₀ place₀ slots
+    pub linked₃ : Linked ws abi area₃ missing₃ calls₃ c place₃ slots
+    pub linked₀ : Linked (unpackaged ws) abi area₀ missing₀ calls₀ c place₀ slots
+    pub words : table ws abi area₃ missing₃ calls₃ place₃ slots ≡ table (unpackaged ws) abi area₀ missing₀ calls₀ place₀ slots
 
 abbrev pub AsKindZero : Type 0
 AsKindZero =
-    (ws abi area₃ area₀ : List ℕ) → Unlinked ws → (calls₃ calls₀ : List Call) (c p n q k : ℕ) → Linked ws abi area₃ calls₃ c p n
-    → Linked (unpackaged ws) abi area₀ calls₀ c q k → Premises ws c
-    → (n ≡ k) × (table ws abi area₃ calls₃ p n ≡ table (unpackaged ws) abi area₀ calls₀ q k)
+    (ws abi area₃ area₀ missing₃ missing₀ : List ℕ) → Unlinked ws → (calls₃ calls₀ : List Call) (c p n q k : ℕ) → Linked ws abi area₃ missing₃ calls₃ c p n
+    → Linked (unpackaged ws) abi area₀ missing₀ calls₀ c q k → Premises ws c
+    → (n ≡ k) × (table ws abi area₃ missing₃ calls₃ p n ≡ table (unpackaged ws) abi area₀ missing₀ calls₀ q k)
 
 -- "throughout": so for each class of its chain
 abbrev pub Throughout : Type 0
 Throughout =
-    (ws abi area₃ area₀ : List ℕ) → Unlinked ws → (calls₃ calls₀ : List Call) (c p n q k : ℕ) → Linked ws abi area₃ calls₃ c p n
-    → Linked (unpackaged ws) abi area₀ calls₀ c q k → Premises ws c → (d : ℕ) → List·Memᴰ d (chain ws c)
-    → SameSlots ws abi area₃ area₀ calls₃ calls₀ d
+    (ws abi area₃ area₀ missing₃ missing₀ : List ℕ) → Unlinked ws → (calls₃ calls₀ : List Call) (c p n q k : ℕ) → Linked ws abi area₃ missing₃ calls₃ c p n
+    → Linked (unpackaged ws) abi area₀ missing₀ calls₀ c q k → Premises ws c → (d : ℕ) → List·Memᴰ d (chain ws c)
+    → SameSlots ws abi area₃ area₀ missing₃ missing₀ calls₃ calls₀ d

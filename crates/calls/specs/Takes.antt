@@ -53,12 +53,13 @@ module _ (ws abi area : List ℕ) (c : ℕ) where
     pub slots : length T ≡ length inherited + length new
 
 -- what an accepted link answers and writes is such a table
-pub record LinkTakes (ws abi : List ℕ) (c : ℕ) (area stubs : List ℕ) : Type 0 where
+pub record LinkTakes (ws abi : List ℕ) (c : ℕ) (area stubs missing : List ℕ) : Type 0 where
   pub table : List Entry
   pub takes : Takes ws abi area c table
-  pub answered : linkDef ws abi c area stubs .second ≡ length table
-  pub written : linkDef ws abi c area stubs .area ≡ linkedArea area c table stubs
+  pub answered : linkDef ws abi c area stubs missing .outcome .second ≡ length table
+  pub written : linkDef ws abi c area stubs missing .outcome .area ≡ linkedArea area c table stubs
 
 abbrev pub TakenSlots : Type 0
 TakenSlots =
-    (ws abi : List ℕ) (c : ℕ) (area stubs : List ℕ) → classKind ws c ≡ 3 → linkDef ws abi c area stubs .refusal ≡ 0 → LinkTakes ws abi c area stubs
+    (ws abi : List ℕ) (c : ℕ) (area stubs missing : List ℕ) → classKind ws c ≡ 3 → linkDef ws abi c area stubs missing .outcome .refusal ≡ 0
+    → LinkTakes ws abi c area stubs missing

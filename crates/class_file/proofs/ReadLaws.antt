@@ -10,8 +10,7 @@ use borrow.Author.Tests.{leb-true, eqb-true, ne-eqb, not-true, not-false}
 use Rattle.words.specs.Words.{wordsFor}
 use Rattle.words.proofs.Bools.{by, and-3, and-4, passed}
 use Rattle.class_sheet.specs.ClassSheet.{memberWidth, fieldLimit, methodLimit, textLimit}
-use Rattle.linking.specs.Link.{writeAt}
-use Rattle.linking.specs.Set.{newRecords, newText, packed, overlaid}
+use Rattle.linking.specs.Set.{writeAt, newRecords, newText, packed, overlaid}
 use Rattle.linking.proofs.Writes.{write-more, write-part, length-write}
 use Rattle.class_form.specs.declared.Judged.{Judged}
 use Rattle.class_form.specs.declared.Judged.the-variants.{Parts}

@@ -8,8 +8,7 @@ use lib.ListN.{length, getD, set, length-append}
 use Rattle.words.specs.Words.{leWord}
 use Rattle.class_sheet.specs.ClassSheet.{memberWidth, memberWords}
 use Rattle.linking.specs.Compiler.{New}
-use Rattle.linking.specs.Link.{writeAt}
-use Rattle.linking.specs.Set.{newRecords, newText, packed, overlaid}
+use Rattle.linking.specs.Set.{writeAt, newRecords, newText, packed, overlaid}
 use Rattle.linking.proofs.Writes.{packedTo, write-none, write-more, write-overlaid}
 use Rattle.linking.proofs.Writes as writes
 use Rattle.class_form.specs.declared.Member.{Member}

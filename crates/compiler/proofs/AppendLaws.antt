@@ -1,34 +1,29 @@
 -- Laws of methods that are appended to a table. Assumes nothing.
 use mathlib.Core.Path.{_≡_, refl, sym, ap, _∙_}
-use mathlib.Core.Bool.{Bool, true, false, cond, and-false}
-use mathlib.Core.List.{List, [], _∷_, _++_}
+use mathlib.Core.Bool.{Bool, true, false, cond, not, _&&_}
+use mathlib.Core.List.{List, _∷_, _++_}
 use Prim.Native.Nat.{ℕ, zero, suc, _+_, _-_, _≤_, _<_}
 use native.Mathlib.Omega.{arith}
 use lib.ListN.{length, getD, set}
 use borrow.Author.Tests.{lt-ltb, le-ltb}
-use Rattle.words.specs.Lists.{listFrom, numbers, consFound, allFound, fold, some}
+use Rattle.words.specs.Lists.{listFrom, numbers, fold, some}
 use Rattle.words.specs.declared.Found.{Found}
 use Rattle.words.specs.declared.Found.the-variants.{At, Nothing}
 use Rattle.words.proofs.Bools.{by}
-use Rattle.words.proofs.ListLaws.{restFrom, rest-start, rest-turn, rest-end, foldFrom, fold-start, fold-turn, by-found}
+use Rattle.words.proofs.ListLaws.{restFrom, rest-start, rest-turn, rest-end, foldFrom, fold-start, fold-turn, fold-end, by-found}
 use Rattle.class_sheet.specs.ClassSheet.{classFirstMethod, classMethodCount, methodLimit}
 use Rattle.linking.specs.Chain.{onFound, listCount, ownMethods, isEligible}
 use Rattle.linking.specs.Vtable.{Entry}
-use Rattle.linking.specs.Compiler.{New, nameOf, flagsOf, sameSignature, hasSlot, appendMethod}
+use Rattle.linking.specs.Compiler.{New, nameOf, flagsOf, sameSignature, hasSlot, appendFrom, appendEntry}
 use Rattle.growth.specs.News.{firstNews}
-use Rattle.reading.specs.Arrays.{markOf, methodOf, entryAt, entriesOf}
-use Rattle.reading.proofs.ArrayLaws.{method-back, push-slot}
-use Rattle.compiler.specs.Methods.{nameIn, descriptorIn, markSame, someSame, flagsIn, targetIn, methodNumber}
-use Rattle.native_view.specs.Native.{markMethods}
+use Rattle.reading.specs.Arrays.{markOf, methodOf, sourceOf, entryAt, entriesOf}
+use Rattle.reading.proofs.ArrayLaws.{method-back, no-source, push-slot}
+use Rattle.compiler.specs.Methods.{nameIn, descriptorIn, markSame, someSame, flagsIn, takesSlot, targetIn, appendMethod, methodNumber}
+use Rattle.native_view.specs.Native.{markEntry, marksIn}
 use Rattle.words.proofs.Ext.{list-ext}
 use Rattle.compiler.proofs.MethodLaws.{name-is, descriptor-is, flags-is, target-is}
 
 -- ---- folds and tests, in general
-
-pub fold-append {ℓ ℓ′} : {A : Type ℓ} {S : Type ℓ′} (f : S → A → S) (s : S) (xs ys : List A) → fold f s (xs ++ ys) ≡ fold f (fold f s xs) ys
-unfolding fold
-fold-append f s [] ys = refl
-fold-append f s (x ∷ xs) ys = fold-append f (f s x) xs ys
 
 pub some-list {ℓ} : {A : Type ℓ} (p : A → Bool) (q : ℕ → Bool) (e : ℕ → A) (m n : ℕ) → ((i : ℕ) → p (e i) ≡ q i)
     → some p (listFrom e m n) ≡ some q (numbers m n)
@@ -66,6 +61,19 @@ module _ (ws text abi labels refs : List ℕ) (n : ℕ) (name descriptor ms : Li
   unfolding sameRest some
   same-end W i h r = rw (rest-end (λ (j : ℕ). j) 0 size i h) at r
 
+-- ---- whether a method takes a slot
+
+module _ (ws text abi labels refs flags ms : List ℕ) (n size m : ℕ) {name : List ℕ} {f : ℕ} {b : Bool} (en : name ≡ nameIn ws text abi labels refs n m)
+    (ef : f ≡ flagsIn ws flags n m) (eb : b ≡ isEligible f name) where
+  pub takes-none : b ≡ false → false ≡ takesSlot ws text abi labels refs n flags ms size m
+  unfolding takesSlot
+  takes-none q = rw (← ef, ← en, ← eb, q)
+
+  pub takes-new : {descriptor : List ℕ} {h : Bool} → b ≡ true → descriptor ≡ descriptorIn ws text abi labels refs n m
+      → h ≡ someSame ws text abi labels refs n name descriptor ms size → not h ≡ takesSlot ws text abi labels refs n flags ms size m
+  unfolding takesSlot
+  takes-new q ed eh = rw (eh, ed, ← ef, ← en, ← eb, q)
+
 module _ (ws text abi labels refs flags lasts : List ℕ) (n : ℕ) where
   abbrev new : List New
   new = firstNews ws text abi labels refs flags lasts n
@@ -96,78 +104,62 @@ module _ (ws text abi labels refs flags lasts : List ℕ) (n : ℕ) where
         (λ i. markSame ws text abi labels refs n (nameIn ws text abi labels refs n m) (descriptorIn ws text abi labels refs n m) (getD ms i 0))
         (entryAt ts ms) 0 size (λ i. same-is (getD ms i 0))
 
-    module _ {name descriptor : List ℕ} {f : ℕ} {b : Bool} (en : name ≡ nameIn ws text abi labels refs n m)
-        (ed : descriptor ≡ descriptorIn ws text abi labels refs n m) (ef : f ≡ flagsIn ws flags n m) (eb : b ≡ isEligible f name) where
-      eligible-is : isEligible (flagsOf ws new m) (nameOf ws text new m) ≡ b
-      eligible-is = rw (flags-is ws text abi labels refs flags lasts n m, name-is ws text abi labels refs flags lasts n m, ← ef, ← en) (sym eb)
-
-      pub append-ineligible : b ≡ false → entriesOf ts ms size ≡ appendMethod ws text new (entriesOf ts ms size) m
-      unfolding appendMethod
-      append-ineligible q = rw (eligible-is, q)
-
-      module _ {h : Bool} (eh : h ≡ someSame ws text abi labels refs n name descriptor ms size) where
-        held-is : hasSlot ws text new m (entriesOf ts ms size) ≡ h
-        held-is = has-is ∙ rw (← en, ← ed) (sym eh)
-
-        pub append-held : h ≡ true → entriesOf ts ms size ≡ appendMethod ws text new (entriesOf ts ms size) m
-        unfolding appendMethod
-        append-held q = rw (held-is, q, and-false)
-
-        pub append-new : (us ns : List ℕ) {w k : ℕ} → m < 4294967295 → b ≡ true → h ≡ false → size < length ts → size < length ms
-            → k ≡ markOf (At m) → w ≡ targetIn ws lasts n m → us ≡ set ts size w → ns ≡ set ms size k
-            → entriesOf us ns (size + 1) ≡ appendMethod ws text new (entriesOf ts ms size) m
-        unfolding appendMethod
-        append-new us ns {w = w} {k = k} small q r l l′ ek ew eu en′ =
-            rw (eu, en′, push-slot ts ms size w k l l′, ek, method-back m small, eligible-is, held-is, q, r, target-is ws text abi labels refs flags lasts n m, ← ew)
+    test-is : (isEligible (flagsOf ws new m) (nameOf ws text new m) && not (hasSlot ws text new m (entriesOf ts ms size)))
+        ≡ takesSlot ws text abi labels refs n flags ms size m
+    unfolding takesSlot
+    test-is = rw (flags-is ws text abi labels refs flags lasts n m, name-is ws text abi labels refs flags lasts n m, has-is)
 
   -- ---- by mark
 
-  module _ (k : ℕ) (E : List Entry) where
-    pub append-none : {o : Found} → o ≡ methodOf k → o ≡ Nothing → E ≡ fold (appendMethod ws text new) E (consFound (methodOf k) [])
-    unfolding fold
+  module _ (k : ℕ) (ts ms : List ℕ) (size : ℕ) where
+    pub append-none : {o : Found} → o ≡ methodOf k → o ≡ Nothing → entriesOf ts ms size ≡ appendEntry ws text new (entriesOf ts ms size) (markEntry k)
+    unfolding appendEntry
     append-none h e = rw (← h, e)
 
-    pub append-known : {F : List Entry} {o : Found} {j : ℕ} → o ≡ methodOf k → o ≡ At j → F ≡ appendMethod ws text new E j
-        → F ≡ fold (appendMethod ws text new) E (consFound (methodOf k) [])
-    unfolding fold
-    append-known h e f = f ∙ rw (← h, e)
+    module _ {o : Found} {m : ℕ} (h : o ≡ methodOf k) (e : o ≡ At m) {t : Bool} (test : t ≡ takesSlot ws text abi labels refs n flags ms size m) where
+      pub append-left : t ≡ false → entriesOf ts ms size ≡ appendEntry ws text new (entriesOf ts ms size) (markEntry k)
+      unfolding appendEntry appendFrom
+      append-left q = rw (← h, e, test-is m ts ms size, ← test, q)
+
+      pub append-new : (us ns : List ℕ) {w : ℕ} → t ≡ true → size < length ts → size < length ms → w ≡ targetIn ws lasts n m → us ≡ set ts size w
+          → ns ≡ set ms size k → entriesOf us ns (size + 1) ≡ appendEntry ws text new (entriesOf ts ms size) (markEntry k)
+      unfolding appendEntry appendFrom
+      append-new us ns {w = w} q l l′ ew eu en =
+          rw (eu, en, push-slot ts ms size w k l l′, ← h, e, test-is m ts ms size, ← test, q, target-is ws text abi labels refs flags lasts n m, ← ew)
 
   -- ---- the loop along marks
 
   module _ (known : List ℕ) (count : ℕ) where
     unfoldable pub knownRest : List Entry → ℕ → List Entry
-    knownRest E i = fold (appendMethod ws text new) E (allFound (λ j. methodOf (getD known j 0)) (restFrom (λ j. j) 0 count i))
+    knownRest E i = foldFrom (λ j. markEntry (getD known j 0)) (appendEntry ws text new) E 0 count i
 
-    pub known-all : (E : List Entry) → knownRest E 0 ≡ fold (appendMethod ws text new) E (markMethods known count)
-    unfolding knownRest markMethods
-    known-all E = rw (rest-start (λ (j : ℕ). j) 0 count)
-
-    fold-cons : (E : List Entry) (f : Found) (xs : List ℕ) → fold (appendMethod ws text new) E (consFound f xs)
-        ≡ fold (appendMethod ws text new) (fold (appendMethod ws text new) E (consFound f [])) xs
-    unfolding fold
-    fold-cons E (At k) xs = refl
-    fold-cons E Nothing xs = refl
+    pub known-all : (E : List Entry) → knownRest E 0 ≡ fold (appendEntry ws text new) E (marksIn known count)
+    unfolding knownRest marksIn
+    known-all E = fold-start (λ j. markEntry (getD known j 0)) (appendEntry ws text new) 0 count E
 
     pub known-turn : (E F A : List Entry) (i : ℕ) {a k : ℕ} → i < count → a ≡ i → k ≡ getD known a 0
-        → F ≡ fold (appendMethod ws text new) E (consFound (methodOf k) []) → knownRest E i ≡ A → knownRest F (i + 1) ≡ A
-    unfolding knownRest allFound
+        → F ≡ appendEntry ws text new E (markEntry k) → knownRest E i ≡ A → knownRest F (i + 1) ≡ A
+    unfolding knownRest
     known-turn E F A i {k = k} h e f g r =
         let z : 0 + i ≡ i = omega arith in
-        let w : getD known i 0 ≡ k = sym (f ∙ ap (λ (x : ℕ). getD known x 0) e) in
-        let q : fold (appendMethod ws text new) E (allFound (λ j. methodOf (getD known j 0)) (restFrom (λ j. j) 0 count i))
-        ≡ fold (appendMethod ws text new) E (consFound (methodOf k) (allFound (λ j. methodOf (getD known j 0)) (restFrom (λ j. j) 0 count (i + 1)))) =
-        rw (rest-turn (λ (j : ℕ). j) 0 count i h, z, w) in
-        rw g (sym (fold-cons E (methodOf k) (allFound (λ j. methodOf (getD known j 0)) (restFrom (λ j. j) 0 count (i + 1))))) ∙ sym q ∙ r
+        fold-turn (λ j. markEntry (getD known j 0)) (appendEntry ws text new) 0 count i h (g ∙ rw (f, e, z)) ∙ r
 
     pub known-end : (E A : List Entry) (i : ℕ) → count ≤ i → knownRest E i ≡ A → E ≡ A
-    unfolding knownRest allFound fold
-    known-end E A i h r = rw (rest-end (λ (j : ℕ). j) 0 count i h) at r
+    unfolding knownRest
+    known-end E A i h r = fold-end (λ j. markEntry (getD known j 0)) (appendEntry ws text new) 0 count i E h ∙ r
 
   -- ---- declared, added and parent methods
 
-  pub append-all : (E F : List Entry) (xs ys : List ℕ) {T : List Entry} → F ≡ fold (appendMethod ws text new) E xs
-      → T ≡ fold (appendMethod ws text new) F ys → T ≡ fold (appendMethod ws text new) E (xs ++ ys)
-  append-all E F xs ys p q = rw (fold-append (appendMethod ws text new) E xs ys, ← p) q
+  -- a method's own mark is of no copy
+  pub append-own : (E F : List Entry) (m : ℕ) {k : ℕ} → m < 4095 → k ≡ markOf (At m) → F ≡ appendEntry ws text new E (markEntry k)
+      → F ≡ appendMethod ws text new E m
+  unfolding appendEntry
+  append-own E F m h e f = f ∙ rw (e, method-back m h, no-source (At m))
+
+  pub append-all : (E F : List Entry) (xs : List ℕ) (ys : List Entry) {T : List Entry} → F ≡ fold (appendMethod ws text new) E xs
+      → T ≡ fold (appendEntry ws text new) F ys
+      → T ≡ fold (appendEntry ws text new) (fold (appendMethod ws text new) E xs) ys
+  append-all E F xs ys p q = rw (← p) q
 
 -- ---- declared and added methods, in order
 

@@ -2,7 +2,7 @@
 use mathlib.Core.Path.{_≡_, refl, sym, ap, _∙_}
 use mathlib.Core.Bool.{Bool, true, false, cond}
 use mathlib.Core.List.{List, [], _∷_, _++_}
-use Prim.Native.Nat.{ℕ, zero, suc, _+_, _-_, _≤_, _<_, min}
+use Prim.Native.Nat.{ℕ, zero, suc, _+_, _-_, _%_, _≤_, _<_, min}
 use native.Mathlib.Omega.{arith}
 use lib.ListN.{length, getD, set}
 use lib.Dec.{eqb}
@@ -17,14 +17,20 @@ use Rattle.growth.proofs.NewsLaws.{length-first}
 use Rattle.class_sheet.specs.ClassSheet.{classFirstMethod, classMethodCount, classCompilerTable, classCompilerSlots, compilerWord, methodLimit}
 use Rattle.linking.specs.Chain.{listCount, ownMethods}
 use Rattle.linking.specs.Vtable.{Entry, parentEntries}
-use Rattle.linking.specs.Compiler.{New, targetOf, classMethods, entryTarget, matchTarget, compilerEntry, compilerEntries, compilerTargets, appendMethod, nativeView, addedMethods, compilerTable}
+use Rattle.linking.specs.Compiler.{New, targetOf, classMethods, entryTarget, matchTarget, compilerEntry, compilerEntries, compilerTargets, appendEntry, nativeView, addedMethods, compilerTable}
 use Rattle.growth.specs.News.{firstNews}
-use Rattle.reading.specs.Arrays.{markOf, methodOf, entryAt, entriesOf}
-use Rattle.reading.proofs.ArrayLaws.{method-back, none-back, push-slot}
-use Rattle.native_view.specs.Native.{below, marksIn, methodsIn, markMethods}
-use Rattle.native_view.proofs.ViewLaws.{slot-below, methods-are}
-use Rattle.compiler.specs.Methods.{targetIn, markHas, markTarget, viewTarget, matchIn, methodAt, tableSlot, slotsIn}
+use Rattle.reading.specs.Arrays.{markOf, methodOf, sourceOf, entryAt, entriesOf}
+use Rattle.reading.proofs.ArrayLaws.{method-back, none-back, no-source, push-slot}
+use Rattle.native_view.specs.Native.{below, marksIn, methodsIn}
+use Rattle.native_view.proofs.ViewLaws.{slot-below}
+use Rattle.compiler.specs.Methods.{targetIn, markHas, markTarget, viewTarget, matchIn, methodAt, sourceAt, tableSlot, slotsIn, appendMethod}
 use Rattle.compiler.proofs.MethodLaws.{target-is}
+
+-- ---- marks
+
+mark-again : (k : ℕ) → methodOf (markOf (methodOf k)) ≡ methodOf k
+unfolding methodOf
+mark-again k = by (eqb (k % 4096) 0) (λ q. rw q none-back) (λ q. rw q (method-back (k % 4096 - 1) (omega arith)))
 
 -- ---- searches, in general
 
@@ -133,13 +139,16 @@ module _ (ws lasts : List ℕ) (n : ℕ) where
   -- ---- the slots
 
   module _ (c : ℕ) (vm : List ℕ) (size i t k : ℕ) where
-    pub method-zero : t ≡ 0 → k ≡ below vm size i → methodOf k ≡ methodAt ws lasts n c vm size i t
-    unfolding methodAt
-    method-zero z e = simp (eq-eqb t 0 z) (ap methodOf e)
+    pub method-zero : t ≡ 0 → k ≡ below vm size i → (methodOf k ≡ methodAt ws lasts n c vm size i t) × (sourceOf k ≡ sourceAt vm size i t)
+    unfolding methodAt sourceAt
+    method-zero z e = rw (eq-eqb t 0 z) (ap methodOf e, ap sourceOf e)
 
-    pub method-match : (t ≡ 0 → ⊥) → methodOf k ≡ matchIn ws lasts n c vm size t → methodOf k ≡ methodAt ws lasts n c vm size i t
-    unfolding methodAt
-    method-match z e = simp (ne-eqb t 0 z) e
+    -- the mark of a method found by its target is of no copy
+    pub method-match : (q : ℕ) {f : Found} → (t ≡ 0 → ⊥) → methodOf q ≡ matchIn ws lasts n c vm size t → f ≡ methodOf q → k ≡ markOf f
+        → (methodOf k ≡ methodAt ws lasts n c vm size i t) × (sourceOf k ≡ sourceAt vm size i t)
+    unfolding methodAt sourceAt
+    method-match q {f = f} z e g h =
+        rw (ne-eqb t 0 z) (ap methodOf h ∙ rw g (mark-again q) ∙ e, ap sourceOf h ∙ no-source f)
 
   module _ (c : ℕ) (vs vm : List ℕ) (size : ℕ) where
     pub slots-start : (ts ms : List ℕ) → entriesOf ts ms 0 ≡ slotsIn ws lasts n c vs vm size 0
@@ -148,11 +157,12 @@ module _ (ws lasts : List ℕ) (n : ℕ) where
 
     pub slots-turn : (i k : ℕ) (ts ms us ns : List ℕ) {t w : ℕ} → i < length ts → i < length ms
         → entriesOf ts ms i ≡ slotsIn ws lasts n c vs vm size i → t ≡ compilerWord ws (classCompilerTable ws c - 1 + i)
-        → w ≡ cond (eqb t 0) (below vs size i) t → methodOf k ≡ methodAt ws lasts n c vm size i t → us ≡ set ts i w → ns ≡ set ms i k
+        → w ≡ cond (eqb t 0) (below vs size i) t → (methodOf k ≡ methodAt ws lasts n c vm size i t) × (sourceOf k ≡ sourceAt vm size i t)
+        → us ≡ set ts i w → ns ≡ set ms i k
         → entriesOf us ns (i + 1) ≡ slotsIn ws lasts n c vs vm size (i + 1)
     unfolding slotsIn tableSlot
     slots-turn i k ts ms us ns {t = t} {w = w} h l e et ew ek eu en =
-        let x : _≡_ {A = Entry} (record { word = w; method = methodOf k }) (tableSlot ws lasts n c vs vm size i) = rw (ew, ek, et) in
+        let x : _≡_ {A = Entry} (record { word = w; method = methodOf k; source = sourceOf k }) (tableSlot ws lasts n c vs vm size i) = rw (ew, ek .0, ek .1, et) in
         rw (eu, en, push-slot ts ms i w k h l, e, x) (sym (list-more (tableSlot ws lasts n c vs vm size) i))
 
 -- ---- they are those of the definitions
@@ -161,7 +171,7 @@ module _ (ws text abi labels refs flags lasts : List ℕ) (n c : ℕ) (vs vm : L
   abbrev new : List New
   new = firstNews ws text abi labels refs flags lasts n
 
-  entry-target : (t k w : ℕ) → entryTarget ws new t (record { word = w; method = methodOf k }) ≡ markTarget ws lasts n t k
+  entry-target : (t k w : ℕ) → entryTarget ws new t (record { word = w; method = methodOf k; source = sourceOf k }) ≡ markTarget ws lasts n t k
   unfolding entryTarget markTarget
   entry-target t k w = by-found (methodOf k) (λ m q. rw (q, target-is ws text abi labels refs flags lasts n m)) (λ q. rw q)
 
@@ -184,7 +194,7 @@ module _ (ws text abi labels refs flags lasts : List ℕ) (n c : ℕ) (vs vm : L
 
   entry-is : (i : ℕ) → compilerEntry ws new c (entriesOf vs vm size) i (compilerWord ws (classCompilerTable ws c - 1 + i))
       ≡ tableSlot ws lasts n c vs vm size i
-  unfolding compilerEntry tableSlot methodAt
+  unfolding compilerEntry tableSlot methodAt sourceAt
   entry-is i =
       by (eqb (compilerWord ws (classCompilerTable ws c - 1 + i)) 0) (λ q. rw q (slot-below vs vm size i))
       (λ q. rw (q, match-is (compilerWord ws (classCompilerTable ws c - 1 + i))))
@@ -206,22 +216,33 @@ module _ (ws text abi labels refs flags lasts : List ℕ) (n c : ℕ) (vs vm : L
 
   -- ---- the whole table
 
-  pub table-is : (xs : List ℕ) {count : ℕ} {E T : List Entry} → count ≡ min (classCompilerSlots ws c) 1024
+  pub table-is : (xs : List Entry) {count : ℕ} {E T : List Entry} → count ≡ min (classCompilerSlots ws c) 1024
       → E ≡ slotsIn ws lasts n c vs vm size count
-      → T ≡ fold (appendMethod ws text new) E ((ownMethods ws c ++ numbers methodLimit n) ++ xs)
-      → T ≡ fold (appendMethod ws text new)
+      → T ≡ fold (appendEntry ws text new) (fold (appendMethod ws text new) E (ownMethods ws c ++ numbers methodLimit n)) xs
+      → T ≡ fold (appendEntry ws text new)
+      (fold (appendMethod ws text new)
       (compilerEntries ws new c (entriesOf vs vm size) 0 (compilerTargets ws c))
-      (classMethods ws new c ++ xs)
+      (classMethods ws new c)) xs
   unfolding classMethods
   table-is xs e f g = g ∙ rw (f, entries-are e, length-first ws text abi labels refs flags lasts n)
+
+  -- what is appended does not depend on the words
+  known-entries : (T E : List Entry) → fold (appendEntry ws text new) T (methodsIn E) ≡ fold (appendEntry ws text new) T E
+  unfolding fold methodsIn appendEntry
+  known-entries T [] = refl
+  known-entries T (e ∷ es) = known-entries (appendEntry ws text new T e) es
 
   pub prepared-is : (area known : List ℕ) {T : List Entry} → entriesOf vs vm size ≡ nativeView ws text abi labels area c
       → new ≡ addedMethods ws text abi labels area c
       → marksIn known size ≡ methodsIn (parentEntries ws text abi labels area c)
-      → T ≡ fold (appendMethod ws text new)
+      → T ≡ fold (appendEntry ws text new)
+      (fold (appendMethod ws text new)
       (compilerEntries ws new c (entriesOf vs vm size) 0 (compilerTargets ws c))
-      (classMethods ws new c ++ markMethods known size)
+      (classMethods ws new c)) (marksIn known size)
       → T ≡ compilerTable ws text abi labels area c
   unfolding compilerTable
   prepared-is area known view added parent e =
-      rw (← added, ← view, ← (methods-are known size (parentEntries ws text abi labels area c) parent)) e
+      e ∙ rw (parent, ← added, ← view) (known-entries
+      (fold (appendMethod ws text new)
+      (compilerEntries ws new c (entriesOf vs vm size) 0 (compilerTargets ws c)) (classMethods ws new c))
+      (parentEntries ws text abi labels area c))

@@ -1,7 +1,7 @@
 -- The methods of the sheet and the first n that are added, as the code reads them off arrays, and searches among them and among the marks
 -- of a table. Assumes nothing.
 use Prim.Native.Nat.{ℕ, _+_, _-_}
-use mathlib.Core.Bool.{Bool, false, cond, _&&_}
+use mathlib.Core.Bool.{Bool, false, cond, not, _&&_}
 use mathlib.Core.List.{List, []}
 use lib.ListN.{getD}
 use lib.Dec.{eqb, ltb}
@@ -10,10 +10,11 @@ use Rattle.words.specs.declared.Found.{Found}
 use Rattle.words.specs.declared.Found.the-variants.{At, Nothing}
 use Rattle.text.specs.Text.{sameBytes}
 use Rattle.class_sheet.specs.ClassSheet.{classCompilerTable, compilerWord, methodName, methodDescriptor, methodFlags, methodTarget, methodLimit}
-use Rattle.linking.specs.Chain.{onFound, ownMethods}
+use Rattle.linking.specs.Chain.{onFound, ownMethods, isEligible}
 use Rattle.linking.specs.Vtable.{Entry}
+use Rattle.linking.specs.Compiler.{New, appendFrom}
 use Rattle.growth.specs.News.{refName, refDescriptor}
-use Rattle.reading.specs.Arrays.{methodOf}
+use Rattle.reading.specs.Arrays.{methodOf, sourceOf}
 use Rattle.native_view.specs.Native.{below}
 
 -- ---- method m: below 512 one of the sheet, from 512 on an added one
@@ -36,6 +37,20 @@ module _ (ws text abi labels refs : List ℕ) (n : ℕ) where
 
 unfoldable pub flagsIn : List ℕ → List ℕ → ℕ → ℕ → ℕ
 flagsIn ws flags n m = cond (ltb m methodLimit) (methodFlags ws m) (below flags n (m - methodLimit))
+
+-- method m is eligible, and none of the first `size` marks is of its signature
+unfoldable pub takesSlot : (ws text abi labels refs : List ℕ) (n : ℕ) (flags ms : List ℕ) (size m : ℕ) → Bool
+takesSlot ws text abi labels refs n flags ms size m =
+    isEligible (flagsIn ws flags n m) (nameIn ws text abi labels refs n m)
+    && not (someSame ws text abi labels refs n (nameIn ws text abi labels refs n m) (descriptorIn ws text abi labels refs n m) ms size)
+
+-- the source of slot i of the compiler table where its target is t: a zero slot is the view's
+unfoldable pub sourceAt : List ℕ → ℕ → ℕ → ℕ → Found
+sourceAt vm size i t = cond (eqb t 0) (sourceOf (below vm size i)) Nothing
+
+-- a declared or added method is no copy
+abbrev pub appendMethod : List ℕ → List ℕ → List New → List Entry → ℕ → List Entry
+appendMethod ws text new = appendFrom ws text new Nothing
 
 module _ (ws lasts : List ℕ) (n : ℕ) where
   unfoldable pub targetIn : ℕ → ℕ
@@ -67,7 +82,7 @@ module _ (ws lasts : List ℕ) (n : ℕ) where
   unfoldable pub tableSlot : ℕ → List ℕ → List ℕ → ℕ → ℕ → Entry
   tableSlot c vs vm size i =
       let t : ℕ = compilerWord ws (classCompilerTable ws c - 1 + i) in
-      record { word = cond (eqb t 0) (below vs size i) t; method = methodAt c vm size i t }
+      record { word = cond (eqb t 0) (below vs size i) t; method = methodAt c vm size i t; source = sourceAt vm size i t }
 
   unfoldable pub slotsIn : ℕ → List ℕ → List ℕ → ℕ → ℕ → List Entry
   slotsIn c vs vm size count = listFrom (tableSlot c vs vm size) 0 count

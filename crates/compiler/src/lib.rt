@@ -3,21 +3,21 @@
 use words::Found;
 ghost use mathlib.Core.Path.{_≡_};
 ghost use mathlib.Core.Bool.{cond};
-ghost use mathlib.Core.List.{[], _++_};
-ghost use Prim.Native.Nat.{_+_, _≤_, _<_, min};
+ghost use mathlib.Core.List.{_++_};
+ghost use Prim.Native.Nat.{_+_, _-_, _≤_, _<_, min};
 ghost use lib.ListN.{length};
 ghost use lib.Dec.{eqb};
 ghost use Rattle.words.specs.Lent.{was, after};
-ghost use Rattle.words.specs.Lists.{numbers, find, fold, consFound};
+ghost use Rattle.words.specs.Lists.{numbers, find, fold};
 ghost use Rattle.class_sheet.specs.ClassSheet.{classCompilerSlots, methodLimit};
 ghost use Rattle.words.specs.declared.Found.the-variants.{Nothing};
 ghost use Rattle.linking.specs.Chain.{ownMethods};
-ghost use Rattle.linking.specs.Compiler.{compilerTable, compilerEntries, compilerTargets, classMethods, addedMethods, appendMethod};
-ghost use Rattle.reading.specs.Arrays.{methodOf, entriesOf};
+ghost use Rattle.linking.specs.Compiler.{compilerTable, compilerEntries, compilerTargets, classMethods, addedMethods};
+ghost use Rattle.reading.specs.Arrays.{methodOf, sourceOf, entriesOf};
 ghost use Rattle.growth.specs.News.{firstNews};
-ghost use Rattle.native_view.specs.Native.{below, markMethods};
-ghost use Rattle.compiler.specs.Added.{appending, targeted, methods};
-ghost use Rattle.compiler.specs.Methods.{nameIn, descriptorIn, markSame, someSame, flagsIn, targetIn, markHas, viewTarget, matchIn, methodAt, slotsIn, methodNumber};
+ghost use Rattle.native_view.specs.Native.{below, markEntry, marksIn};
+ghost use Rattle.compiler.specs.Methods.{nameIn, descriptorIn, markSame, someSame, flagsIn, takesSlot, targetIn, markHas, viewTarget, matchIn, methodAt, sourceAt, slotsIn, methodNumber};
+ghost use Rattle.compiler.specs.Added.{appending, copying, targeted, methods};
 
 // How many slots the table has, and how many methods are added to the class.
 pub struct Prepared {
@@ -174,12 +174,13 @@ fn entry_mark(
     t: u32,
 ) -> u32
     requires { ⌜ n ≤ 1024 ⌝ }
-    ensures { λ r. ⌜ methodOf r ≡ methodAt (was ws) (was lasts) n c (was vm) size i t ⌝ }
+    ensures { λ r. ⌜ (methodOf r ≡ methodAt (was ws) (was lasts) n c (was vm) size i t) × (sourceOf r ≡ sourceAt (was vm) size i t) ⌝ }
 {
     if t == 0 {
         return native_view::word_below(vm, size, i);
     }
-    match_target(ws, lasts, n, c, vm, size, t)
+    let k = match_target(ws, lasts, n, c, vm, size, t);
+    reading::mark_of(reading::method_of(k))
 }
 
 // Fills the arrays with the slots of class c's compiler table, and answers how many there are.
@@ -258,8 +259,31 @@ fn has_slot<'a>(
     false
 }
 
-// Appends method m to the table where it is eligible and its signature has no slot, and answers how many slots there are.
-fn append_method<'a>(
+// Whether method m takes a slot behind the first `end`: it is eligible, and none of them has its signature.
+fn takes_slot<'a>(
+    ws: &[u32],
+    text: &'a [u8],
+    abi: &[u32],
+    labels: &'a [u8],
+    refs: &[u32],
+    flags: &[u32],
+    n: u32,
+    ms: &[u32],
+    end: u32,
+    m: u32,
+) -> bool
+    ensures { λ r. ⌜ r ≡ takesSlot (was ws) (was text) (was abi) (was labels) (was refs) n (was flags) (was ms) end m ⌝ }
+{
+    let name = name_of(ws, text, abi, labels, refs, n, m);
+    let descriptor = descriptor_of(ws, text, abi, labels, refs, n, m);
+    if !chain::is_eligible(flags_of(ws, flags, n, m), name) {
+        return false;
+    }
+    !has_slot(ws, text, abi, labels, refs, n, name, descriptor, ms, end)
+}
+
+// Appends the method with mark k, if it has one that takes a slot, and answers how many slots there are.
+fn append_mark<'a>(
     ws: &[u32],
     text: &'a [u8],
     abi: &[u32],
@@ -268,33 +292,30 @@ fn append_method<'a>(
     flags: &[u32],
     lasts: &[u32],
     n: u32,
-    m: u32,
+    k: u32,
     ts: &mut [u32],
     ms: &mut [u32],
     end: u32,
 ) -> u32
-    requires { ⌜ (m < 4294967295) × (end < 4294967295) × (end < length (now ts)) × (end < length (now ms)) ⌝ }
-    ensures is { λ r. ⌜ entriesOf (after ts) (after ms) r ≡ appending ws text abi labels refs flags lasts n (entriesOf (was ts) (was ms) end) m ⌝ }
+    requires { ⌜ (end < 4294967295) × (end < length (now ts)) × (end < length (now ms)) ⌝ }
+    ensures is { λ r. ⌜ entriesOf (after ts) (after ms) r ≡ copying ws text abi labels refs flags lasts n (entriesOf (was ts) (was ms) end) (markEntry k) ⌝ }
     ensures count { λ r. ⌜ r ≤ end + 1 ⌝ }
 {
-    let name = name_of(ws, text, abi, labels, refs, n, m);
-    let descriptor = descriptor_of(ws, text, abi, labels, refs, n, m);
-    if !chain::is_eligible(flags_of(ws, flags, n, m), name) {
+    let Found::At(m) = reading::method_of(k) else {
+        return end;
+    };
+    if !takes_slot(ws, text, abi, labels, refs, flags, n, ms, end, m) {
         return end;
     }
-    if has_slot(ws, text, abi, labels, refs, n, name, descriptor, ms, end) {
-        return end;
-    }
-    let k = reading::mark_of(Found::At(m));
     reading::put_slot(ts, ms, end, target_of(ws, lasts, n, m), k);
     end + 1
 }
 
 // The number of the j-th of a class's methods: `own` declared ones from `first` on, then the added ones.
 fn method_number(first: u32, own: u32, j: u32) -> u32
-    requires { ⌜ (first + own ≤ 4294967295) × (j < 4096) ⌝ }
+    requires { ⌜ (own ≤ methodLimit - first) × (j < own + 1024) ⌝ }
     ensures is { λ r. ⌜ r ≡ methodNumber first own j ⌝ }
-    ensures small { λ r. ⌜ r < 4294967295 ⌝ }
+    ensures small { λ r. ⌜ r < 4095 ⌝ }
 {
     if j < own {
         return first + j;
@@ -318,7 +339,8 @@ fn append_methods<'a>(
     end: u32,
 ) -> u32
     requires { ⌜ (n ≤ 1024) × (end ≤ 1024) × (3584 ≤ length (now ts)) × (3584 ≤ length (now ms)) ⌝ }
-    ensures is { λ r. ⌜ entriesOf (after ts) (after ms) r ≡ fold (appending ws text abi labels refs flags lasts n) (entriesOf (was ts) (was ms) end) (ownMethods (was ws) c ++ numbers methodLimit n) ⌝ }
+    ensures is { λ r. ⌜ entriesOf (after ts) (after ms) r
+        ≡ fold (appending ws text abi labels refs flags lasts n) (entriesOf (was ts) (was ms) end) (ownMethods (was ws) c ++ numbers methodLimit n) ⌝ }
     ensures count { λ r. ⌜ r ≤ 2560 ⌝ }
 {
     let first = class_sheet::class_first_method(ws, c);
@@ -328,35 +350,11 @@ fn append_methods<'a>(
     let mut j: u32 = 0;
     while j < total {
         let m = method_number(first, own, j);
-        r = append_method(ws, text, abi, labels, refs, flags, lasts, n, m, ts, ms, r);
+        let k = reading::mark_of(Found::At(m));
+        r = append_mark(ws, text, abi, labels, refs, flags, lasts, n, k, ts, ms, r);
         j += 1;
     }
     r
-}
-
-// Appends the method with mark k, if it has one.
-fn append_mark<'a>(
-    ws: &[u32],
-    text: &'a [u8],
-    abi: &[u32],
-    labels: &'a [u8],
-    refs: &[u32],
-    flags: &[u32],
-    lasts: &[u32],
-    n: u32,
-    k: u32,
-    ts: &mut [u32],
-    ms: &mut [u32],
-    end: u32,
-) -> u32
-    requires { ⌜ (end < 4294967295) × (end < length (now ts)) × (end < length (now ms)) ⌝ }
-    ensures is { λ r. ⌜ entriesOf (after ts) (after ms) r ≡ fold (appending ws text abi labels refs flags lasts n) (entriesOf (was ts) (was ms) end) (consFound (methodOf k) []) ⌝ }
-    ensures count { λ r. ⌜ r ≤ end + 1 ⌝ }
-{
-    match reading::method_of(k) {
-        Found::At(m) => append_method(ws, text, abi, labels, refs, flags, lasts, n, m, ts, ms, end),
-        Found::Nothing => end,
-    }
 }
 
 // Appends the methods of the first `count` marks.
@@ -376,7 +374,8 @@ fn append_known<'a>(
     end: u32,
 ) -> u32
     requires { ⌜ (end + count ≤ 3584) × (3584 ≤ length (now ts)) × (3584 ≤ length (now ms)) ⌝ }
-    ensures is { λ r. ⌜ entriesOf (after ts) (after ms) r ≡ fold (appending ws text abi labels refs flags lasts n) (entriesOf (was ts) (was ms) end) (markMethods (was known) count) ⌝ }
+    ensures is { λ r. ⌜ entriesOf (after ts) (after ms) r
+        ≡ fold (copying ws text abi labels refs flags lasts n) (entriesOf (was ts) (was ms) end) (marksIn (was known) count) ⌝ }
     ensures count { λ r. ⌜ r ≤ end + count ⌝ }
 {
     let mut r: u32 = end;
@@ -407,7 +406,9 @@ fn append_all<'a>(
     end: u32,
 ) -> u32
     requires { ⌜ (n ≤ 1024) × (count ≤ 1024) × (end ≤ 1024) × (3584 ≤ length (now ts)) × (3584 ≤ length (now ms)) ⌝ }
-    ensures is { λ r. ⌜ entriesOf (after ts) (after ms) r ≡ fold (appending ws text abi labels refs flags lasts n) (entriesOf (was ts) (was ms) end) ((ownMethods (was ws) c ++ numbers methodLimit n) ++ markMethods (was known) count) ⌝ }
+    ensures is { λ r. ⌜ entriesOf (after ts) (after ms) r ≡ fold (copying ws text abi labels refs flags lasts n)
+        (fold (appending ws text abi labels refs flags lasts n) (entriesOf (was ts) (was ms) end) (ownMethods (was ws) c ++ numbers methodLimit n))
+        (marksIn (was known) count) ⌝ }
     ensures count { λ r. ⌜ r ≤ 3584 ⌝ }
 {
     let r = append_methods(ws, text, abi, labels, refs, flags, lasts, n, c, ts, ms, end);
@@ -448,7 +449,9 @@ fn compiler_table<'a>(
     ms: &mut [u32],
 ) -> u32
     requires { ⌜ (n ≤ 1024) × (count ≤ 1024) × (3584 ≤ length (now ts)) × (3584 ≤ length (now ms)) ⌝ }
-    ensures is { λ r. ⌜ entriesOf (after ts) (after ms) r ≡ fold (appending ws text abi labels refs flags lasts n) (targeted ws text abi labels refs flags lasts n c (entriesOf (was vs) (was vm) count)) (methods ws text abi labels refs flags lasts n c ++ markMethods (was known) count) ⌝ }
+    ensures is { λ r. ⌜ entriesOf (after ts) (after ms) r ≡ fold (copying ws text abi labels refs flags lasts n)
+        (fold (appending ws text abi labels refs flags lasts n) (targeted ws text abi labels refs flags lasts n c (entriesOf (was vs) (was vm) count))
+        (methods ws text abi labels refs flags lasts n c)) (marksIn (was known) count) ⌝ }
     ensures count { λ r. ⌜ r ≤ 3584 ⌝ }
 {
     let size = compiler_entries(ws, lasts, n, c, vs, vm, count, ts, ms);
@@ -486,7 +489,8 @@ pub fn prepare_generated<'a>(
     lasts: &mut [u32; 1024],
 ) -> Prepared
     ensures table { λ r. ⌜ entriesOf (after ts) (after ms) (r .n) ≡ compilerTable (was ws) (was text) (was abi) (was labels) (was area) c ⌝ }
-    ensures members { λ r. ⌜ firstNews (was ws) (was text) (was abi) (was labels) (after refs) (after flags) (after lasts) (r .added) ≡ addedMethods (was ws) (was text) (was abi) (was labels) (was area) c ⌝ }
+    ensures members { λ r. ⌜ firstNews (was ws) (was text) (was abi) (was labels) (after refs) (after flags) (after lasts) (r .added)
+        ≡ addedMethods (was ws) (was text) (was abi) (was labels) (was area) c ⌝ }
     ensures counts { λ r. ⌜ (r .n ≤ 3584) × (r .added ≤ 1024) ⌝ }
     ensures arrays { λ r. ⌜ (length (after ts) ≡ 3584) × (length (after ms) ≡ 3584) × (length (after refs) ≡ 1024) × (length (after flags) ≡ 1024) × (length (after lasts) ≡ 1024) ⌝ }
 {

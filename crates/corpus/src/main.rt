@@ -17,10 +17,10 @@ use words::word_part;
 // `LGTC`, and the version of the form.
 const MAGIC: u32 = 1129596748;
 
-const VERSION: u32 = 2;
+const VERSION: u32 = 3;
 
 // The place of what the file says of how it was made, after the header.
-const BODY: u32 = 14;
+const BODY: u32 = 15;
 
 // ---- places, lists, bytes and changes
 
@@ -146,6 +146,8 @@ const SET: u32 = 2;
 
 const AREA: u32 = 3;
 
+const MISSING: u32 = 4;
+
 // Where reading goes on, how many calls there were, and the first that differs, with what it differs in.
 struct Seen {
     at: u32,
@@ -154,14 +156,23 @@ struct Seen {
     what: u32,
 }
 
-// Makes the call at a place, with its stub list read from the lists at another, and answers whether its answer is the Rust's.
-fn make_call(
+// Whether the answer to a question for missing slots is the stored one.
+fn is_missing(answer: missing::Missing, refusal: u32, first: u32) -> bool {
+    match answer {
+        missing::Missing::Count(n) => (refusal == 0) & (n == first),
+        missing::Missing::Refused(row) => (refusal == row) & (first == 0),
+    }
+}
+
+// Makes the link or ask at a place, with its stub list read from the lists at another, and answers whether its answer is the stored one.
+fn make_link_or_ask(
     f: &[u32],
     at: u32,
     lists: u32,
     set: &mut [u32],
     abi: &[u32],
     area: &mut [u32],
+    missing: &mut [u32],
 ) -> bool {
     let mut stubs = [0u32; 4096];
     let place = list_place(f, lists, word(f, on(at, 3)), &mut stubs);
@@ -175,12 +186,37 @@ fn make_call(
     ];
     let mut answers = [0u32; 3];
     let lent = word_part(&stubs, 0, wide(word(f, place)));
-    replay::replay(set, abi, area, &call, lent, &mut answers);
+    replay::replay(set, abi, area, missing, &call, lent, &mut answers);
     files::is_front(&answers, word_part(f, wide(on(at, 4)), 3))
 }
 
-// What differs after a call, of which the answer is the Rust's or not.
-fn difference(same: bool, set: &[u32], area: &[u32], rust_set: &[u32], rust_area: &[u32]) -> u32 {
+// Makes the call at a place: a link (kind 0), an ask (1) or a question for missing slots.
+fn make_call(
+    f: &[u32],
+    at: u32,
+    lists: u32,
+    set: &mut [u32],
+    abi: &[u32],
+    area: &mut [u32],
+    missing: &mut [u32],
+) -> bool {
+    if word(f, at) != 2 {
+        return make_link_or_ask(f, at, lists, set, abi, area, missing);
+    }
+    let answer = missing::missing_slots(set, abi, missing, word(f, on(at, 1)));
+    is_missing(answer, word(f, on(at, 4)), word(f, on(at, 5))) & (word(f, on(at, 6)) == 0)
+}
+
+// What differs after a call, of which the answer is the stored one or not.
+fn difference(
+    same: bool,
+    set: &[u32],
+    area: &[u32],
+    missing: &[u32],
+    rust_set: &[u32],
+    rust_area: &[u32],
+    rust_missing: &[u32],
+) -> u32 {
     if !same {
         return ANSWER;
     }
@@ -189,6 +225,9 @@ fn difference(same: bool, set: &[u32], area: &[u32], rust_set: &[u32], rust_area
     }
     if !files::is_front(area, rust_area) {
         return AREA;
+    }
+    if !files::is_front(missing, rust_missing) {
+        return MISSING;
     }
     0
 }
@@ -201,8 +240,10 @@ fn make_calls(
     set: &mut [u32],
     abi: &[u32],
     area: &mut [u32],
+    missing: &mut [u32],
     rust_set: &mut [u32],
     rust_area: &mut [u32],
+    rust_missing: &mut [u32],
 ) -> Seen {
     let n = word(f, at);
     let mut place: u32 = on(at, 1);
@@ -210,12 +251,13 @@ fn make_calls(
     let mut what: u32 = 0;
     let mut i: u32 = 0;
     while i < n {
-        let same = make_call(f, place, lists, set, abi, area);
+        let same = make_call(f, place, lists, set, abi, area, missing);
         place = make_changes(f, on(place, 7), rust_set);
         place = make_changes(f, place, rust_area);
+        place = make_changes(f, place, rust_missing);
         if what == 0 {
             call = i;
-            what = difference(same, set, area, rust_set, rust_area);
+            what = difference(same, set, area, missing, rust_set, rust_area, rust_missing);
         }
         i += 1;
     }
@@ -235,45 +277,79 @@ fn room(f: &[u32], at: u32, most: usize) -> usize
     if most < n { most } else { n }
 }
 
-// Room for class words, and for an area.
-fn set_words() -> [u32; 20480]
-    ensures { λ r. ⌜ 20480 ≡ length r ⌝ }
-{
-    [0; 20480]
+// Where the parts of a case are: its class words, area and list of missing slots, the stub lists and the calls.
+struct Places {
+    set: u32,
+    area: u32,
+    missing: u32,
+    lists: u32,
+    calls: u32,
 }
 
-fn area_words() -> [u32; 8192]
-    ensures { λ r. ⌜ 8192 ≡ length r ⌝ }
-{
-    [0; 8192]
+// Makes the calls of a case on as many class words and words of the area and of the list as it lends.
+fn make_lent(
+    f: &[u32],
+    p: Places,
+    set: &mut [u32],
+    abi: &[u32],
+    area: &mut [u32],
+    missing: &mut [u32],
+    rust_set: &mut [u32],
+    rust_area: &mut [u32],
+    rust_missing: &mut [u32],
+) -> Seen {
+    let set_room = room(f, p.set, set.len());
+    let area_room = room(f, p.area, area.len());
+    let missing_room = room(f, p.missing, missing.len());
+    make_calls(
+        f,
+        p.calls,
+        p.lists,
+        &mut set[..set_room],
+        abi,
+        &mut area[..area_room],
+        &mut missing[..missing_room],
+        rust_set,
+        rust_area,
+        rust_missing,
+    )
 }
 
-// Replays the case at a place, on as many class words and words of the area as it lends.
+// Replays the case at a place.
 fn replay_case(f: &[u32], at: u32) -> Seen {
-    let mut set = set_words();
+    let mut set = [0u32; 20480];
     let mut rust_set = [0u32; 20480];
     let mut abi = [0u32; 20480];
-    let mut area = area_words();
+    let mut area = [0u32; 8192];
     let mut rust_area = [0u32; 8192];
+    let mut missing = [0u32; 4096];
+    let mut rust_missing = [0u32; 4096];
     let mut stubs = [0u32; 4096];
     let abi_at = read_list(f, at, &mut set);
     let area_at = read_list(f, abi_at, &mut abi);
-    let count_at = read_list(f, area_at, &mut area);
+    let missing_at = read_list(f, area_at, &mut area);
+    let count_at = read_list(f, missing_at, &mut missing);
     read_list(f, at, &mut rust_set);
     read_list(f, area_at, &mut rust_area);
+    read_list(f, missing_at, &mut rust_missing);
     let lists = on(count_at, 1);
-    let calls_at = list_place(f, lists, word(f, count_at), &mut stubs);
-    let set_room = room(f, at, 20480);
-    let area_room = room(f, area_at, 8192);
-    make_calls(
-        f,
-        calls_at,
+    let places = Places {
+        set: at,
+        area: area_at,
+        missing: missing_at,
         lists,
-        &mut set[..set_room],
+        calls: list_place(f, lists, word(f, count_at), &mut stubs),
+    };
+    make_lent(
+        f,
+        places,
+        &mut set,
         word_part(&abi, 0, wide(word(f, abi_at))),
-        &mut area[..area_room],
+        &mut area,
+        &mut missing,
         &mut rust_set,
         &mut rust_area,
+        &mut rust_missing,
     )
 }
 
@@ -410,8 +486,10 @@ fn print_what(call: u32, what: u32) {
         io::write_all(STDOUT_FILENO, b"the answer differs\n");
     } else if what == SET {
         io::write_all(STDOUT_FILENO, b"the class words differ\n");
-    } else {
+    } else if what == AREA {
         io::write_all(STDOUT_FILENO, b"the area differs\n");
+    } else {
+        io::write_all(STDOUT_FILENO, b"the list of missing slots differs\n");
     }
 }
 
@@ -489,7 +567,8 @@ fn items_place(f: &[u32]) -> u32 {
     read_list(f, on(BODY, 1), &mut packed)
 }
 
-// Whether the longest that the header tells of fit: class words, ABI words, area, stub list, bytes of a reading, words lent to a reading.
+// Whether the longest that the header tells of fit: class words, ABI words, area, stub list, bytes of a reading, words lent to a reading,
+// list of missing slots.
 fn fits(f: &[u32]) -> bool {
     (word(f, 7) <= 20480)
         & (word(f, 8) <= 20480)
@@ -497,6 +576,7 @@ fn fits(f: &[u32]) -> bool {
         & (word(f, 10) <= 4096)
         & (word(f, 12) <= 49152)
         & (word(f, 13) <= 12288)
+        & (word(f, 14) <= 4096)
 }
 
 // Whether this is a corpus of this form, whole.

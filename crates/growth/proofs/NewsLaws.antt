@@ -10,8 +10,7 @@ use Rattle.class_sheet.specs.ClassSheet.{methodWord, methodName, methodDescript
 use Rattle.abi_sheet.specs.AbiSheet.{abiSlotWord, abiFieldWord, abiSlotName, abiSlotDescriptor, abiFieldName, abiFieldDescriptor}
 use Rattle.words.specs.Lists.{listFrom}
 use Rattle.linking.specs.Compiler.{New}
-use Rattle.linking.specs.Set.{newText, newRecords}
-use Rattle.linking.specs.Link.{writeAt}
+use Rattle.linking.specs.Set.{writeAt, newText, newRecords}
 use Rattle.growth.specs.News.{slotRefs, fieldRefs, newCount, refName, refDescriptor, newAt, firstNews, news, named}
 use Rattle.words.proofs.ListLaws.{length-list-from}
 use Rattle.words.proofs.Ext.{list-more}

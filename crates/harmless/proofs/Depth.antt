@@ -18,7 +18,7 @@ use Rattle.abi_rules.specs.AbiRules.{abiRecords}
 use Rattle.set_rules.specs.SetRules.{setFits, classDescriptors, abiDescriptors, recordsRefusal, setRefusal}
 use Rattle.set_rules.proofs.Valid.{valid-exactly}
 use Rattle.linking.specs.Chain.{parentOf, chain}
-use Rattle.linking.specs.Link.{noClass, isLinked, badArray, badClass, refusedCall, linkDef, Outcome}
+use Rattle.linking.specs.Link.{noClass, isLinked, badArray, badClass, Outcome, refusedCall, LinkOutcome, refusedLink, linkDef}
 use Rattle.linking.specs.Ask.{badAsk, askDef}
 use Rattle.linking.proofs.ChainLaws.{chain-length}
 use Rattle.linking.proofs.Opened.{opened}
@@ -52,16 +52,17 @@ refused : (row : ℕ) → row ≢ 0 → row ≤ 6 → Passed row → ⊥
 refused row n l p = ⊎-elim n (λ h. absurd (omega arith)) p
 
 -- a call that `row` or 6 refuses first: it passed both
-both-passed : (ws area : List ℕ) (row : ℕ) (none bad : Bool) (o : Outcome) → eqb row 0 ≡ none → row ≤ 5
-    → Passed ((cond (not none) (refusedCall row ws area) (cond bad (refusedCall 6 ws area) o)) .refusal) → (row ≡ 0) × (bad ≡ false)
-both-passed ws area row true true o e l p = absurd (refused 6 (omega arith) (omega arith) p)
-both-passed ws area row true false o e l p = (eqb-true row 0 e, refl)
-both-passed ws area row false bad o e l p = absurd (refused row (eqb-false row 0 e) (omega arith) p)
+both-passed : {O : Type 0} (number : O → ℕ) (R : ℕ → O) → ((n : ℕ) → number (R n) ≡ n) → (row : ℕ) (none bad : Bool) (o : O) → eqb row 0 ≡ none → row ≤ 5
+    → Passed (number (cond (not none) (R row) (cond bad (R 6) o))) → (row ≡ 0) × (bad ≡ false)
+both-passed number R tells row true true o e l p = absurd (refused 6 (omega arith) (omega arith) (rw (tells 6) at p))
+both-passed number R tells row true false o e l p = (eqb-true row 0 e, refl)
+both-passed number R tells row false bad o e l p = absurd (refused row (eqb-false row 0 e) (omega arith) (rw (tells row) at p))
 
-link-short : (ws abi : List ℕ) (c : ℕ) (area stubs : List ℕ) → Passed (linkDef ws abi c area stubs .refusal) → Short ws c
+link-short : (ws abi : List ℕ) (c : ℕ) (area stubs missing : List ℕ) → Passed (linkDef ws abi c area stubs missing .outcome .refusal) → Short ws c
 unfolding linkDef badClass
-link-short ws abi c area stubs p =
-    let q = both-passed ws area (setRefusal ws abi) _ (badClass ws (textOf ws) c) _ refl (set-rows ws abi) p in
+link-short ws abi c area stubs missing p =
+    let number : LinkOutcome → ℕ = λ o. o .outcome .refusal in
+    let q = both-passed number (λ n. refusedLink n ws area missing) (λ n. refl) (setRefusal ws abi) _ (badClass ws (textOf ws) c) _ refl (set-rows ws abi) p in
     let a = or-neither (noClass ws c || isLinked ws c || (not (eqb (parentOf ws c) 0) && not (isLinked ws (parentOf ws c)))) (badArray ws (textOf ws) c) (q .1) in
     let b = or-neither (noClass ws c || isLinked ws c) (not (eqb (parentOf ws c) 0) && not (isLinked ws (parentOf ws c))) (a .0) in
     class-short ws c (few-classes ws abi (q .0)) (or-neither (noClass ws c) (isLinked ws c) (b .0) .0)
@@ -69,7 +70,8 @@ link-short ws abi c area stubs p =
 ask-short : (ws abi : List ℕ) (c i : ℕ) (area stubs : List ℕ) → Passed (askDef ws abi c i area stubs .refusal) → Short ws c × Short ws i
 unfolding askDef badAsk
 ask-short ws abi c i area stubs p =
-    let q = both-passed ws area (setRefusal ws abi) _ (badAsk ws c i) _ refl (set-rows ws abi) p in
+    let number : Outcome → ℕ = λ o. o .refusal in
+    let q = both-passed number (λ n. refusedCall n ws area) (λ n. refl) (setRefusal ws abi) _ (badAsk ws c i) _ refl (set-rows ws abi) p in
     let a = or-neither (noClass ws c || noClass ws i || not (isLinked ws c)) (not (isLinked ws i)) (q .1) in
     let b = or-neither (noClass ws c || noClass ws i) (not (isLinked ws c)) (a .0) in
     let d = or-neither (noClass ws c) (noClass ws i) (b .0) in
@@ -91,7 +93,7 @@ pub record Depths : Type 0 where
   pub reached : length (chain (line 64) 64) ≡ 64
   -- 65 classes, which row 3 refuses
   pub too-many : length (chain (line 65) 65) ≡ 65
-  pub refused-3 : linkDef (line 65) [] 65 [] [] .refusal ≡ 3
+  pub refused-3 : linkDef (line 65) [] 65 [] [] [] .outcome .refusal ≡ 3
   -- a number above the count, which row 6 refuses
   pub above : length (chain (line 64) 65) ≡ 65
   pub no-class : noClass (line 64) 65 ≡ true

@@ -1,5 +1,5 @@
 -- Refused calls do no harm (specs/Harmless.antt). Assumes nothing.
-use mathlib.Core.Path.{_≡_, refl, sym, ap}
+use mathlib.Core.Path.{_≡_, refl, sym, ap, subst}
 use mathlib.Core.Logic.{_≢_, _⊎_, inl, inr}
 use mathlib.Core.Bool.{Bool, true, false, cond, not, _&&_, _||_}
 use mathlib.Core.List.{List, [], _∷_, _++_}
@@ -33,7 +33,9 @@ use Rattle.linking.specs.Abi.{classAbi}
 use Rattle.linking.specs.Packages.{badPackages}
 use Rattle.linking.specs.Fields.{tooManyWords, standFrom, generatedBase, generatedRefusal, instanceWords, declaredWords}
 use Rattle.linking.specs.Vtable.{Entry, Built, built, refused, onBuilt, entryIsOther, empty, putMethod, addMethod, addMethods, buildMethods, tableEntries}
-use Rattle.linking.specs.Link.{Plan, Planned, planned, unplanned, withinSlots, planBuilt, planGenerated, planArray, plan, builtTable, generatedTable, listsFull, setShort, noRoom, refusedCall, finishLink, onPlan, onTable, badClass, badArea, linkDef, Outcome}
+use Rattle.linking.specs.Link.{Plan, Planned, planned, unplanned, withinSlots, planBuilt, planGenerated, planArray, plan, builtTable, generatedTable, listsFull, setShort, noRoom, refusedCall, finishLink, onPlan, onTable, badClass, badArea, linkDef, Outcome, LinkOutcome, refusedLink, noClass, isLinked}
+use Rattle.linking.specs.Counts.{missingShort}
+use Rattle.linking.specs.Missing.{Missing, turnedAway, missingDef}
 use Rattle.linking.specs.Ask.{Walk, hit, missed, broken, walk, headPlace, implementation, dispatchEntry, consEntry, dispatchEntries, onDispatch, buildNode, onWalk, badAsk, askDef}
 use Rattle.class_members.specs.Members.{FileOutcome, refusedBy, readRefusal, fileRefusal, readClassFile, classFileHead}
 use Rattle.harmless.specs.Harmless.{Refused, refusedReading, refusedWriting, refusedRenumbering, refusedBitmap, refusedCount, Harmless}
@@ -142,30 +144,21 @@ module _ (Q : ℕ → Type 0) where
   on-table (a-table T) q = q T
   on-table (no-table n h) q = no-plan n h
 
-  -- the outcome of a call on these words and area
-  record Ends (ws area : List ℕ) (o : Outcome) : Type 0 where
-    same : Refused (λ o. o .refusal) (λ n. refusedCall n ws area) o
-    number : Num (o .refusal)
+-- an outcome, where `row` is its number and `R n` the refused one of number n
+module _ (Q : ℕ → Type 0) {O : Type 0} (row : O → ℕ) (R : ℕ → O) (tells : (n : ℕ) → row (R n) ≡ n) where
+  record Ends (o : O) : Type 0 where
+    same : Refused row R o
+    number : Num Q (row o)
 
-  ends-either : {ws area : List ℕ} (b : Bool) (x y : Outcome) → Ends ws area x → Ends ws area y → Ends ws area (cond b x y)
+  ends-either : (b : Bool) (x y : O) → Ends x → Ends y → Ends (cond b x y)
   ends-either true x y p q = p
   ends-either false x y p q = q
 
-  ends-refused : (ws area : List ℕ) (n : ℕ) → Num n → Ends ws area (refusedCall n ws area)
-  ends-refused ws area n h = record { same = λ z. refl; number = h }
+  ends-refused : (n : ℕ) → Num Q n → Ends (R n)
+  ends-refused n h = record { same = refuses row R tells n; number = subst (Num Q) (sym (tells n)) h }
 
-  ends-accepted : (ws area : List ℕ) (o : Outcome) → o .refusal ≡ 0 → Ends ws area o
-  ends-accepted ws area o e = record { same = λ h. absurd (h e); number = λ h. absurd (h e) }
-
-  on-plan : (ws area : List ℕ) {p : Planned} {f : Plan → Outcome} → Plans p → ((q : Plan) → Ends ws area (f q))
-      → Ends ws area (onPlan p f (λ n. refusedCall n ws area))
-  on-plan ws area (a-plan p) k = k p
-  on-plan ws area (no-plan n h) k = ends-refused ws area n h
-
-  on-dispatch : (ws area : List ℕ) {b : Built} {f : List Entry → Outcome} → Table b → ((T : List Entry) → Ends ws area (f T))
-      → Ends ws area (onDispatch b f (λ n. refusedCall n ws area))
-  on-dispatch ws area (a-table T) k = k T
-  on-dispatch ws area (no-table n h) k = ends-refused ws area n h
+  ends-accepted : (o : O) → row o ≡ 0 → Ends o
+  ends-accepted o e = record { same = accepts row R tells o e; number = λ h. absurd (h e) }
 
 -- ---- rows 3 to 5
 
@@ -235,24 +228,56 @@ module _ (Q : ℕ → Type 0) (all : (n : ℕ) → 3 ≤ n → n ≤ 15 → Q n)
 
 -- ---- a link
 
-module _ (Q : ℕ → Type 0) (all : (n : ℕ) → 3 ≤ n → n ≤ 15 → Q n) (packages : Q 26) (ws abi : List ℕ) (c : ℕ) (area stubs : List ℕ) where
-  finish-ends : (p : Plan) → Ends Q ws area (finishLink ws abi c area stubs p)
+module _ (Q : ℕ → Type 0) (all : (n : ℕ) → 3 ≤ n → n ≤ 15 → Q n) (packages : Q 26) (ws abi : List ℕ) (c : ℕ) (area stubs missing : List ℕ) where
+  abbrev linkRow : LinkOutcome → ℕ
+  linkRow o = o .outcome .refusal
+
+  abbrev turned : ℕ → LinkOutcome
+  turned n = refusedLink n ws area missing
+
+  abbrev LinkEnds : LinkOutcome → Type 0
+  LinkEnds = Ends Q linkRow turned (λ n. refl)
+
+  or-refused : (b : Bool) (n : ℕ) (o : LinkOutcome) → Num Q n → LinkEnds o → LinkEnds (cond b (turned n) o)
+  or-refused b n o h e = ends-either Q linkRow turned (λ n. refl) b (turned n) o (ends-refused Q linkRow turned (λ n. refl) n h) e
+
+  finish-ends : (p : Plan) → LinkEnds (finishLink ws abi c area stubs missing p)
   unfolding finishLink
   finish-ends p =
-      ends-either Q (listsFull ws c p) _ _ (ends-refused Q ws area 14 (λ h. all 14 (omega arith) (omega arith)))
-      (ends-either Q (noRoom area stubs (length (p .table)) || setShort ws c p) _ _ (ends-refused Q ws area 15 (λ h. all 15 (omega arith) (omega arith)))
-      (ends-accepted Q ws area _ refl))
+      or-refused (listsFull ws c p) 14 _ (λ h. all 14 (omega arith) (omega arith))
+      (or-refused (noRoom area stubs (length (p .table)) || setShort ws c p || missingShort ws missing) 15 _ (λ h. all 15 (omega arith) (omega arith))
+      (ends-accepted Q linkRow turned (λ n. refl) _ refl))
 
-  link-ends : Ends Q ws area (linkDef ws abi c area stubs)
+  on-plan : {p : Planned} → Plans Q p → LinkEnds (onPlan p (finishLink ws abi c area stubs missing) (λ n. refusedLink n ws area missing))
+  on-plan (a-plan p) = finish-ends p
+  on-plan (no-plan n h) = ends-refused Q linkRow turned (λ n. refl) n h
+
+  link-ends : LinkEnds (linkDef ws abi c area stubs missing)
   unfolding linkDef
   link-ends =
-      ends-either Q (not (eqb (setRefusal ws abi) 0)) _ _
-      (ends-refused Q ws area (setRefusal ws abi)
-      (within-set Q (all 3 (omega arith) (omega arith)) (all 4 (omega arith) (omega arith)) (all 5 (omega arith) (omega arith)) ws abi))
-      (ends-either Q (badClass ws (textOf ws) c) _ _ (ends-refused Q ws area 6 (λ h. all 6 (omega arith) (omega arith)))
-      (ends-either Q (badArea ws area) _ _ (ends-refused Q ws area 7 (λ h. all 7 (omega arith) (omega arith)))
-      (ends-either Q (badPackages ws (textOf ws) abi (abiTextOf abi) c) _ _ (ends-refused Q ws area 26 (λ h. packages))
-      (on-plan Q ws area (plan-row Q all ws (textOf ws) abi (abiTextOf abi) area c) finish-ends))))
+      or-refused (not (eqb (setRefusal ws abi) 0)) (setRefusal ws abi) _
+      (within-set Q (all 3 (omega arith) (omega arith)) (all 4 (omega arith) (omega arith)) (all 5 (omega arith) (omega arith)) ws abi)
+      (or-refused (badClass ws (textOf ws) c) 6 _ (λ h. all 6 (omega arith) (omega arith))
+      (or-refused (badArea ws area) 7 _ (λ h. all 7 (omega arith) (omega arith))
+      (or-refused (badPackages ws (textOf ws) abi (abiTextOf abi) c) 26 _ (λ h. packages)
+      (on-plan (plan-row Q all ws (textOf ws) abi (abiTextOf abi) area c)))))
+
+-- ---- asking for a count
+
+module _ (Q : ℕ → Type 0) (three : Q 3) (four : Q 4) (five : Q 5) (six : Q 6) (fifteen : Q 15) (ws abi missing : List ℕ) (c : ℕ) where
+  abbrev countRow : Missing → ℕ
+  countRow o = o .refusal
+
+  or-away : (b : Bool) (n : ℕ) (o : Missing) → Num Q n → Ends Q countRow turnedAway (λ n. refl) o
+      → Ends Q countRow turnedAway (λ n. refl) (cond b (turnedAway n) o)
+  or-away b n o h e = ends-either Q countRow turnedAway (λ n. refl) b (turnedAway n) o (ends-refused Q countRow turnedAway (λ n. refl) n h) e
+
+  missing-ends : Ends Q countRow turnedAway (λ n. refl) (missingDef ws abi missing c)
+  unfolding missingDef
+  missing-ends =
+      or-away (not (eqb (setRefusal ws abi) 0)) (setRefusal ws abi) _ (within-set Q three four five ws abi)
+      (or-away (noClass ws c || not (isLinked ws c)) 6 _ (λ h. six)
+      (or-away (missingShort ws missing) 15 _ (λ h. fifteen) (ends-accepted Q countRow turnedAway (λ n. refl) _ refl)))
 
 -- ---- an ask
 
@@ -271,25 +296,44 @@ module _ (Q : ℕ → Type 0) (three : Q 3) (four : Q 4) (five : Q 5) (six : Q 6
   entries-row (e ∷ T) =
       entry-row e (e .method) (onFound (e .method) (implementation ws (textOf ws) c) Nothing) (dispatchEntries ws (textOf ws) c T) (entries-row T)
 
-  node-ends : (nodes : ℕ) → Ends Q ws area (buildNode ws abi c i area stubs nodes)
+  abbrev askRow : Outcome → ℕ
+  askRow o = o .refusal
+
+  abbrev away : ℕ → Outcome
+  away n = refusedCall n ws area
+
+  abbrev AskEnds : Outcome → Type 0
+  AskEnds = Ends Q askRow away (λ n. refl)
+
+  refused-ask : (n : ℕ) → Num Q n → AskEnds (away n)
+  refused-ask n h = ends-refused Q askRow away (λ n. refl) n h
+
+  or-none : (b : Bool) (n : ℕ) (o : Outcome) → Num Q n → AskEnds o → AskEnds (cond b (away n) o)
+  or-none b n o h e = ends-either Q askRow away (λ n. refl) b (away n) o (refused-ask n h) e
+
+  on-dispatch : {b : Built} {f : List Entry → Outcome} → Table Q b → ((T : List Entry) → AskEnds (f T)) → AskEnds (onDispatch b f (λ n. refusedCall n ws area))
+  on-dispatch (a-table T) k = k T
+  on-dispatch (no-table n h) k = refused-ask n h
+
+  node-ends : (nodes : ℕ) → AskEnds (buildNode ws abi c i area stubs nodes)
   unfolding buildNode
   node-ends nodes =
-      on-dispatch Q ws area (entries-row (tableEntries ws (textOf ws) abi (abiTextOf abi) area i))
-      (λ T. ends-either Q (noRoom area stubs (length T)) _ _ (ends-refused Q ws area 15 (λ h. fifteen)) (ends-accepted Q ws area _ refl))
+      on-dispatch (entries-row (tableEntries ws (textOf ws) abi (abiTextOf abi) area i))
+      (λ T. or-none (noRoom area stubs (length T)) 15 _ (λ h. fifteen) (ends-accepted Q askRow away (λ n. refl) _ refl))
 
   walk-ends : (w : Walk)
-      → Ends Q ws area (onWalk w (λ n nodes. record { refusal = 0; first = n + 1; second = nodes; set = ws; area = area }) (buildNode ws abi c i area stubs)
+      → AskEnds (onWalk w (λ n nodes. record { refusal = 0; first = n + 1; second = nodes; set = ws; area = area }) (buildNode ws abi c i area stubs)
       (refusedCall 7 ws area))
-  walk-ends (hit n nodes) = ends-accepted Q ws area _ refl
+  walk-ends (hit n nodes) = ends-accepted Q askRow away (λ n. refl) _ refl
   walk-ends (missed nodes) = node-ends nodes
-  walk-ends broken = ends-refused Q ws area 7 (λ h. seven)
+  walk-ends broken = refused-ask 7 (λ h. seven)
 
-  ask-ends : Ends Q ws area (askDef ws abi c i area stubs)
+  ask-ends : AskEnds (askDef ws abi c i area stubs)
   unfolding askDef
   ask-ends =
-      ends-either Q (not (eqb (setRefusal ws abi) 0)) _ _ (ends-refused Q ws area (setRefusal ws abi) (within-set Q three four five ws abi))
-      (ends-either Q (badAsk ws c i) _ _ (ends-refused Q ws area 6 (λ h. six))
-      (ends-either Q (badArea ws area) _ _ (ends-refused Q ws area 7 (λ h. seven)) (walk-ends (walk area i 64 0 (getD area (headPlace ws c) 0)))))
+      or-none (not (eqb (setRefusal ws abi) 0)) (setRefusal ws abi) _ (within-set Q three four five ws abi)
+      (or-none (badAsk ws c i) 6 _ (λ h. six)
+      (or-none (badArea ws area) 7 _ (λ h. seven) (walk-ends (walk area i 64 0 (getD area (headPlace ws c) 0)))))
 
 -- ---- the numbers of a reading
 
@@ -337,10 +381,20 @@ OfLink n = ((3 ≤ n) × (n ≤ 15)) ⊎ (n ≡ 26)
 abbrev OfAsk : ℕ → Type 0
 OfAsk n = ((3 ≤ n) × (n ≤ 7)) ⊎ ((15 ≤ n) × (n ≤ 16))
 
-of-link : (ws abi : List ℕ) (c : ℕ) (area stubs : List ℕ) → Ends OfLink ws area (linkDef ws abi c area stubs)
-of-link ws abi c area stubs = link-ends OfLink (λ n h k. inl (h, k)) (inr refl) ws abi c area stubs
+abbrev OfCount : ℕ → Type 0
+OfCount n = ((3 ≤ n) × (n ≤ 6)) ⊎ (n ≡ 15)
 
-of-ask : (ws abi : List ℕ) (c i : ℕ) (area stubs : List ℕ) → Ends OfAsk ws area (askDef ws abi c i area stubs)
+of-link : (ws abi : List ℕ) (c : ℕ) (area stubs missing : List ℕ)
+    → Ends OfLink {O = LinkOutcome} (λ o. o .outcome .refusal) (λ n. refusedLink n ws area missing) (λ n. refl) (linkDef ws abi c area stubs missing)
+of-link ws abi c area stubs missing = link-ends OfLink (λ n h k. inl (h, k)) (inr refl) ws abi c area stubs missing
+
+of-count : (ws abi missing : List ℕ) (c : ℕ) → Ends OfCount {O = Missing} (λ o. o .refusal) turnedAway (λ n. refl) (missingDef ws abi missing c)
+of-count ws abi missing c =
+    missing-ends OfCount (inl (omega arith, omega arith)) (inl (omega arith, omega arith)) (inl (omega arith, omega arith)) (inl (omega arith, omega arith))
+    (inr refl) ws abi missing c
+
+of-ask : (ws abi : List ℕ) (c i : ℕ) (area stubs : List ℕ)
+    → Ends OfAsk {O = Outcome} (λ o. o .refusal) (λ n. refusedCall n ws area) (λ n. refl) (askDef ws abi c i area stubs)
 of-ask ws abi c i area stubs =
     ask-ends OfAsk (inl (omega arith, omega arith)) (inl (omega arith, omega arith)) (inl (omega arith, omega arith)) (inl (omega arith, omega arith))
     (inl (omega arith, omega arith)) (inr (omega arith, omega arith)) (inr (omega arith, omega arith)) ws abi c i area stubs
@@ -355,14 +409,16 @@ harmless = record {
   widen = λ bs out. blocks-harmless (widenRefusal bs (length out)) (forward (sheetWords bs)) out;
   narrow = λ bs out. blocks-harmless (narrowRefusal bs (length out)) (narrowed (sheetWords bs)) out;
   renumber = renumber-harmless;
-  link = λ ws abi c area stubs. of-link ws abi c area stubs .same;
+  link = λ ws abi c area stubs missing. of-link ws abi c area stubs missing .same;
+  missing = λ ws abi missing c. of-count ws abi missing c .same;
   ask = λ ws abi c i area stubs. of-ask ws abi c i area stubs .same;
   references = references-harmless;
   count = count-harmless;
   arguments = arguments-harmless;
   class-file = file-harmless;
   file-head = head-harmless;
-  link-rows = λ ws abi c area stubs. of-link ws abi c area stubs .number;
+  link-rows = λ ws abi c area stubs missing. of-link ws abi c area stubs missing .number;
+  missing-rows = λ ws abi missing c. of-count ws abi missing c .number;
   ask-rows = λ ws abi c i area stubs. of-ask ws abi c i area stubs .number;
   class-rows = λ bs ws. read-few 5 classSheetRefusal bs ws (sheet-few 5 blockLimit classRows bs (length ws) (omega arith) class-few);
   abi-rows = λ bs ws. read-few 5 abiSheetRefusal bs ws (sheet-few 5 abiBlockLimit abiRows bs (length ws) (omega arith) abi-few);

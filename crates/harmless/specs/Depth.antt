@@ -21,7 +21,7 @@ abbrev pub Short : List ℕ → ℕ → Type 0
 Short ws c = (d : ℕ) → d ≤ c → length (chain ws d) ≤ 64
 
 pub record Shallow : Type 0 where
-  pub link : (ws abi : List ℕ) (c : ℕ) (area stubs : List ℕ) → Passed (linkDef ws abi c area stubs .refusal) → Short ws c
+  pub link : (ws abi : List ℕ) (c : ℕ) (area stubs missing : List ℕ) → Passed (linkDef ws abi c area stubs missing .outcome .refusal) → Short ws c
   pub ask : (ws abi : List ℕ) (c i : ℕ) (area stubs : List ℕ) → Passed (askDef ws abi c i area stubs .refusal) → Short ws c × Short ws i
   -- what of the two rows it takes: "classes ≤ 64", and not "number 0 or above the count". A class that has lines in the listing has passed both
   pub class : (ws : List ℕ) (c : ℕ) → classCount ws ≤ 64 → noClass ws c ≡ false → Short ws c

@@ -4,7 +4,8 @@ use mathlib.Core.Bool.{cond}
 use mathlib.Core.List.{List}
 use lib.ListN.{getD}
 use Rattle.text.specs.Text.{sameBytes, pairsRead}
-use Rattle.linking.specs.Link.{Outcome}
+use Rattle.linking.specs.Link.{Outcome, LinkOutcome}
+use Rattle.linking.specs.Missing as asking
 use Rattle.sheet.specs.Sheet as sheet
 use Rattle.writer.specs.Writer as writer
 use Rattle.renumber.specs.Renumber as renumber
@@ -17,6 +18,14 @@ use Rattle.class_members.specs.Members.{FileOutcome}
 abbrev pub called : ℕ → List ℕ → List ℕ → List ℕ → Outcome
 called row answer ws area =
     record { refusal = row; first = getD answer 0 0; second = getD answer 1 0; set = ws; area = area }
+
+-- the same of a link, which also leaves the list of counts
+abbrev pub linkedBy : ℕ → List ℕ → List ℕ → List ℕ → List ℕ → LinkOutcome
+linkedBy row answer ws area missing = record { outcome = called row answer ws area; missing = missing }
+
+-- a question for missing slots that returns `row` and leaves the answer word
+abbrev pub countedBy : ℕ → List ℕ → asking.Missing
+countedBy row answer = record { refusal = row; count = getD answer 0 0 }
 
 -- a reading that returns `row` and leaves the answer word and the lent words
 abbrev pub readBy : ℕ → List ℕ → List ℕ → sheet.Outcome

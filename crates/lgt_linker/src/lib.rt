@@ -4,6 +4,7 @@
 use area::Answer;
 use class_members::FileRead;
 use descriptor::DescriptorWords;
+use missing::Missing;
 use references::References;
 use renumber::Renumbered;
 use sheet::Read;
@@ -13,6 +14,9 @@ ghost use mathlib.Core.List.{List, []};
 ghost use Prim.Native.Nat.{ℕ};
 ghost use Rattle.linking.specs.Link.{linkDef};
 ghost use Rattle.linking.specs.Ask.{askDef};
+ghost use Rattle.linking.specs.Missing.{missingDef};
+ghost use Rattle.missing.specs.Lists.{answered};
+ghost use Rattle.words.specs.Lent.{was, after};
 ghost use Rattle.area.specs.Area.{outcome};
 ghost use Rattle.sheet.specs.Sheet.{readClassSheet, readAbiSheet, readUnorderedSheet};
 ghost use Rattle.sheet.specs.Sheet as readings;
@@ -26,7 +30,7 @@ ghost use Rattle.references.specs.References.{readReferences, countReferences};
 ghost use Rattle.references.specs.References as bitmaps;
 ghost use Rattle.class_members.specs.Members.{readClassFile, classFileHead};
 ghost use Rattle.class_members.specs.Members as files;
-ghost use Rattle.lgt_linker.specs.Exported.{called, readBy, writtenBy, renumberedBy, argumentsBy, comparedBy, compareNames, referencesBy, fileBy};
+ghost use Rattle.lgt_linker.specs.Exported.{called, linkedBy, countedBy, readBy, writtenBy, renumberedBy, argumentsBy, comparedBy, compareNames, referencesBy, fileBy};
 
 // Hands out a link's or an ask's answer.
 fn give_call(a: Answer, answer: &mut [u32; 2]) -> u32
@@ -39,6 +43,22 @@ fn give_call(a: Answer, answer: &mut [u32; 2]) -> u32
         }
         Answer::Refused(row) => {
             *answer = [0, 0];
+            row
+        }
+    }
+}
+
+// Hands out the answer of a question for missing slots.
+fn give_missing(a: Missing, answer: &mut [u32; 1]) -> u32
+    ensures { λ r. ⌜ countedBy r (after answer) ≡ answered a ⌝ }
+{
+    match a {
+        Missing::Count(n) => {
+            *answer = [n];
+            0
+        }
+        Missing::Refused(row) => {
+            *answer = [0];
             row
         }
     }
@@ -200,11 +220,27 @@ pub extern "C" fn lgt_link(
     class: u32,
     area: &mut [u32],
     stubs: &[u32],
+    missing: &mut [u32],
     answer: &mut [u32; 2],
 ) -> u32
-    ensures { λ r. ⌜ called r (now (answer .exit)) (now (set .exit)) (now (area .exit)) ≡ linkDef (now (set .entry)) (now (abi .entry)) class (now (area .entry)) (now (stubs .entry)) ⌝ }
+    ensures { λ r. ⌜ linkedBy r (after answer) (after set) (after area) (after missing)
+        ≡ linkDef (was set) (was abi) class (was area) (was stubs) (was missing) ⌝ }
 {
-    give_call(link::link(set, abi, class, area, stubs), answer)
+    give_call(link::link(set, abi, class, area, stubs, missing), answer)
+}
+
+// `missing::missing_slots`: the answer word is the count.
+#[no_mangle]
+pub extern "C" fn lgt_missing_slots(
+    set: &[u32],
+    abi: &[u32],
+    missing: &[u32],
+    class: u32,
+    answer: &mut [u32; 1],
+) -> u32
+    ensures { λ r. ⌜ countedBy r (after answer) ≡ missingDef (was set) (was abi) (was missing) class ⌝ }
+{
+    give_missing(missing::missing_slots(set, abi, missing, class), answer)
 }
 
 // `ask::interface_dispatch_table`: the answer words are the interface table's place and the nodes read; the set is only read.

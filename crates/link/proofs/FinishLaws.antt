@@ -1,16 +1,16 @@
--- Laws of a link's end: rows 14 and 15, then the effect. Assumes nothing.
-use mathlib.Core.Path.{_≡_, refl, sym, ap, _∙_}
+-- Laws of a link's last rows, 14 and 15. Assumes nothing.
+use mathlib.Core.Path.{_≡_, sym, _∙_}
 use mathlib.Core.Bool.{Bool, true, false, _||_}
 use mathlib.Core.List.{List, []}
 use Prim.Native.Nat.{ℕ}
-use lib.Dec.{eqb}
-use Rattle.words.proofs.Bools.{by}
+use native.Mathlib.Omega.{arith}
+use Rattle.words.proofs.Bools.{by, or-neither}
 use Rattle.class_sheet.specs.ClassSheet.{classKind, isBuiltKind, methodCount, fieldCount, classMethodCount, classFieldCount}
-use Rattle.linking.specs.Link.{isNone, nextFree, listsFull, setShort, noRoom, Outcome, refusedCall}
+use Rattle.linking.specs.Counts.{missingShort}
+use Rattle.linking.specs.Link.{Plan, isNone, listsFull, setShort, noRoom}
 use Rattle.growth.specs.News.{news, named}
 use Rattle.growth.proofs.GrowthLaws.{full-same, end-same}
-use Rattle.area.specs.Area.{tableWritten}
-use Rattle.link.specs.Stored.{membersPlan, storedNews, finished}
+use Rattle.link.specs.Stored.{membersPlan, roomRow}
 use Rattle.link.proofs.StoreLaws.{news-is}
 
 module _ (ws text abi labels refs flags lasts : List ℕ) where
@@ -34,23 +34,44 @@ module _ (ws text abi labels refs flags lasts : List ℕ) where
       (λ q. rw q (rw (none-same, end-same ws text abi labels refs flags lasts (classFieldCount ws c))))
       (λ q. rw q (rw (none-same, end-same ws text abi labels refs flags lasts (classMethodCount ws c))))
 
-  module _ (c : ℕ) (area stubs slots : List ℕ) (n words statics : ℕ) (indices : List ℕ) {f : Bool}
-      (full : f ≡ listsFull ws c (membersPlan ws c (named ws text abi labels refs))) where
-    pub finish-full : f ≡ true
-        → refusedCall 14 ws area ≡ finished ws c area stubs slots n words statics indices (news ws text abi labels refs flags lasts)
-    unfolding finished
-    finish-full e = rw (← (names-full c), ← full, e)
+  pub names-room : (c : ℕ) (area stubs missing : List ℕ) (n : ℕ) → roomRow ws c (membersPlan ws c (named ws text abi labels refs)) area stubs missing n
+      ≡ roomRow ws c (membersPlan ws c (news ws text abi labels refs flags lasts)) area stubs missing n
+  unfolding roomRow
+  names-room c area stubs missing n = rw (names-full c, names-short c)
 
-    module _ (left : f ≡ false) {r s : Bool} (room : r ≡ noRoom area stubs n)
-        (short : s ≡ setShort ws c (membersPlan ws c (named ws text abi labels refs))) where
-      pub finish-short : (r || s) ≡ true
-          → refusedCall 15 ws area ≡ finished ws c area stubs slots n words statics indices (news ws text abi labels refs flags lasts)
-      unfolding finished
-      finish-short e = rw (← (names-full c), ← full, left, ← (names-short c), ← room, ← short, e)
+-- ---- the rows, as the code judges them
 
-      pub finish-done : {place : ℕ} {set lent : List ℕ} → (r || s) ≡ false → place ≡ nextFree area
-          → set ≡ storedNews ws c place n words statics indices (news ws text abi labels refs flags lasts) → lent ≡ tableWritten area c slots n stubs
-          → _≡_ {A = Outcome} (record { refusal = 0; first = place; second = n; set = set; area = lent })
-          (finished ws c area stubs slots n words statics indices (news ws text abi labels refs flags lasts))
-      unfolding finished
-      finish-done e p q t = rw (← (names-full c), ← full, left, ← (names-short c), ← room, ← short, e, q, t, p)
+module _ (ws : List ℕ) (c : ℕ) (p : Plan) (area stubs missing : List ℕ) (n : ℕ) {f : Bool} (full : f ≡ listsFull ws c p) where
+  pub room-full : f ≡ true → 14 ≡ roomRow ws c p area stubs missing n
+  unfolding roomRow
+  room-full e = rw (← full, e)
+
+  module _ (left : f ≡ false) {s r m : Bool} (short : s ≡ setShort ws c p) (room : r ≡ noRoom area stubs n) (list : m ≡ missingShort ws missing) where
+    pub room-short : (r || s || m) ≡ true → 15 ≡ roomRow ws c p area stubs missing n
+    unfolding roomRow
+    room-short e = rw (← full, left, ← room, ← short, ← list, e)
+
+    pub room-left : (r || s || m) ≡ false → 0 ≡ roomRow ws c p area stubs missing n
+    unfolding roomRow
+    room-left e = rw (← full, left, ← room, ← short, ← list, e)
+
+-- what row 0 says of each
+pub record Room (ws : List ℕ) (c : ℕ) (p : Plan) (area stubs missing : List ℕ) (n : ℕ) : Type 0 where
+  pub lists : listsFull ws c p ≡ false
+  pub area-has : noRoom area stubs n ≡ false
+  pub set-has : setShort ws c p ≡ false
+  pub list-has : missingShort ws missing ≡ false
+
+module _ (ws : List ℕ) (c : ℕ) (p : Plan) (area stubs missing : List ℕ) (n : ℕ) where
+  pub room-is : roomRow ws c p area stubs missing n ≡ 0 → Room ws c p area stubs missing n
+  unfolding roomRow
+  room-is e =
+      by (listsFull ws c p)
+      (λ q. let o : _≡_ {A = ℕ} 14 0 = rw q at e in absurd (omega arith))
+      (λ q.
+      by (noRoom area stubs n || setShort ws c p || missingShort ws missing)
+      (λ t. let o : _≡_ {A = ℕ} 15 0 = rw (q, t) at e in absurd (omega arith))
+      (λ t.
+      let a = or-neither (noRoom area stubs n || setShort ws c p) (missingShort ws missing) t in
+      let b = or-neither (noRoom area stubs n) (setShort ws c p) (a .0) in
+      record { lists = q; area-has = b .0; set-has = b .1; list-has = a .1 }))

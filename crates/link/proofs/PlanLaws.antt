@@ -1,5 +1,6 @@
 -- What the code stores and answers is what `finishLink` says, for an accepted set and a sound area. Assumes nothing.
 use mathlib.Core.Path.{_≡_, refl, sym, ap, _∙_}
+use mathlib.Core.Logic.{_≢_}
 use mathlib.Core.Bool.{Bool, true, false, cond, not, _&&_, _||_}
 use mathlib.Core.List.{List, [], _∷_}
 use Prim.Native.Nat.{ℕ, _+_, _≤_, _<_}
@@ -10,22 +11,19 @@ use Rattle.class_sheet.specs.ClassSheet.{classCount, classKind, methodCount, fi
 use Rattle.abi_sheet.specs.AbiSheet.{abiTextOf}
 use Rattle.set_rules.specs.Valid.{Valid}
 use Rattle.linking.specs.Compiler.{New}
-use Rattle.linking.specs.Vtable.{Entry, slotWords}
-use Rattle.linking.specs.Link.{Plan, isNone, nextFree, listsFull, setShort, noRoom, linkedArea, linkedWords, newWords, newStatics, finishLink, Outcome, refusedCall}
+use Rattle.linking.specs.Chain.{parentOf}
+use Rattle.linking.specs.Counts.{missingShort}
+use Rattle.linking.specs.Link.{Plan, isNone, nextFree, listsFull, setShort, noRoom, linkedWords, newWords, newStatics, finishLink, LinkOutcome, refusedLink}
 use Rattle.growth.specs.Growth.{canGrow, methodsGrown, fieldsGrown}
 use Rattle.growth.proofs.Linked.{linked-methods, linked-fields, can-grow, methods-end, fields-end}
 use Rattle.reading.specs.Arrays.{entriesOf}
-use Rattle.reading.proofs.ArrayLaws.{length-entries}
 use Rattle.area.specs.Area.{tableWritten}
 use Rattle.area.proofs.AreaLaws.{table-linked}
 use Rattle.plan.specs.Plans.{methodsOf, fieldsOf}
-use Rattle.link.specs.Stored.{membersPlan, numbered, withMethods, stored, storedNews, finished}
-
--- the words written depend on a table's words alone
-linked-same : (area : List ℕ) (c : ℕ) (T U : List Entry) (stubs : List ℕ) → slotWords stubs 0 T ≡ slotWords stubs 0 U → length T ≡ length U
-    → linkedArea area c U stubs ≡ linkedArea area c T stubs
-unfolding linkedArea
-linked-same area c T U stubs e f = rw (e, f)
+use Rattle.missing.specs.Lists.{counted}
+use Rattle.missing.proofs.ListLaws.{counted-after}
+use Rattle.link.specs.Stored.{membersPlan, numbered, withMethods, stored, storedNews, roomRow}
+use Rattle.link.proofs.FinishLaws.{room-is}
 
 -- a row that refuses neither of two lists refuses no list that grows
 neither : (m n a b : Bool) → ((not m && a) || (not n && b)) ≡ false → (m ≡ false → a ≡ false) × (n ≡ false → b ≡ false)
@@ -88,7 +86,7 @@ module _ (ws : List ℕ) (c : ℕ) (p : Plan) (new : List New) (methods : p .new
 -- ---- the whole
 
 -- what the code has at a link's end, and what it stands for
-pub record Finish (ws abi : List ℕ) (c : ℕ) (area stubs slots : List ℕ) (n words statics : ℕ) (new : List New) (p : Plan) : Type 0 where
+pub record Finish (ws abi : List ℕ) (c : ℕ) (area slots marks : List ℕ) (n words statics : ℕ) (new : List New) (p : Plan) : Type 0 where
   pub valid : Valid ws
   pub some : 1 ≤ c
   pub among : c ≤ classCount ws
@@ -96,44 +94,52 @@ pub record Finish (ws abi : List ℕ) (c : ℕ) (area stubs slots : List ℕ) (n
   pub methods : p .newMethods ≡ methodsOf ws c new
   pub fields : p .newFields ≡ fieldsOf ws c new
   pub slot-count : length (p .table) ≡ n
-  pub slot-words : slotWords stubs 0 (p .table) ≡ slotWords stubs 0 (entriesOf slots [] n)
+  pub table-is : entriesOf slots marks n ≡ p .table
   pub words-are : words ≡ newWords ws (textOf ws) abi (abiTextOf abi) c
   pub statics-are : statics ≡ newStatics ws (textOf ws) c
   pub indices-fit : classFirstField ws c + length (p .indices) ≤ fieldCount ws
 
-module _ (ws abi : List ℕ) (c : ℕ) (area stubs slots : List ℕ) (n words statics : ℕ) (new : List New) (p : Plan)
-    (f : Finish ws abi c area stubs slots n words statics new p) where
-  done : (full : listsFull ws c p ≡ false) (room : noRoom area stubs n ≡ false) (short : setShort ws c p ≡ false)
-      → _≡_ {A = Outcome}
-      (record {
-        refusal = 0;
-        first = nextFree area;
-        second = n;
-        set = storedNews ws c (nextFree area) n words statics (p .indices) new;
-        area = tableWritten area c slots n stubs;
-      })
-      (record {
-        refusal = 0;
-        first = nextFree area;
-        second = length (p .table);
-        set = linkedWords ws c (nextFree area) (newWords ws (textOf ws) abi (abiTextOf abi) c) (newStatics ws (textOf ws) c) p;
-        area = linkedArea area c (p .table) stubs;
-      })
-  done full room short =
-      let w = words-linked ws c p new (f .methods) (f .fields) (f .valid) (f .some) (f .among) full short (nextFree area) words statics (f .indices-fit) in
-      let t = table-linked area slots [] stubs n room (f .short-area) c
-      ∙ linked-same area c (p .table) (entriesOf slots [] n) stubs (f .slot-words) (f .slot-count ∙ sym (length-entries slots [] n)) in
-      rw (← (f .words-are), ← (f .statics-are), ← w, t, f .slot-count)
+module _ (ws abi : List ℕ) (c : ℕ) (area stubs slots marks missing : List ℕ) (n words statics : ℕ) (new : List New) (p : Plan)
+    (f : Finish ws abi c area slots marks n words statics new p) where
+  room-plan : roomRow ws c (membersPlan ws c new) area stubs missing n ≡ roomRow ws c p area stubs missing (length (p .table))
+  unfolding roomRow
+  room-plan = rw (full-plan ws c p new (f .methods) (f .fields), short-plan ws c p new (f .methods) (f .fields), f .slot-count)
 
-  pub finished-is : finished ws c area stubs slots n words statics (p .indices) new ≡ finishLink ws abi c area stubs p
-  unfolding finished finishLink
-  finished-is =
-      rw (full-plan ws c p new (f .methods) (f .fields), short-plan ws c p new (f .methods) (f .fields), f .slot-count)
-      (by (listsFull ws c p)
-      (λ q. rw q)
-      (λ q. rw q
-      (by (noRoom area stubs n || setShort ws c p)
-      (λ r. rw r)
-      (λ r.
-      let o = or-neither (noRoom area stubs n) (setShort ws c p) r in
-      rw r (rw (f .slot-count) at (done q (o .0) (o .1)))))))
+  row-refuses : {row : ℕ} → row ≡ roomRow ws c p area stubs missing (length (p .table)) → row ≢ 0
+      → refusedLink row ws area missing ≡ finishLink ws abi c area stubs missing p
+  unfolding roomRow finishLink
+  row-refuses e h =
+      by (listsFull ws c p)
+      (λ q. rw (e, q))
+      (λ q.
+      by (noRoom area stubs (length (p .table)) || setShort ws c p || missingShort ws missing)
+      (λ t. rw (e, q, t))
+      (λ t. absurd (h (e ∙ rw (q, t)))))
+
+  pub refused-is : {row : ℕ} → row ≡ roomRow ws c (membersPlan ws c new) area stubs missing n → row ≢ 0
+      → refusedLink row ws area missing ≡ finishLink ws abi c area stubs missing p
+  refused-is e h = row-refuses (e ∙ room-plan) h
+
+  -- what the code stores, writes and counts
+  abbrev left : LinkOutcome
+  left =
+      record {
+        outcome = record {
+          refusal = 0;
+          first = nextFree area;
+          second = n;
+          set = storedNews ws c (nextFree area) n words statics (p .indices) new;
+          area = tableWritten area c slots n stubs;
+        };
+        missing = counted missing c (parentOf ws c) (entriesOf slots marks n);
+      }
+
+  pub finished-is : roomRow ws c (membersPlan ws c new) area stubs missing n ≡ 0 → left ≡ finishLink ws abi c area stubs missing p
+  unfolding finishLink
+  finished-is e =
+      let r = room-is ws c p area stubs missing (length (p .table)) (sym room-plan ∙ e) in
+      let w = words-linked ws c p new (f .methods) (f .fields) (f .valid) (f .some) (f .among) (r .lists) (r .set-has) (nextFree area) words statics
+      (f .indices-fit) in
+      let t = table-linked area slots marks stubs n (rw (f .slot-count) at (r .area-has)) (f .short-area) c in
+      let m = counted-after missing c (parentOf ws c) (entriesOf slots marks n) ws refl (f .some) (f .among) (r .list-has) in
+      rw (r .lists, r .area-has, r .set-has, r .list-has, t, m, f .table-is, ← (f .slot-count), w, f .words-are, f .statics-are)

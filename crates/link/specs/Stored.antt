@@ -1,4 +1,5 @@
--- What a link stores in the class words, as the code goes: what grows, then the record, then the indices. Assumes nothing.
+-- What a link stores in the class words, as the code goes: what grows, then the record, then the indices; its last rows, and what it answers. Assumes
+-- nothing.
 use Prim.Native.Nat.{ℕ}
 use mathlib.Core.Path.{_≡_}
 use mathlib.Core.Bool.{true, false, cond, _||_}
@@ -9,9 +10,11 @@ use Rattle.set_rules.specs.SetRules.{setFits, setRefusal}
 use Rattle.linking.specs.Compiler.{New}
 use Rattle.linking.specs.Set.{putIndices}
 use Rattle.linking.specs.Packages.{badPackages}
-use Rattle.linking.specs.Link.{Plan, isNone, linkedRecord, nextFree, listsFull, setShort, noRoom, badClass, badArea, Outcome, refusedCall}
+use Rattle.linking.specs.Counts.{missingShort}
+use Rattle.linking.specs.Link.{Plan, isNone, linkedRecord, listsFull, setShort, noRoom, badClass, badArea, LinkOutcome}
 use Rattle.growth.specs.Growth.{methodsGrown, fieldsGrown}
-use Rattle.area.specs.Area.{tableWritten}
+use Rattle.area.specs.Area.{outcome}
+use Rattle.area.specs.declared.Answer.{Answer}
 use Rattle.plan.specs.Plans.{methodsOf, fieldsOf}
 
 -- a plan by its new members alone: what row 14 and the set's part of row 15 ask for
@@ -37,21 +40,16 @@ stored ws c place slots words statics indices methods fields =
 abbrev pub storedNews : List ℕ → ℕ → ℕ → ℕ → ℕ → ℕ → List ℕ → List New → List ℕ
 storedNews ws c place slots words statics indices new = stored ws c place slots words statics indices (methodsOf ws c new) (fieldsOf ws c new)
 
--- ---- rows 14 and 15, then the effect, of a table by the words of its n slots
+-- ---- rows 14 and 15 of a plan whose table has n slots: the number that refuses it, or 0
 
-unfoldable pub finished : List ℕ → ℕ → List ℕ → List ℕ → List ℕ → ℕ → ℕ → ℕ → List ℕ → List New → Outcome
-finished ws c area stubs slots n words statics indices new =
-    cond (listsFull ws c (membersPlan ws c new))
-    (refusedCall 14 ws area)
-    (cond (noRoom area stubs n || setShort ws c (membersPlan ws c new))
-    (refusedCall 15 ws area)
-    (record {
-      refusal = 0;
-      first = nextFree area;
-      second = n;
-      set = storedNews ws c (nextFree area) n words statics indices new;
-      area = tableWritten area c slots n stubs;
-    }))
+unfoldable pub roomRow : List ℕ → ℕ → Plan → List ℕ → List ℕ → List ℕ → ℕ → ℕ
+roomRow ws c p area stubs missing n =
+    cond (listsFull ws c p) 14 (cond (noRoom area stubs n || setShort ws c p || missingShort ws missing) 15 0)
+
+-- ---- what a link answers and leaves
+
+abbrev pub linkOutcome : Answer → List ℕ → List ℕ → List ℕ → LinkOutcome
+linkOutcome r ws area missing = record { outcome = outcome r ws area; missing = missing }
 
 -- row 3 accepts the sheets, and the texts are theirs
 pub record Fitting (ws abi text labels : List ℕ) : Type 0 where

@@ -61,7 +61,7 @@ found-all f g [] s h e = not-found e
 found-all f g (x ∷ xs) s h e = found-cons (f x) g (allFound f xs) s (h x) (found-all f g xs s h) e
 
 -- a class's ABI entry is a class of the ABI sheet
-class-abi-room : (ws text abi labels : List ℕ) (c a : ℕ) → classAbi ws text abi labels c ≡ At a → a < abiClassCount abi
+pub class-abi-room : (ws text abi labels : List ℕ) (c a : ℕ) → classAbi ws text abi labels c ≡ At a → a < abiClassCount abi
 unfolding classAbi abiNamed
 class-abi-room ws text abi labels c a e =
     omega (arith, find-within (λ k. sameBytes (abiClassName abi labels k) (className ws text c)) 0 (abiClassCount abi) a e)
@@ -201,11 +201,11 @@ module _ (ws text abi labels : List ℕ) (lists : (d : ℕ) → IsClass ws d →
 -- ---- their descriptors
 
 -- only 0x0008 counts, and a method without 0x0400 keeps it
-same-receiver : (a b : ℕ) (s : List ℕ) → receiverWords a ≡ receiverWords b → isMethod a s ≡ isMethod b s
+pub same-receiver : (a b : ℕ) (s : List ℕ) → receiverWords a ≡ receiverWords b → isMethod a s ≡ isMethod b s
 unfolding isMethod
 same-receiver a b s e = rw e
 
-abstract-receiver : (flags : ℕ) → receiverWords (withoutAbstract flags) ≡ receiverWords flags
+pub abstract-receiver : (flags : ℕ) → receiverWords (withoutAbstract flags) ≡ receiverWords flags
 abstract-receiver flags =
     by (isAbstract flags) (λ e. rw e (omega (arith, eqb-true (flags / 1024 % 2) 1 e))) (λ e. rw e)
 

@@ -1,6 +1,6 @@
 -- An assembler of small class sets and ABI sheets, for examples: classes and members by name, laid out in order, the texts one after the
 -- other. Assumes nothing.
-use Prim.Native.Nat.{ℕ, suc, _+_}
+use Prim.Native.Nat.{ℕ, suc, _+_, _*_}
 use Prim.Native.String.{String}
 use mathlib.Core.List.{List, [], _∷_, _++_}
 use lib.ListN.{length, take, drop, replicate}
@@ -10,7 +10,7 @@ use Rattle.class_sheet.specs.ClassSheet.{classInstanceWords, classTablePlace, c
 use Rattle.abi_sheet.specs.AbiSheet.{abiTextOf}
 use Rattle.linking.specs.Chain.{ownMethods, ownFields}
 use Rattle.linking.specs.Set.{packed}
-use Rattle.linking.specs.Link.{Outcome, linkDef}
+use Rattle.linking.specs.Link.{Outcome, LinkOutcome, linkDef}
 use Rattle.linking.specs.Ask.{askDef}
 use Rattle.linking.specs.Whose.{slotClass}
 
@@ -337,12 +337,13 @@ pub data Call : Type 0 where
   link : ℕ → Call
   ask : ℕ → ℕ → Call
 
--- what is lent: class words, ABI words, area and stubs
+-- what is lent: class words, ABI words, area, stubs and the list of counts
 pub record Lent : Type 0 where
   pub set : List ℕ
   pub abi : List ℕ
   pub area : List ℕ
   pub stubs : List ℕ
+  pub missing : List ℕ
 
 -- "a fresh area has 1 there"
 abbrev pub fresh : ℕ → List ℕ
@@ -352,31 +353,38 @@ fresh n = 1 ∷ replicate n 0
 abbrev pub stubsOf : ℕ → List ℕ
 stubsOf n = listFrom (λ i. 901 + i) 0 n
 
--- a fresh area of 24 words, 8 stubs, and no word after the content
-abbrev pub lent : List Class → List AbiClass → Lent
-lent cs entries = record { set = classSheet cs; abi = abiSheet entries; area = fresh 23; stubs = stubsOf 8 }
+-- a list of counts for n classes, written by nobody yet
+abbrev pub sevens : ℕ → List ℕ
+sevens n = replicate (33 * n) 7
 
--- with other class words, another area, and other stubs
+-- a fresh area of 24 words, 8 stubs, a list of counts for the classes, and no word after the content
+abbrev pub lent : List Class → List AbiClass → Lent
+lent cs entries = record { set = classSheet cs; abi = abiSheet entries; area = fresh 23; stubs = stubsOf 8; missing = sevens (length cs) }
+
+-- with other class words, another area, other stubs, and another list of counts
 abbrev pub onSet : (List ℕ → List ℕ) → Lent → Lent
-onSet f d = record { set = f (d .set); abi = d .abi; area = d .area; stubs = d .stubs }
+onSet f d = record { set = f (d .set); abi = d .abi; area = d .area; stubs = d .stubs; missing = d .missing }
 
 abbrev pub onArea : List ℕ → Lent → Lent
-onArea area d = record { set = d .set; abi = d .abi; area = area; stubs = d .stubs }
+onArea area d = record { set = d .set; abi = d .abi; area = area; stubs = d .stubs; missing = d .missing }
 
 abbrev pub onStubs : List ℕ → Lent → Lent
-onStubs stubs d = record { set = d .set; abi = d .abi; area = d .area; stubs = stubs }
+onStubs stubs d = record { set = d .set; abi = d .abi; area = d .area; stubs = stubs; missing = d .missing }
+
+abbrev pub onMissing : List ℕ → Lent → Lent
+onMissing missing d = record { set = d .set; abi = d .abi; area = d .area; stubs = d .stubs; missing = missing }
 
 -- with n zero words after the content of the class words
 abbrev pub spare : ℕ → Lent → Lent
 spare n d = onSet (λ ws. ws ++ replicate n 0) d
 
-unfoldable pub call : Lent → Call → Outcome
-call d (link c) = linkDef (d .set) (d .abi) c (d .area) (d .stubs)
-call d (ask c i) = askDef (d .set) (d .abi) c i (d .area) (d .stubs)
+unfoldable pub call : Lent → Call → LinkOutcome
+call d (link c) = linkDef (d .set) (d .abi) c (d .area) (d .stubs) (d .missing)
+call d (ask c i) = record { outcome = askDef (d .set) (d .abi) c i (d .area) (d .stubs); missing = d .missing }
 
 -- what is lent to the next call
-abbrev pub onto : Lent → Outcome → Lent
-onto d o = record { set = o .set; abi = d .abi; area = o .area; stubs = d .stubs }
+abbrev pub onto : Lent → LinkOutcome → Lent
+onto d o = record { set = o .outcome .set; abi = d .abi; area = o .outcome .area; stubs = d .stubs; missing = o .missing }
 
 abbrev pub answer : Outcome → ℕ × ℕ × ℕ
 answer o = (o .refusal, o .first, o .second)
@@ -384,7 +392,7 @@ answer o = (o .refusal, o .first, o .second)
 -- the answers of calls made one after the other
 unfoldable pub answers : Lent → List Call → List (ℕ × ℕ × ℕ)
 answers d [] = []
-answers d (x ∷ xs) = let o : Outcome = call d x in answer o ∷ answers (onto d o) xs
+answers d (x ∷ xs) = let o : LinkOutcome = call d x in answer (o .outcome) ∷ answers (onto d o) xs
 
 -- what is lent after the calls
 unfoldable pub after : Lent → List Call → Lent

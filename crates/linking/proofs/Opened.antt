@@ -31,11 +31,13 @@ use Rattle.linking.specs.Fields.{builtWords, tooManyWords, addStatic, st
 use Rattle.linking.specs.Fields.{generatedIndices}
 use Rattle.linking.specs.Compiler.{holds, ownerState, isEmptied, viewFrom, nativeView, compilerTargets, signatureSources, isDeclared, addNamed}
 use Rattle.linking.specs.Compiler.{addedFrom, addedMethods, nameOf, descriptorOf, flagsOf, targetOf, classMethods, entryTarget, matchTarget}
-use Rattle.linking.specs.Compiler.{compilerEntry, compilerEntries, sameSignature, hasSlot, appendMethod, entryMethods, compilerTable}
-use Rattle.linking.specs.Set.{putIndices, newRecords, newText, packed, inserted, overlaid, grownMethods, grownFields, sectionFull, grownEnd}
+use Rattle.linking.specs.Compiler.{compilerEntry, compilerEntries, sameSignature, hasSlot, appendFrom, appendEntry, compilerTable}
+use Rattle.linking.specs.Set.{writeAt, putIndices, newRecords, newText, packed, inserted, overlaid, grownMethods, grownFields, sectionFull, grownEnd}
 use Rattle.linking.specs.Link.{noClass, badArray, badClass, endsBelow, badArea, withinSlots, newFieldsOf, builtTable, planBuilt, generatedTable}
-use Rattle.linking.specs.Link.{generatedMethods, planGenerated, planArray, plan, newWords, newStatics, listsFull, setShort, noRoom, writeAt, linkedArea}
+use Rattle.linking.specs.Link.{generatedMethods, planGenerated, planArray, plan, newWords, newStatics, listsFull, setShort, noRoom, linkedArea}
 use Rattle.linking.specs.Link.{linkedRecord, linkedWords, finishLink, linkDef}
+use Rattle.linking.specs.Counts.{bitsOf, bitCount, bitsFrom, packBits, missingBit, parentBit, countedAfter, missingShort}
+use Rattle.linking.specs.Missing.{missingDef, tableBy, recountedAlong, recounted}
 use Rattle.linking.specs.Ask.{walk, ownImplementation, implementation, dispatchEntries, askedArea, buildNode, badAsk, askDef}
 use Rattle.linking.specs.Whose.{firstDeclared, declaredByTarget, declaredByIndex, readDeclared, slotClass}
 use Rattle.linking.proofs.Assemble.{call, answers, after, indicesOf, methodsOf, wordsOf, staticsOf, tableOf, classesOf}
@@ -54,10 +56,11 @@ unfolding allOf table listFrom find firstFound allFound position fold keep some 
     runtimeWords numberField numberFields declaresField addedFields raised builtWords tooManyWords addStatic staticWords addWidth declaredWords standFrom
     generatedRefusal movedIndex indicesPlus generatedIndices holds ownerState isEmptied viewFrom nativeView compilerTargets signatureSources isDeclared addNamed
     addedFrom addedMethods nameOf descriptorOf flagsOf targetOf classMethods entryTarget matchTarget compilerEntry compilerEntries sameSignature
-    hasSlot appendMethod entryMethods compilerTable putIndices newRecords newText packed inserted overlaid grownMethods grownFields sectionFull
+    hasSlot appendFrom appendEntry compilerTable putIndices newRecords newText packed inserted overlaid grownMethods grownFields sectionFull
     grownEnd noClass badArray badClass endsBelow badArea withinSlots newFieldsOf builtTable planBuilt generatedTable generatedMethods planGenerated
     planArray plan newWords newStatics listsFull setShort noRoom writeAt linkedArea linkedRecord linkedWords finishLink linkDef walk ownImplementation
     implementation dispatchEntries askedArea buildNode badAsk askDef firstDeclared declaredByTarget declaredByIndex readDeclared slotClass call answers
     after indicesOf methodsOf wordsOf staticsOf tableOf classesOf packageOf openTo sameMethods isOverridden overriddenIn reachedWith overriddenAlong overridden
     topmost tableHas introducing takenSlots putTaken takeSlots packagesOver buildPackages unfitForPackages badPackages
+    bitsOf bitCount bitsFrom packBits missingBit parentBit countedAfter missingShort missingDef tableBy recountedAlong recounted
 opened = 0

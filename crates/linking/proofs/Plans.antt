@@ -8,11 +8,11 @@ use Prim.Native.Nat.{ℕ, suc, _+_, _≤_, _<_}
 use native.Mathlib.Omega.{arith}
 use lib.ListN.{length, getD, length-append}
 use lib.Dec.{eqb, ltb}
-use borrow.Author.Tests.{eqb-true, eqb-false, lt-ltb, le-ltb}
+use borrow.Author.Tests.{eqb-true, eqb-false, eq-eqb, ne-eqb, ltb-false, lt-ltb, le-ltb}
 use Rattle.words.specs.Lists.{andThen, fold}
 use Rattle.words.specs.declared.Found.{Found}
 use Rattle.words.specs.declared.Found.the-variants.{At, Nothing}
-use Rattle.words.proofs.Bools.{by}
+use Rattle.words.proofs.Bools.{by, or-neither}
 use Rattle.words.proofs.ListLaws.{by-found}
 use Rattle.words.specs.Words.{AreBytes}
 use Rattle.class_sheet.specs.ClassSheet.{classLimit, classKind, isBuiltKind, isPackaged, classFlags, classFieldCount, classCompilerTable, fieldFlags, fieldName, fieldDescriptor, methodName, methodDescriptor}
@@ -21,8 +21,9 @@ use Rattle.linking.specs.Chain.{onFound, ownMethods, ownFields, parentOf
 use Rattle.linking.specs.Abi.{classAbi, chainAbi, fixedField}
 use Rattle.linking.specs.Vtable.{Entry, empty, Built, built, refused, onBuilt, parentEntries, inheritedTable, buildMethods, entryIsOther, fixedOf, slotOf, putMethod, addMethod, addMethods}
 use Rattle.linking.specs.Packages.{introducing, packagesOver, buildPackages}
-use Rattle.linking.specs.Fields.{Numbering, numberField, numberFields, addedFields, tooManyWords, generatedRefusal, indicesPlus, generatedIndices, generatedBase, standFrom, ownGiven, runtimeWords, instanceWords}
-use Rattle.linking.specs.Link.{Plan, planned, unplanned, isNone, onTable, withinSlots, builtTable, planBuilt, generatedTable, planGenerated, planArray, plan, newFieldsOf, generatedMethods}
+use Rattle.linking.specs.Fields.{Numbering, numberField, numberFields, addedFields, builtWords, tooManyWords, generatedRefusal, indicesPlus, generatedIndices, generatedBase, standFrom, ownGiven, runtimeWords, instanceWords}
+use Rattle.linking.specs.Link.{Plan, planned, unplanned, isNone, onTable, withinSlots, builtTable, planBuilt, generatedTable, planGenerated, planArray, plan, newFieldsOf, generatedMethods, newWords}
+use Rattle.linking.specs.Missing.{tableBy}
 use Rattle.linking.specs.Set.{newText}
 use Rattle.linking.proofs.Names.{no-bytes, field-bytes, method-bytes}
 
@@ -194,14 +195,19 @@ within-planned : (q p : Plan) → withinSlots q ≡ planned p → q ≡ p
 unfolding withinSlots
 within-planned q p e = by (ltb 1024 (length (q .table))) (λ t. not-planned (rw t at e)) (λ t. planned-same (rw t at e))
 
+within-small : (q p : Plan) → withinSlots q ≡ planned p → length (q .table) ≤ 1024
+unfolding withinSlots
+within-small q p e =
+    by (ltb 1024 (length (q .table))) (λ t. not-planned (rw t at e)) (λ t. ltb-false 1024 (length (q .table)) t)
+
 within-unplanned : (q : Plan) (n : ℕ) → withinSlots q ≡ unplanned n → n ≢ 0
 unfolding withinSlots
 within-unplanned q n e =
     by (ltb 1024 (length (q .table))) (λ t. unplanned-some {m = 13} (omega arith) (rw t at e)) (λ t. not-planned (sym (rw t at e)))
 
 table-planned : (b : Built) (f : List Entry → Plan) (p : Plan) → onTable b (λ T. withinSlots (f T)) ≡ planned p
-    → (T : List Entry) × (b ≡ built T) × (f T ≡ p)
-table-planned (built T) f p e = (T, refl, within-planned (f T) p e)
+    → (T : List Entry) × (b ≡ built T) × (f T ≡ p) × (length (f T .table) ≤ 1024)
+table-planned (built T) f p e = (T, refl, within-planned (f T) p e, within-small (f T) p e)
 table-planned (refused n) f p e = not-planned e
 
 table-unplanned : (b : Built) (f : List Entry → Plan) (n : ℕ) → ((k : ℕ) → b ≡ refused k → k ≢ 0) → onTable b (λ T. withinSlots (f T)) ≡ unplanned n
@@ -216,9 +222,31 @@ module _ (ws text abi labels area : List ℕ) (c : ℕ) where
     pub generated : isNone (p .newMethods) ≡ false → classKind ws c ≡ 1
     pub method-bytes : AreBytes text → AreBytes labels → AreBytes (newText (p .newMethods))
     pub field-bytes : AreBytes text → AreBytes labels → AreBytes (newText (p .newFields))
+    pub table : tableBy ws text abi labels area c ≡ built (p .table)
     pub built : classKind ws c ≡ 0 → isInterface (classFlags ws c) ≡ false → buildMethods ws text abi labels area c ≡ built (p .table)
     pub packaged : classKind ws c ≡ 3 → buildPackages (sameMethods ws text) ws text abi labels area c ≡ p .table
     pub array : classKind ws c ≡ 2 → parentEntries ws text abi labels area c ≡ p .table
+    -- rows 10 and 13
+    pub words : newWords ws text abi labels c ≤ 65535
+    pub slots : length (p .table) ≤ 1024
+    -- what it adds
+    pub methods : (p .newMethods ≡ []) ⊎ (p .newMethods ≡ generatedMethods ws text abi labels area c)
+    pub fields : (p .newFields ≡ []) ⊎ (p .newFields ≡ newFieldsOf abi labels (addedFields ws text abi labels (classAbi ws text abi labels c) c))
+    pub grows : classKind ws c ≡ 1 → (p .newMethods ≡ generatedMethods ws text abi labels area c) × (p .newFields ≡ [])
+
+  -- the table, kind by kind
+  pub table-built : isBuiltKind (classKind ws c) ≡ true → tableBy ws text abi labels area c ≡ builtTable ws text abi labels area c
+  unfolding tableBy
+  table-built k = rw k
+
+  pub table-generated : classKind ws c ≡ 1 → tableBy ws text abi labels area c ≡ generatedTable ws text abi labels area c
+  unfolding tableBy
+  table-generated k =
+      let n : isBuiltKind (classKind ws c) ≡ false = ap isBuiltKind k ∙ kind-other 1 (omega arith) (omega arith) in rw (n, eq-eqb (classKind ws c) 1 k)
+
+  pub table-array : isBuiltKind (classKind ws c) ≡ false → classKind ws c ≢ 1 → tableBy ws text abi labels area c ≡ built (parentEntries ws text abi labels area c)
+  unfolding tableBy
+  table-array n m = rw (n, ne-eqb (classKind ws c) 1 m)
 
   abbrev builtPlan : List Entry → Plan
   builtPlan T =
@@ -243,6 +271,18 @@ module _ (ws text abi labels area : List ℕ) (c : ℕ) where
   unfolding builtTable
   packaged-table k T e = built-same (rw k at e)
 
+  built-words : isBuiltKind (classKind ws c) ≡ true → tooManyWords ws text abi labels (classAbi ws text abi labels c) c ≡ false
+      → newWords ws text abi labels c ≤ 65535
+  unfolding newWords tooManyWords
+  built-words kind t =
+      rw kind
+      (ltb-false 65535 (builtWords ws text abi labels (classAbi ws text abi labels c) c)
+      (or-neither (ltb 65535 (builtWords ws text abi labels (classAbi ws text abi labels c) c)) _ t .0))
+
+  other-words : isBuiltKind (classKind ws c) ≡ false → newWords ws text abi labels c ≤ 65535
+  unfolding newWords
+  other-words n = rw n (omega arith)
+
   plans-built : isBuiltKind (classKind ws c) ≡ true → (p : Plan) → planBuilt ws text abi labels area c ≡ planned p → Plans p
   unfolding planBuilt
   plans-built kind p e =
@@ -258,6 +298,12 @@ module _ (ws text abi labels area : List ℕ) (c : ℕ) where
         built = λ k f. plain-table k f (r .0) (r .1);
         packaged = λ k. packaged-table k (r .0) (r .1);
         array = λ k. absurd (no-kind 2 k (kind-other 2 (omega arith) (omega arith)) kind);
+        table = table-built kind ∙ r .1;
+        words = built-words kind t;
+        slots = r .3;
+        methods = inl refl;
+        fields = inr refl;
+        grows = λ k. absurd (no-kind 1 k (kind-other 1 (omega arith) (omega arith)) kind);
       }))
 
   plans-generated : classKind ws c ≡ 1 → (p : Plan) → planGenerated ws text abi labels area c ≡ planned p → Plans p
@@ -275,12 +321,18 @@ module _ (ws text abi labels area : List ℕ) (c : ℕ) where
         built = λ k f. absurd (omega arith);
         packaged = λ k. absurd (omega arith);
         array = λ k. absurd (omega arith);
+        table = table-generated kind ∙ r .1;
+        words = other-words (ap isBuiltKind kind ∙ kind-other 1 (omega arith) (omega arith));
+        slots = r .3;
+        methods = inr refl;
+        fields = inl refl;
+        grows = λ k. (refl, refl);
       }))
       (λ t. not-planned (rw t at e))
 
-  plans-array : isBuiltKind (classKind ws c) ≡ false → (p : Plan) → planArray ws text abi labels area c ≡ planned p → Plans p
+  plans-array : isBuiltKind (classKind ws c) ≡ false → classKind ws c ≢ 1 → (p : Plan) → planArray ws text abi labels area c ≡ planned p → Plans p
   unfolding planArray
-  plans-array kind p e =
+  plans-array kind other p e =
       let r = within-planned (record { table = parentEntries ws text abi labels area c; indices = []; newMethods = []; newFields = [] }) p e in
       rw (← r)
       (record {
@@ -291,6 +343,12 @@ module _ (ws text abi labels area : List ℕ) (c : ℕ) where
         built = λ k f. absurd (true≢false (sym (built-kind (classKind ws c) (inl k)) ∙ kind));
         packaged = λ k. absurd (true≢false (sym (built-kind (classKind ws c) (inr k)) ∙ kind));
         array = λ k. refl;
+        table = table-array kind other;
+        words = other-words kind;
+        slots = within-small (record { table = parentEntries ws text abi labels area c; indices = []; newMethods = []; newFields = [] }) p e;
+        methods = inl refl;
+        fields = inl refl;
+        grows = λ k. absurd (other k);
       })
 
   pub plans : (p : Plan) → plan ws text abi labels area c ≡ planned p → Plans p
@@ -300,7 +358,7 @@ module _ (ws text abi labels area : List ℕ) (c : ℕ) where
       (λ t.
       let r = rw t at e in
       by (eqb (classKind ws c) 1) (λ u. plans-generated (eqb-true (classKind ws c) 1 u) p (rw u at r))
-      (λ u. plans-array t p (rw u at r)))
+      (λ u. plans-array t (eqb-false (classKind ws c) 1 u) p (rw u at r)))
 
   -- ---- a plan that is refused has the number of its row
 

@@ -10,8 +10,7 @@ use Rattle.words.specs.Words.{leWord, pasted}
 use Rattle.words.specs.Lists.{listFrom}
 use Rattle.words.proofs.ListLaws.{length-list-from}
 use Rattle.words.proofs.Ext.{list-more}
-use Rattle.linking.specs.Set.{packed, overlaid}
-use Rattle.linking.specs.Link.{writeAt}
+use Rattle.linking.specs.Set.{writeAt, packed, overlaid}
 
 -- ---- nothing written, and what is written next to it
 

@@ -12,7 +12,8 @@ use Rattle.abi_sheet.specs.AbiSheet.{abiTextOf}
 use Rattle.set_rules.specs.SetRules.{setRefusal}
 use Rattle.linking.specs.Chain.{onFound, ownMethods, chain, isVirtual, methodIs}
 use Rattle.linking.specs.Vtable.{Entry, Built, built, refused, tableEntries, slotWords}
-use Rattle.linking.specs.Link.{noClass, isLinked, nextFree, badArea, noRoom, writeAt, Outcome, refusedCall}
+use Rattle.linking.specs.Link.{noClass, isLinked, nextFree, badArea, noRoom, Outcome, refusedCall}
+use Rattle.linking.specs.Set.{writeAt}
 
 -- ---- the walk
 
@@ -50,7 +51,7 @@ module _ (ws text : List ℕ) where
 
 -- the entry of the class's table for an interface's, if it has an implementation
 abbrev pub dispatchEntry : List ℕ → Entry → Found → Found → Built
-dispatchEntry ws e (At m) (At k) = built (record { word = methodTarget ws k; method = At k } ∷ [])
+dispatchEntry ws e (At m) (At k) = built (record { word = methodTarget ws k; method = At k; source = Nothing } ∷ [])
 dispatchEntry ws e (At m) Nothing = refused 16
 dispatchEntry ws e Nothing found = built (e ∷ [])
 

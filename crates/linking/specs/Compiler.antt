@@ -129,7 +129,7 @@ module _ (ws : List ℕ) (new : List New) where
   matchTarget c view t = orElse (find (λ m. eqb (targetOf m) t) (classMethods c)) (firstFound (entryTarget t) view)
 
   unfoldable pub compilerEntry : ℕ → List Entry → ℕ → ℕ → Entry
-  compilerEntry c view i t = cond (eqb t 0) (getD view i empty) (record { word = t; method = matchTarget c view t })
+  compilerEntry c view i t = cond (eqb t 0) (getD view i empty) (record { word = t; method = matchTarget c view t; source = Nothing })
 
   unfoldable pub compilerEntries : ℕ → List Entry → ℕ → List ℕ → List Entry
   compilerEntries c view i [] = []
@@ -145,19 +145,21 @@ module _ (ws text : List ℕ) (new : List New) where
   unfoldable pub hasSlot : ℕ → List Entry → Bool
   hasSlot m T = some (λ e. onFound (e .method) (sameSignature m) false) T
 
-  unfoldable pub appendMethod : List Entry → ℕ → List Entry
-  appendMethod T m =
+  -- appended as a copy of that slot of the parent's table, or as none
+  unfoldable pub appendFrom : Found → List Entry → ℕ → List Entry
+  appendFrom source T m =
       cond (isEligible (flagsOf ws new m) (nameOf ws text new m) && not (hasSlot m T))
-      (T ++ (record { word = targetOf ws new m; method = At m } ∷ []))
+      (T ++ (record { word = targetOf ws new m; method = At m; source = source } ∷ []))
       T
 
-unfoldable pub entryMethods : List Entry → List ℕ
-entryMethods [] = []
-entryMethods (e ∷ es) = consFound (e .method) (entryMethods es)
+  -- "an appended parent method is" a copy
+  unfoldable pub appendEntry : List Entry → Entry → List Entry
+  appendEntry T e = onFound (e .method) (appendFrom (e .source) T) T
 
 unfoldable pub compilerTable : List ℕ → List ℕ → List ℕ → List ℕ → List ℕ → ℕ → List Entry
 compilerTable ws text abi labels area c =
     let new : List New = addedMethods ws text abi labels area c in
     let view : List Entry = nativeView ws text abi labels area c in
-    fold (appendMethod ws text new) (compilerEntries ws new c view 0 (compilerTargets ws c))
-    (classMethods ws new c ++ entryMethods (parentEntries ws text abi labels area c))
+    fold (appendEntry ws text new)
+    (fold (appendFrom ws text new Nothing) (compilerEntries ws new c view 0 (compilerTargets ws c)) (classMethods ws new c))
+    (parentEntries ws text abi labels area c)

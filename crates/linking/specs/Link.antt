@@ -16,7 +16,8 @@ use Rattle.linking.specs.Vtable.{Entry, Built, built, refused, parentEnt
 use Rattle.linking.specs.Packages.{buildPackages, badPackages}
 use Rattle.linking.specs.Fields.{numberFields, addedFields, builtWords, tooManyWords, generatedRefusal, generatedIndices, staticWords}
 use Rattle.linking.specs.Compiler.{New, addedMethods, compilerTable}
-use Rattle.linking.specs.Set.{putIndices, newText, grownMethods, grownFields, sectionFull, grownEnd}
+use Rattle.linking.specs.Counts.{countedAfter, missingShort}
+use Rattle.linking.specs.Set.{writeAt, putIndices, newText, grownMethods, grownFields, sectionFull, grownEnd}
 
 -- ---- row 6
 
@@ -174,9 +175,6 @@ noRoom area stubs n = ltb (length stubs) n || ltb (length area - nextFree area) 
 -- ---- the effect: "Written: class number, slots, then a zero list head, into the part of the area from the next free word on. Word 0 is
 -- that next place"
 
-unfoldable pub writeAt : List ℕ → ℕ → List ℕ → List ℕ
-writeAt l k xs = take k l ++ (xs ++ drop (k + length xs) l)
-
 unfoldable pub linkedArea : List ℕ → ℕ → List Entry → List ℕ → List ℕ
 linkedArea area c T stubs =
     set (writeAt area (nextFree area) (c ∷ (slotWords stubs 0 T ++ (0 ∷ [])))) 0 (nextFree area + length T + 2)
@@ -208,33 +206,44 @@ pub record Outcome : Type 0 where
 abbrev pub refusedCall : ℕ → List ℕ → List ℕ → Outcome
 refusedCall n ws area = record { refusal = n; first = 0; second = 0; set = ws; area = area }
 
+-- a link's, with the list of counts, which asks do not get
+pub record LinkOutcome : Type 0 where
+  pub outcome : Outcome
+  pub missing : List ℕ
+
+abbrev pub refusedLink : ℕ → List ℕ → List ℕ → List ℕ → LinkOutcome
+refusedLink n ws area missing = record { outcome = refusedCall n ws area; missing = missing }
+
 -- rows 14 and 15, then the effect; the answer is the place and the slot count
-unfoldable pub finishLink : List ℕ → List ℕ → ℕ → List ℕ → List ℕ → Plan → Outcome
-finishLink ws abi c area stubs p =
+unfoldable pub finishLink : List ℕ → List ℕ → ℕ → List ℕ → List ℕ → List ℕ → Plan → LinkOutcome
+finishLink ws abi c area stubs missing p =
     cond (listsFull ws c p)
-    (refusedCall 14 ws area)
-    (cond (noRoom area stubs (length (p .table)) || setShort ws c p)
-    (refusedCall 15 ws area)
+    (refusedLink 14 ws area missing)
+    (cond (noRoom area stubs (length (p .table)) || setShort ws c p || missingShort ws missing)
+    (refusedLink 15 ws area missing)
     (record {
-      refusal = 0;
-      first = nextFree area;
-      second = length (p .table);
-      set = linkedWords ws c (nextFree area) (newWords ws (textOf ws) abi (abiTextOf abi) c) (newStatics ws (textOf ws) c) p;
-      area = linkedArea area c (p .table) stubs;
+      outcome = record {
+        refusal = 0;
+        first = nextFree area;
+        second = length (p .table);
+        set = linkedWords ws c (nextFree area) (newWords ws (textOf ws) abi (abiTextOf abi) c) (newStatics ws (textOf ws) c) p;
+        area = linkedArea area c (p .table) stubs;
+      };
+      missing = countedAfter ws missing c (p .table);
     }))
 
-abbrev pub onPlan : Planned → (Plan → Outcome) → (ℕ → Outcome) → Outcome
+abbrev pub onPlan : Planned → (Plan → LinkOutcome) → (ℕ → LinkOutcome) → LinkOutcome
 onPlan (planned p) f g = f p
 onPlan (unplanned n) f g = g n
 
-unfoldable pub linkDef : List ℕ → List ℕ → ℕ → List ℕ → List ℕ → Outcome
-linkDef ws abi c area stubs =
+unfoldable pub linkDef : List ℕ → List ℕ → ℕ → List ℕ → List ℕ → List ℕ → LinkOutcome
+linkDef ws abi c area stubs missing =
     cond (not (eqb (setRefusal ws abi) 0))
-    (refusedCall (setRefusal ws abi) ws area)
+    (refusedLink (setRefusal ws abi) ws area missing)
     (cond (badClass ws (textOf ws) c)
-    (refusedCall 6 ws area)
+    (refusedLink 6 ws area missing)
     (cond (badArea ws area)
-    (refusedCall 7 ws area)
+    (refusedLink 7 ws area missing)
     (cond (badPackages ws (textOf ws) abi (abiTextOf abi) c)
-    (refusedCall 26 ws area)
-    (onPlan (plan ws (textOf ws) abi (abiTextOf abi) area c) (finishLink ws abi c area stubs) (λ n. refusedCall n ws area)))))
+    (refusedLink 26 ws area missing)
+    (onPlan (plan ws (textOf ws) abi (abiTextOf abi) area c) (finishLink ws abi c area stubs missing) (λ n. refusedLink n ws area missing)))))

@@ -9,6 +9,10 @@ use Rattle.words.specs.Words.{leWord, wordsFor}
 use Rattle.class_sheet.specs.ClassSheet.{memberWidth, memberLimit, textLimit, methodCount, fieldCount, textLength, methodsAt, fieldsAt, interfacesAt, textAt, textOf, classFirstMethod, classMethodCount, classFirstField, classFieldCount, putMethodCount, putFieldCount, putTextLength, putClassFirstMethod, putClassMethodCount, putClassFirstField, putClassFieldCount, putIndexAt, memberWords}
 use Rattle.linking.specs.Compiler.{New}
 
+-- words laid over a list from place k on
+unfoldable pub writeAt : List ℕ → ℕ → List ℕ → List ℕ
+writeAt l k xs = take k l ++ (xs ++ drop (k + length xs) l)
+
 -- the indices of the field records from `first` on, in a list of words whose field section begins at `at`
 unfoldable pub putIndices : ℕ → ℕ → List ℕ → List ℕ → List ℕ
 putIndices at first [] ws = ws

@@ -13,13 +13,14 @@ use Rattle.abi_sheet.specs.AbiSheet.{abiSlotName, abiSlotDescriptor}
 use Rattle.linking.specs.Chain.{onFound, ownMethods, parentOf, chain, eligible, methodIs, ownMethod, findByTarget}
 use Rattle.linking.specs.Abi.{slotAt, classAbi, chainAbi, fixedIndex, minimumSize}
 
--- a slot: its word, 0 where it is empty, and its method where it is known
+-- a slot: its word, 0 where it is empty, its method where it is known, and the slot of the table read that it is a copy of
 pub record Entry : Type 0 where
   pub word : ℕ
   pub method : Found
+  pub source : Found
 
 abbrev pub empty : Entry
-empty = record { word = 0; method = Nothing }
+empty = record { word = 0; method = Nothing; source = Nothing }
 
 -- a table, or the row that refuses it
 pub data Built : Type 0 where
@@ -44,7 +45,7 @@ module _ (ws text abi labels : List ℕ) where
   findByIndex c i = firstFound (ownFixed i) (chain ws c)
 
   unfoldable pub readEntry : ℕ → ℕ → ℕ → Entry
-  readEntry c i w = record { word = w; method = orElse (findByTarget ws c w) (findByIndex c i) }
+  readEntry c i w = record { word = w; method = orElse (findByTarget ws c w) (findByIndex c i); source = At i }
 
   -- "its table is the words after the place": slot i of class c, as the area holds it
   unfoldable pub readSlot : List ℕ → ℕ → ℕ → Entry
@@ -72,7 +73,7 @@ module _ (ws text : List ℕ) where
   entryIsOther name descriptor e = onFound (e .method) (λ m. not (methodIs ws text m name descriptor)) false
 
 abbrev pub methodEntry : List ℕ → ℕ → Entry
-methodEntry ws m = record { word = methodTarget ws m; method = At m }
+methodEntry ws m = record { word = methodTarget ws m; method = At m; source = Nothing }
 
 -- ---- "`build_methods`: parent entries, extended with empty ones to the largest fixed index + 1 or table size among the chain's ABI
 -- classes. A class with its own ABI entry first puts each known inherited entry at its fixed index, later ones overwriting; known
@@ -143,8 +144,11 @@ buildInterfaceMethods ws text c = methodEntries ws (keep (eligible ws text) (own
 
 -- ---- "A slot that is empty or of target 0 takes the stub word at its index."
 
+abbrev pub takesStub : ℕ → Bool
+takesStub w = eqb w 0
+
 abbrev pub slotWord : ℕ → ℕ → ℕ
-slotWord w stub = cond (eqb w 0) stub w
+slotWord w stub = cond (takesStub w) stub w
 
 -- the words of a table's slots from index i on
 unfoldable pub slotWords : List ℕ → ℕ → List Entry → List ℕ

@@ -17,22 +17,22 @@ use Rattle.sheet.specs.Sheet.{readClassSheet, readAbiSheet}
 use Rattle.sheet.specs.Sheet as sheet
 use Rattle.sheet.specs.declared.Read.{Read}
 use Rattle.sheet.specs.declared.Read.the-variants.{Words, Refused as Unread}
-use Rattle.area.specs.Area.{outcome}
+use Rattle.link.specs.Stored.{linkOutcome}
 use Rattle.area.specs.declared.Answer.{Answer}
 use Rattle.area.specs.declared.Answer.the-variants.{Done, Refused}
-use Rattle.linking.specs.Link.{Outcome, linkDef}
+use Rattle.linking.specs.Link.{linkDef}
 use Rattle.lines.specs.Bytes.{put}
 use Rattle.lines.specs.Lines.{classLines, classRefused, sheetRefused}
 use Rattle.lines.proofs.ByteLaws.{put-none, then}
-use Rattle.listing.specs.Listing.{readRow, linkRow, freshArea, stubWords, linked, linkOne, Links, links, linkAll, classText, classTexts, setText, abiLine, classesText, listing}
+use Rattle.listing.specs.Listing.{readRow, linkRow, freshArea, freshCounts, stubWords, linked, linkOne, Links, links, linkAll, classText, classTexts, setText, abiLine, classesText, listing}
 
 -- ---- what an answer stands for
 
-pub link-listed : (a : Answer) (s t ws abi area stubs : List ℕ) (c : ℕ) {r : ℕ} → outcome a s t ≡ linkDef ws abi c area stubs → r ≡ linkRow a
-    → linked r s t ≡ linkOne abi stubs c ws area
+pub link-listed : (a : Answer) (s t u ws abi area stubs missing : List ℕ) (c : ℕ) {r : ℕ}
+    → linkOutcome a s t u ≡ linkDef ws abi c area stubs missing → r ≡ linkRow a → linked r s t u ≡ linkOne abi stubs c ws area missing
 unfolding linkOne
-link-listed (Done place slots) s t ws abi area stubs c e f = rw (f, ← e)
-link-listed (Refused row) s t ws abi area stubs c e f = rw (f, ← e)
+link-listed (Done place slots) s t u ws abi area stubs missing c e f = rw (f, ← e)
+link-listed (Refused row) s t u ws abi area stubs missing c e f = rw (f, ← e)
 
 pub read-row : (a : Read) (m : List ℕ) {o : sheet.Outcome} {r : ℕ} → sheet.outcome a m ≡ o → r ≡ readRow a → r ≡ o .refusal
 read-row (Words n) m e f = f ∙ ap (λ (o : sheet.Outcome). o .refusal) e
@@ -68,23 +68,25 @@ append-one l b m = append-assoc l (b ∷ []) m
 
 module _ (abi stubs : List ℕ) (n : ℕ) where
   -- what is left to link at turn i of the n classes, with the rows of those before
-  unfoldable pub linksFrom : ℕ → List ℕ → List ℕ → List ℕ → Links
-  linksFrom i rows ws area =
-      let rest : Links = linkAll abi stubs (n - i) (i + 1) ws area in links (take i rows ++ rest .rows) (rest .set) (rest .area)
+  unfoldable pub linksFrom : ℕ → List ℕ → List ℕ → List ℕ → List ℕ → Links
+  linksFrom i rows ws area missing =
+      let rest : Links = linkAll abi stubs (n - i) (i + 1) ws area missing in links (take i rows ++ rest .rows) (rest .set) (rest .area) (rest .missing)
 
-  pub links-start : (rows ws area : List ℕ) → linksFrom 0 rows ws area ≡ linkAll abi stubs n 1 ws area
+  pub links-start : (rows ws area missing : List ℕ) → linksFrom 0 rows ws area missing ≡ linkAll abi stubs n 1 ws area missing
   unfolding linksFrom
-  links-start rows ws area = let g : n - 0 ≡ n = omega arith in rw g
+  links-start rows ws area missing = let g : n - 0 ≡ n = omega arith in rw g
 
-  pub links-turn : (i : ℕ) (rows ws area : List ℕ) {all : Links} {j row : ℕ} {s t next : List ℕ} → i < n → n ≤ length rows
-      → linked row s t ≡ linkOne abi stubs (i + 1) ws area → j ≡ i → next ≡ set rows j row
-      → linksFrom i rows ws area ≡ all → linksFrom (i + 1) next s t ≡ all
+  pub links-turn : (i : ℕ) (rows ws area missing : List ℕ) {all : Links} {j row : ℕ} {s t u next : List ℕ} → i < n → n ≤ length rows
+      → linked row s t u ≡ linkOne abi stubs (i + 1) ws area missing → j ≡ i → next ≡ set rows j row
+      → linksFrom i rows ws area missing ≡ all → linksFrom (i + 1) next s t u ≡ all
   unfolding linksFrom linkAll
-  links-turn i rows ws area {row = row} h l e f g k = rw (g, f, take-next rows i row (omega arith), append-one (take i rows) row) (rw (rest-suc n i h, ← e) at k)
+  links-turn i rows ws area missing {row = row} h l e f g k =
+      rw (g, f, take-next rows i row (omega arith), append-one (take i rows) row) (rw (rest-suc n i h, ← e) at k)
 
-  pub links-end : (i : ℕ) (rows ws area : List ℕ) {all : Links} → n ≤ i → i ≤ n → linksFrom i rows ws area ≡ all → links (take n rows) ws area ≡ all
+  pub links-end : (i : ℕ) (rows ws area missing : List ℕ) {all : Links} → n ≤ i → i ≤ n → linksFrom i rows ws area missing ≡ all
+      → links (take n rows) ws area missing ≡ all
   unfolding linksFrom linkAll
-  links-end i rows ws area h l k =
+  links-end i rows ws area missing h l k =
       let g : n - i ≡ 0 = omega arith in
       let e : n ≡ i = omega arith in
       rw e (rw append-nil at (rw g at k))
@@ -126,11 +128,11 @@ module _ (ws abi area : List ℕ) where
         let d : drop i (take n rows) ≡ [] = drop-of-length-le (take n rows) {i = i} (omega (arith, length-take n rows)) in
         put-none p ∙ sym (rw d at k)
 
-pub set-put : (ws abi : List ℕ) (p : List ℕ × ℕ) {q : List ℕ × ℕ} {area stubs s t : List ℕ} (rows : List ℕ) {n : ℕ} → area ≡ freshArea → stubs ≡ stubWords
-    → n ≡ classCount ws → links (take n rows) s t ≡ linkAll abi stubs n 1 ws area → q ≡ put p (classTexts s abi t 1 (take n rows))
+pub set-put : (ws abi : List ℕ) (p : List ℕ × ℕ) {q : List ℕ × ℕ} {area missing stubs s t u : List ℕ} (rows : List ℕ) {n : ℕ} → area ≡ freshArea
+    → stubs ≡ stubWords → missing ≡ freshCounts → n ≡ classCount ws → links (take n rows) s t u ≡ linkAll abi stubs n 1 ws area missing → q ≡ put p (classTexts s abi t 1 (take n rows))
     → q ≡ put p (setText ws abi)
 unfolding setText
-set-put ws abi p rows e f g k h = h ∙ rw (← e, ← f, ← g, ← k)
+set-put ws abi p rows e f m g k h = h ∙ rw (← e, ← f, ← m, ← g, ← k)
 
 -- ---- the sheets
 

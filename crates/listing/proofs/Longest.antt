@@ -9,7 +9,7 @@ use native.Mathlib.Omega.{arith}
 use lib.ListN.{length, getD, set, take, replicate, length-append, length-set, length-take, length-replicate, List·getD-eq-default}
 use lib.Seq.{getD-set-same, getD-take}
 use lib.Dec.{eqb, ltb}
-use borrow.Author.Tests.{eqb-true, eqb-false, ne-eqb, eq-eqb, ltb-true, ltb-false}
+use borrow.Author.Tests.{eqb-true, eqb-false, ne-eqb, eq-eqb, ltb-true, ltb-false, le-ltb}
 use Rattle.words.proofs.Bools.{by}
 use Rattle.class_sheet.specs.ClassSheet.{classCount, fieldCount, classKind, isBuiltKind, classFirstField, classFieldCount, classWord, classInstanceWords, classSlotCount, textOf, sheetWords, classLimit}
 use Rattle.abi_sheet.specs.AbiSheet.{abiTextOf, abiSheetWords}
@@ -20,7 +20,9 @@ use Rattle.linking.specs.Vtable.{Entry, Built, built, refused, slotWords, paren
 use Rattle.linking.specs.Compiler.{New}
 use Rattle.linking.specs.Abi.{classAbi}
 use Rattle.linking.specs.Fields.{numberFields, addedFields, tooManyWords, generatedRefusal, generatedIndices}
-use Rattle.linking.specs.Link.{nextFree, Plan, Planned, planned, unplanned, onTable, withinSlots, newFieldsOf, builtTable, generatedTable, planBuilt, planGenerated, planArray, plan, generatedMethods, linkedArea, newWords, newStatics, Outcome, linkDef, writeAt}
+use Rattle.linking.specs.Link.{nextFree, Plan, Planned, planned, unplanned, onTable, withinSlots, newFieldsOf, builtTable, generatedTable, planBuilt, planGenerated, planArray, plan, generatedMethods, linkedArea, newWords, newStatics, LinkOutcome, linkDef}
+use Rattle.linking.specs.Set.{writeAt}
+use Rattle.linking.specs.Counts.{missingShort}
 use Rattle.calls.proofs.Area.{linked-length}
 use Rattle.linking.proofs.Plans.{plans}
 use Rattle.calls.proofs.Rows.{Refused, Accepted, link-cases}
@@ -33,7 +35,7 @@ use Rattle.sheet.specs.declared.Read.{Read}
 use Rattle.sheet.proofs.Valid.{read-accepted}
 use Rattle.lines.specs.Lines.{numbered, classLines, classRefused, sheetRefused}
 use Rattle.listing.proofs.ListingLaws.{read-row, read-memory}
-use Rattle.listing.specs.Listing.{readRow, freshArea, stubWords, Linked, linkOne, Links, links, linkAll, classText, classTexts, setText, abiLine, classesText, listing}
+use Rattle.listing.specs.Listing.{readRow, freshArea, freshCounts, stubWords, Linked, linked, linkOne, Links, links, linkAll, classText, classTexts, setText, abiLine, classesText, listing}
 use Rattle.listing.specs.Small.{Small, Accepts}
 
 -- ---- the methods that a plan adds
@@ -119,8 +121,8 @@ pub record Step (ws area : List ℕ) (c : ℕ) (o : Linked) : Type 0 where
   pub taken : o .row ≡ 0 → nextFree (o .area) ≡ nextFree area + classSlotCount (o .set) c + 2
   pub within : nextFree (o .area) ≤ length area
 
-module _ (ws abi : List ℕ) (b : Bounded ws) (c : ℕ) (area stubs : List ℕ) (free : nextFree area ≤ length area) where
-  step-refused : (o : Outcome) → Refused o ws area → Step ws area c (record { row = o .refusal; set = o .set; area = o .area })
+module _ (ws abi : List ℕ) (b : Bounded ws) (c : ℕ) (area stubs missing : List ℕ) (free : nextFree area ≤ length area) where
+  step-refused : (o : LinkOutcome) → Refused o ws area missing → Step ws area c (linked (o .outcome .refusal) (o .outcome .set) (o .outcome .area) (o .missing))
   step-refused o r = record {
     bounded = rw (r .same-set) b;
     classes = rw (r .same-set);
@@ -131,7 +133,7 @@ module _ (ws abi : List ℕ) (b : Bounded ws) (c : ℕ) (area stubs : List ℕ) 
     within = rw (r .same-area) free;
   }
 
-  step-accepted : (o : Outcome) → Accepted ws abi c area stubs o → Step ws area c (record { row = o .refusal; set = o .set; area = o .area })
+  step-accepted : (o : LinkOutcome) → Accepted ws abi c area stubs missing o → Step ws area c (linked (o .outcome .refusal) (o .outcome .set) (o .outcome .area) (o .missing))
   step-accepted o a =
       let v = valid ws abi (a .valid) in
       let k : IsClass ws c = (a .class .some, a .class .among) in
@@ -149,7 +151,7 @@ module _ (ws abi : List ℕ) (b : Bounded ws) (c : ℕ) (area stubs : List ℕ) 
       let t = a .lent .within in
       let n = linked-length area c (p .table) stubs f (omega arith) in
       let x = next-after area c (p .table) stubs (omega arith) in
-      let s : classSlotCount (o .set) c ≡ length (p .table) = rw (a .new-set) (l .own) in
+      let s : classSlotCount (o .outcome .set) c ≡ length (p .table) = rw (a .new-set) (l .own) in
       record {
         bounded = rw (a .new-set) (l .bounded);
         classes = rw (a .new-set) (l .classes);
@@ -160,12 +162,12 @@ module _ (ws abi : List ℕ) (b : Bounded ws) (c : ℕ) (area stubs : List ℕ) 
         within = rw (a .new-area) (omega arith);
       }
 
-  step : Step ws area c (linkOne abi stubs c ws area)
+  step : Step ws area c (linkOne abi stubs c ws area missing)
   unfolding linkOne
   step =
-      elim (link-cases ws abi c area stubs) [
-        | inl r ↦ step-refused (linkDef ws abi c area stubs) r
-        | inr a ↦ step-accepted (linkDef ws abi c area stubs) a
+      elim (link-cases ws abi c area stubs missing) [
+        | inl r ↦ step-refused (linkDef ws abi c area stubs missing) r
+        | inr a ↦ step-accepted (linkDef ws abi c area stubs missing) a
       ]
 
 -- ---- all links
@@ -185,10 +187,10 @@ pub record All (ws area : List ℕ) (c n : ℕ) (all : Links) : Type 0 where
   pub within : nextFree (all .area) ≤ length area
 
 module _ (abi stubs : List ℕ) where
-  pub links-all : (n c : ℕ) (ws area : List ℕ) → Bounded ws → nextFree area ≤ length area → 1 ≤ c → c + n ≤ classCount ws + 1
-      → All ws area c n (linkAll abi stubs n c ws area)
+  pub links-all : (n c : ℕ) (ws area missing : List ℕ) → Bounded ws → nextFree area ≤ length area → 1 ≤ c → c + n ≤ classCount ws + 1
+      → All ws area c n (linkAll abi stubs n c ws area missing)
   unfolding linkAll slotsIn
-  links-all zero c ws area b h s m = record {
+  links-all zero c ws area missing b h s m = record {
     bounded = b;
     classes = refl;
     before = λ d k l. refl;
@@ -196,16 +198,16 @@ module _ (abi stubs : List ℕ) where
     slots = omega arith;
     within = h;
   }
-  links-all (suc n) c ws area b h s m =
-      let o : Linked = linkOne abi stubs c ws area in
-      let t = step ws abi b c area stubs h in
+  links-all (suc n) c ws area missing b h s m =
+      let o : Linked = linkOne abi stubs c ws area missing in
+      let t = step ws abi b c area stubs missing h in
       let e = t .classes in
       let r = t .room in
       let w = t .within in
-      let i = links-all n (c + 1) (o .set) (o .area) (t .bounded) (omega arith) (omega arith) (omega arith) in
+      let i = links-all n (c + 1) (o .set) (o .area) (o .missing) (t .bounded) (omega arith) (omega arith) (omega arith) in
       let y = i .slots in
       let z = i .within in
-      let own : classSlotCount (linkAll abi stubs n (c + 1) (o .set) (o .area) .set) c ≡ classSlotCount (o .set) c =
+      let own : classSlotCount (linkAll abi stubs n (c + 1) (o .set) (o .area) (o .missing) .set) c ≡ classSlotCount (o .set) c =
       i .before c (omega arith, omega arith) (omega arith) in
       record {
         bounded = i .bounded;
@@ -266,23 +268,23 @@ fresh-facts : (nextFree freshArea ≡ 1) × (length freshArea ≡ 4096)
 unfolding freshArea
 fresh-facts = (refl, ap suc (length-replicate {0} {A = ℕ} 4095 0))
 
-pub set-few : (ws abi : List ℕ) {s t area stubs : List ℕ} (rows : List ℕ) {n : ℕ} → setRefusal ws abi ≡ 0 → area ≡ freshArea → stubs ≡ stubWords
-    → n ≡ classCount ws → links (take n rows) s t ≡ linkAll abi stubs n 1 ws area → Small s → Small t → Small rows
+pub set-few : (ws abi : List ℕ) {s t u area missing stubs : List ℕ} (rows : List ℕ) {n : ℕ} → setRefusal ws abi ≡ 0 → area ≡ freshArea
+    → stubs ≡ stubWords → missing ≡ freshCounts → n ≡ classCount ws → links (take n rows) s t u ≡ linkAll abi stubs n 1 ws area missing → Small s → Small t → Small rows
     → length (setText ws abi) ≤ 2192135
 unfolding setText
-set-few ws abi {s} {t} {area} {stubs} rows {n} r e f g k hs ht hr =
+set-few ws abi {s} {t} {u} {area} {missing} {stubs} rows {n} r e f i g k hs ht hr =
     let v = valid ws abi r in
     let z = fresh-facts in
-    let a : All ws area 1 n (linkAll abi stubs n 1 ws area) =
-    links-all abi stubs n 1 ws area (valid-bounded ws (v .0)) (rw e (omega arith)) (omega arith) (omega arith) in
-    let x : All ws area 1 n (links (take n rows) s t) = rw k a in
+    let a : All ws area 1 n (linkAll abi stubs n 1 ws area missing) =
+    links-all abi stubs n 1 ws area missing (valid-bounded ws (v .0)) (rw e (omega arith)) (omega arith) (omega arith) in
+    let x : All ws area 1 n (links (take n rows) s t u) = rw k a in
     let few : classCount s ≤ classLimit = omega (arith, x .classes, v .0 .class-count) in
     let l = x .rows in
-    let u : slotsIn s 1 (take n rows) ≤ 4093 =
-    omega (arith, x .slots, x .within, ap nextFree e, ap (λ (y : List ℕ). length y) e) in
+    let y : slotsIn s 1 (take n rows) ≤ 4093 =
+    omega (arith, x .slots, x .within, ap nextFree e, ap (λ (l : List ℕ). length l) e) in
     let w = texts-few s abi t (x .bounded) (v .1) few (small-limit s hs) (small-limit t ht) 1 (take n rows) (omega arith) (omega (arith, x .classes))
     (small-take n rows hr) (omega arith) in
-    rw (← e, ← f, ← g, ← k) (omega (arith, w, v .0 .class-count))
+    rw (← e, ← f, ← i, ← g, ← k) (omega (arith, w, v .0 .class-count))
 
 sheet-few : (sheet : List ℕ) (row : ℕ) → length sheet ≤ 7 → row < 4294967296 → length (sheetRefused sheet row) ≤ 27
 unfolding sheetRefused numbered
@@ -327,6 +329,14 @@ none-small ws h i = rw (List·getD-eq-default ws 0 {n = i} (let g : length ws �
 pub each-small : (ws : List ℕ) → ((i : ℕ) → getD ws i 0 < 2 ^ 32) → Small ws
 unfolding Small
 each-small ws h = h
+
+-- the list of counts is long enough for every set that is accepted
+pub counts-fit : (ws abi missing : List ℕ) → setRefusal ws abi ≡ 0 → length missing ≡ length freshCounts → missingShort ws missing ≡ false
+unfolding missingShort freshCounts
+counts-fit ws abi missing r e =
+    let v = valid ws abi r .0 .class-count in
+    let l = length-replicate {0} {A = ℕ} 2112 0 in
+    le-ltb (length missing) (33 * classCount ws) (omega arith)
 
 -- a set that is accepted has at most 64 classes, so that many rows are enough
 pub set-fits : (ws abi : List ℕ) {n : ℕ} (rows : List ℕ) → setRefusal ws abi ≡ 0 → n ≡ classCount ws → length rows ≡ 64 → n ≤ length rows

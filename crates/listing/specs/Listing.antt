@@ -13,7 +13,7 @@ use Rattle.sheet.specs.declared.Read.{Read}
 use Rattle.sheet.specs.declared.Read.the-variants.{Words, Refused as Unread}
 use Rattle.area.specs.declared.Answer.{Answer}
 use Rattle.area.specs.declared.Answer.the-variants.{Done, Refused}
-use Rattle.linking.specs.Link.{Outcome, linkDef}
+use Rattle.linking.specs.Link.{LinkOutcome, linkDef}
 use Rattle.lines.specs.Lines.{classLines, classRefused, sheetRefused}
 
 -- the row that refuses, or 0
@@ -35,34 +35,41 @@ freshArea = 1 ∷ replicate 4095 0
 unfoldable pub stubWords : List ℕ
 stubWords = table 1024 (λ i. 4026531840 + i)
 
--- a link's row, 0 where it is accepted, with the words and the area that it leaves
+-- the list of counts: 33 words for each of 64 classes, so that it is never too short
+unfoldable pub freshCounts : List ℕ
+freshCounts = replicate 2112 0
+
+-- a link's row, 0 where it is accepted, with the words, the area and the counts that it leaves
 pub record Linked : Type 0 where
   pub row : ℕ
   pub set : List ℕ
   pub area : List ℕ
+  pub missing : List ℕ
 
-abbrev pub linked : ℕ → List ℕ → List ℕ → Linked
-linked row ws area = record { row = row; set = ws; area = area }
+abbrev pub linked : ℕ → List ℕ → List ℕ → List ℕ → Linked
+linked row ws area missing = record { row = row; set = ws; area = area; missing = missing }
 
-unfoldable pub linkOne : List ℕ → List ℕ → ℕ → List ℕ → List ℕ → Linked
-linkOne abi stubs c ws area = let o : Outcome = linkDef ws abi c area stubs in linked (o .refusal) (o .set) (o .area)
+unfoldable pub linkOne : List ℕ → List ℕ → ℕ → List ℕ → List ℕ → List ℕ → Linked
+linkOne abi stubs c ws area missing =
+    let o : LinkOutcome = linkDef ws abi c area stubs missing in linked (o .outcome .refusal) (o .outcome .set) (o .outcome .area) (o .missing)
 
--- the rows of several links, with the words and the area after all of them
+-- the rows of several links, with the words, the area and the counts after all of them
 pub record Links : Type 0 where
   pub rows : List ℕ
   pub set : List ℕ
   pub area : List ℕ
+  pub missing : List ℕ
 
-abbrev pub links : List ℕ → List ℕ → List ℕ → Links
-links rows ws area = record { rows = rows; set = ws; area = area }
+abbrev pub links : List ℕ → List ℕ → List ℕ → List ℕ → Links
+links rows ws area missing = record { rows = rows; set = ws; area = area; missing = missing }
 
--- n classes from class c on, each linked in the words and the area that the link before it left
-unfoldable pub linkAll : List ℕ → List ℕ → ℕ → ℕ → List ℕ → List ℕ → Links
-linkAll abi stubs zero c ws area = links [] ws area
-linkAll abi stubs (suc n) c ws area =
-    let o : Linked = linkOne abi stubs c ws area in
-    let rest : Links = linkAll abi stubs n (c + 1) (o .set) (o .area) in
-    links (o .row ∷ rest .rows) (rest .set) (rest .area)
+-- n classes from class c on, each linked in what the link before it left
+unfoldable pub linkAll : List ℕ → List ℕ → ℕ → ℕ → List ℕ → List ℕ → List ℕ → Links
+linkAll abi stubs zero c ws area missing = links [] ws area missing
+linkAll abi stubs (suc n) c ws area missing =
+    let o : Linked = linkOne abi stubs c ws area missing in
+    let rest : Links = linkAll abi stubs n (c + 1) (o .set) (o .area) (o .missing) in
+    links (o .row ∷ rest .rows) (rest .set) (rest .area) (rest .missing)
 
 -- ---- "and writes class number, name, words, slots; then slot, name, descriptor, target"; "A refusal prints `class N refused R`"
 
@@ -78,7 +85,7 @@ classTexts ws abi area c (row ∷ rows) = classText ws abi area c row ++ classTe
 -- the texts of all classes of a set, in the words and the area after all links
 unfoldable pub setText : List ℕ → List ℕ → List ℕ
 setText ws abi =
-    let all : Links = linkAll abi stubWords (classCount ws) 1 ws freshArea in classTexts (all .set) abi (all .area) 1 (all .rows)
+    let all : Links = linkAll abi stubWords (classCount ws) 1 ws freshArea freshCounts in classTexts (all .set) abi (all .area) 1 (all .rows)
 
 -- ---- the whole: "reads `abi.bin`, then `classes.bin`"; "a bad sheet `abi refused R` or `classes refused R` and ends"
 

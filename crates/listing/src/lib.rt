@@ -5,10 +5,11 @@ use sheet::Read;
 ghost use mathlib.Core.Path.{_≡_};
 ghost use Prim.Native.Nat.{_≤_, _<_};
 ghost use lib.ListN.{length, take};
+ghost use Rattle.words.specs.Lent.{was, after};
 ghost use Rattle.set_rules.specs.SetRules.{setRefusal};
 ghost use Rattle.lines.specs.Bytes.{put};
 ghost use Rattle.listing.specs.Small.{Small, Accepts};
-ghost use Rattle.listing.specs.Listing.{readRow, linkRow, freshArea, stubWords, linked, linkOne, links, linkAll, classText, classTexts, setText, abiLine, classesText, listing};
+ghost use Rattle.listing.specs.Listing.{readRow, linkRow, freshArea, freshCounts, stubWords, linked, linkOne, links, linkAll, classText, classTexts, setText, abiLine, classesText, listing};
 
 // The row that refused a reading, or 0.
 fn read_row(answer: Read) -> u32
@@ -39,6 +40,13 @@ fn fresh_area() -> [u32; 4096]
     area
 }
 
+// A list of counts for 64 classes.
+fn fresh_counts() -> [u32; 2112]
+    ensures { λ r. ⌜ r ≡ freshCounts ⌝ }
+{
+    [0; 2112]
+}
+
 // The 1,024 stub words, each 4026531840 + index.
 fn stub_words() -> [u32; 1024]
     ensures { λ r. ⌜ r ≡ stubWords ⌝ }
@@ -53,27 +61,36 @@ fn stub_words() -> [u32; 1024]
 }
 
 // Links class c, and answers the row that refused it, or 0.
-fn link_class(set: &mut [u32], abi: &[u32], c: u32, area: &mut [u32], stubs: &[u32]) -> u32
-    ensures { λ r. ⌜ linked r (now (set .exit)) (now (area .exit)) ≡ linkOne (now (abi .entry)) (now (stubs .entry)) c (now (set .entry)) (now (area .entry)) ⌝ }
+fn link_class(
+    set: &mut [u32],
+    abi: &[u32],
+    c: u32,
+    area: &mut [u32],
+    stubs: &[u32],
+    missing: &mut [u32],
+) -> u32
+    ensures { λ r. ⌜ linked r (after set) (after area) (after missing) ≡ linkOne (was abi) (was stubs) c (was set) (was area) (was missing) ⌝ }
 {
-    link_row(link::link(set, abi, c, area, stubs))
+    link_row(link::link(set, abi, c, area, stubs, missing))
 }
 
-// Links the n classes from class 1 on, each in the words and the area that the link before it left, and keeps each one's row.
+// Links the n classes from class 1 on, each in what the link before it left, and keeps each one's row.
 fn link_classes(
     set: &mut [u32],
     abi: &[u32],
     n: u32,
     area: &mut [u32],
     stubs: &[u32],
+    missing: &mut [u32],
     rows: &mut [u32],
 )
     requires { ⌜ n ≤ length (now rows) ⌝ }
-    ensures { λ _. ⌜ links (take n (now (rows .exit))) (now (set .exit)) (now (area .exit)) ≡ linkAll (now (abi .entry)) (now (stubs .entry)) n 1 (now (set .entry)) (now (area .entry)) ⌝ }
+    ensures { λ _. ⌜ links (take n (after rows)) (after set) (after area) (after missing)
+        ≡ linkAll (was abi) (was stubs) n 1 (was set) (was area) (was missing) ⌝ }
 {
     let mut i: u32 = 0;
     while i < n {
-        let row = link_class(set, abi, i + 1, area, stubs);
+        let row = link_class(set, abi, i + 1, area, stubs, missing);
         words::put_word(rows, words::wide(i), row);
         i += 1;
     }
@@ -137,9 +154,10 @@ fn list_set(set: &mut [u32], abi: &[u32], out: &mut [u8]) -> usize
 {
     let mut area = fresh_area();
     let stubs = stub_words();
+    let mut missing = fresh_counts();
     let mut rows = [0u32; 64];
     let n = class_sheet::class_count(set);
-    link_classes(set, abi, n, &mut area, &stubs, &mut rows);
+    link_classes(set, abi, n, &mut area, &stubs, &mut missing, &mut rows);
     first_word(set);
     first_word(&area);
     first_word(&rows);

@@ -23,7 +23,7 @@ use Rattle.linking.specs.Compiler.{New, signatureSources, fromMethod, fromSlot,
 use Rattle.linking.proofs.ChainLaws.{own-interfaces-length, own-interface-at}
 use Rattle.abi.proofs.Laws.{slot-at-room}
 use Rattle.growth.specs.News.{refName, refDescriptor, newAt, firstNews}
-use Rattle.reading.specs.Arrays.{methodOf, entriesOf}
+use Rattle.reading.specs.Arrays.{methodOf, sourceOf, entriesOf}
 use Rattle.native_view.specs.Native.{below, SheetMark, SmallMarks, interfaceSlot, sourceRef, refFlags, newOf, addedAt}
 use Rattle.native_view.proofs.FoundLaws.{found-cons, found-all}
 use Rattle.native_view.proofs.ViewLaws.{slot-below}
@@ -180,17 +180,17 @@ module _ (ws text abi labels : List ℕ) where
       (λ p. rw p)))
 
   module _ (c i t w k : ℕ) (xs : List New) where
-    pub add-skip : (eqb t 0 || eqb t w) ≡ true → xs ≡ xs ++ addedAt ws text abi labels c i t (record { word = w; method = methodOf k })
+    pub add-skip : (eqb t 0 || eqb t w) ≡ true → xs ≡ xs ++ addedAt ws text abi labels c i t (record { word = w; method = methodOf k; source = sourceOf k })
     unfolding addedAt
     add-skip h = rw h (sym (append-nil xs))
 
     module _ (l : SheetMark k) (h : (eqb t 0 || eqb t w) ≡ false) {q : Found} (e : q ≡ sourceRef ws text abi labels c i (methodOf k)) where
       pub add-at : (r : ℕ) {ys : List New} → q ≡ At r → ys ≡ xs ++ addNamed ws text c (newOf ws text abi labels r t) []
-          → ys ≡ xs ++ addedAt ws text abi labels c i t (record { word = w; method = methodOf k })
+          → ys ≡ xs ++ addedAt ws text abi labels c i t (record { word = w; method = methodOf k; source = sourceOf k })
       unfolding addedAt
       add-at r g m = rw (h, add-from c i t k l, ← e, g) m
 
-      pub add-none : q ≡ Nothing → xs ≡ xs ++ addedAt ws text abi labels c i t (record { word = w; method = methodOf k })
+      pub add-none : q ≡ Nothing → xs ≡ xs ++ addedAt ws text abi labels c i t (record { word = w; method = methodOf k; source = sourceOf k })
       unfolding addedAt
       add-none g = rw (h, add-from c i t k l, ← e, g) (sym (append-nil xs))
 
@@ -231,26 +231,26 @@ module _ (ws text abi labels : List ℕ) where
         rest-all count (firstNews ws text abi labels refs flags lasts 0) e (none-yet ws text abi labels refs flags lasts)
 
     rest-add : (count i : ℕ) (xs ys A : List New) {t w k : ℕ} → i < count → t ≡ targetAt c i → w ≡ below vs n i → k ≡ below vm n i
-        → ys ≡ xs ++ addedAt ws text abi labels c i t (record { word = w; method = methodOf k }) → xs ++ addRest c vs vm n count i ≡ A
+        → ys ≡ xs ++ addedAt ws text abi labels c i t (record { word = w; method = methodOf k; source = sourceOf k }) → xs ++ addRest c vs vm n count i ≡ A
         → ys ++ addRest c vs vm n count (i + 1) ≡ A
     unfolding addRest
     rest-add count i xs ys A {t = t} {w = w} {k = k} h et ew ek e g =
         let z : 0 + i ≡ i = omega arith in
         let r : restFrom (targetAt c) 0 count i ≡ t ∷ restFrom (targetAt c) 0 count (i + 1) =
         rw et (rest-turn (targetAt c) 0 count i h ∙ rw z) in
-        let s : getD (entriesOf vs vm n) i empty ≡ record { word = w; method = methodOf k } = rw (ew, ek) (slot-below vs vm n i) in
+        let s : getD (entriesOf vs vm n) i empty ≡ record { word = w; method = methodOf k; source = sourceOf k } = rw (ew, ek) (slot-below vs vm n i) in
         let o : addedFrom ws text abi labels c (entriesOf vs vm n) i (restFrom (targetAt c) 0 count i)
-        ≡ addedAt ws text abi labels c i t (record { word = w; method = methodOf k })
+        ≡ addedAt ws text abi labels c i t (record { word = w; method = methodOf k; source = sourceOf k })
         ++ addedFrom ws text abi labels c (entriesOf vs vm n) (i + 1) (restFrom (targetAt c) 0 count (i + 1)) =
         rw r (rw s at (add-cons c (entriesOf vs vm n) i t (restFrom (targetAt c) 0 count (i + 1)))) in
-        rw e (append-assoc xs (addedAt ws text abi labels c i t (record { word = w; method = methodOf k }))
+        rw e (append-assoc xs (addedAt ws text abi labels c i t (record { word = w; method = methodOf k; source = sourceOf k }))
         (addedFrom ws text abi labels c (entriesOf vs vm n) (i + 1) (restFrom (targetAt c) 0 count (i + 1))))
         ∙ ap (λ (l : List New). xs ++ l) (sym o) ∙ g
 
     -- a turn, by what the callees ensure: the arrays and the count before and after
     pub rest-turned : (refs flags lasts : List ℕ) (new count i : ℕ) (A : List New) (rs fs ls : List ℕ) (m : ℕ) {t w k : ℕ} → i < count
         → t ≡ targetAt c i → w ≡ below vs n i → k ≡ below vm n i → firstNews ws text abi labels rs fs ls m
-        ≡ firstNews ws text abi labels refs flags lasts new ++ addedAt ws text abi labels c i t (record { word = w; method = methodOf k })
+        ≡ firstNews ws text abi labels refs flags lasts new ++ addedAt ws text abi labels c i t (record { word = w; method = methodOf k; source = sourceOf k })
         → firstNews ws text abi labels refs flags lasts new ++ addRest c vs vm n count i ≡ A
         → firstNews ws text abi labels rs fs ls m ++ addRest c vs vm n count (i + 1) ≡ A
     rest-turned refs flags lasts new count i A rs fs ls m h et ew ek e g =

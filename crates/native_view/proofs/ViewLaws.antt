@@ -7,7 +7,7 @@ use native.Mathlib.Omega.{arith}
 use lib.ListN.{length, getD, set, take, drop, List·getD-eq-default}
 use lib.Dec.{eqb, ltb}
 use borrow.Author.Tests.{lt-ltb, le-ltb, ltb-true, ltb-false}
-use Rattle.words.specs.Lists.{listFrom, numbers, allFound}
+use Rattle.words.specs.Lists.{listFrom}
 use Rattle.words.specs.declared.Found.{Found}
 use Rattle.words.specs.declared.Found.the-variants.{At, Nothing}
 use Rattle.words.proofs.Bools.{by}
@@ -17,11 +17,11 @@ use Rattle.class_sheet.specs.ClassSheet.{classTablePlace, classSlotCount, metho
 use Rattle.linking.specs.Chain.{onFound, parentOf}
 use Rattle.linking.specs.Abi.{chainAbi}
 use Rattle.linking.specs.Vtable.{Entry, empty, readSlot, tableEntries, parentEntries, fixedOf}
-use Rattle.linking.specs.Compiler.{ownerState, isEmptied, viewFrom, nativeView, entryMethods}
-use Rattle.reading.specs.Arrays.{markOf, methodOf, entryAt, entriesOf}
-use Rattle.reading.proofs.ArrayLaws.{no-method, none-back, length-entries, entry-is, push-slot}
+use Rattle.linking.specs.Compiler.{ownerState, isEmptied, viewFrom, nativeView}
+use Rattle.reading.specs.Arrays.{markOf, methodOf, sourceOf, entryAt, entriesOf}
+use Rattle.reading.proofs.ArrayLaws.{no-source, sourceless, no-method, none-back, length-entries, entry-is, push-slot}
 use Rattle.reading.proofs.ReadLaws.{read-room}
-use Rattle.native_view.specs.Native.{below, SheetMark, SmallMarks, marksIn, methodsIn, markMethods}
+use Rattle.native_view.specs.Native.{below, SheetMark, SmallMarks, markEntry, marksIn, methodsIn}
 
 -- ---- elements of the first n
 
@@ -35,14 +35,14 @@ below-out xs n i h = simp (le-ltb i n h)
 
 -- slot i of the first n, empty past them
 pub slot-below : (ts ms : List ℕ) (n i : ℕ)
-    → getD (entriesOf ts ms n) i empty ≡ record { word = below ts n i; method = methodOf (below ms n i) }
+    → getD (entriesOf ts ms n) i empty ≡ record { word = below ts n i; method = methodOf (below ms n i); source = sourceOf (below ms n i) }
 unfolding below entryAt
 slot-below ts ms n i =
     by (ltb i n) (λ q. rw q (entry-is ts ms n i empty (ltb-true i n q)))
     (λ q.
     let l = ltb-false i n q in
     let h : length (entriesOf ts ms n) ≤ i = omega (arith, length-entries ts ms n) in
-    rw (q, no-method) (List·getD-eq-default (entriesOf ts ms n) empty h))
+    rw (q, no-method, sourceless) (List·getD-eq-default (entriesOf ts ms n) empty h))
 
 -- the ABI classes of a chain, as a part of the array that holds them
 pub abis-are : (at : List ℕ) (n : ℕ) (X : List ℕ) {l : List ℕ} {k : ℕ} → take n at ≡ X → k ≡ n → l ≡ take k (drop 0 at) → l ≡ X
@@ -52,13 +52,13 @@ module _ (ws text abi labels : List ℕ) where
   -- ---- a slot that is emptied
 
   module _ (abis : List ℕ) (i w k : ℕ) {o : Found} (method : o ≡ methodOf k) where
-    pub emptied-unknown : o ≡ Nothing → false ≡ isEmptied ws text abi labels abis i (record { word = w; method = methodOf k })
+    pub emptied-unknown : o ≡ Nothing → false ≡ isEmptied ws text abi labels abis i (record { word = w; method = methodOf k; source = sourceOf k })
     unfolding isEmptied
     emptied-unknown e = rw (← method, e)
 
     pub emptied-known : {s m : ℕ} {b : Bool} → o ≡ At m → s ≡ ownerState ws m
         → b ≡ onFound (fixedOf ws text abi labels abis m) (eqb i) false
-        → (not (eqb s 3) && not b) ≡ isEmptied ws text abi labels abis i (record { word = w; method = methodOf k })
+        → (not (eqb s 3) && not b) ≡ isEmptied ws text abi labels abis i (record { word = w; method = methodOf k; source = sourceOf k })
     unfolding isEmptied
     emptied-known e f g = rw (f, g) (rw (← method, e))
 
@@ -76,8 +76,8 @@ module _ (ws text abi labels : List ℕ) where
         let z : j + 1 + length xs ≡ j + suc (length xs) = omega arith in
         ap (λ (l : List Entry). viewAt abis j x ∷ l) (rw z at (view-snoc (j + 1) xs e))
 
-    viewed : (g : Bool) (w k : ℕ) → _≡_ {A = Entry} (record { word = cond g 0 w; method = methodOf (cond g (markOf Nothing) k) }) (cond g empty (record { word = w; method = methodOf k }))
-    viewed true w k = rw none-back
+    viewed : (g : Bool) (w k : ℕ) → _≡_ {A = Entry} (record { word = cond g 0 w; method = methodOf (cond g (markOf Nothing) k); source = sourceOf (cond g (markOf Nothing) k) }) (cond g empty (record { word = w; method = methodOf k; source = sourceOf k }))
+    viewed true w k = rw (none-back, no-source Nothing)
     viewed false w k = refl
 
     pub view-start : (ts ms vs vm : List ℕ) → entriesOf vs vm 0 ≡ viewFrom ws text abi labels abis 0 (entriesOf ts ms 0)
@@ -86,21 +86,21 @@ module _ (ws text abi labels : List ℕ) where
 
     pub view-turn : (i : ℕ) (ts ms vs vm us um : List ℕ) {w k a b : ℕ} {g : Bool} → i < length vs → i < length vm
         → entriesOf vs vm i ≡ viewFrom ws text abi labels abis 0 (entriesOf ts ms i) → a ≡ i → w ≡ getD ts a 0 → b ≡ i → k ≡ getD ms b 0
-        → ((v : ℕ) → g ≡ isEmptied ws text abi labels abis i (record { word = v; method = methodOf k }))
+        → ((v : ℕ) → g ≡ isEmptied ws text abi labels abis i (record { word = v; method = methodOf k; source = sourceOf k }))
         → us ≡ set vs i (cond g 0 w) → um ≡ set vm i (cond g (markOf Nothing) k)
         → entriesOf us um (i + 1) ≡ viewFrom ws text abi labels abis 0 (entriesOf ts ms (i + 1))
     unfolding entriesOf entryAt
     view-turn i ts ms vs vm us um {w = w} {k = k} {g = g} h l e ea ew eb ek eg eu em =
         let x : ℕ = cond g 0 w in
         let y : ℕ = cond g (markOf Nothing) k in
-        let new : entriesOf us um (i + 1) ≡ entriesOf vs vm i ++ (record { word = x; method = methodOf y } ∷ []) =
+        let new : entriesOf us um (i + 1) ≡ entriesOf vs vm i ++ (record { word = x; method = methodOf y; source = sourceOf y } ∷ []) =
         rw (eu, em, push-slot vs vm i x y h l) in
-        let old : entriesOf ts ms (i + 1) ≡ entriesOf ts ms i ++ (record { word = w; method = methodOf k } ∷ []) =
+        let old : entriesOf ts ms (i + 1) ≡ entriesOf ts ms i ++ (record { word = w; method = methodOf k; source = sourceOf k } ∷ []) =
         rw (ew, ek, ea, eb) (list-more (entryAt ts ms) i) in
         let z : 0 + length (entriesOf ts ms i) ≡ i = omega (arith, length-entries ts ms i) in
-        let v : _≡_ {A = Entry} (record { word = x; method = methodOf y }) (viewAt abis i (record { word = w; method = methodOf k })) =
+        let v : _≡_ {A = Entry} (record { word = x; method = methodOf y; source = sourceOf y }) (viewAt abis i (record { word = w; method = methodOf k; source = sourceOf k })) =
         rw (← (eg w)) (viewed g w k) in
-        new ∙ rw (old, view-snoc 0 (entriesOf ts ms i) (record { word = w; method = methodOf k }), z, ← v, e)
+        new ∙ rw (old, view-snoc 0 (entriesOf ts ms i) (record { word = w; method = methodOf k; source = sourceOf k }), z, ← v, e)
 
     -- ---- the marks of the view are those of sheet methods
 
@@ -158,7 +158,7 @@ module _ (ws text abi labels : List ℕ) where
       pub native-small : (vs vm abis : List ℕ) → entriesOf vs vm n ≡ viewFrom ws text abi labels abis 0 (entriesOf ts ms n) → SmallMarks vm n
       native-small vs vm abis g = view-small abis (parentEntries ws text abi labels area c) vs vm n parent-room (g ∙ rw read)
 
-      marks-from : (m k : ℕ) → listFrom (λ i. methodOf (getD ms i 0)) m k ≡ methodsIn (listFrom (entryAt ts ms) m k)
+      marks-from : (m k : ℕ) → listFrom (λ i. markEntry (getD ms i 0)) m k ≡ methodsIn (listFrom (entryAt ts ms) m k)
       unfolding listFrom entryAt methodsIn
       marks-from m zero = refl
       marks-from m (suc k) = rw (marks-from (m + 1) k)
@@ -167,19 +167,3 @@ module _ (ws text abi labels : List ℕ) where
       pub marks-are : marksIn ms n ≡ methodsIn (parentEntries ws text abi labels area c)
       unfolding entriesOf marksIn
       marks-are = marks-from 0 n ∙ ap methodsIn read
-
--- ---- the known ones of the marks, in order
-
-known-from : (f : ℕ → Found) (m k : ℕ) (E : List Entry) → listFrom f m k ≡ methodsIn E → allFound f (numbers m k) ≡ entryMethods E
-unfolding listFrom methodsIn allFound entryMethods
-known-from f m zero [] e = refl
-known-from f m zero (x ∷ es) e = let z : _≡_ {A = ℕ} 0 1 = cc in absurd (omega arith)
-known-from f m (suc k) [] e = let z : _≡_ {A = ℕ} 0 1 = cc in absurd (omega arith)
-known-from f m (suc k) (x ∷ es) e =
-    let h : f m ≡ x .method = cc in
-    let t : listFrom f (m + 1) k ≡ methodsIn es = cc in
-    rw (h, known-from f (m + 1) k es t)
-
-pub methods-are : (ms : List ℕ) (n : ℕ) (E : List Entry) → marksIn ms n ≡ methodsIn E → markMethods ms n ≡ entryMethods E
-unfolding marksIn markMethods
-methods-are ms n E e = known-from (λ i. methodOf (getD ms i 0)) 0 n E e

@@ -5,14 +5,14 @@ use mathlib.Core.Bool.{cond, _||_}
 use mathlib.Core.List.{List, [], _∷_}
 use lib.ListN.{getD}
 use lib.Dec.{eqb, ltb}
-use Rattle.words.specs.Lists.{listFrom, numbers, allFound, orElse, andThen, mapFound, firstFound}
+use Rattle.words.specs.Lists.{listFrom, orElse, andThen, mapFound, firstFound}
 use Rattle.words.specs.declared.Found.{Found}
 use Rattle.words.specs.declared.Found.the-variants.{At}
 use Rattle.class_sheet.specs.ClassSheet.{methodFlags, interfaceWord, methodLimit}
 use Rattle.linking.specs.Abi.{slotAt, classAbi}
 use Rattle.linking.specs.Vtable.{Entry}
 use Rattle.linking.specs.Compiler.{New, withoutAbstract, signatureSources, addFrom}
-use Rattle.reading.specs.Arrays.{methodOf}
+use Rattle.reading.specs.Arrays.{methodOf, sourceOf}
 use Rattle.growth.specs.News.{refName, refDescriptor}
 
 -- element i of the first n of an array, 0 past them
@@ -26,17 +26,17 @@ SheetMark k = (m : ℕ) → methodOf k ≡ At m → m < methodLimit
 unfoldable pub SmallMarks : List ℕ → ℕ → Type 0
 SmallMarks ms n = (i : ℕ) → SheetMark (below ms n i)
 
+-- an entry's method and source without its word: what a mark stands for
+abbrev pub markEntry : ℕ → Entry
+markEntry k = record { word = 0; method = methodOf k; source = sourceOf k }
+
 -- what the first n marks stand for, mark by mark; and entry by entry what a table's entries hold
-unfoldable pub marksIn : List ℕ → ℕ → List Found
-marksIn ms n = listFrom (λ i. methodOf (getD ms i 0)) 0 n
+unfoldable pub marksIn : List ℕ → ℕ → List Entry
+marksIn ms n = listFrom (λ i. markEntry (getD ms i 0)) 0 n
 
-unfoldable pub methodsIn : List Entry → List Found
+unfoldable pub methodsIn : List Entry → List Entry
 methodsIn [] = []
-methodsIn (e ∷ es) = e .method ∷ methodsIn es
-
--- the methods of the first n marks, in order
-unfoldable pub markMethods : List ℕ → ℕ → List ℕ
-markMethods ms n = allFound (λ i. methodOf (getD ms i 0)) (numbers 0 n)
+methodsIn (e ∷ es) = record { word = 0; method = e .method; source = e .source } ∷ methodsIn es
 
 -- "flags without 0x0400" of a method, flags 1 of a slot
 unfoldable pub refFlags : List ℕ → ℕ → ℕ

@@ -7,6 +7,7 @@ ghost use mathlib.Core.List.{[], _++_};
 ghost use Prim.Native.Nat.{ℕ, _+_, _-_, _≤_, _<_, min};
 ghost use lib.ListN.{length, set, drop};
 ghost use lib.Dec.{eqb};
+ghost use Rattle.words.specs.Lent.{was, after};
 ghost use Rattle.words.specs.Lists.{numbers, find, firstFound, andThen, some};
 ghost use Rattle.words.specs.declared.Found.the-variants.{Nothing};
 ghost use Rattle.class_sheet.specs.ClassSheet.{classCount, classCompilerTable, classCompilerSlots, compilerWord};
@@ -14,7 +15,7 @@ ghost use Rattle.linking.specs.Chain.{onFound, ownMethods, ownInterfaces, metho
 ghost use Rattle.linking.specs.Abi.{slotAt, classAbi};
 ghost use Rattle.linking.specs.Vtable.{fixedOf, parentEntries};
 ghost use Rattle.linking.specs.Compiler.{holds, ownerState, isEmptied, viewFrom, nativeView, signatureSources, addNamed, compilerTargets, addedFrom, addedMethods};
-ghost use Rattle.reading.specs.Arrays.{markOf, methodOf, entriesOf};
+ghost use Rattle.reading.specs.Arrays.{markOf, methodOf, sourceOf, entriesOf};
 ghost use Rattle.growth.specs.News.{firstNews};
 ghost use Rattle.native_view.specs.Native.{below, SheetMark, SmallMarks, marksIn, methodsIn, interfaceSlot, sourceRef, refFlags, newOf, addedAt};
 
@@ -26,7 +27,7 @@ pub struct Native {
 
 // Whether class c's list holds method m.
 fn holds(ws: &[u32], m: u32, c: u32) -> bool
-    ensures { λ r. ⌜ r ≡ holds (now (ws .entry)) m c ⌝ }
+    ensures { λ r. ⌜ r ≡ holds (was ws) m c ⌝ }
 {
     let first = words::wide(class_sheet::class_first_method(ws, c));
     let n = words::wide(class_sheet::class_method_count(ws, c));
@@ -35,7 +36,7 @@ fn holds(ws: &[u32], m: u32, c: u32) -> bool
 
 // The class that method m belongs to: the first whose list holds it.
 fn owner(ws: &[u32], m: u32) -> Found
-    ensures { λ r. ⌜ r ≡ find (holds (now (ws .entry)) m) (numbers 1 (classCount (now (ws .entry)))) ⌝ }
+    ensures { λ r. ⌜ r ≡ find (holds (was ws) m) (numbers 1 (classCount (was ws))) ⌝ }
 {
     let n = class_sheet::class_count(ws);
     let mut i: u32 = 0;
@@ -50,7 +51,7 @@ fn owner(ws: &[u32], m: u32) -> Found
 
 // The link state of the class that method m belongs to.
 fn owner_state(ws: &[u32], m: u32) -> u32
-    ensures { λ r. ⌜ r ≡ ownerState (now (ws .entry)) m ⌝ }
+    ensures { λ r. ⌜ r ≡ ownerState (was ws) m ⌝ }
 {
     match owner(ws, m) {
         Found::At(c) => class_sheet::class_link_state(ws, c),
@@ -68,7 +69,7 @@ fn fixed_here(
     i: u32,
     m: u32,
 ) -> bool
-    ensures { λ r. ⌜ r ≡ onFound (fixedOf (now (ws .entry)) (now (text .entry)) (now (abi .entry)) (now (labels .entry)) (now (abis .entry)) m) (eqb i) false ⌝ }
+    ensures { λ r. ⌜ r ≡ onFound (fixedOf (was ws) (was text) (was abi) (was labels) (was abis) m) (eqb i) false ⌝ }
 {
     match abi::fixed_of(ws, text, abi, labels, abis, m) {
         Found::At(j) => i == j,
@@ -86,7 +87,7 @@ fn is_emptied(
     i: u32,
     k: u32,
 ) -> bool
-    ensures { λ r. ⌜ ((w : ℕ) → r ≡ isEmptied (now (ws .entry)) (now (text .entry)) (now (abi .entry)) (now (labels .entry)) (now (abis .entry)) i (record { word = w; method = methodOf k })) ⌝ }
+    ensures { λ r. ⌜ ((w : ℕ) → r ≡ isEmptied (was ws) (was text) (was abi) (was labels) (was abis) i (record { word = w; method = methodOf k; source = sourceOf k })) ⌝ }
 {
     match reading::method_of(k) {
         Found::At(m) => {
@@ -98,8 +99,8 @@ fn is_emptied(
 
 // Stores slot i of the view: word w and mark k, or an empty slot where it is gone.
 fn view_slot(vs: &mut [u32], vm: &mut [u32], i: u32, gone: bool, w: u32, k: u32)
-    ensures words { λ _. ⌜ now (vs .exit) ≡ set (now (vs .entry)) i (cond gone 0 w) ⌝ }
-    ensures marks { λ _. ⌜ now (vm .exit) ≡ set (now (vm .entry)) i (cond gone (markOf Nothing) k) ⌝ }
+    ensures words { λ _. ⌜ after vs ≡ set (was vs) i (cond gone 0 w) ⌝ }
+    ensures marks { λ _. ⌜ after vm ≡ set (was vm) i (cond gone (markOf Nothing) k) ⌝ }
 {
     if gone {
         reading::clear_slot(vs, vm, i);
@@ -122,7 +123,7 @@ fn view_entries(
     vm: &mut [u32],
 )
     requires { ⌜ (n ≤ length (now vs)) × (n ≤ length (now vm)) ⌝ }
-    ensures { λ _. ⌜ entriesOf (now (vs .exit)) (now (vm .exit)) n ≡ viewFrom (now (ws .entry)) (now (text .entry)) (now (abi .entry)) (now (labels .entry)) (now (abis .entry)) 0 (entriesOf (now (ts .entry)) (now (ms .entry)) n) ⌝ }
+    ensures { λ _. ⌜ entriesOf (after vs) (after vm) n ≡ viewFrom (was ws) (was text) (was abi) (was labels) (was abis) 0 (entriesOf (was ts) (was ms) n) ⌝ }
 {
     let mut i: u32 = 0;
     while i < n {
@@ -136,7 +137,7 @@ fn view_entries(
 
 // How many compiler targets class c has.
 pub fn compiler_count(ws: &[u32], c: u32) -> u32
-    ensures { λ r. ⌜ r ≡ min (classCompilerSlots (now (ws .entry)) c) 1024 ⌝ }
+    ensures { λ r. ⌜ r ≡ min (classCompilerSlots (was ws) c) 1024 ⌝ }
 {
     let n = class_sheet::class_compiler_slots(ws, c);
     if n < 1024 {
@@ -147,7 +148,7 @@ pub fn compiler_count(ws: &[u32], c: u32) -> u32
 
 // Class c's compiler target i.
 pub fn compiler_target(ws: &[u32], c: u32, i: u32) -> u32
-    ensures { λ r. ⌜ r ≡ compilerWord (now (ws .entry)) (classCompilerTable (now (ws .entry)) c - 1 + i) ⌝ }
+    ensures { λ r. ⌜ r ≡ compilerWord (was ws) (classCompilerTable (was ws) c - 1 + i) ⌝ }
 {
     let first = words::wide(words::before(class_sheet::class_compiler_table(ws, c)));
     words::word_at(ws, class_sheet::compilers_at(ws) + (first + words::wide(i)))
@@ -155,7 +156,7 @@ pub fn compiler_target(ws: &[u32], c: u32, i: u32) -> u32
 
 // Element i of the first n of an array, 0 past them.
 pub fn word_below(xs: &[u32], n: u32, i: u32) -> u32
-    ensures { λ r. ⌜ r ≡ below (now (xs .entry)) n i ⌝ }
+    ensures { λ r. ⌜ r ≡ below (was xs) n i ⌝ }
 {
     if i < n {
         return words::word_at(xs, words::wide(i));
@@ -165,7 +166,7 @@ pub fn word_below(xs: &[u32], n: u32, i: u32) -> u32
 
 // The slot that class c's ABI entry has at index i.
 fn class_slot(ws: &[u32], text: &[u8], abi: &[u32], labels: &[u8], i: u32, c: u32) -> Found
-    ensures { λ r. ⌜ r ≡ andThen (classAbi (now (ws .entry)) (now (text .entry)) (now (abi .entry)) (now (labels .entry)) c) (slotAt (now (abi .entry)) i) ⌝ }
+    ensures { λ r. ⌜ r ≡ andThen (classAbi (was ws) (was text) (was abi) (was labels) c) (slotAt (was abi) i) ⌝ }
 {
     match abi::class_abi(ws, text, abi, labels, c) {
         Found::At(a) => abi::slot_at(abi, i, a),
@@ -175,7 +176,7 @@ fn class_slot(ws: &[u32], text: &[u8], abi: &[u32], labels: &[u8], i: u32, c: u3
 
 // The slot that the first of class c's interfaces has at index i that has one there.
 fn interface_slot(ws: &[u32], text: &[u8], abi: &[u32], labels: &[u8], i: u32, c: u32) -> Found
-    ensures { λ r. ⌜ r ≡ firstFound (interfaceSlot (now (ws .entry)) (now (text .entry)) (now (abi .entry)) (now (labels .entry)) i) (ownInterfaces (now (ws .entry)) c) ⌝ }
+    ensures { λ r. ⌜ r ≡ firstFound (interfaceSlot (was ws) (was text) (was abi) (was labels) i) (ownInterfaces (was ws) c) ⌝ }
 {
     let first = class_sheet::class_first_interface(ws, c);
     let n = chain::interface_count(ws, c);
@@ -202,7 +203,7 @@ fn interface_slot(ws: &[u32], text: &[u8], abi: &[u32], labels: &[u8], i: u32, c
 
 // The slot at index i of class c's own ABI entry, else of its interfaces'.
 fn signature_slot(ws: &[u32], text: &[u8], abi: &[u32], labels: &[u8], i: u32, c: u32) -> Found
-    ensures { λ r. ⌜ r ≡ firstFound (slotAt (now (abi .entry)) i) (signatureSources (now (ws .entry)) (now (text .entry)) (now (abi .entry)) (now (labels .entry)) c) ⌝ }
+    ensures { λ r. ⌜ r ≡ firstFound (slotAt (was abi) i) (signatureSources (was ws) (was text) (was abi) (was labels) c) ⌝ }
 {
     match class_slot(ws, text, abi, labels, i, c) {
         Found::At(s) => Found::At(s),
@@ -212,7 +213,7 @@ fn signature_slot(ws: &[u32], text: &[u8], abi: &[u32], labels: &[u8], i: u32, c
 
 // What a target at index i takes its signature from, where the view's method has mark k.
 fn source_ref(ws: &[u32], text: &[u8], abi: &[u32], labels: &[u8], c: u32, i: u32, k: u32) -> Found
-    ensures { λ r. ⌜ r ≡ sourceRef (now (ws .entry)) (now (text .entry)) (now (abi .entry)) (now (labels .entry)) c i (methodOf k) ⌝ }
+    ensures { λ r. ⌜ r ≡ sourceRef (was ws) (was text) (was abi) (was labels) c i (methodOf k) ⌝ }
 {
     match reading::method_of(k) {
         Found::At(m) => Found::At(m),
@@ -225,7 +226,7 @@ fn source_ref(ws: &[u32], text: &[u8], abi: &[u32], labels: &[u8], c: u32, i: u3
 
 // The flags of a method that takes its signature from r: never 0x0400.
 fn ref_flags(ws: &[u32], r: u32) -> u32
-    ensures { λ f. ⌜ f ≡ refFlags (now (ws .entry)) r ⌝ }
+    ensures { λ f. ⌜ f ≡ refFlags (was ws) r ⌝ }
 {
     if class_sheet::METHOD_LIMIT <= r {
         return 1;
@@ -239,7 +240,7 @@ fn ref_flags(ws: &[u32], r: u32) -> u32
 
 // Whether class c declares a method of this name and descriptor.
 fn is_declared(ws: &[u32], text: &[u8], name: &[u8], descriptor: &[u8], c: u32) -> bool
-    ensures { λ r. ⌜ r ≡ some (λ m. methodIs (now (ws .entry)) (now (text .entry)) m (now (name .entry)) (now (descriptor .entry))) (ownMethods (now (ws .entry)) c) ⌝ }
+    ensures { λ r. ⌜ r ≡ some (λ m. methodIs (was ws) (was text) m (was name) (was descriptor)) (ownMethods (was ws) c) ⌝ }
 {
     match chain::own_method(ws, text, name, descriptor, c) {
         Found::At(m) => true,
@@ -249,9 +250,9 @@ fn is_declared(ws: &[u32], text: &[u8], name: &[u8], descriptor: &[u8], c: u32) 
 
 // Stores one added method more, after n.
 fn push(refs: &mut [u32], flags: &mut [u32], lasts: &mut [u32], n: u32, r: u32, f: u32, t: u32)
-    ensures refs { λ _. ⌜ now (refs .exit) ≡ set (now (refs .entry)) n r ⌝ }
-    ensures flags { λ _. ⌜ now (flags .exit) ≡ set (now (flags .entry)) n f ⌝ }
-    ensures lasts { λ _. ⌜ now (lasts .exit) ≡ set (now (lasts .entry)) n t ⌝ }
+    ensures refs { λ _. ⌜ after refs ≡ set (was refs) n r ⌝ }
+    ensures flags { λ _. ⌜ after flags ≡ set (was flags) n f ⌝ }
+    ensures lasts { λ _. ⌜ after lasts ≡ set (was lasts) n t ⌝ }
 {
     words::put_word(refs, words::wide(n), r);
     words::put_word(flags, words::wide(n), f);
@@ -273,7 +274,8 @@ fn add_named<'a>(
     n: u32,
 ) -> u32
     requires { ⌜ (n < 1024) × (1024 ≤ length (now refs)) × (1024 ≤ length (now flags)) × (1024 ≤ length (now lasts)) ⌝ }
-    ensures is { λ m. ⌜ firstNews (now (ws .entry)) (now (text .entry)) (now (abi .entry)) (now (labels .entry)) (now (refs .exit)) (now (flags .exit)) (now (lasts .exit)) m ≡ firstNews (now (ws .entry)) (now (text .entry)) (now (abi .entry)) (now (labels .entry)) (now (refs .entry)) (now (flags .entry)) (now (lasts .entry)) n ++ addNamed (now (ws .entry)) (now (text .entry)) c (newOf (now (ws .entry)) (now (text .entry)) (now (abi .entry)) (now (labels .entry)) r t) [] ⌝ }
+    ensures is { λ m. ⌜ firstNews (was ws) (was text) (was abi) (was labels) (after refs) (after flags) (after lasts) m
+        ≡ firstNews (was ws) (was text) (was abi) (was labels) (was refs) (was flags) (was lasts) n ++ addNamed (was ws) (was text) c (newOf (was ws) (was text) (was abi) (was labels) r t) [] ⌝ }
     ensures count { λ m. ⌜ m ≤ n + 1 ⌝ }
 {
     let name = growth::ref_name(ws, text, abi, labels, r);
@@ -302,7 +304,9 @@ fn add<'a>(
     n: u32,
 ) -> u32
     requires { ⌜ (n < 1024) × (SheetMark k) × (1024 ≤ length (now refs)) × (1024 ≤ length (now flags)) × (1024 ≤ length (now lasts)) ⌝ }
-    ensures is { λ m. ⌜ firstNews (now (ws .entry)) (now (text .entry)) (now (abi .entry)) (now (labels .entry)) (now (refs .exit)) (now (flags .exit)) (now (lasts .exit)) m ≡ firstNews (now (ws .entry)) (now (text .entry)) (now (abi .entry)) (now (labels .entry)) (now (refs .entry)) (now (flags .entry)) (now (lasts .entry)) n ++ addedAt (now (ws .entry)) (now (text .entry)) (now (abi .entry)) (now (labels .entry)) c i t (record { word = w; method = methodOf k }) ⌝ }
+    ensures is { λ m. ⌜ firstNews (was ws) (was text) (was abi) (was labels) (after refs) (after flags) (after lasts) m
+        ≡ firstNews (was ws) (was text) (was abi) (was labels) (was refs) (was flags) (was lasts) n
+        ++ addedAt (was ws) (was text) (was abi) (was labels) c i t (record { word = w; method = methodOf k; source = sourceOf k }) ⌝ }
     ensures count { λ m. ⌜ m ≤ n + 1 ⌝ }
 {
     if (t == 0) | (t == w) {
@@ -329,7 +333,8 @@ fn add_methods<'a>(
     lasts: &mut [u32],
 ) -> u32
     requires { ⌜ (SmallMarks (now vm) n) × (1024 ≤ length (now refs)) × (1024 ≤ length (now flags)) × (1024 ≤ length (now lasts)) ⌝ }
-    ensures is { λ m. ⌜ firstNews (now (ws .entry)) (now (text .entry)) (now (abi .entry)) (now (labels .entry)) (now (refs .exit)) (now (flags .exit)) (now (lasts .exit)) m ≡ addedFrom (now (ws .entry)) (now (text .entry)) (now (abi .entry)) (now (labels .entry)) c (entriesOf (now (vs .entry)) (now (vm .entry)) n) 0 (compilerTargets (now (ws .entry)) c) ⌝ }
+    ensures is { λ m. ⌜ firstNews (was ws) (was text) (was abi) (was labels) (after refs) (after flags) (after lasts) m
+        ≡ addedFrom (was ws) (was text) (was abi) (was labels) c (entriesOf (was vs) (was vm) n) 0 (compilerTargets (was ws) c) ⌝ }
     ensures count { λ m. ⌜ m ≤ 1024 ⌝ }
 {
     let count = compiler_count(ws, c);
@@ -376,9 +381,10 @@ fn view_parent<'a>(
     flags: &mut [u32],
     lasts: &mut [u32],
 ) -> u32
-    requires { ⌜ (entriesOf (now ts) (now ms) n ≡ parentEntries (now ws) (now text) (now abi) (now labels) (now area) c) × (n ≤ length (now vs)) × (n ≤ length (now vm)) × (1024 ≤ length (now refs)) × (1024 ≤ length (now flags)) × (1024 ≤ length (now lasts)) ⌝ }
-    ensures view { λ r. ⌜ entriesOf (now (vs .exit)) (now (vm .exit)) n ≡ nativeView (now (ws .entry)) (now (text .entry)) (now (abi .entry)) (now (labels .entry)) (now (area .entry)) c ⌝ }
-    ensures members { λ r. ⌜ firstNews (now (ws .entry)) (now (text .entry)) (now (abi .entry)) (now (labels .entry)) (now (refs .exit)) (now (flags .exit)) (now (lasts .exit)) r ≡ addedMethods (now (ws .entry)) (now (text .entry)) (now (abi .entry)) (now (labels .entry)) (now (area .entry)) c ⌝ }
+    requires { ⌜ (entriesOf (now ts) (now ms) n ≡ parentEntries (now ws) (now text) (now abi) (now labels) (now area) c)
+        × (n ≤ length (now vs)) × (n ≤ length (now vm)) × (1024 ≤ length (now refs)) × (1024 ≤ length (now flags)) × (1024 ≤ length (now lasts)) ⌝ }
+    ensures view { λ r. ⌜ entriesOf (after vs) (after vm) n ≡ nativeView (was ws) (was text) (was abi) (was labels) (was area) c ⌝ }
+    ensures members { λ r. ⌜ firstNews (was ws) (was text) (was abi) (was labels) (after refs) (after flags) (after lasts) r ≡ addedMethods (was ws) (was text) (was abi) (was labels) (was area) c ⌝ }
     ensures count { λ r. ⌜ r ≤ 1024 ⌝ }
 {
     let mut at = [0u32; class_sheet::CLASS_LIMIT as usize];
@@ -405,12 +411,14 @@ pub fn native_view<'a>(
     flags: &mut [u32; 1024],
     lasts: &mut [u32; 1024],
 ) -> Native
-    ensures view { λ r. ⌜ entriesOf (now (vs .exit)) (now (vm .exit)) (r .n) ≡ nativeView (now (ws .entry)) (now (text .entry)) (now (abi .entry)) (now (labels .entry)) (now (area .entry)) c ⌝ }
-    ensures parent { λ r. ⌜ marksIn (now (known .exit)) (r .n) ≡ methodsIn (parentEntries (now (ws .entry)) (now (text .entry)) (now (abi .entry)) (now (labels .entry)) (now (area .entry)) c) ⌝ }
-    ensures members { λ r. ⌜ firstNews (now (ws .entry)) (now (text .entry)) (now (abi .entry)) (now (labels .entry)) (now (refs .exit)) (now (flags .exit)) (now (lasts .exit)) (r .added) ≡ addedMethods (now (ws .entry)) (now (text .entry)) (now (abi .entry)) (now (labels .entry)) (now (area .entry)) c ⌝ }
+    ensures view { λ r. ⌜ entriesOf (after vs) (after vm) (r .n) ≡ nativeView (was ws) (was text) (was abi) (was labels) (was area) c ⌝ }
+    ensures parent { λ r. ⌜ marksIn (after known) (r .n) ≡ methodsIn (parentEntries (was ws) (was text) (was abi) (was labels) (was area) c) ⌝ }
+    ensures members { λ r. ⌜ firstNews (was ws) (was text) (was abi) (was labels) (after refs) (after flags) (after lasts) (r .added)
+        ≡ addedMethods (was ws) (was text) (was abi) (was labels) (was area) c ⌝ }
     ensures counts { λ r. ⌜ (r .n ≤ 1024) × (r .added ≤ 1024) ⌝ }
-    ensures arrays { λ r. ⌜ (length (now (vs .exit)) ≡ 1024) × (length (now (vm .exit)) ≡ 1024) × (length (now (known .exit)) ≡ 1024) × (length (now (refs .exit)) ≡ 1024) × (length (now (flags .exit)) ≡ 1024) × (length (now (lasts .exit)) ≡ 1024) ⌝ }
-    ensures rest { λ r. ⌜ drop (r .n) (now (known .exit)) ≡ drop (r .n) (now (known .entry)) ⌝ }
+    ensures arrays { λ r. ⌜ (length (after vs)
+        ≡ 1024) × (length (after vm) ≡ 1024) × (length (after known) ≡ 1024) × (length (after refs) ≡ 1024) × (length (after flags) ≡ 1024) × (length (after lasts) ≡ 1024) ⌝ }
+    ensures rest { λ r. ⌜ drop (r .n) (after known) ≡ drop (r .n) (was known) ⌝ }
 {
     let mut ts = [0u32; 1024];
     let n = reading::parent_entries(ws, text, abi, labels, area, c, &mut ts, known);

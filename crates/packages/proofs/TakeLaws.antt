@@ -21,8 +21,8 @@ use Rattle.linking.specs.Packages.{isOverridden, overriddenIn, overriddenAlong,
 use Rattle.linking.proofs.ChainLaws.{own-method-room}
 use Rattle.linking.proofs.Overriding.{keep-of}
 use Rattle.linking.proofs.Plans.{packages-within, packages-beyond}
-use Rattle.reading.specs.Arrays.{markOf, methodOf, entriesOf}
-use Rattle.reading.proofs.ArrayLaws.{method-back, length-entries, put-slot, push-slot}
+use Rattle.reading.specs.Arrays.{markOf, methodOf, sourceOf, entriesOf}
+use Rattle.reading.proofs.ArrayLaws.{no-source, method-back, length-entries, put-slot, push-slot}
 use Rattle.packages.proofs.OverLaws.{left, left-start, left-fold-turn, left-fold-end, left-is-turn, left-is-end}
 use Rattle.packages.specs.Marks.{mark, takenBy, topOf, takenIn, isSome, Tops}
 
@@ -114,17 +114,17 @@ stores-length (j ∷ js) l v = stores-length js (set l j v) v ∙ length-set l j
 
 entries-stores : (js ts ms : List ℕ) (size w k : ℕ) → ((j : ℕ) → List·Memᴰ j js → j < size) → size ≤ length ts → size ≤ length ms
     → entriesOf (fold (λ x j. set x j w) ts js) (fold (λ x j. set x j k) ms js) size
-    ≡ fold (λ U j. set U j (record { word = w; method = methodOf k })) (entriesOf ts ms size) js
+    ≡ fold (λ U j. set U j (record { word = w; method = methodOf k; source = sourceOf k })) (entriesOf ts ms size) js
 unfolding fold
 entries-stores [] ts ms size w k h a b = refl
 entries-stores (j ∷ js) ts ms size w k h a b =
     entries-stores js (set ts j w) (set ms j k) size w k (λ i x. h i (List·Memᴰ·tail x)) (rw (length-set ts j w) a) (rw (length-set ms j k) b)
-    ∙ ap (λ (U : List Entry). fold (λ Z i. set Z i (record { word = w; method = methodOf k })) U js)
+    ∙ ap (λ (U : List Entry). fold (λ Z i. set Z i (record { word = w; method = methodOf k; source = sourceOf k })) U js)
     (put-slot ts ms size j w k (h j (List·Memᴰ·head refl)) a b)
 
 pub mark-entry : (ws text : List ℕ) (m : ℕ) {t k : ℕ} → m < methodLimit → t ≡ methodTarget ws m → k ≡ markOf (At m)
-    → _≡_ {A = Entry} (record { word = t; method = methodOf k }) (methodEntry ws m)
-mark-entry ws text m h e f = rw (e, f, method-back m (omega arith))
+    → _≡_ {A = Entry} (record { word = t; method = methodOf k; source = sourceOf k }) (methodEntry ws m)
+mark-entry ws text m h e f = rw (e, f, method-back m (omega arith), no-source (At m))
 
 taken-below : (tops marks : List ℕ) (n j : ℕ) → List·Memᴰ j (takenIn tops marks n) → j < n
 unfolding takenIn

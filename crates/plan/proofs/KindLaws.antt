@@ -5,17 +5,18 @@ use mathlib.Core.Logic.{_≢_}
 use mathlib.Core.List.{List, [], _∷_}
 use Prim.Native.Nat.{ℕ, suc, _+_, _/_, _%_, _≤_, _<_}
 use native.Mathlib.Omega.{arith}
-use lib.ListN.{length, replicate}
+use lib.ListN.{length, take, drop, replicate}
 use lib.Dec.{eqb}
 use borrow.Author.Tests.{eq-eqb, ne-eqb, le-ltb, eqb-true, eqb-false}
 use Rattle.words.proofs.Bools.{by}
 use Rattle.words.specs.Lists.{listFrom}
+use Rattle.words.specs.Words.{copyWords}
 use Rattle.words.proofs.FoldLaws.{length-stores}
 use Rattle.words.proofs.ListLaws.{length-list-from}
 use Rattle.class_sheet.specs.ClassSheet.{classKind, isPackaged, isBuiltKind, classFlags, classCompilerTable, fieldLimit}
 use Rattle.linking.specs.Chain.{sameMethods}
 use Rattle.linking.specs.Packages.{buildPackages}
-use Rattle.linking.specs.Set.{overlaid}
+use Rattle.linking.specs.Set.{writeAt, overlaid}
 use Rattle.linking.specs.Vtable.{Entry, Built, built, parentEntries, buildInterfaceMethods, buildMethods}
 use Rattle.linking.specs.Abi.{classAbi}
 use Rattle.linking.specs.Compiler.{New, addedMethods, compilerTable}
@@ -31,15 +32,20 @@ use Rattle.field.specs.declared.Numbered.{Numbered}
 use Rattle.field.proofs.OutcomeLaws.{built-accepted, built-refused, generated-accepted, generated-refused}
 use Rattle.field.proofs.AddedLaws.{added-few, members-are}
 use Rattle.growth.specs.News.{newAt, firstNews}
+use Rattle.growth.proofs.GrowthLaws.{copy-is}
 use Rattle.plan.specs.declared.Plan.{Plan}
 use Rattle.plan.specs.declared.Table.{Table}
-use Rattle.plan.specs.Plans.{bare, bareBuilt, fewSlots, tableFrom, tableOf, methodsOf, fieldsOf, noPlan, planFrom, Planning}
-use Rattle.plan.proofs.TableLaws.{bare-entries, table-is, length-bare, Passed, table-passes, table-stops}
+use Rattle.plan.specs.Plans.{marksIn, fewSlots, tableOf, methodsOf, fieldsOf, noPlan, planFrom, Planning}
+use Rattle.plan.proofs.TableLaws.{marks-kept, Passed, table-passes, table-stops}
 
 -- ---- the test of the kind
 
 pub kind-is : (ws : List ℕ) (c : ℕ) {k : ℕ} {b : Bool} → k ≡ classKind ws c → b ≡ isBuiltKind k → isBuiltKind (classKind ws c) ≡ b
 kind-is ws c kind test = ap isBuiltKind (sym kind) ∙ sym test
+
+-- row 13 of tables that are the same
+few-same : {B C b : Built} → B ≡ C → b ≡ fewSlots B → b ≡ fewSlots C
+few-same {B = B} {C = C} e g = g ∙ ap (λ (x : Built). fewSlots x) {x = B} {y = C} e
 
 -- ---- the answer, from the fields and the table
 
@@ -50,9 +56,6 @@ pub passed : (f : Numbered) (t : Table) {r : Plan}
     → r ≡ record { indices = f .indices; n = t .n; own = f .n; instance = f .words; added = f .added + t .added; row = 0 } → t .row ≡ 0
     → r ≡ planFrom f t
 passed f t e z = rw (eq-eqb (t .row) 0 z) e
-
-pub added-is : (s : Step) (a : ℕ) {t : Table} → t ≡ tableFrom s a → t .added ≡ a
-added-is s a e = ap (λ (x : Table). x .added) e
 
 -- few members are added
 pub few-fields : (ws text abi labels : List ℕ) (c : ℕ) {f : Numbered} → f ≡ numberedOf (builtFields ws text abi labels c) → f .row ≡ 0 → f .added ≤ 1024
@@ -74,11 +77,11 @@ module _ (ws text abi labels : List ℕ) (c : ℕ) (ts refs flags lasts : List �
   refused-plan words row e h f = let n = ap (λ (x : Plan). x .added) e in rw f (record { answer = e; fronts = h; few = omega arith })
 
   pub accepted-plan : (p : L.Plan) (f : Numbered) (t : Table) (words a : ℕ) {P : L.Planned} {r : Plan} → P ≡ L.planned p → r ≡ planFrom f t
-      → t .row ≡ 0 → entriesOf ts [] (t .n) ≡ bare (p .table) → f ≡ numberedOf (numbered (p .indices) words a)
+      → t .row ≡ 0 → entriesOf ts (marksIn ts) (t .n) ≡ p .table → f ≡ numberedOf (numbered (p .indices) words a)
       → a + t .added ≡ length (p .newMethods) + length (p .newFields) → p .newMethods ≡ methodsOf ws c (news (a + t .added))
       → p .newFields ≡ fieldsOf ws c (news (a + t .added)) → a + t .added ≤ 1024 → Planning ws text abi labels c words P r ts refs flags lasts
   accepted-plan p f t words a e g z b n s m k o =
-      let q : t .n ≡ length (p .table) = sym (length-entries ts [] (t .n)) ∙ (ap length b ∙ length-bare (p .table)) in
+      let q : t .n ≡ length (p .table) = sym (length-entries ts (marksIn ts) (t .n)) ∙ ap length b in
       let w : planFrom f t .added ≡ a + t .added = rw (eq-eqb (t .row) 0 z, n) in
       let v = ap (λ (x : Plan). x .added) g in
       rw e (record { answer = g ∙ rw (eq-eqb (t .row) 0 z, n, q, s); fronts = (rw q at b, rw s at m, rw s at k); few = omega arith })
@@ -95,29 +98,32 @@ length-news abi labels (g ∷ gs) = ap suc (length-news abi labels gs)
 module _ (ws text abi labels area : List ℕ) (c : ℕ) where
   -- ---- the table of a built class
 
-  pub packages-table : {k : ℕ} (n : ℕ) (ts ms : List ℕ) {t : Table} → k ≡ classKind ws c → k ≡ 3
-      → entriesOf ts ms n ≡ buildPackages (sameMethods ws text) ws text abi labels area c
-      → t ≡ tableFrom (Next n) 0 → tableOf t ts ≡ bareBuilt (fewSlots (L.builtTable ws text abi labels area c))
+  pub packages-table : {k : ℕ} (n : ℕ) (ts ms : List ℕ) {b : Built} → k ≡ classKind ws c → k ≡ 3
+      → entriesOf ts ms n ≡ buildPackages (sameMethods ws text) ws text abi labels area c → b ≡ fewSlots (stepOf (Next n) ts ms)
+      → b ≡ fewSlots (L.builtTable ws text abi labels area c)
   unfolding L.builtTable
   packages-table n ts ms kind h e g =
       let q : isPackaged ws c ≡ true = eq-eqb (classKind ws c) 3 (sym kind ∙ h) in
-      table-is (Next n) 0 ts ms (L.builtTable ws text abi labels area c) g (ap built e ∙ rw q)
+      let m : built (entriesOf ts ms n) ≡ L.builtTable ws text abi labels area c = ap built e ∙ rw q in
+      few-same m g
 
   module _ {f k : ℕ} (flags : f ≡ classFlags ws c) (kind : k ≡ classKind ws c) (other : k ≢ 3) where
     not-packaged : isPackaged ws c ≡ false
     not-packaged = ne-eqb (classKind ws c) 3 (λ z. other (kind ∙ z))
 
-    pub interface-table : (n : ℕ) (ts ms : List ℕ) {t : Table} → f / 512 % 2 ≡ 1 → entriesOf ts ms n ≡ buildInterfaceMethods ws text c
-        → t ≡ tableFrom (Next n) 0 → tableOf t ts ≡ bareBuilt (fewSlots (L.builtTable ws text abi labels area c))
+    pub interface-table : (n : ℕ) (ts ms : List ℕ) {b : Built} → f / 512 % 2 ≡ 1 → entriesOf ts ms n ≡ buildInterfaceMethods ws text c
+        → b ≡ fewSlots (stepOf (Next n) ts ms) → b ≡ fewSlots (L.builtTable ws text abi labels area c)
     unfolding L.builtTable
     interface-table n ts ms h e g =
-        table-is (Next n) 0 ts ms (L.builtTable ws text abi labels area c) g
-        (ap built e ∙ rw (not-packaged, ← flags) (simp (eq-eqb (f / 512 % 2) 1 h)))
+        let m : built (entriesOf ts ms n) ≡ L.builtTable ws text abi labels area c = ap built e ∙ rw (not-packaged, ← flags) (simp (eq-eqb (f / 512 % 2) 1 h)) in
+        few-same m g
 
-    pub class-table : (s : Step) (ts ms : List ℕ) {t : Table} → f / 512 % 2 ≢ 1 → stepOf s ts ms ≡ buildMethods ws text abi labels area c
-        → t ≡ tableFrom s 0 → tableOf t ts ≡ bareBuilt (fewSlots (L.builtTable ws text abi labels area c))
+    pub class-table : (s : Step) (ts ms : List ℕ) {b : Built} → f / 512 % 2 ≢ 1 → stepOf s ts ms ≡ buildMethods ws text abi labels area c
+        → b ≡ fewSlots (stepOf s ts ms) → b ≡ fewSlots (L.builtTable ws text abi labels area c)
     unfolding L.builtTable
-    class-table s ts ms h e g = table-is s 0 ts ms (L.builtTable ws text abi labels area c) g (e ∙ rw (not-packaged, ← flags) (simp (ne-eqb (f / 512 % 2) 1 h)))
+    class-table s ts ms h e g =
+        let m : stepOf s ts ms ≡ L.builtTable ws text abi labels area c = e ∙ rw (not-packaged, ← flags) (simp (ne-eqb (f / 512 % 2) 1 h)) in
+        few-same m g
 
   -- ---- a built class
 
@@ -129,7 +135,7 @@ module _ (ws text abi labels area : List ℕ) (c : ℕ) where
         let p = built-refused ws text abi labels c numbers h in
         refused-plan ws text abi labels c ts refs flags lasts words (f .row) e h (rw (p .1, p .0))
 
-    module _ (t : Table) (ts : List ℕ) (table : tableOf t ts ≡ bareBuilt (fewSlots (L.builtTable ws text abi labels area c))) (zero : f .row ≡ 0) where
+    module _ (t : Table) (ts : List ℕ) (table : tableOf t ts ≡ fewSlots (L.builtTable ws text abi labels area c)) (zero : f .row ≡ 0) where
       abbrev gs : List ℕ
       gs = addedTo ws text abi labels c
 
@@ -172,7 +178,7 @@ module _ (ws text abi labels area : List ℕ) (c : ℕ) where
           let s : length gs + t .added ≡ length gs = omega arith in
           let both : length gs + t .added ≡ 0 + length (L.newFieldsOf abi labels gs) = omega (arith, length-news abi labels gs) in
           accepted-plan ws text abi labels c ts refs flags lasts (plan-of q) f t (L.newWords ws text abi labels c) (length gs) (built-passes q) g o
-          (q .words) (rw (built-words kind) (built-accepted ws text abi labels c numbers zero .1)) both (rw kind refl)
+          (q .entries) (rw (built-words kind) (built-accepted ws text abi labels c numbers zero .1)) both (rw kind refl)
           (rw (kind, s, m)) (omega arith))
           (λ z.
           let h = eqb-false (t .row) 0 z in
@@ -186,17 +192,19 @@ module _ (ws text abi labels area : List ℕ) (c : ℕ) where
 
   -- ---- an array class
 
-  pub array-plan : (ts ms : List ℕ) (n : ℕ) → isBuiltKind (classKind ws c) ≡ false → entriesOf ts ms n ≡ parentEntries ws text abi labels area c → n ≤ 1024
-      → (refs flags lasts : List ℕ)
+  pub array-plan : (ts ms : List ℕ) (n : ℕ) {w : ℕ} {b : Bool} {us : List ℕ} → isBuiltKind (classKind ws c) ≡ false
+      → entriesOf ts ms n ≡ parentEntries ws text abi labels area c → n ≤ 1024 → w ≡ n → length ts ≡ 3584 → length ms ≡ 3584
+      → _≡_ {A = Bool × List ℕ} (b, us) (copyWords ms 0 w ts 1024) → (refs flags lasts : List ℕ)
       → Planning ws text abi labels c (L.newWords ws text abi labels c) (L.planArray ws text abi labels area c)
-      (record { indices = replicate fieldLimit 0; n = n; own = 0; instance = 0; added = 0; row = 0 }) ts refs flags lasts
+      (record { indices = replicate fieldLimit 0; n = n; own = 0; instance = 0; added = 0; row = 0 }) us refs flags lasts
   unfolding L.planArray L.withinSlots overlaid firstNews listFrom
-  array-plan ts ms n kind table few refs flags lasts =
+  array-plan ts ms n {us = us} kind table few wide lt lm copied refs flags lasts =
+      let put : us ≡ writeAt ts 1024 (take n (drop 0 ms)) = copy-is ms 0 n ts 1024 (omega arith) (omega arith) (rw wide at copied) in
       rw (no-words kind)
-      (accepted-plan ws text abi labels c ts refs flags lasts
+      (accepted-plan ws text abi labels c us refs flags lasts
       (record { table = parentEntries ws text abi labels area c; indices = []; newMethods = []; newFields = [] })
       (record { indices = replicate fieldLimit 0; n = 0; words = 0; added = 0; row = 0 }) (record { n = n; added = 0; row = 0 }) 0 0
-      (rw (← table, length-entries ts ms n, le-ltb 1024 n few)) refl refl (sym (bare-entries ts ms n) ∙ ap bare table) refl refl
+      (rw (← table, length-entries ts ms n, le-ltb 1024 n few)) refl refl (marks-kept ts ms n few lt lm put ∙ table) refl refl
       (either (isBuiltKind (classKind ws c))) (either (isBuiltKind (classKind ws c))) (omega arith))
     where
       either : (b : Bool) → [] ≡ cond {A = List New} b [] []
@@ -206,26 +214,30 @@ module _ (ws text abi labels area : List ℕ) (c : ℕ) where
   -- ---- a generated class
 
   module _ {k : ℕ} (code : k ≡ classCompilerTable ws c) where
-    pub methods-table : (s : Step) (ts ms : List ℕ) {t : Table} → k ≡ 0 → stepOf s ts ms ≡ buildMethods ws text abi labels area c
-        → t ≡ tableFrom s 0 → tableOf t ts ≡ bareBuilt (fewSlots (L.generatedTable ws text abi labels area c))
+    pub methods-table : (s : Step) (ts ms : List ℕ) {b : Built} → k ≡ 0 → stepOf s ts ms ≡ buildMethods ws text abi labels area c
+        → b ≡ fewSlots (stepOf s ts ms) → b ≡ fewSlots (L.generatedTable ws text abi labels area c)
     unfolding L.generatedTable
-    methods-table s ts ms z e g = table-is s 0 ts ms (L.generatedTable ws text abi labels area c) g (e ∙ rw (← code) (simp (eq-eqb k 0 z)))
+    methods-table s ts ms z e g =
+        let m : stepOf s ts ms ≡ L.generatedTable ws text abi labels area c = e ∙ rw (← code) (simp (eq-eqb k 0 z)) in
+        few-same m g
 
-    pub compiled-table : (n a : ℕ) (ts ms : List ℕ) {t : Table} → k ≢ 0 → entriesOf ts ms n ≡ compilerTable ws text abi labels area c
-        → t ≡ tableFrom (Next n) a → tableOf t ts ≡ bareBuilt (fewSlots (L.generatedTable ws text abi labels area c))
+    pub compiled-table : (n : ℕ) (ts ms : List ℕ) {b : Built} → k ≢ 0 → entriesOf ts ms n ≡ compilerTable ws text abi labels area c
+        → b ≡ fewSlots (stepOf (Next n) ts ms) → b ≡ fewSlots (L.generatedTable ws text abi labels area c)
     unfolding L.generatedTable
-    compiled-table n a ts ms h e g = table-is (Next n) a ts ms (L.generatedTable ws text abi labels area c) g (ap built e ∙ rw (← code) (simp (ne-eqb k 0 h)))
+    compiled-table n ts ms h e g =
+        let m : built (entriesOf ts ms n) ≡ L.generatedTable ws text abi labels area c = ap built e ∙ rw (← code) (simp (ne-eqb k 0 h)) in
+        few-same m g
 
-    pub adds-none : (s : Step) (refs flags lasts : List ℕ) {t : Table} → k ≡ 0 → t ≡ tableFrom s 0
-        → firstNews ws text abi labels refs flags lasts (t .added) ≡ L.generatedMethods ws text abi labels area c
+    pub adds-none : (refs flags lasts : List ℕ) {d : ℕ} → k ≡ 0 → d ≡ 0
+        → firstNews ws text abi labels refs flags lasts d ≡ L.generatedMethods ws text abi labels area c
     unfolding L.generatedMethods firstNews listFrom
-    adds-none s refs flags lasts z g = rw (added-is s 0 g, ← code) (simp (eq-eqb k 0 z))
+    adds-none refs flags lasts z g = rw (g, ← code) (simp (eq-eqb k 0 z))
 
-    pub adds-methods : (s : Step) (a : ℕ) (refs flags lasts : List ℕ) {t : Table} → k ≢ 0
-        → firstNews ws text abi labels refs flags lasts a ≡ addedMethods ws text abi labels area c → t ≡ tableFrom s a
-        → firstNews ws text abi labels refs flags lasts (t .added) ≡ L.generatedMethods ws text abi labels area c
+    pub adds-methods : (a : ℕ) (refs flags lasts : List ℕ) {d : ℕ} → k ≢ 0
+        → firstNews ws text abi labels refs flags lasts a ≡ addedMethods ws text abi labels area c → d ≡ a
+        → firstNews ws text abi labels refs flags lasts d ≡ L.generatedMethods ws text abi labels area c
     unfolding L.generatedMethods
-    adds-methods s a refs flags lasts h e g = rw (added-is s a g, ← code) (simp (ne-eqb k 0 h) e)
+    adds-methods a refs flags lasts h e g = rw (g, ← code) (simp (ne-eqb k 0 h) e)
 
   module _ (f : Numbered) (numbers : f ≡ numberedOf (generatedFields ws text c)) where
     pub generated-row : (words : ℕ) (ts refs flags lasts : List ℕ) {r : Plan} → r ≡ noPlan (f .row) → f .row ≢ 0
@@ -236,7 +248,7 @@ module _ (ws text abi labels area : List ℕ) (c : ℕ) where
         let n : generatedRefusal ws text c ≢ 0 = (λ z. h (p ∙ z)) in
         refused-plan ws text abi labels c ts refs flags lasts words (f .row) e h (rw p (simp (ne-eqb (generatedRefusal ws text c) 0 n)))
 
-    module _ (t : Table) (ts : List ℕ) (table : tableOf t ts ≡ bareBuilt (fewSlots (L.generatedTable ws text abi labels area c))) (zero : f .row ≡ 0) where
+    module _ (t : Table) (ts : List ℕ) (table : tableOf t ts ≡ fewSlots (L.generatedTable ws text abi labels area c)) (zero : f .row ≡ 0) where
       generated-stops : t .row ≢ 0 → L.planGenerated ws text abi labels area c ≡ L.unplanned (t .row)
       unfolding L.planGenerated
       generated-stops h =
@@ -268,7 +280,7 @@ module _ (ws text abi labels area : List ℕ) (c : ℕ) where
           let n : length (L.generatedMethods ws text abi labels area c) ≡ t .added = rw (← new) (length-list-from (newAt ws text abi labels refs flags lasts) 0 (t .added)) in
           let s : 0 + t .added ≡ t .added = omega arith in
           rw (no-words kind)
-          (accepted-plan ws text abi labels c ts refs flags lasts (made-of q) f t 0 0 (generated-passes q) g o (q .words)
+          (accepted-plan ws text abi labels c ts refs flags lasts (made-of q) f t 0 0 (generated-passes q) g o (q .entries)
           (generated-accepted ws text c numbers zero .1) (omega arith) (rw s (rw kind (sym new)))
           (rw kind) (omega arith)))
           (λ z.

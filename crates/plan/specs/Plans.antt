@@ -1,12 +1,11 @@
--- A plan as the code has it: what a link comes to before anything is written, with the table by its words alone. Assumes nothing.
+-- A plan as the code has it: what a link comes to before anything is written, with the table in one array. Assumes nothing.
 use Prim.Native.Nat.{ℕ, _+_, _≤_}
 use mathlib.Core.Bool.{cond}
 use mathlib.Core.List.{List, [], _∷_}
 use mathlib.Core.Path.{_≡_}
 use mathlib.Core.Logic.{_≢_}
-use lib.ListN.{length, replicate}
+use lib.ListN.{length, take, drop, replicate}
 use lib.Dec.{eqb, ltb}
-use Rattle.words.specs.declared.Found.the-variants.{Nothing}
 use Rattle.class_sheet.specs.ClassSheet.{classKind, isBuiltKind, fieldLimit}
 use Rattle.linking.specs.Set.{overlaid}
 use Rattle.linking.specs.Vtable.{Entry, Built, built, refused}
@@ -21,15 +20,10 @@ use Rattle.field.specs.declared.Numbered.{Numbered}
 use Rattle.plan.specs.declared.Plan.{Plan}
 use Rattle.plan.specs.declared.Table.{Table}
 
--- ---- a table by its words: what is written of it
+-- ---- a table in one array: the words of its slots in front, and their marks from place 1,024 on
 
-unfoldable pub bare : List Entry → List Entry
-bare [] = []
-bare (e ∷ es) = record { word = e .word; method = Nothing } ∷ bare es
-
-abbrev pub bareBuilt : Built → Built
-bareBuilt (built T) = built (bare T)
-bareBuilt (refused n) = refused n
+abbrev pub marksIn : List ℕ → List ℕ
+marksIn ts = take 1024 (drop 1024 ts)
 
 -- row 13: "more than 1,024 slots"
 abbrev pub fewSlots : Built → Built
@@ -52,7 +46,7 @@ tableFrom s added = record { n = stepCount s; added = added; row = tableRow (ste
 
 -- the table that the code's answer and the array stand for
 abbrev pub tableOf : Table → List ℕ → Built
-tableOf t ts = cond (eqb (t .row) 0) (built (entriesOf ts [] (t .n))) (refused (t .row))
+tableOf t ts = cond (eqb (t .row) 0) (built (entriesOf ts (marksIn ts) (t .n))) (refused (t .row))
 
 -- ---- the plan
 
@@ -92,12 +86,12 @@ answerOf words (L.unplanned row) = noPlan row
 abbrev pub newsOf : List ℕ → List ℕ → List ℕ → List ℕ → List ℕ → List ℕ → List ℕ → ℕ → List New
 newsOf ws text abi labels refs flags lasts added = firstNews ws text abi labels refs flags lasts added
 
--- what the arrays hold in front: the words of the table's slots, and the members to add, fields of a built class or methods of another.
+-- what the arrays hold in front: the table's slots, and the members to add, fields of a built class or methods of another.
 -- Of a refused link they hold anything, and the row is not 0.
 module _ (ws text abi labels : List ℕ) (c : ℕ) (ts refs flags lasts : List ℕ) where
   abbrev pub Fronts : L.Planned → Type 0
   Fronts (L.planned p) =
-      (entriesOf ts [] (length (p .table)) ≡ bare (p .table))
+      (entriesOf ts (marksIn ts) (length (p .table)) ≡ p .table)
       × (p .newMethods ≡ methodsOf ws c (newsOf ws text abi labels refs flags lasts (length (p .newMethods) + length (p .newFields))))
       × (p .newFields ≡ fieldsOf ws c (newsOf ws text abi labels refs flags lasts (length (p .newMethods) + length (p .newFields))))
   Fronts (L.unplanned row) = row ≢ 0

@@ -1,5 +1,5 @@
-// What a link comes to before anything is written: rows 8 to 13, by the class's kind. The table's words and new members lie in arrays of the
-// caller.
+// What a link comes to before anything is written: rows 8 to 13, by the class's kind. The table and new members lie in arrays of the caller: the
+// slots' words in front, their marks in the same array from place 1,024 on, where no row refuses the table.
 use vtable::Step;
 ghost use mathlib.Core.Path.{_≡_};
 ghost use mathlib.Core.Bool.{true, false};
@@ -8,9 +8,13 @@ ghost use Prim.Native.Nat.{ℕ, _≤_};
 ghost use lib.ListN.{length};
 ghost use Rattle.class_sheet.specs.ClassSheet.{classKind, isBuiltKind};
 ghost use Rattle.linking.specs.Link.{builtTable, generatedTable, generatedMethods, planBuilt, planGenerated, planArray, plan};
-ghost use Rattle.vtable.specs.Arrays.{stepCount};
+ghost use Rattle.words.specs.Lent.{was, after};
+ghost use Rattle.vtable.specs.Arrays.{stepOf, stepCount};
 ghost use Rattle.growth.specs.News.{firstNews};
-ghost use Rattle.plan.specs.Plans.{bareBuilt, fewSlots, stepRow, tableRow, tableFrom, tableOf, noPlan, planFrom, Plans, Keeps, KeepAll};
+ghost use Rattle.plan.specs.Plans.{fewSlots, stepRow, tableRow, tableOf, noPlan, planFrom, Plans, Keeps, KeepAll};
+
+// Where a table's marks are, in the array of its words.
+pub const MARKS: usize = 1024;
 
 // How many slots a table has and how many methods it adds to its class; or the row that refuses it.
 struct Table {
@@ -95,11 +99,14 @@ fn table_row(row: u32, n: u32) -> u32
     if 1024 < n { 13 } else { 0 }
 }
 
-// The table that building came to, with so many methods to add.
-fn step_table(s: Step, added: u32) -> Table
-    ensures { λ r. ⌜ r ≡ tableFrom s added ⌝ }
+// The table that building came to, with so many methods to add; its marks go behind the words.
+fn step_table(s: Step, added: u32, ms: &[u32; 3584], ts: &mut [u32; 3584]) -> Table
+    ensures is { λ r. ⌜ tableOf r (after ts) ≡ fewSlots (stepOf s (was ts) (was ms)) ⌝ }
+    ensures members { λ r. ⌜ r .added ≡ added ⌝ }
+    ensures array { λ r. ⌜ length (after ts) ≡ 3584 ⌝ }
 {
     let n = step_count(s);
+    words::copy_words(ms, 0, words::wide(n), ts, MARKS);
     Table {
         n,
         added,
@@ -107,7 +114,7 @@ fn step_table(s: Step, added: u32) -> Table
     }
 }
 
-// Fills the array with the words of a built class's table.
+// Fills the array with a built class's table.
 fn built_table<'a>(
     ws: &[u32],
     text: &'a [u8],
@@ -117,25 +124,25 @@ fn built_table<'a>(
     c: u32,
     ts: &mut [u32; 3584],
 ) -> Table
-    ensures is { λ r. ⌜ tableOf r (now (ts .exit))
-        ≡ bareBuilt (fewSlots (builtTable (now (ws .entry)) (now (text .entry)) (now (abi .entry)) (now (labels .entry)) (now (area .entry)) c)) ⌝ }
+    ensures is { λ r. ⌜ tableOf r (after ts)
+        ≡ fewSlots (builtTable (was ws) (was text) (was abi) (was labels) (was area) c) ⌝ }
     ensures members { λ r. ⌜ r .added ≡ 0 ⌝ }
-    ensures array { λ r. ⌜ length (now (ts .exit)) ≡ 3584 ⌝ }
+    ensures array { λ r. ⌜ length (after ts) ≡ 3584 ⌝ }
 {
     let mut ms = [0u32; 3584];
     if class_sheet::class_kind(ws, c) == class_sheet::PACKAGED {
         let n = packages::build_packages(ws, text, abi, labels, area, c, ts, &mut ms);
-        return step_table(Step::Next(n), 0);
+        return step_table(Step::Next(n), 0, &ms, ts);
     }
     if class_sheet::class_flags(ws, c) / 512 % 2 == 1 {
         let n = vtable::build_interface_methods(ws, text, c, ts, &mut ms);
-        return step_table(Step::Next(n), 0);
+        return step_table(Step::Next(n), 0, &ms, ts);
     }
     let step = vtable::build_methods(ws, text, abi, labels, area, c, ts, &mut ms);
-    step_table(step, 0)
+    step_table(step, 0, &ms, ts)
 }
 
-// Fills the arrays with the words of a generated class's table, and with the methods that it adds: none without a compiler table.
+// Fills the arrays with a generated class's table, and with the methods that it adds: none without a compiler table.
 fn generated_table<'a>(
     ws: &[u32],
     text: &'a [u8],
@@ -148,19 +155,19 @@ fn generated_table<'a>(
     flags: &mut [u32; 1024],
     lasts: &mut [u32; 1024],
 ) -> Table
-    ensures is { λ r. ⌜ tableOf r (now (ts .exit))
-        ≡ bareBuilt (fewSlots (generatedTable (now (ws .entry)) (now (text .entry)) (now (abi .entry)) (now (labels .entry)) (now (area .entry)) c)) ⌝ }
-    ensures members { λ r. ⌜ firstNews (now (ws .entry)) (now (text .entry)) (now (abi .entry)) (now (labels .entry))
-        (now (refs .exit)) (now (flags .exit)) (now (lasts .exit)) (r .added)
-        ≡ generatedMethods (now (ws .entry)) (now (text .entry)) (now (abi .entry)) (now (labels .entry)) (now (area .entry)) c ⌝ }
+    ensures is { λ r. ⌜ tableOf r (after ts)
+        ≡ fewSlots (generatedTable (was ws) (was text) (was abi) (was labels) (was area) c) ⌝ }
+    ensures members { λ r. ⌜ firstNews (was ws) (was text) (was abi) (was labels)
+        (after refs) (after flags) (after lasts) (r .added)
+        ≡ generatedMethods (was ws) (was text) (was abi) (was labels) (was area) c ⌝ }
     ensures count { λ r. ⌜ r .added ≤ 1024 ⌝ }
-    ensures arrays { λ r. ⌜ KeepAll (now (ts .entry)) (now (refs .entry)) (now (flags .entry)) (now (lasts .entry))
-        (now (ts .exit)) (now (refs .exit)) (now (flags .exit)) (now (lasts .exit)) ⌝ }
+    ensures arrays { λ r. ⌜ KeepAll (was ts) (was refs) (was flags) (was lasts)
+        (after ts) (after refs) (after flags) (after lasts) ⌝ }
 {
     let mut ms = [0u32; 3584];
     if class_sheet::class_compiler_table(ws, c) == 0 {
         let step = vtable::build_methods(ws, text, abi, labels, area, c, ts, &mut ms);
-        return step_table(step, 0);
+        return step_table(step, 0, &ms, ts);
     }
     let p = compiler::prepare_generated(
         ws,
@@ -175,7 +182,7 @@ fn generated_table<'a>(
         flags,
         lasts,
     );
-    step_table(Step::Next(p.n), p.added)
+    step_table(Step::Next(p.n), p.added, &ms, ts)
 }
 
 // A built class: row 10, its table, and the ABI fields that it adds.
@@ -192,10 +199,10 @@ fn plan_built<'a>(
     lasts: &mut [u32; 1024],
 ) -> Plan
     requires { ⌜ isBuiltKind (classKind (now ws) c) ≡ true ⌝ }
-    ensures is { λ r. ⌜ Plans planBuilt (now (ws .entry)) (now (text .entry)) (now (abi .entry)) (now (labels .entry)) (now (area .entry)) c
-        r (now (ts .exit)) (now (refs .exit)) (now (flags .exit)) (now (lasts .exit)) ⌝ }
-    ensures arrays { λ r. ⌜ KeepAll (now (ts .entry)) (now (refs .entry)) (now (flags .entry)) (now (lasts .entry))
-        (now (ts .exit)) (now (refs .exit)) (now (flags .exit)) (now (lasts .exit)) ⌝ }
+    ensures is { λ r. ⌜ Plans planBuilt (was ws) (was text) (was abi) (was labels) (was area) c
+        r (after ts) (after refs) (after flags) (after lasts) ⌝ }
+    ensures arrays { λ r. ⌜ KeepAll (was ts) (was refs) (was flags) (was lasts)
+        (after ts) (after refs) (after flags) (after lasts) ⌝ }
 {
     let f = field::built_fields(ws, text, abi, labels, c, refs, flags, lasts);
     if f.row != 0 {
@@ -219,10 +226,10 @@ fn plan_generated<'a>(
     lasts: &mut [u32; 1024],
 ) -> Plan
     requires { ⌜ isBuiltKind (classKind (now ws) c) ≡ false ⌝ }
-    ensures is { λ r. ⌜ Plans planGenerated (now (ws .entry)) (now (text .entry)) (now (abi .entry)) (now (labels .entry)) (now (area .entry)) c
-        r (now (ts .exit)) (now (refs .exit)) (now (flags .exit)) (now (lasts .exit)) ⌝ }
-    ensures arrays { λ r. ⌜ KeepAll (now (ts .entry)) (now (refs .entry)) (now (flags .entry)) (now (lasts .entry))
-        (now (ts .exit)) (now (refs .exit)) (now (flags .exit)) (now (lasts .exit)) ⌝ }
+    ensures is { λ r. ⌜ Plans planGenerated (was ws) (was text) (was abi) (was labels) (was area) c
+        r (after ts) (after refs) (after flags) (after lasts) ⌝ }
+    ensures arrays { λ r. ⌜ KeepAll (was ts) (was refs) (was flags) (was lasts)
+        (after ts) (after refs) (after flags) (after lasts) ⌝ }
 {
     let f = field::generated_fields(ws, text, c);
     if f.row != 0 {
@@ -243,12 +250,13 @@ fn plan_array(
     ts: &mut [u32; 3584],
 ) -> Plan
     requires { ⌜ isBuiltKind (classKind (now ws) c) ≡ false ⌝ }
-    ensures is { λ r. ⌜ ((refs flags lasts : List ℕ) → Plans planArray (now (ws .entry)) (now (text .entry)) (now (abi .entry)) (now (labels .entry))
-        (now (area .entry)) c r (now (ts .exit)) refs flags lasts) ⌝ }
-    ensures array { λ r. ⌜ Keeps 3584 (now (ts .entry)) (now (ts .exit)) ⌝ }
+    ensures is { λ r. ⌜ ((refs flags lasts : List ℕ) → Plans planArray (was ws) (was text) (was abi) (was labels)
+        (was area) c r (after ts) refs flags lasts) ⌝ }
+    ensures array { λ r. ⌜ Keeps 3584 (was ts) (after ts) ⌝ }
 {
     let mut ms = [0u32; 3584];
     let n = reading::inherited_entries(ws, text, abi, labels, area, c, ts, &mut ms);
+    words::copy_words(&ms, 0, words::wide(n), ts, MARKS);
     Plan {
         indices: [0; class_sheet::FIELD_LIMIT as usize],
         n,
@@ -260,7 +268,7 @@ fn plan_array(
 }
 
 // What a link of class c comes to before anything is written. Fills the front of the arrays with the table's words, and with what names the
-// members to add, their flags, and their targets or indices. The words past these counts, and all words of a refused link's arrays, are the
+// members to add, their flags, and their targets or indices; the table's marks go behind its words. The words past these counts, and all words of a refused link's arrays, are the
 // program's choice: of every choice the contract promises that the arrays keep their lengths.
 pub fn plan_link<'a>(
     ws: &[u32],
@@ -274,10 +282,10 @@ pub fn plan_link<'a>(
     flags: &mut [u32; 1024],
     lasts: &mut [u32; 1024],
 ) -> Plan
-    ensures is { λ r. ⌜ Plans plan (now (ws .entry)) (now (text .entry)) (now (abi .entry)) (now (labels .entry)) (now (area .entry)) c
-        r (now (ts .exit)) (now (refs .exit)) (now (flags .exit)) (now (lasts .exit)) ⌝ }
-    ensures arrays { λ r. ⌜ KeepAll (now (ts .entry)) (now (refs .entry)) (now (flags .entry)) (now (lasts .entry))
-        (now (ts .exit)) (now (refs .exit)) (now (flags .exit)) (now (lasts .exit)) ⌝ }
+    ensures is { λ r. ⌜ Plans plan (was ws) (was text) (was abi) (was labels) (was area) c
+        r (after ts) (after refs) (after flags) (after lasts) ⌝ }
+    ensures arrays { λ r. ⌜ KeepAll (was ts) (was refs) (was flags) (was lasts)
+        (after ts) (after refs) (after flags) (after lasts) ⌝ }
 {
     let kind = class_sheet::class_kind(ws, c);
     if class_sheet::is_built_kind(kind) {

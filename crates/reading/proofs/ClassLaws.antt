@@ -47,7 +47,7 @@ Sound a = (d m : ℕ) → a ≡ By d m → (0 < d) × (m < methodLimit)
 
 mark-above : (m : ℕ) → m < methodLimit → eqb (markOf (At m)) 0 ≡ false
 unfolding markOf
-mark-above m h = rw (lt-ltb m 4294967295 (omega arith)) (ne-eqb (m + 1) 0 (λ (z : m + 1 ≡ 0). absurd (omega arith)))
+mark-above m h = rw (lt-ltb m 4095 (omega arith)) (ne-eqb (m + 1) 0 (λ (z : m + 1 ≡ 0). absurd (omega arith)))
 
 -- what class c marked it claims
 claim-slot : (c k d : ℕ) (f : Found) → ((m : ℕ) → f ≡ At m → m < methodLimit) → eqb d 0 ≡ eqb k 0

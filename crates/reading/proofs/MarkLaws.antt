@@ -2,7 +2,7 @@
 use mathlib.Core.Path.{_≡_, refl, sym, _∙_}
 use mathlib.Core.Bool.{Bool, true, false, cond, _&&_}
 use mathlib.Core.List.{List}
-use Prim.Native.Nat.{ℕ, zero, suc, _+_, _≤_, _<_}
+use Prim.Native.Nat.{ℕ, zero, suc, _+_, _*_, _%_, _≤_, _<_}
 use native.Mathlib.Omega.{arith}
 use lib.ListN.{length, getD, set, drop, List·getD-append}
 use lib.Seq.{getD-set-other, set-getD, drop-at}
@@ -21,7 +21,8 @@ use Rattle.linking.specs.Vtable.{Entry, ownFixed, findByIndex, readEntry}
 use Rattle.chain.specs.Records.{methodRecords, recordWord, firstTarget}
 use Rattle.linking.proofs.ChainLaws.{chain-more, along-none, own-target-room, target-room}
 use Rattle.chain.proofs.RecordLaws.{record-target}
-use Rattle.reading.specs.Arrays.{markOf, orMark, marksWith, entryAt, entriesOf, slotRead}
+use Rattle.reading.specs.Arrays.{markOf, copyMark, copyMarks, orMark, marksWith, entryAt, entriesOf, slotRead}
+use Rattle.reading.proofs.ArrayLaws.{copy-method, copy-source}
 use Rattle.reading.proofs.ReadLaws.{own-fixed-room, read-back}
 
 -- ---- stores
@@ -81,7 +82,7 @@ mark-after : (a b : Found) → ((m : ℕ) → a ≡ At m → m < methodLimit) �
 unfolding markOf
 mark-after (At m) b h =
     let r = h m refl in
-    let l : ltb m 4294967295 ≡ true = lt-ltb m 4294967295 (omega arith) in
+    let l : ltb m 4095 ≡ true = lt-ltb m 4095 (omega arith) in
     let n : (m + 1 ≡ 0 → ⊥) = λ (e : m + 1 ≡ 0). absurd (omega arith) in
     rw (l, ne-eqb (m + 1) 0 n)
 mark-after Nothing b h = refl
@@ -132,12 +133,26 @@ marks-turn f i ms e p k v q u =
     let d = stores-rest i (λ j. orMark (getD ms j 0) (f j)) ms i (omega arith) in
     stores-turn i (λ j. orMark (getD ms j 0) (f j)) ms (rw q at u) e (v ∙ rw (k, p, e, d))
 
+-- ---- copies
+
+pub sources-start : (ms : List ℕ) → ms ≡ copyMarks 0 ms
+unfolding copyMarks stores
+sources-start ms = refl
+
+pub sources-turn : (i : ℕ) (ms : List ℕ) {ns us : List ℕ} {p q k : ℕ} → ns ≡ copyMarks i ms → p ≡ i → k ≡ getD ns p 0 → q ≡ i
+    → us ≡ set ns q (k % 4096 + 4096 * (i + 1)) → us ≡ copyMarks (i + 1) ms
+unfolding copyMarks copyMark
+sources-turn i ms e p k q u =
+    let f : ℕ → ℕ = λ j. copyMark j (getD ms j 0) in
+    let d = stores-rest i f ms i (omega arith) in
+    stores-turn i f ms (rw q at u) e (rw (k, p, e, d))
+
 -- ---- by target, along the chain
 
 -- one method's mark
 pub mark-hit : (k w t m : ℕ) → m < methodLimit → (eqb k 0 && eqb w t) ≡ true → m + 1 ≡ orMark k (cond (eqb w t) (At m) Nothing)
 unfolding orMark markOf
-mark-hit k w t m h e = let p = and-both (eqb k 0) (eqb w t) e in rw (p .0, p .1, lt-ltb m 4294967295 (omega arith))
+mark-hit k w t m h e = let p = and-both (eqb k 0) (eqb w t) e in rw (p .0, p .1, lt-ltb m 4095 (omega arith))
 
 pub mark-miss : (k w t m : ℕ) → (eqb k 0 && eqb w t) ≡ false → k ≡ orMark k (cond (eqb w t) (At m) Nothing)
 unfolding orMark markOf
@@ -224,45 +239,58 @@ list-from-ext f g m zero h = refl
 list-from-ext f g m (suc n) h = rw (h m (omega arith), list-from-ext f g (m + 1) n (λ i l. h i (omega arith)))
 
 module _ (ws text abi labels area : List ℕ) (place c n : ℕ) (ts ms : List ℕ) where
-  module _ {us ns ks ls : List ℕ} (t : us ≡ stores n (λ i. getD area (place + 1 + i) 0) ts)
+  module _ {us ns ks ls os : List ℕ} (t : us ≡ stores n (λ i. getD area (place + 1 + i) 0) ts)
       (z : ns ≡ stores n (λ i. 0) ms) (k : ks ≡ marksWith (λ i. findByTarget ws c (getD us i 0)) n ns)
-      (l : ls ≡ marksWith (findByIndex ws text abi labels c) n ks) (r : n ≤ length ts) (s : n ≤ length ms) where
+      (l : ls ≡ marksWith (findByIndex ws text abi labels c) n ks) (o : os ≡ copyMarks n ls)
+      (r : n ≤ length ts) (s : n ≤ length ms) where
     mark-read : (i w : ℕ) → i < n → getD us i 0 ≡ w → getD ls i 0 ≡ markOf ((readEntry ws text abi labels c i w) .method)
     unfolding readEntry orMark
     mark-read i w h e =
         let x : length ns ≡ length ms = rw z (length-stores n (λ i. 0) ms) in
         let y : length ks ≡ length ns = rw k (length-marks (λ i. findByTarget ws c (getD us i 0)) n ns) in
         let a : getD ns i 0 ≡ 0 = rw z (stores-at n (λ i. 0) ms i h s) in
-        let o : getD ks i 0 ≡ orMark (getD ns i 0) (findByTarget ws c (getD us i 0)) =
+        let p : getD ks i 0 ≡ orMark (getD ns i 0) (findByTarget ws c (getD us i 0)) =
         rw k (marks-at (λ i. findByTarget ws c (getD us i 0)) n ns i h (omega arith)) in
-        let b : getD ks i 0 ≡ orMark 0 (findByTarget ws c w) = o ∙ rw (a, e) in
+        let b : getD ks i 0 ≡ orMark 0 (findByTarget ws c w) = p ∙ rw (a, e) in
         let d : getD ls i 0 ≡ orMark (getD ks i 0) (findByIndex ws text abi labels c i) =
         rw l (marks-at (findByIndex ws text abi labels c) n ks i h (omega arith)) in
         d ∙ rw b (mark-then 0 (findByTarget ws c w) (findByIndex ws text abi labels c i) (target-room ws c w))
 
-    slot-is-read : (i : ℕ) → i < n → entryAt us ls i ≡ slotRead ws text abi labels area place c i
-    unfolding entryAt slotRead
+    length-ls : length ls ≡ length ms
+    length-ls =
+        let x : length ns ≡ length ms = rw z (length-stores n (λ i. 0) ms) in
+        let y : length ks ≡ length ns = rw k (length-marks (λ i. findByTarget ws c (getD us i 0)) n ns) in
+        let a : length ls ≡ length ks = rw l (length-marks (findByIndex ws text abi labels c) n ks) in
+        omega arith
+
+    slot-is-read : (i : ℕ) → i < n → entryAt us os i ≡ slotRead ws text abi labels area place c i
+    unfolding entryAt slotRead copyMarks
     slot-is-read i h =
         let w : ℕ = getD area (place + 1 + i) 0 in
         let e : getD us i 0 ≡ w = rw t (stores-at n (λ i. getD area (place + 1 + i) 0) ts i h r) in
-        rw (mark-read i w h e, e) (read-back ws text abi labels c i w)
+        let b = length-ls in
+        let f : getD os i 0 ≡ copyMark i (getD ls i 0) = rw o (stores-at n (λ i. copyMark i (getD ls i 0)) ls i h (omega arith)) in
+        rw (f, copy-method i (getD ls i 0), copy-source i (getD ls i 0), mark-read i w h e, e) (read-back ws text abi labels c i w)
 
-    slots-are-read : entriesOf us ls n ≡ listFrom (slotRead ws text abi labels area place c) 0 n
+    slots-are-read : entriesOf us os n ≡ listFrom (slotRead ws text abi labels area place c) 0 n
     unfolding entriesOf
-    slots-are-read = list-from-ext (entryAt us ls) (slotRead ws text abi labels area place c) 0 n (λ i h. slot-is-read i (omega arith))
+    slots-are-read = list-from-ext (entryAt us os) (slotRead ws text abi labels area place c) 0 n (λ i h. slot-is-read i (omega arith))
 
     -- past them both arrays stay
     words-stay : drop n us ≡ drop n ts
     words-stay = rw t (stores-past n (λ i. getD area (place + 1 + i) 0) ts r)
 
-    marks-stay : drop n ls ≡ drop n ms
+    marks-stay : drop n os ≡ drop n ms
+    unfolding copyMarks
     marks-stay =
         let x : length ns ≡ length ms = rw z (length-stores n (λ i. 0) ms) in
         let y : length ks ≡ length ns = rw k (length-marks (λ i. findByTarget ws c (getD us i 0)) n ns) in
         let a : drop n ls ≡ drop n ks = rw l (marks-past (findByIndex ws text abi labels c) n ks (omega arith)) in
         let b : drop n ks ≡ drop n ns = rw k (marks-past (λ i. findByTarget ws c (getD us i 0)) n ns (omega arith)) in
         let d : drop n ns ≡ drop n ms = rw z (stores-past n (λ i. 0) ms s) in
-        a ∙ b ∙ d
+        let q = length-ls in
+        let e : drop n os ≡ drop n ls = rw o (stores-past n (λ i. copyMark i (getD ls i 0)) ls (omega arith)) in
+        e ∙ a ∙ b ∙ d
 
-    pub all-read : (entriesOf us ls n ≡ listFrom (slotRead ws text abi labels area place c) 0 n) × ((drop n us ≡ drop n ts) × (drop n ls ≡ drop n ms))
+    pub all-read : (entriesOf us os n ≡ listFrom (slotRead ws text abi labels area place c) 0 n) × ((drop n us ≡ drop n ts) × (drop n os ≡ drop n ms))
     all-read = (slots-are-read, (words-stay, marks-stay))

@@ -53,16 +53,16 @@ module _ (ws text abi labels : List ℕ) where
   read-room c i w m e =
       by-found (findByTarget ws c w) (λ k q. target-room ws c w m (q ∙ (rw q at e))) (λ q. index-room c i m (rw q at e))
 
-  entry-eta : (c i w : ℕ) → _≡_ {A = Entry} (record { word = w; method = (readEntry ws text abi labels c i w) .method }) (readEntry ws text abi labels c i w)
+  entry-eta : (c i w : ℕ) → _≡_ {A = Entry} (record { word = w; method = (readEntry ws text abi labels c i w) .method; source = At i }) (readEntry ws text abi labels c i w)
   unfolding readEntry
   entry-eta c i w = refl
 
   -- an entry comes back from its word and mark
-  pub read-back : (c i w : ℕ) → _≡_ {A = Entry} (record { word = w; method = methodOf (markOf ((readEntry ws text abi labels c i w) .method)) }) (readEntry ws text abi labels c i w)
+  pub read-back : (c i w : ℕ) → _≡_ {A = Entry} (record { word = w; method = methodOf (markOf ((readEntry ws text abi labels c i w) .method)); source = At i }) (readEntry ws text abi labels c i w)
   read-back c i w = read-is (found-back ((readEntry ws text abi labels c i w) .method) (read-room c i w))
     where
       read-is : methodOf (markOf ((readEntry ws text abi labels c i w) .method)) ≡ (readEntry ws text abi labels c i w) .method
-          → _≡_ {A = Entry} (record { word = w; method = methodOf (markOf ((readEntry ws text abi labels c i w) .method)) }) (readEntry ws text abi labels c i w)
+          → _≡_ {A = Entry} (record { word = w; method = methodOf (markOf ((readEntry ws text abi labels c i w) .method)); source = At i }) (readEntry ws text abi labels c i w)
       read-is e = rw e (entry-eta c i w)
 
   module _ (area : List ℕ) (c : ℕ) where

@@ -1,6 +1,6 @@
 // Reading: a table's slots, from their words in the area to their methods. A table lies in two arrays of the caller: its slots' words, 0
-// where empty, and their methods' marks. A mark is a word that stands for a method's number or for none: only this crate knows how. Reading
-// fills a third array beside them: the numbers of the classes that declare the methods, 0 where there is none.
+// where empty, and their marks. A mark is a word that stands for a method's number or for none, and for the slot that it is a copy of or none: only
+// this crate knows how. Reading fills a third array beside them: the numbers of the classes that declare the methods, 0 where there is none.
 use words::Found;
 ghost use mathlib.Core.Path.{_≡_};
 ghost use Prim.Native.Nat.{_≤_, _<_, _+_, min};
@@ -16,7 +16,7 @@ ghost use Rattle.linking.specs.Abi.{classAbi};
 ghost use Rattle.chain.specs.Records.{firstTarget};
 ghost use Rattle.linking.specs.Vtable.{ownFixed, findByIndex, tableEntries, parentEntries};
 ghost use Rattle.linking.specs.Whose.{declaredByTarget, declaredByIndex, slotClass};
-ghost use Rattle.reading.specs.Arrays.{markOf, methodOf, orMark, marksWith, entriesOf};
+ghost use Rattle.reading.specs.Arrays.{markOf, copyMarks, methodOf, sourceOf, orMark, marksWith, entriesOf};
 ghost use Rattle.reading.specs.Classes.{claimed, claims, classesWith, Paired};
 
 // The mark of what a search found.
@@ -24,7 +24,7 @@ pub fn mark_of(f: Found) -> u32
     ensures { λ r. ⌜ r ≡ markOf f ⌝ }
 {
     match f {
-        Found::At(m) => { if m < 4294967295 { m + 1 } else { 0 } }
+        Found::At(m) => { if m < 4095 { m + 1 } else { 0 } }
         Found::Nothing => 0,
     }
 }
@@ -33,10 +33,36 @@ pub fn mark_of(f: Found) -> u32
 pub fn method_of(k: u32) -> Found
     ensures { λ r. ⌜ r ≡ methodOf k ⌝ }
 {
-    if k == 0 {
+    let x = k % 4096;
+    if x == 0 {
         Found::Nothing
     } else {
-        Found::At(k - 1)
+        Found::At(x - 1)
+    }
+}
+
+// The slot that a slot with this mark is a copy of.
+pub fn source_of(k: u32) -> Found
+    ensures { λ r. ⌜ r ≡ sourceOf k ⌝ }
+{
+    let x = k / 4096;
+    if x == 0 {
+        Found::Nothing
+    } else {
+        Found::At(x - 1)
+    }
+}
+
+// Makes each of the n slots a copy of itself: what is read is what a child takes.
+fn give_sources(n: u32, ms: &mut [u32])
+    requires { ⌜ n ≤ 1024 ⌝ }
+    ensures { λ _. ⌜ now (ms .exit) ≡ copyMarks n (now (ms .entry)) ⌝ }
+{
+    let mut i: u32 = 0;
+    while i < n {
+        let k = words::word_at(ms, words::wide(i));
+        words::put_word(ms, words::wide(i), k % 4096 + 4096 * (i + 1));
+        i += 1;
     }
 }
 
@@ -278,6 +304,7 @@ fn read_table(
     copy_slots(area, place, n, ts, ms, cs);
     mark_by_target(ws, c, n, ts, ms, cs);
     mark_by_index(ws, text, abi, labels, c, n, ms, cs);
+    give_sources(n, ms);
     n
 }
 

@@ -12,10 +12,10 @@ use Rattle.words.proofs.Lists.{part-at}
 use Rattle.class_sheet.specs.ClassSheet.{textOf}
 use Rattle.abi_sheet.specs.AbiSheet.{abiTextOf}
 use Rattle.slots.specs.Slots.{Unique, Kept}
-use Rattle.calls.specs.Calls.{Call, link, State, outcome, step, run, LinkedIn, now, later, tableAt}
+use Rattle.calls.specs.Calls.{Call, link, State, start, outcome, step, run, LinkedIn, now, later, tableAt}
 use Rattle.calls.specs.Demand.{Linked, Claim}
 use Rattle.calls.proofs.Theorem.{demand-3}
-use Rattle.replay.specs.Replay.{stubList, callOf, callAt, callsOf, state, answersOf, over}
+use Rattle.replay.specs.Replay.{stubList, callOf, callAt, callsOf, answersOf, over}
 use Rattle.replay.specs.Replayed.{Told, Made, Holds, Replayed}
 
 -- ---- the answer words tell who is linked
@@ -64,12 +64,13 @@ module _ (abi : List ℕ) (f : ℕ → Call) where
       let j₂ : 3 * suc i + 2 ≡ suc (suc (suc (3 * i + 2))) = omega arith in
       later (linked-at (m + 1) n (step abi s (f m)) i (omega arith) (rw g at e) (rw j₀ at a) (rw j₁ at b) (rw j₂ at d))
 
-module _ (ws abi area answers calls stubs ws′ area′ answers′ : List ℕ) (made : Made ws abi area answers calls stubs ws′ area′ answers′) where
-  pub told-linked : {c place slots : ℕ} → Told calls answers′ c place slots → Linked ws abi area (callsOf calls stubs) c place slots
+module _ (ws abi area missing answers calls stubs : List ℕ) (left : State) (answers′ : List ℕ)
+    (made : Made abi (start ws area missing) answers calls stubs left answers′) where
+  pub told-linked : {c place slots : ℕ} → Told calls answers′ c place slots → Linked ws abi area missing (callsOf calls stubs) c place slots
   unfolding callsOf
   told-linked {c} {place} {slots} t =
       let i = t .call in
-      let s = state ws area in
+      let s = start ws area missing in
       let xs = answersOf abi (listFrom (callAt calls stubs) 0 (length calls / 5)) s in
       let n = length-answers abi (callAt calls stubs) 0 (length calls / 5) s in
       let l : length answers′ ≡ length (over xs answers) = ap length (made .1) in
@@ -80,11 +81,11 @@ module _ (ws abi area answers calls stubs ws′ area′ answers′ : List ℕ) (
       (said (3 * i) (omega arith) ∙ t .accepted) (said (3 * i + 1) (omega arith) ∙ t .place-is) (said (3 * i + 2) (omega arith) ∙ t .slots-is)
 
   -- the area that the theorem speaks of is the one left
-  area-is : run abi (callsOf calls stubs) (state ws area) .area ≡ area′
+  area-is : run abi (callsOf calls stubs) (start ws area missing) .area ≡ left .area
   area-is = sym (ap (λ (s : State). s .area) (made .0))
 
-  pub holds : {c place slots : ℕ} → Claim ws abi area (callsOf calls stubs) c place slots
-      → Holds ws abi area calls stubs area′ c place slots
+  pub holds : {c place slots : ℕ} → Claim ws abi area missing (callsOf calls stubs) c place slots
+      → Holds ws abi area missing calls stubs (left .area) c place slots
   holds {c} {place} {slots} k = record {
     unique = λ old. subst (λ (a : List ℕ). Unique ws (textOf ws) abi (abiTextOf abi) c (tableAt a place slots)) area-is (k .unique old);
     keeps-parent = λ n e. let p = k .keeps-parent n e in record {
@@ -99,6 +100,6 @@ module _ (ws abi area answers calls stubs ws′ area′ answers′ : List ℕ) (
 -- ---- THE THEOREM
 
 pub replayed-demand : Replayed
-replayed-demand ws abi area answers calls stubs ws′ area′ answers′ unlinked made c place slots told k =
-    holds ws abi area answers calls stubs ws′ area′ answers′ made
-    (demand-3 ws abi area unlinked (callsOf calls stubs) c place slots (told-linked ws abi area answers calls stubs ws′ area′ answers′ made told) k)
+replayed-demand ws abi area missing answers calls stubs left answers′ unlinked made c place slots told k =
+    holds ws abi area missing answers calls stubs left answers′ made
+    (demand-3 ws abi area missing unlinked (callsOf calls stubs) c place slots (told-linked ws abi area missing answers calls stubs left answers′ made told) k)

@@ -11,13 +11,14 @@ use lib.ListN.{length, getD, set, take, drop}
 use lib.Dec.{eqb}
 use borrow.Author.Tests.{eq-eqb, ne-eqb}
 use Rattle.words.proofs.ListLaws.{restFrom, rest-start, rest-turn, rest-end}
-use Rattle.linking.specs.Link.{linkDef}
+use Rattle.linking.specs.Link.{LinkOutcome, linkDef}
+use Rattle.link.specs.Stored.{linkOutcome}
 use Rattle.linking.specs.Ask.{askDef}
 use Rattle.area.specs.Area as area
 use Rattle.area.specs.declared.Answer.{Answer}
 use Rattle.area.specs.declared.Answer.the-variants.{Done, Refused}
-use Rattle.calls.specs.Calls.{Call, State, outcome, step, run}
-use Rattle.replay.specs.Replay.{stubList, callOf, callAt, callsOf, state, called, answerWords, answerOf, answersOf, over, overAt}
+use Rattle.calls.specs.Calls.{Call, State, start, outcome, step, run}
+use Rattle.replay.specs.Replay.{stubList, callOf, callAt, callsOf, Called, answerWords, answerOf, answersOf, over, overAt}
 
 -- ---- words laid over others
 
@@ -91,22 +92,25 @@ area-is (Refused n) ws ar = refl
 
 -- ---- one call
 
-module _ (ws abi ar call stubs : List ℕ) {kind c first n : ℕ} {lent : List ℕ} (kind-is : kind ≡ getD call 0 0) (class-is : c ≡ getD call 1 0)
+module _ (ws abi ar missing call stubs : List ℕ) {kind c first n : ℕ} {lent : List ℕ} (kind-is : kind ≡ getD call 0 0) (class-is : c ≡ getD call 1 0)
     (first-is : first ≡ getD call 3 0) (count-is : n ≡ getD call 4 0) (lent-is : lent ≡ take n (drop first stubs)) where
   list-is : lent ≡ stubList call stubs
   list-is = lent-is ∙ rw (first-is, count-is)
 
-  pub link-told : kind ≡ 0 → linkDef ws abi c ar lent ≡ called abi ws ar (callOf call stubs)
+  pub link-told : (a : Answer) (ws′ ar′ missing′ : List ℕ) → kind ≡ 0 → linkOutcome a ws′ ar′ missing′ ≡ linkDef ws abi c ar lent missing
+      → Called abi (start ws ar missing) (callOf call stubs) a ws′ ar′ missing′
   unfolding callOf
-  link-told z =
+  link-told a ws′ ar′ missing′ z e =
       let t : eqb (getD call 0 0) 0 ≡ true = eq-eqb (getD call 0 0) 0 (sym kind-is ∙ z) in
-      rw (t, class-is, list-is)
+      let o = rw (class-is, list-is) at e in
+      rw t (ap (λ (x : LinkOutcome). x .outcome) o, ap (λ (x : LinkOutcome). x .missing) o)
 
-  pub ask-told : {i : ℕ} → kind ≢ 0 → i ≡ getD call 2 0 → askDef ws abi c i ar lent ≡ called abi ws ar (callOf call stubs)
+  pub ask-told : (a : Answer) (ar′ : List ℕ) {i : ℕ} → kind ≢ 0 → i ≡ getD call 2 0 → area.outcome a ws ar′ ≡ askDef ws abi c i ar lent
+      → Called abi (start ws ar missing) (callOf call stubs) a ws ar′ missing
   unfolding callOf
-  ask-told z f =
+  ask-told a ar′ z f e =
       let t : eqb (getD call 0 0) 0 ≡ false = ne-eqb (getD call 0 0) 0 (λ p. z (kind-is ∙ p)) in
-      rw (t, class-is, f, list-is)
+      rw t (rw (class-is, f, list-is) at e, refl)
 
 -- ---- the calls that are left
 
@@ -151,27 +155,28 @@ module _ (abi calls stubs : List ℕ) where
   unfolding leftAnswers answersOf
   answers-end i s old h = rw (left-end i h) (sym (over-end (3 * i) old))
 
-  module _ (i : ℕ) (h : i < length calls / 5) {call : List ℕ} (call-is : call ≡ take 5 (drop (5 * i) calls)) (a : Answer) (ws ar ws′ ar′ : List ℕ)
-      (e : area.outcome a ws′ ar′ ≡ called abi ws ar (callOf call stubs)) where
-    made : area.outcome a ws′ ar′ ≡ called abi ws ar (callAt calls stubs i)
+  module _ (i : ℕ) (h : i < length calls / 5) {call : List ℕ} (call-is : call ≡ take 5 (drop (5 * i) calls)) (a : Answer) (s : State)
+      (ws′ ar′ missing′ : List ℕ) (e : Called abi s (callOf call stubs) a ws′ ar′ missing′) where
+    made : Called abi s (callAt calls stubs i) a ws′ ar′ missing′
     unfolding callAt
     made = rw call-is at e
 
-    step-is : state ws′ ar′ ≡ step abi (state ws ar) (callAt calls stubs i)
+    step-is : start ws′ ar′ missing′ ≡ step abi s (callAt calls stubs i)
     unfolding step
-    step-is = rw (← made, set-is a ws′ ar′, area-is a ws′ ar′)
+    step-is = rw (← (made .0), set-is a ws′ ar′, area-is a ws′ ar′, ← (made .1))
 
-    pub run-turn : leftRun (state ws′ ar′) (i + 1) ≡ leftRun (state ws ar) i
+    pub run-turn : leftRun (start ws′ ar′ missing′) (i + 1) ≡ leftRun s i
     unfolding leftRun run
     run-turn = rw (left-turn i h, step-is)
 
     pub answers-turn : (old : List ℕ) {new : List ℕ} → new ≡ overAt (3 * i) (answerWords a) old
-        → leftAnswers (state ws′ ar′) (i + 1) new ≡ leftAnswers (state ws ar) i old
+        → leftAnswers (start ws′ ar′ missing′) (i + 1) new ≡ leftAnswers s i old
     unfolding leftAnswers answersOf
     answers-turn old {new} f =
-        let xs = answersOf abi (left (i + 1)) (step abi (state ws ar) (callAt calls stubs i)) in
+        let xs = answersOf abi (left (i + 1)) (step abi s (callAt calls stubs i)) in
         let g : 3 * (i + 1) ≡ 3 * i + 3 = omega arith in
-        let first : overAt (3 * (i + 1)) (answersOf abi (left (i + 1)) (state ws′ ar′)) new ≡ overAt (3 * i + 3) xs (overAt (3 * i) (answerWords a) old) = rw (f, g, step-is) in
-        let second : answerWords a ≡ answerOf (called abi ws ar (callAt calls stubs i)) = sym (answer-is a ws′ ar′) ∙ ap answerOf made in
+        let first : overAt (3 * (i + 1)) (answersOf abi (left (i + 1)) (start ws′ ar′ missing′)) new ≡ overAt (3 * i + 3) xs (overAt (3 * i) (answerWords a) old) =
+        rw (f, g, step-is) in
+        let second : answerWords a ≡ answerOf (outcome abi s (callAt calls stubs i)) = sym (answer-is a ws′ ar′) ∙ ap answerOf (made .0) in
         first ∙ sym (answer-over a (3 * i) xs old) ∙ ap (λ (t : List ℕ). overAt (3 * i) (t ++ xs) old) second
-        ∙ ap (λ (t : List Call). overAt (3 * i) (answersOf abi t (state ws ar)) old) (sym (left-turn i h))
+        ∙ ap (λ (t : List Call). overAt (3 * i) (answersOf abi t s) old) (sym (left-turn i h))

@@ -1,6 +1,7 @@
 -- A list of links and asks as words, and what the calls answer one after the other: the state between two calls and what each leaves are
 -- `calls`' own (Calls.antt). Assumes nothing.
 use Prim.Native.Nat.{ℕ, zero, suc, _*_, _/_}
+use mathlib.Core.Path.{_≡_}
 use mathlib.Core.Bool.{cond}
 use mathlib.Core.List.{List, [], _∷_, _++_}
 use lib.ListN.{length, getD, take, drop}
@@ -9,7 +10,8 @@ use Rattle.words.specs.Lists.{listFrom}
 use Rattle.linking.specs.Link.{Outcome}
 use Rattle.area.specs.declared.Answer.{Answer}
 use Rattle.area.specs.declared.Answer.the-variants.{Done, Refused}
-use Rattle.calls.specs.Calls.{Call, link, ask, State, outcome, step}
+use Rattle.area.specs.Area as area
+use Rattle.calls.specs.Calls.{Call, link, ask, State, outcome, missingAfter, step}
 
 -- ---- calls as words
 
@@ -30,12 +32,9 @@ callsOf calls stubs = listFrom (callAt calls stubs) 0 (length calls / 5)
 
 -- ---- what they answer
 
-abbrev pub state : List ℕ → List ℕ → State
-state ws area = record { set = ws; area = area }
-
--- one call's answers and what it leaves
-abbrev pub called : List ℕ → List ℕ → List ℕ → Call → Outcome
-called abi ws area k = outcome abi (state ws area) k
+-- what an answer stands for, with the memory that its call leaves
+abbrev pub Called : List ℕ → State → Call → Answer → List ℕ → List ℕ → List ℕ → Type 0
+Called abi s k a ws ar missing = (area.outcome a ws ar ≡ outcome abi s k) × (missing ≡ missingAfter abi s k)
 
 -- "An accepted call gives 0 and its result; a refused one gives its number, zero in every other answer word": three words a call
 abbrev pub answerWords : Answer → List ℕ

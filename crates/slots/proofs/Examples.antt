@@ -144,7 +144,7 @@ made = each (Made ws text sheet labels tables P) (3 ∷ 2 ∷ 1 ∷ []) (third, 
 
     second : Made ws text sheet labels tables P 2
     second = record {
-      entries = record { word = 901; method = Nothing } ∷ methodEntry ws 0 ∷ [];
+      entries = record { word = 901; method = Nothing; source = At 0 } ∷ record { word = methodTarget ws 0; method = At 0; source = At 1 } ∷ [];
       stubs = world .stubs;
       enough = omega arith;
       lent = lent-stubs;
@@ -155,7 +155,7 @@ made = each (Made ws text sheet labels tables P) (3 ∷ 2 ∷ 1 ∷ []) (third, 
 
     third : Made ws text sheet labels tables P 3
     third = record {
-      entries = record { word = 901; method = Nothing } ∷ methodEntry ws 1 ∷ methodEntry ws 2 ∷ [];
+      entries = record { word = 901; method = Nothing; source = At 0 } ∷ methodEntry ws 1 ∷ methodEntry ws 2 ∷ [];
       stubs = world .stubs;
       enough = omega arith;
       lent = lent-stubs;

@@ -2,8 +2,8 @@
 -- `packagesFrom` makes of the chain's tables. Assumes nothing.
 use mathlib.Core.Path.{_≡_, refl, sym, ap, _∙_, fun-ext}
 use mathlib.Core.Logic.{_≢_}
-use mathlib.Core.Bool.{Bool, true, false, cond}
-use mathlib.Core.List.{List, [], _∷_, List·Memᴰ, List·Memᴰ·head, List·Memᴰ·tail}
+use mathlib.Core.Bool.{false, cond}
+use mathlib.Core.List.{List, List·Memᴰ, List·Memᴰ·head}
 use Prim.Native.Nat.{ℕ, _+_, _≤_, _<_, min}
 use native.Mathlib.Omega.{arith}
 use lib.ListN.{length, getD, take, drop}
@@ -11,7 +11,7 @@ use lib.Dec.{eqb, ltb}
 use borrow.Author.Tests.{eqb-false, ne-eqb, ltb-true}
 use Rattle.words.specs.Lists.{orElse, andThen}
 use Rattle.words.specs.declared.Found.{Found}
-use Rattle.words.specs.declared.Found.the-variants.{At, Nothing}
+use Rattle.words.specs.declared.Found.the-variants.{Nothing}
 use Rattle.words.proofs.Bools.{by}
 use Rattle.words.proofs.ListLaws.{by-found}
 use Rattle.words.proofs.Lists.{part-at, length-part}
@@ -21,25 +21,9 @@ use Rattle.linking.specs.Vtable.{Entry, readEntry, readSlot, parentEntries}
 use Rattle.linking.specs.Packages.{topmost, tableHas, introducing, packagesOver, buildPackages}
 use Rattle.linking.proofs.ChainLaws.{chain-more}
 use Rattle.linking.proofs.Plans.{packages-within}
+use Rattle.linking.proofs.RenumberedPackages.{last-ext, last-of}
 use Rattle.slots.specs.Made.{inheritedFrom, introducedFrom, packagesFrom}
-use Rattle.slots.proofs.ListFacts.{found-same, not-found}
 use Rattle.slots.proofs.LinkFacts.{read-area}
-
-pub last-ext : (p q : ℕ → Bool) (ds : List ℕ) → ((d : ℕ) → List·Memᴰ d ds → p d ≡ q d) → topmost p ds ≡ topmost q ds
-unfolding topmost
-last-ext p q [] h = refl
-last-ext p q (d ∷ ds) h = rw (last-ext p q ds (λ e i. h e (List·Memᴰ·tail i)), h d (List·Memᴰ·head refl))
-
--- what is found passes, and is on the list
-pub last-of : (p : ℕ → Bool) (ds : List ℕ) (k : ℕ) → topmost p ds ≡ At k → List·Memᴰ k ds × (p k ≡ true)
-unfolding topmost
-last-of p [] k e = not-found e
-last-of p (d ∷ ds) k e =
-    by-found (topmost p ds)
-    (λ j q. let r = last-of p ds k (q ∙ (rw q at e)) in (List·Memᴰ·tail (r .0), r .1))
-    (λ q.
-    let g = rw q at e in
-    by (p d) (λ t. let s : d ≡ k = found-same (rw t at g) in (List·Memᴰ·head (sym s), rw (← s) t)) (λ t. not-found (rw t at g)))
 
 module _ (ws text abi labels area : List ℕ) (tables : ℕ → List ℕ) where
   -- class d is linked, and its table lies in the area

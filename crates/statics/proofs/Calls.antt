@@ -15,7 +15,8 @@ use Rattle.class_sheet.specs.ClassSheet.{classWidth, kindWord, firstFieldWord, 
 use Rattle.set_rules.specs.Valid.{IsClass, Valid}
 use Rattle.linking.specs.Chain.{listCount, ownFields}
 use Rattle.linking.specs.Fields.{addStatic, staticWords}
-use Rattle.linking.specs.Link.{linkDef, Outcome}
+use Rattle.linking.specs.Link.{linkDef, LinkOutcome}
+use Rattle.calls.specs.Calls as begin
 use Rattle.calls.specs.Calls.{Call, link, ask, State, step, run}
 use Rattle.calls.proofs.Like.{Like, like-same, like-next, alike}
 use Rattle.calls.proofs.View.{name-same}
@@ -84,9 +85,9 @@ module _ (ws abi : List ℕ) (start : Start ws) where
 
   -- ---- an accepted link
 
-  module _ (s : State) (inv : Inv (s .set)) (c : ℕ) (stubs : List ℕ) (o : Outcome) (acc : Accepted (s .set) abi c (s .area) stubs o) where
+  module _ (s : State) (inv : Inv (s .set)) (c : ℕ) (stubs : List ℕ) (o : LinkOutcome) (acc : Accepted (s .set) abi c (s .area) stubs (s .missing) o) where
     abbrev new : List ℕ
-    new = o .set
+    new = o .outcome .set
 
     here : (d : ℕ) → IsClass ws d → IsClass (s .set) d
     here d k = (k .0, omega (arith, k .1, inv .like .classes))
@@ -95,18 +96,18 @@ module _ (ws abi : List ℕ) (start : Start ws) where
     own-class = (acc .class .some, omega (arith, acc .class .among, inv .like .classes))
 
     other : (d k : ℕ) → IsClass ws d → d ≢ c → k < classWidth → classWord new d k ≡ classWord (s .set) d k
-    other d k i n h = leaves (s .set) abi c (s .area) stubs o acc .others d k (i .0) (here d i .1) h n
+    other d k i n h = leaves (s .set) abi c (s .area) stubs (s .missing) o acc .others d k (i .0) (here d i .1) h n
 
     -- its class is linked now
     placed : classTablePlace new c ≢ 0
-    placed = rw (leaves (s .set) abi c (s .area) stubs o acc .place) (acc .lent .some)
+    placed = rw (leaves (s .set) abi c (s .area) stubs (s .missing) o acc .place) (acc .lent .some)
 
     kind-is : (d : ℕ) → IsClass ws d → classKind (s .set) d ≡ classKind ws d
     kind-is d i = inv .like .word d kindWord (i .0) (i .1) (omega arith)
 
     own-after : After ws new c
     own-after =
-        let l = left (s .set) abi c (s .area) stubs o acc in
+        let l = left (s .set) abi c (s .area) stubs (s .missing) o acc in
         record {
           unlinked = λ k z. absurd (placed z);
           built = λ k n. l .built (rw (kind-is c own-class) k) ∙ sum-same (s .set) inv c own-class (acc .class .new);
@@ -128,9 +129,9 @@ module _ (ws abi : List ℕ) (start : Start ws) where
 
     link-inv : Inv new
     link-inv = record {
-      like = like-next ws (s .set) new (inv .like) (leaves (s .set) abi c (s .area) stubs o acc .like);
-      fields = omega (arith, inv .fields, more-fields (s .set) abi c (s .area) stubs o acc);
-      field = λ f k h l. field-kept (s .set) abi c (s .area) stubs o acc f k (omega (arith, h, inv .fields)) l ∙ inv .field f k h l;
+      like = like-next ws (s .set) new (inv .like) (leaves (s .set) abi c (s .area) stubs (s .missing) o acc .like);
+      fields = omega (arith, inv .fields, more-fields (s .set) abi c (s .area) stubs (s .missing) o acc);
+      field = λ f k h l. field-kept (s .set) abi c (s .area) stubs (s .missing) o acc f k (omega (arith, h, inv .fields)) l ∙ inv .field f k h l;
       still = λ d k i z h.
           by (eqb d c)
           (λ t. let e : d ≡ c = eqb-true d c t in absurd (placed (rw e at z)))
@@ -149,9 +150,9 @@ module _ (ws abi : List ℕ) (start : Start ws) where
   step-inv : (s : State) (k : Call) → Inv (s .set) → Inv (step abi s k .set)
   unfolding step
   step-inv s (link c stubs) i =
-      elim (link-cases (s .set) abi c (s .area) stubs) [
+      elim (link-cases (s .set) abi c (s .area) stubs (s .missing)) [
         | inl r ↦ same-inv (s .set) _ (r .same-set) i
-        | inr a ↦ link-inv s i c stubs (linkDef (s .set) abi c (s .area) stubs) a
+        | inr a ↦ link-inv s i c stubs (linkDef (s .set) abi c (s .area) stubs (s .missing)) a
       ]
   step-inv s (ask c j stubs) i =
       elim (ask-cases (s .set) abi c j (s .area) stubs) [
@@ -164,5 +165,5 @@ module _ (ws abi : List ℕ) (start : Start ws) where
   run-inv [] s i = i
   run-inv (k ∷ ks) s i = run-inv ks (step abi s k) (step-inv s k i)
 
-  pub after-calls : (area : List ℕ) (calls : List Call) (c : ℕ) → IsClass ws c → After ws (run abi calls (record { set = ws; area = area }) .set) c
-  after-calls area calls c k = run-inv calls (record { set = ws; area = area }) start-inv .after c k
+  pub after-calls : (area missing : List ℕ) (calls : List Call) (c : ℕ) → IsClass ws c → After ws (run abi calls (begin.start ws area missing) .set) c
+  after-calls area missing calls c k = run-inv calls (begin.start ws area missing) start-inv .after c k

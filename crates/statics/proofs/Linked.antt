@@ -18,7 +18,7 @@ use Rattle.set_rules.specs.Valid.{Valid}
 use Rattle.set_rules.proofs.Valid.{valid}
 use Rattle.linking.specs.Fields.{staticWords}
 use Rattle.linking.specs.Set.{newText}
-use Rattle.linking.specs.Link.{Plan, isNone, nextFree, newWords, newStatics, linkedWords, Outcome, linkDef}
+use Rattle.linking.specs.Link.{Plan, isNone, nextFree, newWords, newStatics, linkedWords, LinkOutcome, linkDef}
 use Rattle.linking.specs.Grown.{newMembers, rowIndices, methodsGrowing, fieldsGrowing, recordRows, linkedSections}
 use Rattle.linking.proofs.Grown.{length-row-indices, index-other}
 use Rattle.linking.proofs.Appended.{word-kept}
@@ -82,7 +82,7 @@ module _ (s : Sections) (f : Formed classWidth s) (c place words statics : ℕ) 
 
 -- ---- on the words of an accepted link
 
-module _ (ws abi : List ℕ) (c : ℕ) (area stubs : List ℕ) (o : Outcome) (acc : Accepted ws abi c area stubs o) where
+module _ (ws abi : List ℕ) (c : ℕ) (area stubs missing : List ℕ) (o : LinkOutcome) (acc : Accepted ws abi c area stubs missing o) where
   abbrev p : Plan
   p = acc .coming
 
@@ -125,12 +125,12 @@ module _ (ws abi : List ℕ) (c : ℕ) (area stubs : List ℕ) (o : Outcome) (ac
   indices-in : classFirstField ws c + length (p .indices) ≤ fieldCount ws
   indices-in = omega (arith, planning .indices, fields-in)
 
-  pub leaves : Leaves ws (o .set) c (nextFree area) (length (p .table))
+  pub leaves : Leaves ws (o .outcome .set) c (nextFree area) (length (p .table))
   leaves =
       subst (λ (x : List ℕ). Leaves ws x c (nextFree area) (length (p .table))) (sym (acc .new-set))
       (link-leaves ws c (nextFree area) words statics p some among (ok .fits) methods-in fields-in indices-in (planning .generated) method-bytes field-bytes)
 
-  pub new-set : o .set ≡ laidOut left-sections
+  pub new-set : o .outcome .set ≡ laidOut left-sections
   new-set = acc .new-set ∙ linked-laid ws (ok .fits) c (nextFree area) words statics p some among indices-in methods-in fields-in
 
   pub own : (k : ℕ) → k < classWidth → classWord ws c k ≡ rowWord (s .classes) (c - 1) k
@@ -148,7 +148,7 @@ module _ (ws abi : List ℕ) (c : ℕ) (area stubs : List ℕ) (o : Outcome) (ac
       (omega (arith, methods-in, own firstMethodWord (omega arith), own methodCountWord (omega arith), lies-of ws (ok .fits) .methods))
       (omega (arith, fields-in, own firstFieldWord (omega arith), own fieldCountWord (omega arith), lies-of ws (ok .fits) .fields)) method-bytes field-bytes
 
-  statics-word : classStaticWords (o .set) c ≡ rowWord (left-sections .classes) (c - 1) staticWordsWord
+  statics-word : classStaticWords (o .outcome .set) c ≡ rowWord (left-sections .classes) (c - 1) staticWordsWord
   statics-word =
       ap (λ (x : List ℕ). classStaticWords x c) new-set
       ∙ class-word left-sections (laid .1 .formed) c staticWordsWord some (omega (arith, within, laid .1 .classes)) (omega arith)
@@ -156,7 +156,7 @@ module _ (ws abi : List ℕ) (c : ℕ) (area stubs : List ℕ) (o : Outcome) (ac
   kind-row : classKind ws c ≡ rowWord (s .classes) (c - 1) kindWord
   kind-row = own kindWord (omega arith)
 
-  new-statics : classKind ws c ≢ 1 → classStaticWords (o .set) c ≡ newStatics ws (textOf ws) c
+  new-statics : classKind ws c ≢ 1 → classStaticWords (o .outcome .set) c ≡ newStatics ws (textOf ws) c
   new-statics n = statics-word ∙ own-statics s formed c (nextFree area) words statics p some within (λ e. n (kind-row ∙ e))
 
   not-one : IsBuilt ws c → classKind ws c ≢ 1
@@ -167,7 +167,7 @@ module _ (ws abi : List ℕ) (c : ℕ) (area stubs : List ℕ) (o : Outcome) (ac
   unfolding newStatics
   built-sum e = rw e
 
-  pub left : Left ws (o .set) c
+  pub left : Left ws (o .outcome .set) c
   unfolding newStatics isBuiltKind
   left = record {
     built = λ e. new-statics (not-one e) ∙ built-sum e;
@@ -177,7 +177,7 @@ module _ (ws abi : List ℕ) (c : ℕ) (area stubs : List ℕ) (o : Outcome) (ac
     others = λ d k n. leaves .others d staticWordsWord (k .0) (k .1) (omega arith) n;
   }
 
-  pub more-fields : fieldCount ws ≤ fieldCount (o .set)
+  pub more-fields : fieldCount ws ≤ fieldCount (o .outcome .set)
   more-fields =
       omega (
         arith,
@@ -187,7 +187,7 @@ module _ (ws abi : List ℕ) (c : ℕ) (area stubs : List ℕ) (o : Outcome) (ac
         lies-of ws (ok .fits) .fields,
       )
 
-  pub field-kept : (i k : ℕ) → i < fieldCount ws → k < indexWord → fieldWord (o .set) i k ≡ fieldWord ws i k
+  pub field-kept : (i k : ℕ) → i < fieldCount ws → k < indexWord → fieldWord (o .outcome .set) i k ≡ fieldWord ws i k
   field-kept i k h l =
       let m : i < length (s .fields) = omega (arith, lies-of ws (ok .fits) .fields) in
       ap (λ (x : List ℕ). fieldWord x i k) new-set
@@ -197,10 +197,10 @@ module _ (ws abi : List ℕ) (c : ℕ) (area stubs : List ℕ) (o : Outcome) (ac
 
 -- ---- a link, by its answer
 
-module _ (ws abi : List ℕ) (c : ℕ) (area stubs : List ℕ) where
-  pub linked : linkDef ws abi c area stubs .refusal ≡ 0 → Left ws (linkDef ws abi c area stubs .set) c
+module _ (ws abi : List ℕ) (c : ℕ) (area stubs missing : List ℕ) where
+  pub linked : linkDef ws abi c area stubs missing .outcome .refusal ≡ 0 → Left ws (linkDef ws abi c area stubs missing .outcome .set) c
   linked e =
-      elim (link-cases ws abi c area stubs) [ inl r ↦ absurd (r .number e) | inr a ↦ left ws abi c area stubs (linkDef ws abi c area stubs) a ]
+      elim (link-cases ws abi c area stubs missing) [ inl r ↦ absurd (r .number e) | inr a ↦ left ws abi c area stubs missing (linkDef ws abi c area stubs missing) a ]
 
-  pub refused : linkDef ws abi c area stubs .refusal ≢ 0 → linkDef ws abi c area stubs .set ≡ ws
-  refused n = elim (link-cases ws abi c area stubs) [ inl r ↦ r .same-set | inr a ↦ absurd (n (a .number)) ]
+  pub refused : linkDef ws abi c area stubs missing .outcome .refusal ≢ 0 → linkDef ws abi c area stubs missing .outcome .set ≡ ws
+  refused n = elim (link-cases ws abi c area stubs missing) [ inl r ↦ r .same-set | inr a ↦ absurd (n (a .number)) ]

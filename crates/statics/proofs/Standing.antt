@@ -25,7 +25,7 @@ use Rattle.linking.specs.Vtable.{Entry, Built, built, refused}
 use Rattle.linking.specs.Fields.{fieldWidth, numberFields, addedFields, tooManyWords, staticWords}
 use Rattle.linking.specs.Compiler.{New, noNew}
 use Rattle.linking.specs.Set.{newText}
-use Rattle.linking.specs.Link.{Plan, Planned, planned, unplanned, isNone, onTable, withinSlots, newFieldsOf, builtTable, planBuilt, plan, nextFree, Outcome, linkDef}
+use Rattle.linking.specs.Link.{Plan, Planned, planned, unplanned, isNone, onTable, withinSlots, newFieldsOf, builtTable, planBuilt, plan, nextFree, LinkOutcome, linkDef}
 use Rattle.linking.specs.Grown.{rowIndices, memberRow, fieldsGrowing, recordRows, linkedSections}
 use Rattle.linking.proofs.ChainLaws.{own-fields-length, own-field-at}
 use Rattle.linking.proofs.Grown.{rows-indices, length-row-indices, index-other, index-at}
@@ -182,7 +182,7 @@ module _ (s : Sections) (f : Formed classWidth s) (c place words statics : ℕ) 
 
 -- ---- an accepted link of a built class
 
-module _ (ws abi : List ℕ) (c : ℕ) (area stubs : List ℕ) (o : Outcome) (acc : Accepted ws abi c area stubs o) (kind : IsBuilt ws c) where
+module _ (ws abi : List ℕ) (c : ℕ) (area stubs missing : List ℕ) (o : LinkOutcome) (acc : Accepted ws abi c area stubs missing o) (kind : IsBuilt ws c) where
   abbrev text : List ℕ
   text = textOf ws
 
@@ -190,7 +190,7 @@ module _ (ws abi : List ℕ) (c : ℕ) (area stubs : List ℕ) (o : Outcome) (ac
   labels = abiTextOf abi
 
   ok : Valid ws
-  ok = one.ok ws abi c area stubs o acc
+  ok = one.ok ws abi c area stubs missing o acc
 
   comes : BuiltPlan ws text abi labels area c (acc .coming)
   comes = built-plan ws text abi labels area c (acc .coming) kind (acc .comes)
@@ -202,10 +202,10 @@ module _ (ws abi : List ℕ) (c : ℕ) (area stubs : List ℕ) (o : Outcome) (ac
   many = omega (arith, own-fields-length ws c, fields-in, ok .field-count)
 
   first-is : classFirstField ws c ≡ rowWord (sectionsOf ws .classes) (c - 1) firstFieldWord
-  first-is = one.own ws abi c area stubs o acc firstFieldWord (omega arith)
+  first-is = one.own ws abi c area stubs missing o acc firstFieldWord (omega arith)
 
   count-is : classFieldCount ws c ≡ rowWord (sectionsOf ws .classes) (c - 1) fieldCountWord
-  count-is = one.own ws abi c area stubs o acc fieldCountWord (omega arith)
+  count-is = one.own ws abi c area stubs missing o acc fieldCountWord (omega arith)
 
   inside : rowWord (sectionsOf ws .classes) (c - 1) firstFieldWord + rowWord (sectionsOf ws .classes) (c - 1) fieldCountWord
       ≤ length (sectionsOf ws .fields)
@@ -216,36 +216,36 @@ module _ (ws abi : List ℕ) (c : ℕ) (area stubs : List ℕ) (o : Outcome) (ac
 
   abbrev Stands : List ℕ → Type 0
   Stands x =
-      Stand (sectionsOf ws) (one.formed ws abi c area stubs o acc) c (nextFree area) (one.words ws abi c area stubs o acc)
-      (one.statics ws abi c area stubs o acc) (acc .coming) (acc .class .some) (one.within ws abi c area stubs o acc) inside numbered x
+      Stand (sectionsOf ws) (one.formed ws abi c area stubs missing o acc) c (nextFree area) (one.words ws abi c area stubs missing o acc)
+      (one.statics ws abi c area stubs missing o acc) (acc .coming) (acc .class .some) (one.within ws abi c area stubs missing o acc) inside numbered x
 
-  stands : Stands (o .set)
+  stands : Stands (o .outcome .set)
   stands =
-      subst Stands (sym (one.new-set ws abi c area stubs o acc))
-      (stand (sectionsOf ws) (one.formed ws abi c area stubs o acc) c (nextFree area) (one.words ws abi c area stubs o acc)
-      (one.statics ws abi c area stubs o acc) (acc .coming) (acc .class .some) (one.within ws abi c area stubs o acc) inside numbered (comes .no-methods))
+      subst Stands (sym (one.new-set ws abi c area stubs missing o acc))
+      (stand (sectionsOf ws) (one.formed ws abi c area stubs missing o acc) c (nextFree area) (one.words ws abi c area stubs missing o acc)
+      (one.statics ws abi c area stubs missing o acc) (acc .coming) (acc .class .some) (one.within ws abi c area stubs missing o acc) inside numbered (comes .no-methods))
 
   -- where field i of the class's list now is, and where it was
   abbrev now : ℕ → ℕ
-  now i = classFirstField (o .set) c + i
+  now i = classFirstField (o .outcome .set) c + i
 
   abbrev was : ℕ → ℕ
   was i = classFirstField ws c + i
 
-  word-same : (i k : ℕ) → i < classFieldCount ws c → k < indexWord → fieldWord (o .set) (now i) k ≡ fieldWord ws (was i) k
+  word-same : (i k : ℕ) → i < classFieldCount ws c → k < indexWord → fieldWord (o .outcome .set) (now i) k ≡ fieldWord ws (was i) k
   word-same i k h g =
       stands .kept i k (omega (arith, h, count-is)) g
       ∙ ap (λ (n : ℕ). rowWord (sectionsOf ws .fields) (n + i) k) (sym first-is)
       ∙ sym (field-of ws (ok .fits) (was i) k (omega (arith, h, fields-in)) (omega arith))
 
-  width-same : (i : ℕ) → i < classFieldCount ws c → fieldWidth (o .set) (textOf (o .set)) (now i) ≡ fieldWidth ws text (was i)
+  width-same : (i : ℕ) → i < classFieldCount ws c → fieldWidth (o .outcome .set) (textOf (o .outcome .set)) (now i) ≡ fieldWidth ws text (was i)
   width-same i h =
       let q = ok .field (was i) (omega (arith, h, fields-in)) .descriptor .inside in
       rw (word-same i descriptorStartWord h (omega arith), word-same i descriptorLengthWord h (omega arith))
-      (ap width (name-same ws (o .set) ok (alike (one.leaves ws abi c area stubs o acc .like)) _ _ q))
+      (ap width (name-same ws (o .outcome .set) ok (alike (one.leaves ws abi c area stubs missing o acc .like)) _ _ q))
 
-  own-stands : (i : ℕ) → i < classFieldCount ws c → isStatic (fieldFlags (o .set) (now i)) ≡ true
-      → fieldIndex (o .set) (now i) + fieldWidth (o .set) (textOf (o .set)) (now i) ≤ classStaticWords (o .set) c
+  own-stands : (i : ℕ) → i < classFieldCount ws c → isStatic (fieldFlags (o .outcome .set) (now i)) ≡ true
+      → fieldIndex (o .outcome .set) (now i) + fieldWidth (o .outcome .set) (textOf (o .outcome .set)) (now i) ≤ classStaticWords (o .outcome .set) c
   own-stands i h s =
       let at : getD (ownFields ws c) i 0 ≡ was i = own-field-at ws c i (omega (arith, h, many)) in
       let static : isStatic (fieldFlags ws (getD (ownFields ws c) i 0)) ≡ true = rw (at, ← word-same i 4 h (omega arith)) s in
@@ -255,11 +255,11 @@ module _ (ws abi : List ℕ) (c : ℕ) (area stubs : List ℕ) (o : Outcome) (ac
         e,
         width-same i h,
         stands .index i (omega (arith, h, count-is)) ∙ ap (λ (l : List ℕ). getD l i 0) (comes .indices),
-        one.left ws abi c area stubs o acc .built kind,
+        one.left ws abi c area stubs missing o acc .built kind,
       )
 
   -- flags 0x0002
-  added-not : (i : ℕ) → classFieldCount ws c ≤ i → i < classFieldCount (o .set) c → isStatic (fieldFlags (o .set) (now i)) ≡ false
+  added-not : (i : ℕ) → classFieldCount ws c ≤ i → i < classFieldCount (o .outcome .set) c → isStatic (fieldFlags (o .outcome .set) (now i)) ≡ false
   added-not i l h =
       let j : ℕ = i - classFieldCount ws c in
       let n : rowWord (sectionsOf ws .classes) (c - 1) fieldCountWord + j ≡ i = omega (arith, l, count-is) in
@@ -268,12 +268,12 @@ module _ (ws abi : List ℕ) (c : ℕ) (area stubs : List ℕ) (o : Outcome) (ac
       rw (← comes .new-fields) (a .0) in
       rw (rw n at (a .1), comes .new-fields, new-flags abi labels _ j m)
 
-  pub standing : Standing (o .set) c
+  pub standing : Standing (o .outcome .set) c
   standing i h s =
       by (ltb i (classFieldCount ws c)) (λ t. own-stands i (ltb-true i (classFieldCount ws c) t) s)
       (λ q. absurd (true≢false (sym s ∙ added-not i (ltb-false i (classFieldCount ws c) q) h)))
 
-module _ (ws abi : List ℕ) (c : ℕ) (area stubs : List ℕ) where
-  pub link-stand : linkDef ws abi c area stubs .refusal ≡ 0 → IsBuilt ws c → Standing (linkDef ws abi c area stubs .set) c
+module _ (ws abi : List ℕ) (c : ℕ) (area stubs missing : List ℕ) where
+  pub link-stand : linkDef ws abi c area stubs missing .outcome .refusal ≡ 0 → IsBuilt ws c → Standing (linkDef ws abi c area stubs missing .outcome .set) c
   link-stand e k =
-      elim (link-cases ws abi c area stubs) [ inl r ↦ absurd (r .number e) | inr a ↦ standing ws abi c area stubs (linkDef ws abi c area stubs) a k ]
+      elim (link-cases ws abi c area stubs missing) [ inl r ↦ absurd (r .number e) | inr a ↦ standing ws abi c area stubs missing (linkDef ws abi c area stubs missing) a k ]

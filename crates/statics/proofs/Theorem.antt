@@ -27,5 +27,5 @@ statics = record {
   ends = ends;
   stand = link-stand;
   read = read;
-  after-calls = λ ws abi area calls start. after-calls ws abi start area calls;
+  after-calls = λ ws abi area missing calls start. after-calls ws abi start area missing calls;
 }

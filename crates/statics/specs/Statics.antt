@@ -14,7 +14,7 @@ use Rattle.sheet.specs.Sheet.{readClassSheet}
 use Rattle.linking.specs.Chain.{ownFields, isStatic}
 use Rattle.linking.specs.Fields.{fieldWidth, numberFields, addStatic, staticWords}
 use Rattle.linking.specs.Link.{linkDef}
-use Rattle.calls.specs.Calls.{Call, run, Unlinked}
+use Rattle.calls.specs.Calls.{Call, start, run, Unlinked}
 
 -- class c is built: of kind 0, or of kind 3
 abbrev pub IsBuilt : List ℕ → ℕ → Type 0
@@ -49,9 +49,9 @@ pub record After (ws new : List ℕ) (c : ℕ) : Type 0 where
 
 pub record Statics : Type 0 where
   -- 1. What a link leaves, accepted and refused.
-  pub linked : (ws abi : List ℕ) (c : ℕ) (area stubs : List ℕ) → linkDef ws abi c area stubs .refusal ≡ 0
-      → Left ws (linkDef ws abi c area stubs .set) c
-  pub refused : (ws abi : List ℕ) (c : ℕ) (area stubs : List ℕ) → linkDef ws abi c area stubs .refusal ≢ 0 → linkDef ws abi c area stubs .set ≡ ws
+  pub linked : (ws abi : List ℕ) (c : ℕ) (area stubs missing : List ℕ) → linkDef ws abi c area stubs missing .outcome .refusal ≡ 0
+      → Left ws (linkDef ws abi c area stubs missing .outcome .set) c
+  pub refused : (ws abi : List ℕ) (c : ℕ) (area stubs missing : List ℕ) → linkDef ws abi c area stubs missing .outcome .refusal ≢ 0 → linkDef ws abi c area stubs missing .outcome .set ≡ ws
   -- 2. The numbering counts to the sum, and that is at most 1,024.
   pub counted : (ws text abi labels : List ℕ) (own : Found) (c : ℕ) → numberFields ws text abi labels own c .statics ≡ staticWords ws text c
   pub most : (ws text : List ℕ) (c : ℕ) → staticWords ws text c ≤ 1024
@@ -63,9 +63,9 @@ pub record Statics : Type 0 where
   pub ends : (ws text abi labels : List ℕ) (own : Found) (c i : ℕ) → i < length (ownFields ws c)
       → isStatic (fieldFlags ws (getD (ownFields ws c) i 0)) ≡ true
       → getD (numberFields ws text abi labels own c .indices) i 0 + fieldWidth ws text (getD (ownFields ws c) i 0) ≤ staticWords ws text c
-  pub stand : (ws abi : List ℕ) (c : ℕ) (area stubs : List ℕ) → linkDef ws abi c area stubs .refusal ≡ 0 → IsBuilt ws c
-      → Standing (linkDef ws abi c area stubs .set) c
+  pub stand : (ws abi : List ℕ) (c : ℕ) (area stubs missing : List ℕ) → linkDef ws abi c area stubs missing .outcome .refusal ≡ 0 → IsBuilt ws c
+      → Standing (linkDef ws abi c area stubs missing .outcome .set) c
   -- 4. After any list of calls, from words that a reading left, whatever follows the sheet in them.
   pub read : (bs out : List ℕ) → readClassSheet bs out .refusal ≡ 0 → Start (readClassSheet bs out .memory)
-  pub after-calls : (ws abi area : List ℕ) (calls : List Call) → Start ws → (c : ℕ) → IsClass ws c
-      → After ws (run abi calls (record { set = ws; area = area }) .set) c
+  pub after-calls : (ws abi area missing : List ℕ) (calls : List Call) → Start ws → (c : ℕ) → IsClass ws c
+      → After ws (run abi calls (start ws area missing) .set) c

@@ -18,15 +18,15 @@ use Rattle.linking.specs.Chain.{onFound, listCount, ownMethods, eligible, metho
 use Rattle.linking.specs.Vtable.{Entry, Built, built, refused, empty, entryIsOther, fixedOf, slotOf, methodEntry, putMethod, addMethod, addMethods}
 use Rattle.vtable.specs.declared.Step.{Step}
 use Rattle.vtable.specs.declared.Step.the-variants.{Next, Moved, Taken}
-use Rattle.reading.specs.Arrays.{markOf, methodOf, entryAt, entriesOf}
+use Rattle.reading.specs.Arrays.{markOf, methodOf, sourceOf, entryAt, entriesOf}
 use Rattle.vtable.specs.Arrays.{slotIn, otherIn, stepOf, stepCount}
-use Rattle.reading.proofs.ArrayLaws.{method-back, length-entries, entry-is}
+use Rattle.reading.proofs.ArrayLaws.{no-source, method-back, length-entries, entry-is}
 use Rattle.vtable.proofs.SlotLaws.{slot-in}
 
 -- the entry with a method's mark is the method's
 pub mark-entry : (ws : List ℕ) (m : ℕ) {t k : ℕ} → m < methodLimit → t ≡ methodTarget ws m → k ≡ markOf (At m)
-    → _≡_ {A = Entry} (record { word = t; method = methodOf k }) (methodEntry ws m)
-mark-entry ws m h e f = rw (f, e, method-back m (omega arith))
+    → _≡_ {A = Entry} (record { word = t; method = methodOf k; source = sourceOf k }) (methodEntry ws m)
+mark-entry ws m h e f = rw (f, e, method-back m (omega arith), no-source (At m))
 
 module _ (ws text : List ℕ) (m : ℕ) where
   -- ---- whether the fixed slot holds another signature

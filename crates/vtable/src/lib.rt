@@ -6,13 +6,14 @@ ghost use lib.ListN.{length, getD, replicate};
 ghost use mathlib.Core.List.{[], _∷_, _++_};
 ghost use mathlib.Core.Bool.{not, false};
 ghost use lib.Dec.{eqb};
+ghost use Rattle.words.specs.Lent.{was, after};
 ghost use Rattle.class_sheet.specs.ClassSheet.{methodLimit};
 ghost use Rattle.words.specs.Lists.{fold, keep};
 ghost use Rattle.words.specs.declared.Found.the-variants.{At, Nothing};
 ghost use Rattle.linking.specs.Chain.{onFound, ownMethods, eligible};
 ghost use Rattle.linking.specs.Abi.{chainAbi};
 ghost use Rattle.linking.specs.Vtable.{parentEntries, relayStep, relayed, extended, inheritedTable, putMethod, addMethod, addMethods, buildMethods, methodEntries, buildInterfaceMethods, empty};
-ghost use Rattle.reading.specs.Arrays.{methodOf, entriesOf};
+ghost use Rattle.reading.specs.Arrays.{methodOf, sourceOf, entriesOf};
 ghost use Rattle.vtable.specs.Arrays.{markIs, slotIn, otherIn, stepOf, stepCount};
 
 // A table lies in two arrays of the caller, as `reading` has them: its slots' words and their methods' marks. The arrays of a table that is
@@ -28,7 +29,7 @@ pub enum Step {
 
 // Whether the method with mark k has this name and descriptor.
 fn mark_is(ws: &[u32], text: &[u8], name: &[u8], descriptor: &[u8], k: u32) -> bool
-    ensures { λ r. ⌜ r ≡ markIs (now (ws .entry)) (now (text .entry)) (now (name .entry)) (now (descriptor .entry)) k ⌝ }
+    ensures { λ r. ⌜ r ≡ markIs (was ws) (was text) (was name) (was descriptor) k ⌝ }
 {
     match reading::method_of(k) {
         Found::At(m) => chain::method_is(ws, text, m, name, descriptor),
@@ -38,7 +39,7 @@ fn mark_is(ws: &[u32], text: &[u8], name: &[u8], descriptor: &[u8], k: u32) -> b
 
 // Whether slot i has this signature.
 fn slot_is(ws: &[u32], text: &[u8], name: &[u8], descriptor: &[u8], ms: &[u32], i: u32) -> bool
-    ensures { λ r. ⌜ r ≡ markIs (now (ws .entry)) (now (text .entry)) (now (name .entry)) (now (descriptor .entry)) (getD (now (ms .entry)) i 0) ⌝ }
+    ensures { λ r. ⌜ r ≡ markIs (was ws) (was text) (was name) (was descriptor) (getD (was ms) i 0) ⌝ }
 {
     mark_is(
         ws,
@@ -51,7 +52,7 @@ fn slot_is(ws: &[u32], text: &[u8], name: &[u8], descriptor: &[u8], ms: &[u32], 
 
 // The first of n slots that has this signature.
 fn find_slot(ws: &[u32], text: &[u8], name: &[u8], descriptor: &[u8], ms: &[u32], n: u32) -> Found
-    ensures { λ r. ⌜ r ≡ slotIn (now (ws .entry)) (now (text .entry)) (now (name .entry)) (now (descriptor .entry)) (now (ms .entry)) n ⌝ }
+    ensures { λ r. ⌜ r ≡ slotIn (was ws) (was text) (was name) (was descriptor) (was ms) n ⌝ }
 {
     let mut i: u32 = 0;
     while i < n {
@@ -66,7 +67,7 @@ fn find_slot(ws: &[u32], text: &[u8], name: &[u8], descriptor: &[u8], ms: &[u32]
 // Extends the n slots with empty ones to `size`, and answers how many there are.
 fn extend(ts: &mut [u32], ms: &mut [u32], n: u32, size: u32) -> u32
     requires { ⌜ (n ≤ 1024) × (size ≤ 1024) × (1024 ≤ length (now ts)) × (1024 ≤ length (now ms)) ⌝ }
-    ensures is { λ r. ⌜ entriesOf (now (ts .exit)) (now (ms .exit)) r ≡ entriesOf (now (ts .entry)) (now (ms .entry)) n ++ replicate (size - n) empty ⌝ }
+    ensures is { λ r. ⌜ entriesOf (after ts) (after ms) r ≡ entriesOf (was ts) (was ms) n ++ replicate (size - n) empty ⌝ }
     ensures count { λ r. ⌜ r ≤ 1024 ⌝ }
 {
     let mut j: u32 = n;
@@ -91,7 +92,8 @@ fn relay_entry(
     n: u32,
 ) -> u32
     requires { ⌜ (n < length (now ts)) × (n < length (now ms)) × (n < 3584) ⌝ }
-    ensures is { λ r. ⌜ entriesOf (now (ts .exit)) (now (ms .exit)) r ≡ relayStep (now (ws .entry)) (now (text .entry)) (now (abi .entry)) (now (labels .entry)) (now (abis .entry)) (entriesOf (now (ts .entry)) (now (ms .entry)) n) (record { word = w; method = methodOf k }) ⌝ }
+    ensures is { λ r. ⌜ entriesOf (after ts) (after ms) r
+        ≡ relayStep (was ws) (was text) (was abi) (was labels) (was abis) (entriesOf (was ts) (was ms) n) (record { word = w; method = methodOf k; source = sourceOf k }) ⌝ }
     ensures count { λ r. ⌜ r ≤ n + 1 ⌝ }
 {
     let Found::At(m) = reading::method_of(k) else {
@@ -124,7 +126,7 @@ fn relay(
     n: u32,
 ) -> u32
     requires { ⌜ (m ≤ 1024) × (n ≤ 1024) × (3584 ≤ length (now ts)) × (3584 ≤ length (now ms)) ⌝ }
-    ensures is { λ r. ⌜ entriesOf (now (ts .exit)) (now (ms .exit)) r ≡ fold (relayStep (now (ws .entry)) (now (text .entry)) (now (abi .entry)) (now (labels .entry)) (now (abis .entry))) (entriesOf (now (ts .entry)) (now (ms .entry)) n) (entriesOf (now (ps .entry)) (now (qs .entry)) m) ⌝ }
+    ensures is { λ r. ⌜ entriesOf (after ts) (after ms) r ≡ fold (relayStep (was ws) (was text) (was abi) (was labels) (was abis)) (entriesOf (was ts) (was ms) n) (entriesOf (was ps) (was qs) m) ⌝ }
     ensures count { λ r. ⌜ r ≤ 2048 ⌝ }
 {
     let mut k: u32 = n;
@@ -151,7 +153,7 @@ fn relay_parent(
     ms: &mut [u32],
 ) -> u32
     requires { ⌜ (3584 ≤ length (now ts)) × (3584 ≤ length (now ms)) ⌝ }
-    ensures is { λ r. ⌜ entriesOf (now (ts .exit)) (now (ms .exit)) r ≡ relayed (now (ws .entry)) (now (text .entry)) (now (abi .entry)) (now (labels .entry)) (now (abis .entry)) (parentEntries (now (ws .entry)) (now (text .entry)) (now (abi .entry)) (now (labels .entry)) (now (area .entry)) c) ⌝ }
+    ensures is { λ r. ⌜ entriesOf (after ts) (after ms) r ≡ relayed (was ws) (was text) (was abi) (was labels) (was abis) (parentEntries (was ws) (was text) (was abi) (was labels) (was area) c) ⌝ }
     ensures count { λ r. ⌜ r ≤ 2048 ⌝ }
 {
     let mut ps = [0u32; 1024];
@@ -174,9 +176,9 @@ fn extend_parent(
     ts: &mut [u32; 3584],
     ms: &mut [u32; 3584],
 ) -> u32
-    ensures is { λ r. ⌜ entriesOf (now (ts .exit)) (now (ms .exit)) r ≡ extended (now (abi .entry)) (now (abis .entry)) (parentEntries (now (ws .entry)) (now (text .entry)) (now (abi .entry)) (now (labels .entry)) (now (area .entry)) c) ⌝ }
+    ensures is { λ r. ⌜ entriesOf (after ts) (after ms) r ≡ extended (was abi) (was abis) (parentEntries (was ws) (was text) (was abi) (was labels) (was area) c) ⌝ }
     ensures count { λ r. ⌜ r ≤ 1024 ⌝ }
-    ensures arrays { λ r. ⌜ (length (now (ts .exit)) ≡ 3584) × (length (now (ms .exit)) ≡ 3584) ⌝ }
+    ensures arrays { λ r. ⌜ (length (after ts) ≡ 3584) × (length (after ms) ≡ 3584) ⌝ }
 {
     let n = reading::inherited_entries(ws, text, abi, labels, area, c, ts, ms);
     extend(ts, ms, n, abi::largest_size(abi, abis))
@@ -195,9 +197,9 @@ fn inherited_table(
     ms: &mut [u32; 3584],
 ) -> u32
     requires { ⌜ now abis ≡ chainAbi (now ws) (now text) (now abi) (now labels) c ⌝ }
-    ensures is { λ r. ⌜ entriesOf (now (ts .exit)) (now (ms .exit)) r ≡ inheritedTable (now (ws .entry)) (now (text .entry)) (now (abi .entry)) (now (labels .entry)) (now (area .entry)) c ⌝ }
+    ensures is { λ r. ⌜ entriesOf (after ts) (after ms) r ≡ inheritedTable (was ws) (was text) (was abi) (was labels) (was area) c ⌝ }
     ensures count { λ r. ⌜ r ≤ 2048 ⌝ }
-    ensures arrays { λ r. ⌜ (length (now (ts .exit)) ≡ 3584) × (length (now (ms .exit)) ≡ 3584) ⌝ }
+    ensures arrays { λ r. ⌜ (length (after ts) ≡ 3584) × (length (after ms) ≡ 3584) ⌝ }
 {
     match abi::class_abi(ws, text, abi, labels, c) {
         Found::At(a) => relay_parent(ws, text, abi, labels, area, abis, c, ts, ms),
@@ -217,7 +219,7 @@ fn is_elsewhere(slot: Found, i: u32) -> bool
 
 // Whether slot i of n holds a method of another signature than method m's.
 fn holds_other(ws: &[u32], text: &[u8], m: u32, ms: &[u32], n: u32, i: u32) -> bool
-    ensures { λ r. ⌜ r ≡ otherIn (now (ws .entry)) (now (text .entry)) m (now (ms .entry)) n i ⌝ }
+    ensures { λ r. ⌜ r ≡ otherIn (was ws) (was text) m (was ms) n i ⌝ }
 {
     if n <= i {
         return false;
@@ -247,7 +249,7 @@ fn put_fixed(
     n: u32,
 ) -> Step
     requires { ⌜ (m < methodLimit) × (n ≤ length (now ts)) × (n ≤ length (now ms)) ⌝ }
-    ensures is { λ r. ⌜ stepOf r (now (ts .exit)) (now (ms .exit)) ≡ putMethod (now (ws .entry)) (now (text .entry)) (At i) slot m (entriesOf (now (ts .entry)) (now (ms .entry)) n) ⌝ }
+    ensures is { λ r. ⌜ stepOf r (after ts) (after ms) ≡ putMethod (was ws) (was text) (At i) slot m (entriesOf (was ts) (was ms) n) ⌝ }
     ensures count { λ r. ⌜ stepCount r ≤ n ⌝ }
 {
     let moved = is_elsewhere(slot, i);
@@ -274,7 +276,7 @@ fn put_found(
     n: u32,
 ) -> Step
     requires { ⌜ (m < methodLimit) × (n < 3584) × (n < length (now ts)) × (n < length (now ms)) ⌝ }
-    ensures is { λ r. ⌜ stepOf r (now (ts .exit)) (now (ms .exit)) ≡ putMethod (now (ws .entry)) (now (text .entry)) Nothing slot m (entriesOf (now (ts .entry)) (now (ms .entry)) n) ⌝ }
+    ensures is { λ r. ⌜ stepOf r (after ts) (after ms) ≡ putMethod (was ws) (was text) Nothing slot m (entriesOf (was ts) (was ms) n) ⌝ }
     ensures count { λ r. ⌜ stepCount r ≤ n + 1 ⌝ }
 {
     let target = class_sheet::method_target(ws, m);
@@ -304,7 +306,7 @@ fn add_method(
     n: u32,
 ) -> Step
     requires { ⌜ (m < methodLimit) × (n < 3584) × (n < length (now ts)) × (n < length (now ms)) ⌝ }
-    ensures is { λ r. ⌜ stepOf r (now (ts .exit)) (now (ms .exit)) ≡ addMethod (now (ws .entry)) (now (text .entry)) (now (abi .entry)) (now (labels .entry)) (now (abis .entry)) m (entriesOf (now (ts .entry)) (now (ms .entry)) n) ⌝ }
+    ensures is { λ r. ⌜ stepOf r (after ts) (after ms) ≡ addMethod (was ws) (was text) (was abi) (was labels) (was abis) m (entriesOf (was ts) (was ms) n) ⌝ }
     ensures count { λ r. ⌜ stepCount r ≤ n + 1 ⌝ }
 {
     if !chain::eligible(ws, text, m) {
@@ -337,7 +339,7 @@ fn add_methods(
     n: u32,
 ) -> Step
     requires { ⌜ (n ≤ 2048) × (3584 ≤ length (now ts)) × (3584 ≤ length (now ms)) ⌝ }
-    ensures is { λ r. ⌜ stepOf r (now (ts .exit)) (now (ms .exit)) ≡ addMethods (now (ws .entry)) (now (text .entry)) (now (abi .entry)) (now (labels .entry)) (now (abis .entry)) (ownMethods (now (ws .entry)) c) (entriesOf (now (ts .entry)) (now (ms .entry)) n) ⌝ }
+    ensures is { λ r. ⌜ stepOf r (after ts) (after ms) ≡ addMethods (was ws) (was text) (was abi) (was labels) (was abis) (ownMethods (was ws) c) (entriesOf (was ts) (was ms) n) ⌝ }
     ensures count { λ r. ⌜ stepCount r ≤ 2560 ⌝ }
 {
     let first = class_sheet::class_first_method(ws, c);
@@ -374,9 +376,9 @@ fn build_with(
     ms: &mut [u32; 3584],
 ) -> Step
     requires { ⌜ now abis ≡ chainAbi (now ws) (now text) (now abi) (now labels) c ⌝ }
-    ensures is { λ r. ⌜ stepOf r (now (ts .exit)) (now (ms .exit)) ≡ buildMethods (now (ws .entry)) (now (text .entry)) (now (abi .entry)) (now (labels .entry)) (now (area .entry)) c ⌝ }
+    ensures is { λ r. ⌜ stepOf r (after ts) (after ms) ≡ buildMethods (was ws) (was text) (was abi) (was labels) (was area) c ⌝ }
     ensures count { λ r. ⌜ stepCount r ≤ 2560 ⌝ }
-    ensures arrays { λ r. ⌜ (length (now (ts .exit)) ≡ 3584) × (length (now (ms .exit)) ≡ 3584) ⌝ }
+    ensures arrays { λ r. ⌜ (length (after ts) ≡ 3584) × (length (after ms) ≡ 3584) ⌝ }
 {
     let n = inherited_table(ws, text, abi, labels, area, abis, c, ts, ms);
     add_methods(ws, text, abi, labels, abis, c, ts, ms, n)
@@ -395,9 +397,9 @@ pub fn build_methods(
     ts: &mut [u32; 3584],
     ms: &mut [u32; 3584],
 ) -> Step
-    ensures is { λ r. ⌜ stepOf r (now (ts .exit)) (now (ms .exit)) ≡ buildMethods (now (ws .entry)) (now (text .entry)) (now (abi .entry)) (now (labels .entry)) (now (area .entry)) c ⌝ }
+    ensures is { λ r. ⌜ stepOf r (after ts) (after ms) ≡ buildMethods (was ws) (was text) (was abi) (was labels) (was area) c ⌝ }
     ensures count { λ r. ⌜ stepCount r ≤ 2560 ⌝ }
-    ensures arrays { λ r. ⌜ (length (now (ts .exit)) ≡ 3584) × (length (now (ms .exit)) ≡ 3584) ⌝ }
+    ensures arrays { λ r. ⌜ (length (after ts) ≡ 3584) × (length (after ms) ≡ 3584) ⌝ }
 {
     let mut at = [0u32; class_sheet::CLASS_LIMIT as usize];
     let n = abi::chain_abi(ws, text, abi, labels, c, &mut at);
@@ -408,7 +410,7 @@ pub fn build_methods(
 // Puts method m after the n slots, if it is eligible.
 fn add_eligible(ws: &[u32], text: &[u8], m: u32, ts: &mut [u32], ms: &mut [u32], n: u32) -> u32
     requires { ⌜ (m < methodLimit) × (n < 3584) × (n < length (now ts)) × (n < length (now ms)) ⌝ }
-    ensures is { λ r. ⌜ entriesOf (now (ts .exit)) (now (ms .exit)) r ≡ entriesOf (now (ts .entry)) (now (ms .entry)) n ++ methodEntries (now (ws .entry)) (keep (eligible (now (ws .entry)) (now (text .entry))) (m ∷ [])) ⌝ }
+    ensures is { λ r. ⌜ entriesOf (after ts) (after ms) r ≡ entriesOf (was ts) (was ms) n ++ methodEntries (was ws) (keep (eligible (was ws) (was text)) (m ∷ [])) ⌝ }
     ensures count { λ r. ⌜ r ≤ n + 1 ⌝ }
 {
     if chain::eligible(ws, text, m) {
@@ -422,7 +424,7 @@ fn add_eligible(ws: &[u32], text: &[u8], m: u32, ts: &mut [u32], ms: &mut [u32],
 // Fills the arrays with class c's own eligible methods, and answers how many there are.
 fn eligible_methods(ws: &[u32], text: &[u8], c: u32, ts: &mut [u32], ms: &mut [u32]) -> u32
     requires { ⌜ (methodLimit ≤ length (now ts)) × (methodLimit ≤ length (now ms)) ⌝ }
-    ensures is { λ r. ⌜ entriesOf (now (ts .exit)) (now (ms .exit)) r ≡ buildInterfaceMethods (now (ws .entry)) (now (text .entry)) c ⌝ }
+    ensures is { λ r. ⌜ entriesOf (after ts) (after ms) r ≡ buildInterfaceMethods (was ws) (was text) c ⌝ }
     ensures count { λ r. ⌜ r ≤ methodLimit ⌝ }
 {
     let first = class_sheet::class_first_method(ws, c);
@@ -445,9 +447,9 @@ pub fn build_interface_methods(
     ts: &mut [u32; 3584],
     ms: &mut [u32; 3584],
 ) -> u32
-    ensures is { λ r. ⌜ entriesOf (now (ts .exit)) (now (ms .exit)) r ≡ buildInterfaceMethods (now (ws .entry)) (now (text .entry)) c ⌝ }
+    ensures is { λ r. ⌜ entriesOf (after ts) (after ms) r ≡ buildInterfaceMethods (was ws) (was text) c ⌝ }
     ensures count { λ r. ⌜ r ≤ methodLimit ⌝ }
-    ensures arrays { λ r. ⌜ (length (now (ts .exit)) ≡ 3584) × (length (now (ms .exit)) ≡ 3584) ⌝ }
+    ensures arrays { λ r. ⌜ (length (after ts) ≡ 3584) × (length (after ms) ≡ 3584) ⌝ }
 {
     eligible_methods(ws, text, c, ts, ms)
 }

@@ -1,10 +1,10 @@
-//! What a folder of two sheets comes to, by the model: the listing, and the reasons of what is refused. What a class
+//! What a folder of two sheets comes to, by the model: the listing, the missing slots, and the reasons of what is refused. What a class
 //! file holds.
 
 use std::fmt::Write;
 
 use model::class_file::{FileRefused, class_file};
-use model::parts::{AbiSheet, ClassSheet, Entry, reading, text_of_abi_words, text_of_class_words};
+use model::parts::{AbiSheet, ClassSheet, Entry, is_counted, reading, table_of, text_of_abi_words, text_of_class_words};
 use model::why::{Refused, Why, shown};
 use model::{ask, link, read_abi_sheet, read_class_sheet};
 
@@ -15,6 +15,8 @@ const ABI_WORDS: usize = 6_477;
 const AREA_WORDS: usize = 4_096;
 const STUBS: u32 = 1_024;
 const FIRST_STUB: u32 = 4_026_531_840;
+/// A list of missing slots that is long enough for every set.
+const MISSING_WORDS: usize = 2_112;
 /// Room for every interface table that a set can ask for, so that no reason is about the desk's own area.
 const ASKED_WORDS: usize = 1 << 20;
 
@@ -33,6 +35,7 @@ struct Desk {
     abi: Vec<u32>,
     area: Vec<u32>,
     stubs: Vec<u32>,
+    missing: Vec<u32>,
 }
 
 impl Desk {
@@ -42,7 +45,8 @@ impl Desk {
         read_abi_sheet(abi_sheet, &mut abi).map_err(|refused| format!("abi refused {}", refused.row))?;
         read_class_sheet(class_sheet, &mut set).map_err(|refused| format!("classes refused {}", refused.row))?;
         area[0] = 1;
-        Ok(Self { set, abi, area, stubs: (0..STUBS).map(|index| FIRST_STUB + index).collect() })
+        let stubs = (0..STUBS).map(|index| FIRST_STUB + index).collect();
+        Ok(Self { set, abi, area, stubs, missing: vec![0; MISSING_WORDS] })
     }
 
     fn class_count(&self) -> u32 {
@@ -50,7 +54,7 @@ impl Desk {
     }
 
     fn link(&mut self, class: u32) -> Result<(u32, u32), Refused> {
-        link(&mut self.set, &self.abi, class, &mut self.area, &self.stubs)
+        link(&mut self.set, &self.abi, class, &mut self.area, &self.stubs, &mut self.missing)
     }
 
     /// What `look` finds in both sheets and the area.
@@ -103,6 +107,53 @@ fn slot_name(set: &ClassSheet, abi: &AbiSheet, class: u32, index: u32, entry: &E
         abi.slots_of(entry).find(|slot| slot.index == index)
     });
     fixed.map_or(("-".to_owned(), "-".to_owned()), |slot| (shown(slot.name), shown(slot.descriptor)))
+}
+
+/// A slot's name and descriptor.
+type Named = (String, String);
+
+/// How many slots each class has and how many of them are missing, with the names of these where they are known.
+pub fn missing(abi_sheet: &[u8], class_sheet: &[u8]) -> Told {
+    let mut desk = match Desk::read(abi_sheet, class_sheet) {
+        Ok(desk) => desk,
+        Err(line) => return Told { text: line + "\n", refused: true },
+    };
+    let mut told = Told { text: String::new(), refused: false };
+    let mut names: Vec<Vec<Named>> = vec![Vec::new()];
+    for class in 1..=desk.class_count() {
+        let named = desk.view(|set, abi, area| made_names(set, abi, area, &names, class));
+        match desk.link(class) {
+            Ok((_, slots)) => {
+                let name = desk.view(|set, _, _| shown(set.name(class)));
+                let counted: Vec<usize> = (0..slots as usize).filter(|&slot| is_counted(&desk.missing, class, slot)).collect();
+                writeln!(told.text, "class {class} {name} slots {slots} missing {}", counted.len()).expect("a string takes all");
+                for slot in counted {
+                    writeln!(told.text, "  {slot} {} {}", named[slot].0, named[slot].1).expect("a string takes all");
+                }
+            }
+            Err(refused) => {
+                told.refused = true;
+                told.text += &format!("class {class} refused {}\n", refused.row);
+            }
+        }
+        names.push(named);
+    }
+    told
+}
+
+/// What each slot is called in the table that a link is about to write: by its method, with or without a target; by the parent's slot of the
+/// index, of which what no method is known of can only be a copy; or as the listing has it.
+fn made_names(set: &ClassSheet, abi: &AbiSheet, area: &[u32], names: &[Vec<Named>], class: u32) -> Vec<Named> {
+    let parent = set.class(class).parent;
+    if parent != 0 && !set.is_linked(parent) {
+        return Vec::new();
+    }
+    let entries = table_of(set, abi, area, &[], class).unwrap_or_default();
+    let named = |(slot, entry): (usize, &Entry)| match names[parent as usize].get(slot) {
+        Some(inherited) if entry.method.is_none() && entry.target != 0 => inherited.clone(),
+        _ => slot_name(set, abi, class, slot as u32, entry),
+    };
+    entries.iter().enumerate().map(named).collect()
 }
 
 /// The reason of each refusal: of the listing's links, then of the interface tables of the classes that are linked.

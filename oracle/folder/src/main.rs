@@ -1,5 +1,6 @@
 //! folder list FOLDER: the listing of FOLDER/abi.bin and FOLDER/classes.bin, by the model.
 //! folder why FOLDER: each refusal of the same links, and of the interface tables after them, in a sentence.
+//! folder missing FOLDER: the slots of each class that the same links leave without a real method.
 //! folder members FILE FIRST STEP: the class of a class file in the text form of tools/sheet, with these targets; why it is refused goes to
 //! standard error.
 //! Status: 0 all linked, 1 something is refused, 2 a wrong command, 3 a file cannot be read, 4 the output cannot be written.
@@ -9,7 +10,7 @@ use std::io::{self, Read, Write};
 use std::path::Path;
 use std::process::ExitCode;
 
-use folder::{Told, listing, members, reasons};
+use folder::{Told, listing, members, missing, reasons};
 
 /// A byte more than the largest sheet: what is longer is refused by row 1 all the same.
 const MOST_BYTES: u64 = 92 * 512 + 1;
@@ -17,7 +18,7 @@ const MOST_BYTES: u64 = 92 * 512 + 1;
 /// The bytes of the largest class file that is read, by the proved program as by this one.
 const MOST_FILE_BYTES: usize = 1 << 20;
 
-const USAGE: &str = "usage: folder list FOLDER, folder why FOLDER, or folder members FILE FIRST STEP";
+const USAGE: &str = "usage: folder list FOLDER, folder why FOLDER, folder missing FOLDER, or folder members FILE FIRST STEP";
 
 fn main() -> ExitCode {
     let words: Vec<String> = std::env::args().skip(1).collect();
@@ -32,6 +33,7 @@ fn main() -> ExitCode {
     let told: fn(&[u8], &[u8]) -> Told = match words.first().map(String::as_str) {
         Some("list") if words.len() == 2 => listing,
         Some("why") if words.len() == 2 => reasons,
+        Some("missing") if words.len() == 2 => missing,
         _ => return failed(2, USAGE),
     };
     let folder = Path::new(&words[1]);

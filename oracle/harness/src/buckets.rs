@@ -5,6 +5,7 @@ mod asks;
 mod compiled;
 mod fields;
 mod links;
+mod missing;
 mod names;
 mod written;
 
@@ -23,8 +24,8 @@ pub const ROWS: usize = 27;
 /// Counts over a run.
 pub struct Counts {
     pub calls: u64,
-    /// By call (link, ask) and answer.
-    pub rows: [[u64; ROWS]; 2],
+    /// By call (link, ask, missing slots) and answer.
+    pub rows: [[u64; ROWS]; 3],
     buckets: Vec<u64>,
     spoils: BTreeMap<&'static str, u64>,
 }
@@ -32,13 +33,14 @@ pub struct Counts {
 impl Default for Counts {
     fn default() -> Self {
         let spoils = spoil_names().map(|name| (name, 0)).collect();
-        Self { calls: 0, rows: [[0; ROWS]; 2], buckets: vec![0; BUCKETS.len()], spoils }
+        Self { calls: 0, rows: [[0; ROWS]; 3], buckets: vec![0; BUCKETS.len()], spoils }
     }
 }
 
-/// The rows that a link and an ask can meet.
+/// The rows that a link, an ask and a question for a count can meet.
 const LINK_ROWS: [u32; 14] = [0, 3, 4, 5, 6, 7, 8, 9, 10, 11, 12, 13, 14, 15];
 const ASK_ROWS: [u32; 8] = [0, 3, 4, 5, 6, 7, 15, 16];
+const MISSING_ROWS: [u32; 6] = [0, 3, 4, 5, 6, 15];
 
 impl Counts {
     /// Counts a step.
@@ -64,10 +66,16 @@ impl Counts {
             match step.call {
                 Call::Link { class, .. } => links::link(&view, class, &mut hits),
                 Call::Ask { class, interface, .. } => asks::ask(&view, class, interface, &mut hits),
+                Call::Missing { class } => missing::asked(&view, class, &mut hits),
             }
         }
         self.calls += 1;
-        self.rows[usize::from(matches!(step.call, Call::Ask { .. }))][refusal as usize] += 1;
+        let call = match step.call {
+            Call::Link { .. } => 0,
+            Call::Ask { .. } => 1,
+            Call::Missing { .. } => 2,
+        };
+        self.rows[call][refusal as usize] += 1;
         for hit in hits {
             self.buckets[hit as usize] += 1;
         }
@@ -76,7 +84,8 @@ impl Counts {
     /// Every row, bucket and spoil with its count, in one order.
     fn lines(&self) -> Vec<(u64, String)> {
         let mut lines = Vec::new();
-        for (call, rows, counts) in [("link", &LINK_ROWS[..], &self.rows[0]), ("ask", &ASK_ROWS[..], &self.rows[1])] {
+        let calls = [("link", &LINK_ROWS[..]), ("ask", &ASK_ROWS), ("missing slots", &MISSING_ROWS)];
+        for ((call, rows), counts) in calls.into_iter().zip(&self.rows) {
             for &row in rows {
                 let what = if row == 0 { "accepted".to_owned() } else { format!("refused by row {row}") };
                 lines.push((counts[row as usize], format!("{call} {what}")));

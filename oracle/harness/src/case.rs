@@ -9,6 +9,8 @@ pub struct Case {
     pub set: Vec<u32>,
     pub abi: Vec<u32>,
     pub area: Vec<u32>,
+    /// The list of missing slots.
+    pub missing: Vec<u32>,
     /// The stub lists that the calls lend.
     pub stubs: Vec<Vec<u32>>,
     pub calls: Vec<Call>,
@@ -18,17 +20,27 @@ pub struct Case {
     pub spoiled: Option<&'static str>,
 }
 
-/// A call, with the number of the stub list that it lends.
+/// A link or an ask, with the number of the stub list that it lends, or a question for a count of missing slots.
 #[derive(Clone, Copy, Debug, PartialEq, Eq)]
 pub enum Call {
     Link { class: u32, stubs: usize },
     Ask { class: u32, interface: u32, stubs: usize },
+    Missing { class: u32 },
 }
 
 impl Call {
+    /// The number of the stub list; a question for a count lends none, and this is 0.
     pub fn stubs(&self) -> usize {
         match *self {
             Self::Link { stubs, .. } | Self::Ask { stubs, .. } => stubs,
+            Self::Missing { .. } => 0,
+        }
+    }
+
+    /// Lends another stub list, if it lends one.
+    pub fn lend(&mut self, list: usize) {
+        if let Self::Link { stubs, .. } | Self::Ask { stubs, .. } = self {
+            *stubs = list;
         }
     }
 }
@@ -38,6 +50,7 @@ impl Display for Call {
         match self {
             Self::Link { class, stubs } => write!(f, "link {class}, stub list {stubs}"),
             Self::Ask { class, interface, stubs } => write!(f, "ask class {class}, interface {interface}, stub list {stubs}"),
+            Self::Missing { class } => write!(f, "missing slots of class {class}"),
         }
     }
 }
@@ -53,6 +66,7 @@ impl Display for Case {
             None => writeln!(f, "ABI words {}", run_lengths(&self.abi))?,
         }
         writeln!(f, "area of {}: {}", self.area.len(), run_lengths(&self.area))?;
+        writeln!(f, "list of missing slots of {}: {}", self.missing.len(), run_lengths(&self.missing))?;
         for (number, stubs) in self.stubs.iter().enumerate() {
             writeln!(f, "stub list {number} of {}: {}", stubs.len(), run_lengths(stubs))?;
         }

@@ -10,6 +10,14 @@ use crate::side::{Answer, Linker};
 pub struct State {
     pub set: Vec<u32>,
     pub area: Vec<u32>,
+    pub missing: Vec<u32>,
+}
+
+impl State {
+    /// What a case lends to its first call.
+    pub fn of(case: &Case) -> Self {
+        Self { set: case.set.clone(), area: case.area.clone(), missing: case.missing.clone() }
+    }
 }
 
 /// One call as it was made: what was lent, what came back.
@@ -40,7 +48,7 @@ pub fn compare(
     observe: &mut dyn FnMut(&Step),
 ) -> Result<State, Box<Disagreement>> {
     oracle.new_case(case.rebuilds);
-    let mut before = State { set: case.set.clone(), area: case.area.clone() };
+    let mut before = State::of(case);
     let mut expected = before.clone();
     let mut found = before.clone();
     let mut descriptors_held = false;
@@ -57,6 +65,7 @@ pub fn compare(
         if oracle_answer.refusal == 0 {
             before.set.clone_from(&expected.set);
             before.area.clone_from(&expected.area);
+            before.missing.clone_from(&expected.missing);
         }
     }
     Ok(before)
@@ -64,10 +73,11 @@ pub fn compare(
 
 /// Makes one call on a side.
 pub fn perform(side: &mut dyn Linker, case: &Case, call: Call, state: &mut State) -> Answer {
-    let stubs = &case.stubs[call.stubs()];
+    let State { set, area, missing } = state;
     match call {
-        Call::Link { class, .. } => side.link(&mut state.set, &case.abi, class, &mut state.area, stubs),
-        Call::Ask { class, interface, .. } => side.ask(&mut state.set, &case.abi, class, interface, &mut state.area, stubs),
+        Call::Link { class, stubs } => side.link(set, &case.abi, class, area, &case.stubs[stubs], missing),
+        Call::Ask { class, interface, stubs } => side.ask(set, &case.abi, class, interface, area, &case.stubs[stubs]),
+        Call::Missing { class } => side.missing_slots(set, &case.abi, missing, class),
     }
 }
 
@@ -78,7 +88,9 @@ fn difference(before: &State, oracle: Answer, expected: &State, other: Answer, f
     if oracle != other {
         return Some(format!("answers: oracle {oracle:?}, other {other:?}"));
     }
-    first_difference("class words", &expected.set, &found.set).or_else(|| first_difference("area", &expected.area, &found.area))
+    first_difference("class words", &expected.set, &found.set)
+        .or_else(|| first_difference("area", &expected.area, &found.area))
+        .or_else(|| first_difference("list of missing slots", &expected.missing, &found.missing))
 }
 
 fn first_difference(what: &str, expected: &[u32], found: &[u32]) -> Option<String> {

@@ -22,7 +22,7 @@ use format::{Reader, Writer};
 
 /// "LGTC", lowest byte first.
 const MAGIC: u32 = u32::from_le_bytes(*b"LGTC");
-const VERSION: u32 = 2;
+const VERSION: u32 = 3;
 /// How many of a seed's cases are looked at.
 const LOOKED_AT: u64 = 60_000;
 /// How many readings and descriptors are stored.
@@ -66,7 +66,7 @@ pub fn packages(seed: u64, count: usize) -> (Vec<u32>, Summary) {
 /// Makes a case's calls and what is claimed of them beside kind 0, and counts what they reach; answers the words that they take.
 fn observe_packages(oracle: &mut Oracle, case: &Case, counts: &mut PackageCounts) -> usize {
     oracle.new_case(case.rebuilds);
-    let mut state = State { set: case.set.clone(), area: case.area.clone() };
+    let mut state = State::of(case);
     let mut answers = Vec::new();
     for &call in &case.calls {
         let before = state.clone();
@@ -110,33 +110,40 @@ pub fn telling() -> Result<(Vec<u32>, Summary), String> {
 /// A few small cases of `seed`, and one thing each, in all but the first, that the Rust did not answer.
 pub fn spoiled(seed: u64) -> (Vec<u32>, Summary) {
     let mut oracle = Oracle::default();
-    let small: Vec<_> = (0..LOOKED_AT).filter(|&number| is_small(&mut oracle, &generate::case(seed, number))).take(4).collect();
+    let small: Vec<_> = (0..LOOKED_AT).filter(|&number| is_small(&mut oracle, &generate::case(seed, number))).take(5).collect();
     let small = small.into_iter().map(|number| generate::case(seed, number));
-    let chosen: Vec<_> = small.zip([None, Some(Spoil::Answer), Some(Spoil::Set), Some(Spoil::Area)]).collect();
+    let spoils = [None, Some(Spoil::Answer), Some(Spoil::Set), Some(Spoil::Area), Some(Spoil::Missing)];
+    let chosen: Vec<_> = small.zip(spoils).collect();
     build(&mut oracle, seed, &chosen, [2, 2], true, &format!("oracle/corpus spoiled {seed}"))
 }
 
-/// What is stored otherwise than the Rust answered it, at the last link of a case that it accepts.
+/// What is stored otherwise than it was answered, at the last link of a case that is accepted and changes all memory.
 #[derive(Clone, Copy)]
 enum Spoil {
     Answer,
     Set,
     Area,
+    Missing,
 }
 
-/// Whether a case is small, and the Rust accepts a link of it that is not its first call.
+/// Whether a case is small, and a link of it that is not its first call can be spoiled.
 fn is_small(oracle: &mut Oracle, case: &Case) -> bool {
     let mut writer = Writer::default();
     write_case(&mut writer, oracle, case, &mut Counts::default(), None);
     writer.len() < SMALL && last_accepted(oracle, case).is_some_and(|call| call > 0)
 }
 
-/// The number of the last link that the Rust accepts.
+/// The number of the last link that is accepted and changes the list of missing slots; it changes class words and area, too.
 fn last_accepted(oracle: &mut Oracle, case: &Case) -> Option<usize> {
     oracle.new_case(case.rebuilds);
-    let mut state = State { set: case.set.clone(), area: case.area.clone() };
-    let answers: Vec<Answer> = case.calls.iter().map(|&call| perform(oracle, case, call, &mut state)).collect();
-    (0..answers.len()).rev().find(|&number| answers[number].refusal == 0 && matches!(case.calls[number], Call::Link { .. }))
+    let mut state = State::of(case);
+    let mut changes = |call: Call| {
+        let before = state.missing.clone();
+        perform(oracle, case, call, &mut state);
+        state.missing != before
+    };
+    let changed: Vec<bool> = case.calls.iter().map(|&call| changes(call)).collect();
+    changed.iter().rposition(|changes| *changes)
 }
 
 fn build(
@@ -177,9 +184,9 @@ fn build(
 
 /// The longest of each kind, so that a replaying program knows what to set aside: class
 /// words, ABI words, area, stub list, stub lists of a case, bytes of a reading, words lent to
-/// a reading.
+/// a reading, list of missing slots.
 #[derive(Default)]
-struct Longest([u32; 7]);
+struct Longest([u32; 8]);
 
 impl Longest {
     fn raise(&mut self, position: usize, length: usize) {
@@ -192,6 +199,7 @@ impl Longest {
         self.raise(2, case.area.len());
         case.stubs.iter().for_each(|stubs| self.raise(3, stubs.len()));
         self.raise(4, case.stubs.len());
+        self.raise(7, case.missing.len());
     }
 
     fn reading(&mut self, reading: &readings::Reading) {
@@ -231,14 +239,14 @@ fn choose(oracle: &mut Oracle, seed: u64, count: usize) -> Vec<u64> {
 
 fn write_case(writer: &mut Writer, oracle: &mut Oracle, case: &Case, counts: &mut Counts, spoil: Option<Spoil>) {
     let spoiled = spoil.and_then(|spoil| Some((last_accepted(oracle, case)?, spoil)));
-    for words in [&case.set, &case.abi, &case.area] {
+    for words in [&case.set, &case.abi, &case.area, &case.missing] {
         writer.list(words);
     }
     writer.words(&[case.stubs.len() as u32]);
     case.stubs.iter().for_each(|stubs| writer.list(stubs));
     writer.words(&[case.calls.len() as u32]);
     oracle.new_case(case.rebuilds);
-    let mut state = State { set: case.set.clone(), area: case.area.clone() };
+    let mut state = State::of(case);
     for (number, &call) in case.calls.iter().enumerate() {
         let before = state.clone();
         let answer = perform(oracle, case, call, &mut state);
@@ -247,16 +255,19 @@ fn write_case(writer: &mut Writer, oracle: &mut Oracle, case: &Case, counts: &mu
             Some((spoiled, Spoil::Answer)) if spoiled == number => told.second += 1,
             Some((spoiled, Spoil::Set)) if spoiled == number => spoil_last(&before.set, &mut after.set),
             Some((spoiled, Spoil::Area)) if spoiled == number => spoil_last(&before.area, &mut after.area),
+            Some((spoiled, Spoil::Missing)) if spoiled == number => spoil_last(&before.missing, &mut after.missing),
             _ => (),
         }
         counts.observe(&Step { case, call, before: &before, answer, after: &state });
         writer.words(&match call {
             Call::Link { class, stubs } => [0, class, 0, stubs as u32],
             Call::Ask { class, interface, stubs } => [1, class, interface, stubs as u32],
+            Call::Missing { class } => [2, class, 0, 0],
         });
         writer.words(&[told.refusal, told.first, told.second]);
         writer.changes(&before.set, &after.set);
         writer.changes(&before.area, &after.area);
+        writer.changes(&before.missing, &after.missing);
     }
 }
 
@@ -290,7 +301,7 @@ pub fn replay(corpus: &[u32], side: &mut dyn Linker) -> Result<usize, String> {
     }
     let mut reader = Reader::new(corpus)?;
     let [magic, version, _, _, cases, readings, descriptors] = reader.words()?;
-    let _longest: [u32; 7] = reader.words()?;
+    let _longest: [u32; 8] = reader.words()?;
     if (magic, version) != (MAGIC, VERSION) {
         return Err("no corpus of this version".to_owned());
     }
@@ -310,19 +321,24 @@ pub fn replay(corpus: &[u32], side: &mut dyn Linker) -> Result<usize, String> {
 }
 
 fn replay_case(reader: &mut Reader, side: &mut dyn Linker) -> Result<usize, String> {
-    let (set, abi, area) = (reader.list()?, reader.list()?, reader.list()?);
+    let (set, abi, area, missing) = (reader.list()?, reader.list()?, reader.list()?, reader.list()?);
     let [stub_lists] = reader.words()?;
     let stubs = (0..stub_lists).map(|_| reader.list()).collect::<Result<Vec<_>, _>>()?;
     let [calls] = reader.words()?;
-    let mut expected = State { set: set.clone(), area: area.clone() };
+    let case = Case { set, abi, area, missing, stubs, ..Case::default() };
+    let mut expected = State::of(&case);
     let mut found = expected.clone();
-    let case = Case { set, abi, area, stubs, ..Case::default() };
     for number in 0..calls {
         let [kind, class, interface, stubs, refusal, first, second] = reader.words()?;
         reader.change(&mut expected.set)?;
         reader.change(&mut expected.area)?;
+        reader.change(&mut expected.missing)?;
         let stubs = stubs as usize;
-        let call = if kind == 0 { Call::Link { class, stubs } } else { Call::Ask { class, interface, stubs } };
+        let call = match kind {
+            0 => Call::Link { class, stubs },
+            1 => Call::Ask { class, interface, stubs },
+            _ => Call::Missing { class },
+        };
         let answer = perform(side, &case, call, &mut found);
         let stored = Answer { refusal, first, second };
         if answer != stored || expected != found {

@@ -3,6 +3,7 @@
 mod draft;
 mod members;
 mod memory;
+mod missing;
 mod packages;
 mod spoil;
 mod spoilers;
@@ -24,6 +25,7 @@ pub fn case(seed: u64, number: u64) -> Case {
     if random.chance(14) {
         spoil::spoil(&mut random, &mut case);
     }
+    missing::fill(&mut Random::for_case(seed.rotate_left(8), number), &mut case);
     case
 }
 
@@ -31,5 +33,6 @@ pub fn case(seed: u64, number: u64) -> Case {
 pub fn packages(seed: u64, number: u64) -> Case {
     let mut case = packages::case(&mut Random::for_case(seed.rotate_left(16), number));
     statics::fill(&mut Random::for_case(seed.rotate_left(48), number), &mut case);
+    missing::fill(&mut Random::for_case(seed.rotate_left(24), number), &mut case);
     case
 }

@@ -10,12 +10,13 @@ use crate::readings::unlinked;
 use crate::sheet::{Abi, Set, blocks, class_word, range};
 use crate::side::Linker;
 
-/// What the listing lends: words for both sheets, an area, stub words.
+/// What the listing lends: words for both sheets, an area, stub words, a list of missing slots.
 const CLASS_WORDS: usize = 11_684;
 const ABI_WORDS: usize = 6_477;
 const AREA_WORDS: usize = 4_096;
 const STUBS: u32 = 1_024;
 const FIRST_STUB: u32 = 4_026_531_840;
+const MISSING_WORDS: usize = 2_112;
 
 const INTERFACE: u32 = 0x0200;
 const PRIVATE_OR_STATIC: u32 = 0x000A;
@@ -43,6 +44,7 @@ fn listing(oracle: &mut Oracle, abi_sheet: &[u8], class_sheet: &[u8], counts: &m
     let (mut set, mut abi, mut area) = (vec![0; CLASS_WORDS], vec![0; ABI_WORDS], vec![0; AREA_WORDS]);
     area[0] = 1;
     let stubs: Vec<u32> = (0..STUBS).map(|index| FIRST_STUB + index).collect();
+    let mut missing = vec![0; MISSING_WORDS];
     let read = [("abi", oracle.read_abi_sheet(abi_sheet, &mut abi)), ("classes", oracle.read_class_sheet(class_sheet, &mut set))];
     if let Some((sheet, answer)) = read.iter().find(|(_, answer)| answer.refusal != 0) {
         counts.hit("a sheet refused");
@@ -52,7 +54,7 @@ fn listing(oracle: &mut Oracle, abi_sheet: &[u8], class_sheet: &[u8], counts: &m
     let (before, abi_sections) = (decoded(&set), Abi::decode(&abi).expect("the sheet is read"));
     let mut lines = String::new();
     for class in 1..=before.classes.len() as u32 {
-        let answer = oracle.link(&mut set, &abi, class, &mut area, &stubs);
+        let answer = oracle.link(&mut set, &abi, class, &mut area, &stubs, &mut missing);
         if answer.refusal != 0 {
             counts.hit("a class refused");
             lines += &format!("class {class} refused {}\n", answer.refusal);

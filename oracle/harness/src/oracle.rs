@@ -1,11 +1,12 @@
 //! The oracle: the Rust judges tables, indices, lists and rows 8, 9, 11, 12 and 16; the
-//! harness itself decides the added rows, the places and how grown sections are laid out, and
-//! all of class kind 3, which is never given to the Rust (`packages`).
+//! harness itself decides the added rows, the places and how grown sections are laid out, which slots count as
+//! missing (`missing`), and all of class kind 3, which is never given to the Rust (`packages`).
 
 pub mod class_files;
 mod descriptors;
 mod layout;
 mod machine;
+mod missing;
 pub mod packages;
 mod references;
 mod rows;
@@ -73,19 +74,30 @@ impl Oracle {
         }
     }
 
-    fn try_link(&mut self, words: &mut [u32], abi_words: &[u32], class: u32, area: &mut [u32], stubs: &[u32]) -> Result<Answer, u32> {
+    fn try_link(
+        &mut self,
+        words: &mut [u32],
+        abi_words: &[u32],
+        class: u32,
+        area: &mut [u32],
+        stubs: &[u32],
+        list: &mut [u32],
+    ) -> Result<Answer, u32> {
         let (set, abi) = rows::sheets(words, abi_words)?;
         rows::link_class(&set, class)?;
         rows::area(&set, area)?;
         packages::row_26(&set, &abi, class)?;
-        let (definition, linked) = if packages::has_packages(&set, class) {
-            (None, packages::link(&set, &abi, class, area, stubs)?)
+        let (definition, linked, copies) = if packages::has_packages(&set, class) {
+            let (linked, copies) = packages::link(&set, &abi, class, area, stubs)?;
+            (None, linked, copies)
         } else {
             self.fresh_call();
             self.machine.install_abi(abi_words, &abi);
             let (definition, linked) = self.machine.link(&set, class, area, stubs)?;
-            (Some(definition), linked)
+            let copies = missing::copies(&set, &abi, area, class, &linked);
+            (Some(definition), linked, copies)
         };
+        let (classes, parent) = (set.classes.len(), packages::parent(&set, class));
 
         let slots = linked.table.len();
         if slots > 1024 {
@@ -93,7 +105,8 @@ impl Oracle {
         }
         let written = written_set(words, set, class, &linked, area[0])?;
         let free = area.len() - area[0] as usize;
-        if stubs.len() < slots || free < slots + 2 || written.len() > words.len() {
+        let is_short = list.len() < missing::WORDS * classes;
+        if stubs.len() < slots || free < slots + 2 || written.len() > words.len() || is_short {
             return Err(15);
         }
 
@@ -103,6 +116,7 @@ impl Oracle {
         area[place + 1..][..slots].copy_from_slice(&linked.table);
         area[place + 1 + slots] = 0;
         area[0] += slots as u32 + 2;
+        missing::write(list, class, parent, &linked.stubbed, &copies);
         match definition {
             Some(definition) => self.machine.keep(class, definition),
             None => self.rebuilds = true,
@@ -186,8 +200,13 @@ impl Linker for Oracle {
         rows::renumber_classes(set, order).map_or_else(Answer::refused, |count| Answer::accepted(count, 0))
     }
 
-    fn link(&mut self, set: &mut [u32], abi: &[u32], class: u32, area: &mut [u32], stubs: &[u32]) -> Answer {
-        self.try_link(set, abi, class, area, stubs).unwrap_or_else(Answer::refused)
+    fn link(&mut self, set: &mut [u32], abi: &[u32], class: u32, area: &mut [u32], stubs: &[u32], missing: &mut [u32]) -> Answer {
+        self.try_link(set, abi, class, area, stubs, missing).unwrap_or_else(Answer::refused)
+    }
+
+    fn missing_slots(&mut self, set: &[u32], abi: &[u32], missing: &[u32], class: u32) -> Answer {
+        let count = rows::sheets(set, abi).and_then(|(set, _)| missing::ask(&set, missing, class));
+        count.map_or_else(Answer::refused, |count| Answer::accepted(count, 0))
     }
 
     fn ask(&mut self, set: &mut [u32], abi: &[u32], class: u32, interface: u32, area: &mut [u32], stubs: &[u32]) -> Answer {

@@ -163,8 +163,9 @@ fn tables(side: &mut dyn Linker, set: &Set, abi: &[u32]) -> BTreeMap<String, Res
     let mut area = vec![0; 1 + 1_026 * set.classes.len()];
     area[0] = 1;
     let stubs: Vec<u32> = (0..1_024).map(|slot| 0xF000_0000 + slot).collect();
+    let mut missing = vec![0; 33 * set.classes.len()];
     let linked = (1..=set.classes.len() as u32).map(|class| {
-        let answer = side.link(&mut words, abi, class, &mut area, &stubs);
+        let answer = side.link(&mut words, abi, class, &mut area, &stubs, &mut missing);
         let table = match answer.refusal {
             0 => Ok(area[answer.first as usize + 1..][..answer.second as usize].to_vec()),
             row => Err(row),

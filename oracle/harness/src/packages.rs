@@ -6,7 +6,7 @@ use std::collections::BTreeMap;
 use crate::case::{Call, Case};
 use crate::compare::{State, Step, perform};
 use crate::model::parts::{
-    AbiSheet, ClassSheet, Method, eligible, introducing, overridden, package, reading, text_of_abi_words, text_of_class_words,
+    AbiSheet, ClassSheet, Method, eligible, introducing, is_counted, overridden, package, reading, text_of_abi_words, text_of_class_words,
 };
 use crate::oracle::Oracle;
 use crate::sheet::{class_word, class_word_at};
@@ -61,6 +61,9 @@ const BUCKETS: &[&str] = &[
     "row 26 before row 8",
     "row 26 before row 10",
     "row 26 before row 15",
+    "missing: kind 3, a slot that took a stub counts",
+    "missing: kind 3, a copy of a slot that counts",
+    "missing: kind 3, an own method over a slot that counts",
     "as kind 0: class judged",
     "as kind 0: a slot taken",
     "as kind 0: chain of 4 or more",
@@ -141,6 +144,7 @@ impl View<'_> {
             0 if is_packaged => {
                 self.linked(class, counts);
                 self.slots(class, counts);
+                self.missing(class, counts);
             }
             26 => self.row_26(class, counts),
             row @ (6 | 7 | 10 | 15) if is_packaged => counts.hit(&format!("kind 3 refused by row {row}"), true),
@@ -171,6 +175,18 @@ impl View<'_> {
             "kind 3: a package in another",
             names[1..].iter().any(|name| !name.is_empty() && names[0].starts_with(name) && names[0] != *name),
         );
+    }
+
+    /// Which of its slots count as missing.
+    fn missing(&self, class: u32, counts: &mut PackageCounts) {
+        let (step, parent) = (self.step, self.sheet.class(class).parent);
+        let parent_slots = if parent == 0 { 0 } else { self.sheet.class(parent).slots as usize };
+        let counted = |slot: usize| is_counted(&step.after.missing, class, slot);
+        let above = |slot: usize| slot < parent_slots && is_counted(&step.before.missing, parent, slot);
+        let slots = 0..step.answer.second as usize;
+        counts.hit("missing: kind 3, a slot that took a stub counts", slots.clone().any(|slot| counted(slot) && !above(slot)));
+        counts.hit("missing: kind 3, a copy of a slot that counts", slots.clone().any(|slot| counted(slot) && above(slot)));
+        counts.hit("missing: kind 3, an own method over a slot that counts", slots.clone().any(|slot| !counted(slot) && above(slot)));
     }
 
     /// What the class's methods do to the inherited slots.
@@ -292,7 +308,7 @@ pub fn as_kind_0(oracle: &mut Oracle, case: &Case, answers: &[Answer], area: &[u
         *kind = if *kind == 3 { 0 } else { *kind };
     }
     oracle.new_case(false);
-    let mut state = State { set: zero.set.clone(), area: zero.area.clone() };
+    let mut state = State::of(&zero);
     let beside: Vec<Answer> = zero.calls.iter().map(|&call| perform(oracle, &zero, call, &mut state)).collect();
     let text = text_of_class_words(&case.set);
     let sheet = ClassSheet { words: &case.set, text: &text };

@@ -7,7 +7,7 @@ use crate::sheet::{Abi, MemberRecord, Set, class_word};
 pub fn shrink(mut case: Case, fails: &mut dyn FnMut(&Case) -> bool) -> Case {
     loop {
         let size = weight(&case);
-        for step in [calls, classes, members, abi_records, class_words, stubs, area, slack] {
+        for step in [calls, classes, members, abi_records, class_words, stubs, area, missing, slack] {
             step(&mut case, fails);
         }
         if weight(&case) >= size {
@@ -19,7 +19,8 @@ pub fn shrink(mut case: Case, fails: &mut dyn FnMut(&Case) -> bool) -> Case {
 fn weight(case: &Case) -> usize {
     let stubs: usize = case.stubs.iter().map(Vec::len).sum();
     let nonzero = |words: &[u32]| words.iter().filter(|&&word| word != 0).count();
-    case.set.len() + case.abi.len() + case.area.len() + stubs + 4 * case.calls.len() + nonzero(&case.set) + nonzero(&case.area)
+    let lengths = case.set.len() + case.abi.len() + case.area.len() + case.missing.len() + stubs + 4 * case.calls.len();
+    lengths + nonzero(&case.set) + nonzero(&case.area) + nonzero(&case.missing)
 }
 
 type Fails<'a> = &'a mut dyn FnMut(&Case) -> bool;
@@ -82,6 +83,7 @@ fn renumber_call(call: Call, removed: u32) -> Option<Call> {
         Call::Ask { class, interface, stubs } => {
             Call::Ask { class: renumber(class, removed)?, interface: renumber(interface, removed)?, stubs }
         }
+        Call::Missing { class } => Call::Missing { class: renumber(class, removed)? },
     })
 }
 
@@ -226,6 +228,20 @@ fn area(case: &mut Case, fails: Fails) {
     }
     let mut zeroed = case.clone();
     zeroed.area.iter_mut().skip(1).for_each(|word| *word = 0);
+    keep(case, zeroed, fails);
+}
+
+fn missing(case: &mut Case, fails: Fails) {
+    let classes = Set::decode(&case.set).map_or(0, |set| set.classes.len());
+    for length in [0, 33 * classes] {
+        let mut smaller = case.clone();
+        smaller.missing.truncate(length);
+        if keep(case, smaller, fails) {
+            break;
+        }
+    }
+    let mut zeroed = case.clone();
+    zeroed.missing.fill(0);
     keep(case, zeroed, fails);
 }
 

@@ -12,6 +12,7 @@ mod growth;
 mod links;
 mod lists;
 mod lookups;
+mod missing_slots;
 mod packages;
 mod sheets;
 mod statics;
@@ -38,6 +39,7 @@ pub fn rows() -> Vec<Row> {
         asks::rows(),
         lists::rows(),
         packages::rows(),
+        missing_slots::rows(),
         arguments::rows(),
     ]
     .concat()
@@ -50,12 +52,14 @@ pub struct Lent {
     pub abi: Vec<u32>,
     pub area: Vec<u32>,
     pub stubs: Vec<u32>,
+    /// The list of missing slots; else one of 7s, as long as it must be.
+    pub missing: Option<Vec<u32>>,
 }
 
 /// A fresh area of 24 words, the stubs 901 to 908, and no word after the content.
 pub fn lent(classes: &[ClassDraft], entries: &[AbiClassDraft]) -> Lent {
     let area = [vec![1], vec![0; 23]].concat();
-    Lent { set: assemble::class_words(classes), abi: assemble::abi_words(entries), area, stubs: (901..909).collect() }
+    Lent { set: assemble::class_words(classes), abi: assemble::abi_words(entries), area, stubs: (901..909).collect(), missing: None }
 }
 
 impl Lent {
@@ -70,6 +74,10 @@ impl Lent {
 
     pub fn on_stubs(self, stubs: &[u32]) -> Self {
         Self { stubs: stubs.to_vec(), ..self }
+    }
+
+    pub fn on_missing(self, missing: &[u32]) -> Self {
+        Self { missing: Some(missing.to_vec()), ..self }
     }
 
     /// With n zero words after the content of the class words.
@@ -106,6 +114,10 @@ pub fn ask(class: u32, interface: u32) -> Call {
     Call::Ask { class, interface, stubs: 0 }
 }
 
+pub fn missing(class: u32) -> Call {
+    Call::Missing { class }
+}
+
 /// The word that lies n below zero.
 pub fn minus(n: u32) -> u32 {
     0u32.wrapping_sub(n)
@@ -124,6 +136,9 @@ enum Left {
     Area(Vec<u32>),
     Set(Vec<u32>),
     SetPart(usize, Vec<u32>),
+    /// The list's words of a class, with zeros after these; the whole list.
+    Counted(u32, Vec<u32>),
+    Missing(Vec<u32>),
 }
 
 /// Calls on what is lent, with what they answer and leave.
@@ -137,8 +152,9 @@ pub struct Row {
 
 /// Calls, one after the other. What is expected of them is added to the row.
 pub fn row(name: &'static str, lent: Lent, calls: &[Call]) -> Row {
-    let Lent { set, abi, area, stubs } = lent;
-    let case = Case { set, abi, area, stubs: vec![stubs], calls: calls.to_vec(), rebuilds: true, spoiled: None };
+    let Lent { set, abi, area, stubs, missing } = lent;
+    let missing = missing.unwrap_or_else(|| vec![7; 33 * set.first().map_or(0, |&classes| classes.min(64) as usize)]);
+    let case = Case { set, abi, area, missing, stubs: vec![stubs], calls: calls.to_vec(), rebuilds: true, spoiled: None };
     Row { name, case, answers: Vec::new(), left: Vec::new() }
 }
 
@@ -147,8 +163,7 @@ impl Row {
     pub fn then_stubs(mut self, stubs: &[u32]) -> Self {
         self.case.stubs.push(stubs.to_vec());
         for call in &mut self.case.calls[1..] {
-            let (Call::Link { stubs, .. } | Call::Ask { stubs, .. }) = call;
-            *stubs = 1;
+            call.lend(1);
         }
         self
     }
@@ -157,13 +172,12 @@ impl Row {
     pub fn each_stubs(mut self, lists: &[&[u32]]) -> Self {
         self.case.stubs = lists.iter().map(|list| list.to_vec()).collect();
         for (place, call) in self.case.calls.iter_mut().enumerate() {
-            let (Call::Link { stubs, .. } | Call::Ask { stubs, .. }) = call;
-            *stubs = place;
+            call.lend(place);
         }
         self
     }
 
-    /// Refusal, then place and slots of a link, place and nodes of an ask, for each call.
+    /// Refusal, then place and slots of a link, place and nodes of an ask, a count and 0, for each call.
     pub fn answers(mut self, answers: &[(u32, u32, u32)]) -> Self {
         self.answers = answers.to_vec();
         self
@@ -207,9 +221,19 @@ impl Row {
         self.left(Left::SetPart(place, words.to_vec()))
     }
 
+    /// The list's words of a class: the count, then those of the bits, zeros after these.
+    pub fn counted(self, class: u32, words: &[u32]) -> Self {
+        self.left(Left::Counted(class, words.to_vec()))
+    }
+
+    /// The whole list.
+    pub fn missing(self, words: &[u32]) -> Self {
+        self.left(Left::Missing(words.to_vec()))
+    }
+
     /// Makes the calls on a side; what differs from the row, if anything.
     pub fn check(&self, side: &mut dyn Linker) -> Result<(), String> {
-        let mut state = State { set: self.case.set.clone(), area: self.case.area.clone() };
+        let mut state = State::of(&self.case);
         let answers: Vec<Answer> = self.case.calls.iter().map(|&call| perform(side, &self.case, call, &mut state)).collect();
         let told: Vec<_> = answers.iter().map(|answer| (answer.refusal, answer.first, answer.second)).collect();
         if self.answers.is_empty() && told.iter().any(|answer| answer.0 != 0) {
@@ -244,6 +268,11 @@ fn seen(left: &Left, state: &State) -> Result<(), String> {
         }
         Left::Set(words) => same(words, &state.set),
         Left::SetPart(place, words) => same(words, &state.set[*place..][..words.len()]),
+        Left::Counted(class, words) => {
+            let own = &state.missing[33 * (*class as usize - 1)..][..33];
+            same(&[words.clone(), vec![0; 33 - words.len()]].concat(), own)
+        }
+        Left::Missing(words) => same(words, &state.missing),
     }
 }
 

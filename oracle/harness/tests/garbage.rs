@@ -34,12 +34,17 @@ fn garbage_is_judged_alike() {
     for number in 0..150_000 {
         let call = |random: &mut Random| {
             let (class, interface) = (random.below(4), random.below(4));
-            if random.chance(50) { Call::Link { class, stubs: 0 } } else { Call::Ask { class, interface, stubs: 0 } }
+            match random.below(5) {
+                0..2 => Call::Link { class, stubs: 0 },
+                2..4 => Call::Ask { class, interface, stubs: 0 },
+                _ => Call::Missing { class },
+            }
         };
         let case = Case {
             set: garbage(&mut random, 6, 90),
             abi: if random.chance(60) { vec![0; 4] } else { garbage(&mut random, 4, 50) },
             area: garbage(&mut random, 0, 30),
+            missing: garbage(&mut random, 0, 120),
             stubs: vec![garbage(&mut random, 0, 12)],
             calls: vec![call(&mut random), call(&mut random)],
             rebuilds: true,

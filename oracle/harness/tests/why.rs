@@ -2,12 +2,13 @@
 
 use std::collections::BTreeMap;
 
+use harness::compare::{State, perform};
 use harness::corpus::replay;
+use harness::generate;
 use harness::model::parts::{ClassSheet, text_of_class_words};
 use harness::model::why::Refused;
 use harness::model::{self, Model};
 use harness::side::{Answer, FileAnswer, Linker};
-use harness::{case::Call, generate};
 
 /// The model, with the sentence of every refusal by a row above 5 looked at.
 #[derive(Default)]
@@ -59,9 +60,16 @@ impl Linker for Explained {
         Model.renumber_classes(set, order)
     }
 
-    fn link(&mut self, set: &mut [u32], abi: &[u32], class: u32, area: &mut [u32], stubs: &[u32]) -> Answer {
-        match model::link(set, abi, class, area, stubs) {
+    fn link(&mut self, set: &mut [u32], abi: &[u32], class: u32, area: &mut [u32], stubs: &[u32], missing: &mut [u32]) -> Answer {
+        match model::link(set, abi, class, area, stubs, missing) {
             Ok((place, slots)) => Answer::accepted(place, slots),
+            Err(refused) => self.look(refused, set, class),
+        }
+    }
+
+    fn missing_slots(&mut self, set: &[u32], abi: &[u32], missing: &[u32], class: u32) -> Answer {
+        match model::missing_slots(set, abi, missing, class) {
+            Ok(count) => Answer::accepted(count, 0),
             Err(refused) => self.look(refused, set, class),
         }
     }
@@ -117,20 +125,23 @@ fn of_the_corpus() {
 fn of_generated_cases() {
     let mut explained = Explained::default();
     for case in (0..3000).flat_map(|number| [generate::case(5, number), generate::packages(5, number)]) {
-        let (mut set, mut area) = (case.set.clone(), case.area.clone());
-        for call in &case.calls {
-            match *call {
-                Call::Link { class, stubs } => explained.link(&mut set, &case.abi, class, &mut area, &case.stubs[stubs]),
-                Call::Ask { class, interface, stubs } => {
-                    explained.ask(&mut set, &case.abi, class, interface, &mut area, &case.stubs[stubs])
-                }
-            };
+        let mut state = State::of(&case);
+        for &call in &case.calls {
+            perform(&mut explained, &case, call, &mut state);
         }
     }
     for (row, words) in [
         (
             6,
-            &["the set has no class", "linked already", "its parent class", "has no members", "and this one has", "both classes linked"][..],
+            &[
+                "the set has no class",
+                "linked already",
+                "its parent class",
+                "has no members",
+                "and this one has",
+                "both classes linked",
+                "counted by its link",
+            ][..],
         ),
         (7, &["the next free place, is", "ends at", "more than 64 nodes", "leads to place"]),
         (26, &["has an ABI entry", "is an interface", "is of kind ", "it is not of kind 3"]),
@@ -141,7 +152,7 @@ fn of_generated_cases() {
         (12, &["holds `"]),
         (13, &["slots, above 1024"]),
         (14, &["the most are 512"]),
-        (15, &["stub word", "free", "the set takes"]),
+        (15, &["stub word", "free", "the set takes", "the list of missing slots takes"]),
         (16, &["neither it nor an ancestor implements `"]),
     ] {
         for word in words {

@@ -110,6 +110,7 @@ pub struct Guarded {
     third: Lent,
     fixed: Lent,
     also_fixed: Lent,
+    third_fixed: Lent,
 }
 
 impl Default for Guarded {
@@ -121,6 +122,7 @@ impl Default for Guarded {
             third: Lent::new(),
             fixed: Lent::new(),
             also_fixed: Lent::new(),
+            third_fixed: Lent::new(),
         }
     }
 }
@@ -215,8 +217,33 @@ impl Linker for Guarded {
         self.call(set, &[], order, &[], &mut |library, set, _, order, _| library.renumber_classes(set, order))
     }
 
-    fn link(&mut self, set: &mut [u32], abi: &[u32], class: u32, area: &mut [u32], stubs: &[u32]) -> Answer {
-        self.call(set, abi, area, stubs, &mut |library, set, abi, area, stubs| library.link(set, abi, class, area, stubs))
+    fn link(&mut self, set: &mut [u32], abi: &[u32], class: u32, area: &mut [u32], stubs: &[u32], missing: &mut [u32]) -> Answer {
+        let (answer, written) = twice(|guard| {
+            self.library.null_where_empty = guard == Guard::Before;
+            let lent = (self.first.put(set, guard), self.second.put(area, guard), self.third.put(missing, guard));
+            let (lent_abi, lent_stubs) = (self.fixed.put_fixed(abi, guard), self.also_fixed.put_fixed(stubs, guard));
+            let answer = self.library.link(lent.0, lent_abi, class, lent.1, lent_stubs, lent.2);
+            self.fixed.release();
+            self.also_fixed.release();
+            (answer, [lent.0.to_vec(), lent.1.to_vec(), lent.2.to_vec()])
+        });
+        for (list, found) in [set, area, missing].into_iter().zip(&written) {
+            list.copy_from_slice(found);
+        }
+        answer
+    }
+
+    fn missing_slots(&mut self, set: &[u32], abi: &[u32], missing: &[u32], class: u32) -> Answer {
+        let (answer, ()) = twice(|guard| {
+            self.library.null_where_empty = guard == Guard::Before;
+            let (lent_set, lent_abi) = (self.fixed.put_fixed(set, guard), self.also_fixed.put_fixed(abi, guard));
+            let answer = self.library.missing_slots(lent_set, lent_abi, self.third_fixed.put_fixed(missing, guard), class);
+            for lent in [&self.fixed, &self.also_fixed, &self.third_fixed] {
+                lent.release();
+            }
+            (answer, ())
+        });
+        answer
     }
 
     fn ask(&mut self, set: &mut [u32], abi: &[u32], class: u32, interface: u32, area: &mut [u32], stubs: &[u32]) -> Answer {

@@ -33,6 +33,19 @@ unsafe extern "C" {
         area_len: usize,
         stubs: *const u32,
         stubs_len: usize,
+        missing: *mut u32,
+        missing_len: usize,
+        answer: *mut u32,
+    ) -> u32;
+
+    fn lgt_missing_slots(
+        set: *const u32,
+        set_len: usize,
+        abi: *const u32,
+        abi_len: usize,
+        missing: *const u32,
+        missing_len: usize,
+        class_number: u32,
         answer: *mut u32,
     ) -> u32;
 
@@ -144,12 +157,18 @@ impl Linker for Library {
         answered(1, |answer| unsafe { lgt_renumber_classes(self.lent(set), set_len, self.lent(order), order_len, answer) })
     }
 
-    fn link(&mut self, set: &mut [u32], abi: &[u32], class: u32, area: &mut [u32], stubs: &[u32]) -> Answer {
-        let (set_len, area_len) = (set.len(), area.len());
+    fn link(&mut self, set: &mut [u32], abi: &[u32], class: u32, area: &mut [u32], stubs: &[u32], missing: &mut [u32]) -> Answer {
+        let (set_len, area_len, missing_len) = (set.len(), area.len(), missing.len());
         let (set, abi_words, area, stub_words) = (self.lent(set), self.read_only(abi), self.lent(area), self.read_only(stubs));
+        let missing = self.lent(missing);
         answered(2, |answer| unsafe {
-            lgt_link(set, set_len, abi_words, abi.len(), class, area, area_len, stub_words, stubs.len(), answer)
+            lgt_link(set, set_len, abi_words, abi.len(), class, area, area_len, stub_words, stubs.len(), missing, missing_len, answer)
         })
+    }
+
+    fn missing_slots(&mut self, set: &[u32], abi: &[u32], missing: &[u32], class: u32) -> Answer {
+        let (set_words, abi_words, list) = (self.read_only(set), self.read_only(abi), self.read_only(missing));
+        answered(1, |answer| unsafe { lgt_missing_slots(set_words, set.len(), abi_words, abi.len(), list, missing.len(), class, answer) })
     }
 
     fn ask(&mut self, set: &mut [u32], abi: &[u32], class: u32, interface: u32, area: &mut [u32], stubs: &[u32]) -> Answer {

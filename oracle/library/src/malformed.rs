@@ -54,7 +54,11 @@ fn call(random: &mut Random, lists: usize) -> Call {
     let class = if random.chance(90) { random.below(6) } else { odd_word(random, 64) };
     let interface = if random.chance(90) { random.below(6) } else { odd_word(random, 64) };
     let stubs = random.below(lists as u32) as usize;
-    if random.chance(50) { Call::Link { class, stubs } } else { Call::Ask { class, interface, stubs } }
+    match random.below(10) {
+        0..4 => Call::Link { class, stubs },
+        4..8 => Call::Ask { class, interface, stubs },
+        _ => Call::Missing { class },
+    }
 }
 
 /// A list of calls on malformed memory.
@@ -66,12 +70,13 @@ pub fn case(seed: u64, number: u64) -> Case {
         let abi = if random.chance(60) { vec![0; 4] } else { garbage(random, 4, 50) };
         let (area, stubs) = (garbage(random, 0, 30), vec![garbage(random, 0, 12)]);
         let calls = (0..4).map(|_| call(random, 1)).collect();
-        return Case { set, abi, area, stubs, calls, rebuilds: true, spoiled: None };
+        let missing = garbage(random, 0, 120);
+        return Case { set, abi, area, missing, stubs, calls, rebuilds: true, spoiled: None };
     }
     let mut case = if number % 8 == 5 { generate::packages(seed, number) } else { generate::case(seed, number) };
     case.rebuilds = true;
     let changes = random.pick(&[1, 2, 8]);
-    for words in [&mut case.set, &mut case.abi, &mut case.area] {
+    for words in [&mut case.set, &mut case.abi, &mut case.area, &mut case.missing] {
         if random.chance(60) {
             damage(random, words, changes);
         }

@@ -8,6 +8,7 @@ mod descriptors;
 mod fields;
 mod forms;
 mod link;
+mod missing;
 mod names;
 mod order;
 mod packages;
@@ -29,6 +30,7 @@ pub use class_file::{class_file_head, read_class_file};
 pub use descriptors::argument_words;
 pub use forms::{narrow_class_sheet, widen_class_sheet};
 pub use link::link;
+pub use missing::missing_slots;
 pub use names::compare_names;
 pub use order::{read_unordered_sheet, renumber_classes};
 pub use reading::{read_abi_sheet, read_class_sheet};
@@ -38,9 +40,11 @@ pub use writing::write_class_sheet;
 /// The parts that other modules look at to tell which branches a case reaches.
 pub mod parts {
     pub use super::fields::{BuiltFields, built_fields, generated_fields, runtime_words, width};
+    pub use super::link::table_of;
+    pub use super::missing::is_counted;
     pub use super::packages::{introducing, overridden, package};
     pub use super::sheets::{AbiClass, AbiRecord, AbiSheet, ClassSheet, Method, text_of_abi_words, text_of_class_words};
-    pub use super::tables::{Entry, eligible, fixed_index, minimum_size, native_view, reading};
+    pub use super::tables::{EMPTY, Entry, eligible, entry_of, fixed_index, minimum_size, native_view, reading};
 }
 
 /// The model as a side of the comparison.
@@ -76,8 +80,12 @@ impl Linker for Model {
         answer(renumber_classes(set, order).map(|classes| (classes, 0)))
     }
 
-    fn link(&mut self, set: &mut [u32], abi: &[u32], class: u32, area: &mut [u32], stubs: &[u32]) -> Answer {
-        answer(link(set, abi, class, area, stubs))
+    fn link(&mut self, set: &mut [u32], abi: &[u32], class: u32, area: &mut [u32], stubs: &[u32], missing: &mut [u32]) -> Answer {
+        answer(link(set, abi, class, area, stubs, missing))
+    }
+
+    fn missing_slots(&mut self, set: &[u32], abi: &[u32], missing: &[u32], class: u32) -> Answer {
+        answer(missing_slots(set, abi, missing, class).map(|count| (count, 0)))
     }
 
     fn ask(&mut self, set: &mut [u32], abi: &[u32], class: u32, interface: u32, area: &mut [u32], stubs: &[u32]) -> Answer {

@@ -1,6 +1,7 @@
 //! Linking a class.
 
 use super::fields::{built_fields, generated_fields};
+use super::missing::{counted, row_15_of_list, write_counted};
 use super::packages::{build_packages, row_26};
 use super::rules::{row_3, rows_4_and_5};
 use super::sheets::{
@@ -13,8 +14,9 @@ use super::{Because, refuse};
 
 /// What a link comes to, before anything is written.
 struct Linked {
-    /// The table's slot targets, 0 where a stub stands in.
+    /// The table's slot targets, 0 where a stub stands in, and whether each slot counts as missing.
     targets: Vec<u32>,
+    counted: Vec<bool>,
     /// The class record's new instance words and static words, "unless generated".
     instance_words: Option<u32>,
     static_words: Option<u32>,
@@ -33,7 +35,7 @@ struct NewRecord {
 }
 
 /// Links class `class`: answers its table's place and slots.
-pub fn link(set: &mut [u32], abi: &[u32], class: u32, area: &mut [u32], stubs: &[u32]) -> Result<(u32, u32), Refused> {
+pub fn link(set: &mut [u32], abi: &[u32], class: u32, area: &mut [u32], stubs: &[u32], missing: &mut [u32]) -> Result<(u32, u32), Refused> {
     row_3(set, abi)?;
     let (text, abi_text) = (text_of_class_words(set), text_of_abi_words(abi));
     let abi = AbiSheet { words: abi, text: &abi_text };
@@ -42,14 +44,16 @@ pub fn link(set: &mut [u32], abi: &[u32], class: u32, area: &mut [u32], stubs: &
     row_6(&sheet, class)?;
     row_7(&sheet, area)?;
     row_26(&sheet, &abi, class)?;
-    let linked = prepare(&sheet, &abi, class, area)?;
+    let linked = prepare(&sheet, &abi, class, area, missing)?;
     let grown = row_14(&sheet, class, &linked)?;
     row_15(&linked, set.len(), area, stubs, &grown)?;
+    row_15_of_list(sheet.class_count(), missing)?;
 
     let place = area[0];
     let slots = linked.targets.len() as u32;
     write_set(set, class, place, &linked, grown);
     write_table(area, class, &linked.targets, stubs);
+    write_counted(missing, class, &linked.counted);
     Ok((place, slots))
 }
 
@@ -89,18 +93,18 @@ pub fn row_7(sheet: &ClassSheet, area: &[u32]) -> Result<(), Refused> {
 }
 
 /// Rows 8 to 13, kind by kind.
-fn prepare(sheet: &ClassSheet, abi: &AbiSheet, class: u32, area: &[u32]) -> Result<Linked, Refused> {
+fn prepare(sheet: &ClassSheet, abi: &AbiSheet, class: u32, area: &[u32], missing: &[u32]) -> Result<Linked, Refused> {
     let linked = match sheet.class(class).kind {
-        BUILT | PACKAGED => prepare_built(sheet, abi, class, area)?,
-        GENERATED => prepare_generated(sheet, abi, class, area)?,
-        _ => prepare_array(sheet, abi, class, area),
+        BUILT | PACKAGED => prepare_built(sheet, abi, class, area, missing)?,
+        GENERATED => prepare_generated(sheet, abi, class, area, missing)?,
+        _ => prepare_array(sheet, abi, class, area, missing),
     };
     // "more than 1,024 slots"
     refuse(13, linked.targets.len() > 1024).because(|| Why::ManySlots { slots: linked.targets.len() })?;
     Ok(linked)
 }
 
-fn prepare_built(sheet: &ClassSheet, abi: &AbiSheet, class: u32, area: &[u32]) -> Result<Linked, Refused> {
+fn prepare_built(sheet: &ClassSheet, abi: &AbiSheet, class: u32, area: &[u32], missing: &[u32]) -> Result<Linked, Refused> {
     let fields = built_fields(sheet, abi, class);
     // "built: instance words, or chain runtime words, would exceed 65,535"
     let why = || match fields.instance_words > 65535 {
@@ -108,14 +112,7 @@ fn prepare_built(sheet: &ClassSheet, abi: &AbiSheet, class: u32, area: &[u32]) -
         false => Why::RuntimeWords { words: fields.runtime_words },
     };
     refuse(10, fields.instance_words > 65535 || fields.runtime_words > 65535).because(why)?;
-    let record = sheet.class(class);
-    let table = if record.kind == PACKAGED {
-        build_packages(sheet, abi, area, class)
-    } else if record.flags & INTERFACE != 0 {
-        build_interface_methods(sheet, class)
-    } else {
-        build_methods(sheet, abi, area, class)?
-    };
+    let table = table_of(sheet, abi, area, missing, class)?;
     // "added after the declared ones, flags 0x0002"
     let added = fields.added.iter().map(|field| NewRecord {
         name: field.name.to_vec(),
@@ -125,6 +122,7 @@ fn prepare_built(sheet: &ClassSheet, abi: &AbiSheet, class: u32, area: &[u32]) -
     });
     Ok(Linked {
         targets: targets(&table),
+        counted: counted(&table),
         instance_words: Some(fields.instance_words as u32),
         static_words: Some(fields.static_words as u32),
         added_fields: added.collect(),
@@ -133,13 +131,31 @@ fn prepare_built(sheet: &ClassSheet, abi: &AbiSheet, class: u32, area: &[u32]) -
     })
 }
 
+/// A class's entries as its link makes them, of whatever kind.
+pub fn table_of<'a>(
+    sheet: &ClassSheet<'a>,
+    abi: &AbiSheet<'a>,
+    area: &[u32],
+    missing: &[u32],
+    class: u32,
+) -> Result<Vec<Entry<'a>>, Refused> {
+    let record = sheet.class(class);
+    match (record.kind, sheet.compiler_table_of(class)) {
+        (PACKAGED, _) => Ok(build_packages(sheet, abi, area, missing, class)),
+        (BUILT, _) if record.flags & INTERFACE != 0 => Ok(build_interface_methods(sheet, class)),
+        (GENERATED, Some(compiled)) => Ok(compiler_table(sheet, abi, area, missing, class, compiled).0),
+        (BUILT | GENERATED, _) => build_methods(sheet, abi, area, missing, class),
+        _ => Ok(parent_entries(sheet, abi, area, missing, class)),
+    }
+}
+
 /// "Generated without a compiler table: `build_methods`, interface or not." "a generated class
 /// brings its own" static words
-fn prepare_generated(sheet: &ClassSheet, abi: &AbiSheet, class: u32, area: &[u32]) -> Result<Linked, Refused> {
+fn prepare_generated(sheet: &ClassSheet, abi: &AbiSheet, class: u32, area: &[u32], missing: &[u32]) -> Result<Linked, Refused> {
     let indices = generated_fields(sheet, class)?;
     let (table, added) = match sheet.compiler_table_of(class) {
-        None => (build_methods(sheet, abi, area, class)?, Vec::new()),
-        Some(compiled) => compiler_table(sheet, abi, area, class, compiled),
+        None => (build_methods(sheet, abi, area, missing, class)?, Vec::new()),
+        Some(compiled) => compiler_table(sheet, abi, area, missing, class, compiled),
     };
     let added = added.iter().map(|method| NewRecord {
         name: method.name.to_vec(),
@@ -149,6 +165,7 @@ fn prepare_generated(sheet: &ClassSheet, abi: &AbiSheet, class: u32, area: &[u32
     });
     Ok(Linked {
         targets: targets(&table),
+        counted: counted(&table),
         instance_words: None,
         static_words: None,
         indices,
@@ -159,10 +176,11 @@ fn prepare_generated(sheet: &ClassSheet, abi: &AbiSheet, class: u32, area: &[u32
 
 /// "Array: the parent's entries." "An array class has 0" instance words, and "0 for an array
 /// class" static words.
-fn prepare_array(sheet: &ClassSheet, abi: &AbiSheet, class: u32, area: &[u32]) -> Linked {
-    let table = parent_entries(sheet, abi, area, class);
+fn prepare_array(sheet: &ClassSheet, abi: &AbiSheet, class: u32, area: &[u32], missing: &[u32]) -> Linked {
+    let table = parent_entries(sheet, abi, area, missing, class);
     Linked {
         targets: targets(&table),
+        counted: counted(&table),
         instance_words: Some(0),
         static_words: Some(0),
         indices: None,

@@ -49,9 +49,9 @@ pub fn introducing<'a>(sheet: &ClassSheet<'a>, abi: &AbiSheet, area: &[u32], par
 
 /// "An eligible method takes every inherited slot whose introducing method it overrides by that section, and a new last slot if there is
 /// none."
-pub fn build_packages<'a>(sheet: &ClassSheet<'a>, abi: &AbiSheet, area: &[u32], class: u32) -> Vec<Entry<'a>> {
+pub fn build_packages<'a>(sheet: &ClassSheet<'a>, abi: &AbiSheet, area: &[u32], missing: &[u32], class: u32) -> Vec<Entry<'a>> {
     let parent = sheet.class(class).parent;
-    let mut table = parent_entries(sheet, abi, area, class);
+    let mut table = parent_entries(sheet, abi, area, missing, class);
     let introducing = if parent == 0 { Vec::new() } else { introducing(sheet, abi, area, parent) };
     for method in sheet.methods_of(class).filter(eligible) {
         let overridden = overridden(sheet, &method);

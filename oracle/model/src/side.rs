@@ -5,7 +5,7 @@
 pub struct Answer {
     pub refusal: u32,
     /// Link: the table's place. Ask: the interface table's place. Reading: words filled. Writing and conversion: blocks. Renumbering: classes.
-    /// Argument words: their number. Reference words: their number. Names: 1 if they are the same, else 0.
+    /// Argument words: their number. Reference words: their number. Missing slots: their number. Names: 1 if they are the same, else 0.
     pub first: u32,
     /// Link: slots. Ask: nodes read. Names: pairs of bytes read. Else 0.
     pub second: u32,
@@ -56,7 +56,10 @@ pub trait Linker {
 
     fn renumber_classes(&mut self, set: &mut [u32], order: &mut [u32]) -> Answer;
 
-    fn link(&mut self, set: &mut [u32], abi: &[u32], class: u32, area: &mut [u32], stubs: &[u32]) -> Answer;
+    /// `missing` is the list of counts, 33 words a class.
+    fn link(&mut self, set: &mut [u32], abi: &[u32], class: u32, area: &mut [u32], stubs: &[u32], missing: &mut [u32]) -> Answer;
+
+    fn missing_slots(&mut self, set: &[u32], abi: &[u32], missing: &[u32], class: u32) -> Answer;
 
     fn ask(&mut self, set: &mut [u32], abi: &[u32], class: u32, interface: u32, area: &mut [u32], stubs: &[u32]) -> Answer;
 

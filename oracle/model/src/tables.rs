@@ -1,17 +1,20 @@
 //! Tables: "Tables (`vtable.rs`, `prepare_generated`)".
 
+use super::missing::is_counted;
 use super::sheets::{ABSTRACT, AbiClass, AbiSheet, ClassSheet, Method, PRIVATE, STATIC};
 use super::why::{Fixed, Refused, Why};
 use super::{Because, refuse};
 
-/// A slot of a table: its target (0 if empty), and its method if it is known.
+/// A slot of a table: its target (0 if empty), its method if it is known, and whether it is "copied from parent entries that the parent's
+/// count included".
 #[derive(Clone, Copy)]
 pub struct Entry<'a> {
     pub target: u32,
     pub method: Option<Method<'a>>,
+    pub copies_counted: bool,
 }
 
-const EMPTY: Entry = Entry { target: 0, method: None };
+pub const EMPTY: Entry = Entry { target: 0, method: None, copies_counted: false };
 
 /// "Eligible: not static, not private (0x0002), name not starting with `<`."
 pub fn eligible(method: &Method) -> bool {
@@ -19,7 +22,7 @@ pub fn eligible(method: &Method) -> bool {
 }
 
 pub fn entry_of(method: Method) -> Entry {
-    Entry { target: method.target, method: Some(method) }
+    Entry { target: method.target, method: Some(method), copies_counted: false }
 }
 
 fn slot_of(table: &[Entry], method: &Method) -> Option<usize> {
@@ -47,7 +50,7 @@ pub fn reading<'a>(sheet: &ClassSheet<'a>, abi: &AbiSheet, area: &[u32], class: 
         .zip(0..)
         .map(|(&word, index)| {
             let by_target = methods.iter().find(|method| method.target == word).copied();
-            Entry { target: word, method: by_target.or_else(|| by_abi(index)) }
+            Entry { target: word, method: by_target.or_else(|| by_abi(index)), copies_counted: false }
         })
         .collect()
 }
@@ -83,12 +86,18 @@ pub fn build_interface_methods<'a>(sheet: &ClassSheet<'a>, class: u32) -> Vec<En
 }
 
 /// `build_methods`, with rows 11 and 12 "method by method, 11 first".
-pub fn build_methods<'a>(sheet: &ClassSheet<'a>, abi: &AbiSheet, area: &[u32], class: u32) -> Result<Vec<Entry<'a>>, Refused> {
+pub fn build_methods<'a>(
+    sheet: &ClassSheet<'a>,
+    abi: &AbiSheet,
+    area: &[u32],
+    missing: &[u32],
+    class: u32,
+) -> Result<Vec<Entry<'a>>, Refused> {
     let classes = abi_classes(sheet, abi, &sheet.chain(class));
     let minimum = minimum_size(abi, &classes);
 
     // "parent entries, extended with empty ones"
-    let inherited = parent_entries(sheet, abi, area, class);
+    let inherited = parent_entries(sheet, abi, area, missing, class);
     let mut table = if abi.class_named(sheet.name(class)).is_some() {
         relaid(abi, &classes, inherited, minimum)
     } else {
@@ -142,12 +151,15 @@ fn relaid<'a>(abi: &AbiSheet, classes: &[AbiClass], inherited: Vec<Entry<'a>>, m
     table
 }
 
-/// The parent's entries, read along the parent's own chain.
-pub fn parent_entries<'a>(sheet: &ClassSheet<'a>, abi: &AbiSheet, area: &[u32], class: u32) -> Vec<Entry<'a>> {
-    match sheet.class(class).parent {
-        0 => Vec::new(),
-        parent => reading(sheet, abi, area, parent),
+/// The parent's entries, read along the parent's own chain, each with what the parent's count in the list says of it: whoever takes one
+/// whole has a copy.
+pub fn parent_entries<'a>(sheet: &ClassSheet<'a>, abi: &AbiSheet, area: &[u32], missing: &[u32], class: u32) -> Vec<Entry<'a>> {
+    let parent = sheet.class(class).parent;
+    if parent == 0 {
+        return Vec::new();
     }
+    let entries = reading(sheet, abi, area, parent).into_iter().enumerate();
+    entries.map(|(slot, entry)| Entry { copies_counted: is_counted(missing, parent, slot), ..entry }).collect()
 }
 
 /// (a) "a known parent entry whose owner's link state is not 3 and whose slot is not its
@@ -169,16 +181,17 @@ pub fn compiler_table<'a>(
     sheet: &ClassSheet<'a>,
     abi: &AbiSheet<'a>,
     area: &[u32],
+    missing: &[u32],
     class: u32,
     compiled: &[u32],
 ) -> (Vec<Entry<'a>>, Vec<Method<'a>>) {
-    let parent = parent_entries(sheet, abi, area, class);
+    let parent = parent_entries(sheet, abi, area, missing, class);
     let view = native_view(sheet, abi, class, &parent);
     let declared: Vec<Method> = sheet.methods_of(class).collect();
     let added = added_methods(sheet, abi, class, compiled, &view, &declared);
 
     // (c) "A zero slot is the native view's; another is matched by target in declared and
-    // added, then native methods."
+    // added, then native methods." "a nonzero compiler slot is no copy"
     let own = || declared.iter().chain(&added);
     let native = || view.iter().filter_map(|entry| entry.method.as_ref());
     let mut table: Vec<Entry> = compiled
@@ -186,16 +199,19 @@ pub fn compiler_table<'a>(
         .enumerate()
         .map(|(index, &target)| match target {
             0 => view.get(index).copied().unwrap_or(EMPTY),
-            target => Entry { target, method: own().chain(native()).find(|method| method.target == target).copied() },
+            target => {
+                Entry { target, method: own().chain(native()).find(|method| method.target == target).copied(), copies_counted: false }
+            }
         })
         .collect();
 
     // (d) "Eligible declared, added and parent methods whose signature has no slot are
-    // appended with their own targets."
-    let inherited = parent.iter().filter_map(|entry| entry.method.as_ref());
-    for method in own().chain(inherited).filter(|method| eligible(method)) {
-        if slot_of(&table, method).is_none() {
-            table.push(entry_of(*method));
+    // appended with their own targets." "an appended parent method is" a copy
+    let own = own().map(|method| entry_of(*method));
+    let inherited = parent.iter().filter_map(|entry| Some(Entry { copies_counted: entry.copies_counted, ..entry_of(entry.method?) }));
+    for entry in own.chain(inherited) {
+        if entry.method.is_some_and(|method| eligible(&method) && slot_of(&table, &method).is_none()) {
+            table.push(entry);
         }
     }
     (table, added)

@@ -86,6 +86,7 @@ pub enum Why {
     Unlinked {
         class: u32,
     },
+    Uncounted,
     AreaLength {
         length: usize,
     },
@@ -156,6 +157,10 @@ pub enum Why {
     },
     FewClassWords {
         content: usize,
+        lent: usize,
+    },
+    FewMissingWords {
+        words: usize,
         lent: usize,
     },
 }
@@ -229,6 +234,7 @@ impl Refused {
                 format!("an array class has the parent java/lang/Object, and this one has {}", names.class(*parent))
             }
             Why::Unlinked { class } => format!("an interface table needs both classes linked, and {} is not", names.class(*class)),
+            Why::Uncounted => "its missing slots are counted by its link, and it is not linked".to_owned(),
             Why::AreaLength { length } => format!("the area has {length} words, and it needs 1 to 4294967295"),
             Why::NextFree { next, length } => {
                 format!("word 0 of the area, the next free place, is {next}, and the area has {}", count(*length, "word"))
@@ -281,6 +287,9 @@ impl Refused {
             }
             Why::FewClassWords { content, lent } => {
                 format!("with what linking adds the set takes {content} words, and {} lent", were(*lent, "word"))
+            }
+            Why::FewMissingWords { words, lent } => {
+                format!("the list of missing slots takes {words} words, 33 for each class, and {} lent", were(*lent, "word"))
             }
         }
     }

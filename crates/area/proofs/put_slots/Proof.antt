@@ -5,7 +5,7 @@ use mathlib.Core.Path.{_≡_}
 use lib.ListN.{length}
 use Rattle.area.proofs.AreaLaws.{slots-none, slots-turn, slots-done}
 use Rattle.area.specs.Area.{slotsOf}
-use Rattle.linking.specs.Link.{writeAt}
+use Rattle.linking.specs.Set.{writeAt}
 use borrow.Author.Needs.{needs}
 use Rattle.area.proofs.put_slots.Statement.{statement}
 use Rattle.area.proofs.put_slots.Tie as tie

@@ -6,8 +6,7 @@ use Rattle.class_file.proofs.WriteLaws.{records-done, text-done, end-do
 use Rattle.class_form.specs.Marks.{Near}
 use Rattle.class_members.specs.Members.{membersAt, placesFrom}
 use Rattle.class_sheet.specs.ClassSheet.{memberWidth, textLimit}
-use Rattle.linking.specs.Link.{writeAt}
-use Rattle.linking.specs.Set.{newRecords, newText}
+use Rattle.linking.specs.Set.{writeAt, newRecords, newText}
 use lib.ListN.{length}
 use mathlib.Core.Path.{_≡_}
 use Prim.Native.Nat.{_+_, _*_, _-_, _≤_}

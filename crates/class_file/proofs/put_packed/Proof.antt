@@ -1,6 +1,6 @@
 -- The invariant: i words are packed and written; the measure is what is left of them. Assumes nothing.
 use Rattle.words.specs.Words.{wordsFor}
-use Rattle.linking.specs.Link.{writeAt}
+use Rattle.linking.specs.Set.{writeAt}
 use Rattle.linking.proofs.Writes.{packedTo, packed-none, packed-done}
 use Rattle.class_file.proofs.WriteLaws.{packed-turn}
 use lib.ListN.{length}

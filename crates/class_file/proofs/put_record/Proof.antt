@@ -2,7 +2,7 @@
 use Rattle.growth.proofs.GrowthLaws.{member-written}
 use mathlib.Core.Path.{ap, _∙_}
 use Prim.Native.Nat.{ℕ, _+_, _*_, _-_}
-use Rattle.linking.specs.Link.{writeAt}
+use Rattle.linking.specs.Set.{writeAt}
 use native.Mathlib.Omega.{arith}
 use Rattle.class_sheet.specs.ClassSheet.{memberWidth, memberWords}
 use borrow.Author.Needs.{needs}

@@ -4,9 +4,9 @@ use native.Mathlib.Omega.{arith}
 use mathlib.Core.Path.{_≡_}
 use Prim.Native.Nat.{_+_, _-_, _≤_}
 use Rattle.reading.specs.Arrays.{entriesOf}
-use Rattle.native_view.specs.Native.{markMethods}
+use Rattle.native_view.specs.Native.{marksIn}
 use Rattle.growth.specs.News.{firstNews}
-use Rattle.linking.specs.Compiler.{appendMethod}
+use Rattle.linking.specs.Compiler.{appendEntry}
 use Rattle.words.specs.Lists.{fold}
 use Rattle.compiler.proofs.AppendLaws.{knownRest, known-all, known-turn, known-end}
 use borrow.Author.Needs.{needs}
@@ -17,7 +17,7 @@ abbrev Inv-loop : tie.InvT-loop
 Inv-loop ws text abi labels refs flags lasts n known count ts₀ ms₀ size r₀ i₀ ts ms r i =
     ((i ≤ count) × (r ≤ size + i) × (size + count ≤ 3584) × (3584 ≤ length ts₀) × (3584 ≤ length ms₀) × (length ts ≡ length ts₀)
     × (length ms ≡ length ms₀)) × (knownRest ws text abi labels refs flags lasts n known count (entriesOf ts ms r) i ≡ fold
-    (appendMethod ws text (firstNews ws text abi labels refs flags lasts n)) (entriesOf ts₀ ms₀ size) (markMethods known count))
+    (appendEntry ws text (firstNews ws text abi labels refs flags lasts n)) (entriesOf ts₀ ms₀ size) (marksIn known count))
 
 abbrev μ-loop : tie.MeasureT-loop
 μ-loop ws text abi labels refs flags lasts n known count ts₀ ms₀ size r₀ i₀ ts ms r i = count - i

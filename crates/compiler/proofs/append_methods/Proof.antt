@@ -5,21 +5,20 @@ use mathlib.Core.Path.{_≡_, _∙_}
 use Prim.Native.Nat.{_+_, _-_, _≤_}
 use Rattle.class_sheet.specs.ClassSheet.{methodLimit}
 use Rattle.reading.specs.Arrays.{entriesOf}
-use Rattle.compiler.specs.Methods.{methodNumber}
+use Rattle.compiler.specs.Methods.{appendMethod, methodNumber}
 use Rattle.growth.specs.News.{firstNews}
-use Rattle.linking.specs.Compiler.{appendMethod}
 use Rattle.linking.specs.Chain.{ownMethods}
 use mathlib.Core.List.{_++_}
 use Rattle.words.specs.Lists.{numbers, fold}
 use Rattle.words.proofs.ListLaws.{foldFrom, fold-end}
-use Rattle.compiler.proofs.AppendLaws.{methods-in, numbers-start, numbers-turn}
+use Rattle.compiler.proofs.AppendLaws.{append-own, methods-in, numbers-start, numbers-turn}
 use borrow.Author.Needs.{needs}
 use Rattle.compiler.proofs.append_methods.Statement.{statement}
 use Rattle.compiler.proofs.append_methods.Tie as tie
 
 abbrev Inv-loop : tie.InvT-loop
 Inv-loop ws text abi labels refs flags lasts n c ts₀ ms₀ end first own total r₀ j₀ ts ms r j =
-    (j ≤ total) × (r ≤ end + j) × (first + own ≤ 4294967295) × (total ≤ 1536)
+    (j ≤ total) × (r ≤ end + j) × (own ≤ methodLimit - first) × ((total ≤ 1536) × (total ≡ own + n))
     × ((n ≤ 1024) × (end ≤ 1024) × (3584 ≤ length ts₀) × (3584 ≤ length ms₀)) × (length ts ≡ length ts₀) × (length ms ≡ length ms₀)
     × (foldFrom (methodNumber first own) (appendMethod ws text (firstNews ws text abi labels refs flags lasts n))
     (entriesOf ts ms r) 0 total j ≡ fold (appendMethod ws text (firstNews ws text abi labels refs flags lasts n))
@@ -35,14 +34,15 @@ loop-holds c =
 method-number-requires : tie.Need-method-number-requires Inv-loop μ-loop
 method-number-requires c κs = (omega arith, omega arith)
 
-append-method-requires : tie.Need-append-method-requires Inv-loop μ-loop
-append-method-requires c κs = (omega arith, omega arith, omega arith, omega arith)
+append-mark-requires : tie.Need-append-mark-requires Inv-loop μ-loop
+append-mark-requires c κs = (omega arith, omega arith, omega arith)
 
 loop-again : tie.Need-loop-again Inv-loop μ-loop
 loop-again c =
-    let at-append-method : tie.After-append-method Inv-loop μ-loop = search in
-    let at-method-number : tie.After-method-number Inv-loop μ-loop = search in
-    let l = at-method-number .before .before .loop in (
+    let put : tie.After-append-mark Inv-loop μ-loop = search in
+    let mark : tie.After-mark-of Inv-loop μ-loop = search in
+    let number : tie.After-method-number Inv-loop μ-loop = search in
+    let l = number .before .before .loop in (
       omega arith,
       omega arith,
       omega arith,
@@ -50,8 +50,8 @@ loop-again c =
       omega arith,
       omega arith,
       omega arith,
-      numbers-turn _ _ _ (l .j) (at-method-number .before .loop-test .taken) (at-method-number .method-number .ensures .0)
-          (at-append-method .append-method .ensures .0) ∙ l .inv .7,
+      numbers-turn _ _ _ (l .j) (number .before .loop-test .taken) (number .method-number .ensures .0)
+          (append-own _ _ _ _ _ _ _ _ _ _ _ (number .method-number .ensures .1) (mark .mark-of .ensures) (put .append-mark .ensures .0)) ∙ l .inv .7,
     )
 
 returns : tie.Need-returns Inv-loop μ-loop
@@ -70,7 +70,8 @@ append-methods-spec =
     (λ c. search needs)
     loop-holds
     method-number-requires
-    append-method-requires
+    (λ c κs. search needs)
+    append-mark-requires
     (λ c. search needs)
     (λ c. search needs)
     loop-again

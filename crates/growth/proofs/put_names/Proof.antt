@@ -1,6 +1,5 @@
 -- The invariant: the text of the first i members is written, and `next` is where it ends; the measure is what is left of them. Assumes nothing.
-use Rattle.linking.specs.Link.{writeAt}
-use Rattle.linking.specs.Set.{newText}
+use Rattle.linking.specs.Set.{writeAt, newText}
 use Rattle.growth.specs.News.{newCount, named}
 use Rattle.growth.proofs.NewsLaws.{textTo, names-none, names-turn, names-done, next-none, next-turn, next-within}
 use lib.ListN.{length}

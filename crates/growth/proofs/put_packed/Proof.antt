@@ -1,6 +1,6 @@
 -- The invariant: i words are packed and written; the measure is what is left of them. Assumes nothing.
 use Rattle.words.specs.Words.{wordsFor}
-use Rattle.linking.specs.Link.{writeAt}
+use Rattle.linking.specs.Set.{writeAt}
 use Rattle.linking.proofs.Writes.{packedTo, packed-none, packed-turn, packed-done}
 use lib.ListN.{length}
 use mathlib.Core.Path.{_≡_}

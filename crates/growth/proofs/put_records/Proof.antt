@@ -1,8 +1,7 @@
 -- The invariant: the records of the first i members are written, and `next` is where member i's name begins; the measure is what is left of
 -- them. Assumes nothing.
 use Rattle.class_sheet.specs.ClassSheet.{memberWidth, textLimit}
-use Rattle.linking.specs.Link.{writeAt}
-use Rattle.linking.specs.Set.{newText}
+use Rattle.linking.specs.Set.{writeAt, newText}
 use Rattle.growth.specs.News.{newCount, named}
 use Rattle.growth.proofs.NewsLaws.{textTo, recordsTo, records-none, records-turn, records-done, next-none, parts-turn, parts-within}
 use lib.ListN.{length}

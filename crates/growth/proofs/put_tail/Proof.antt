@@ -1,6 +1,6 @@
 -- The copied records, the new ones and the sections after are written one behind the other, and the text behind them. Assumes nothing.
 use Rattle.class_sheet.specs.ClassSheet.{memberWidth}
-use Rattle.linking.specs.Link.{writeAt}
+use Rattle.linking.specs.Set.{writeAt}
 use Rattle.growth.specs.News.{news}
 use Rattle.growth.proofs.GrowthLaws.{room-is, frontOf, front-length, front-is, text-room, tail-is}
 use mathlib.Core.List.{List}

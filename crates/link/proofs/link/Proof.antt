@@ -12,6 +12,7 @@ returns c = search link-3
 
 link-fitting-requires : tie.Need-link-fitting-requires
 link-fitting-requires c κs =
+    let at-name-at2 : tie.After-name-at2 = search in
     let at-text-length2 : tie.After-text-length2 = search in
     let at-text-length : tie.After-text-length = search in
     let at-unpack-text2 : tie.After-unpack-text2 = search in
@@ -24,7 +25,7 @@ link-fitting-requires c κs =
       text-is = text-handed _ _ _ (set-text _ _ f h) refl (at-unpack-text .unpack-text .ensures) (at-text-length .text-length .ensures)
           (at-text-length2 .before .before .name-at .ensures);
       labels-are = text-handed _ _ _ (set-abi-text _ _ f h) refl (at-unpack-text2 .unpack-text2 .ensures)
-          (at-text-length2 .text-length2 .ensures) (c .before .before .name-at2 .ensures);
+          (at-text-length2 .text-length2 .ensures) (at-name-at2 .name-at2 .ensures);
     }
 
 pub link-spec : {M : Type 1} → statement M
@@ -45,6 +46,7 @@ link-spec =
     (λ c κs. search needs)
     (λ c κs. search needs)
     link-fitting-requires
+    (λ c. search needs)
     (λ c. search needs)
     (λ c. search needs)
     (λ c. search needs))

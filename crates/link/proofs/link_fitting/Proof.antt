@@ -20,4 +20,5 @@ link-fitting-spec =
     link-read-requires
     (λ c. search needs)
     (λ c. search needs)
+    (λ c. search needs)
     (λ c. search needs))

@@ -7,11 +7,16 @@ use Rattle.link.proofs.link_read.Tie as tie
 returns : tie.Need-returns
 returns c = search link-6
 
-returns-2 : tie.Need-returns-2
-returns-2 c = search link-7
-
 abbrev start-of : tie.Else1 → tie.Start
-start-of c = c .before .before .before .before .before .before .before .before .before
+start-of c = c .before .before .before .before .before .before .before .before .before .before
+
+returns-2 : tie.Need-returns-2
+returns-2 c =
+    let at-bad-area : tie.After-bad-area = search in
+    let at-if1 : tie.Else1 = search in
+    let start = start-of at-if1 in
+    let a = start .args in link-7 (a .set .now) (a .abi .now) (a .c) (a .area .now) (a .stubs .now) (a .missing .now) (a .text .now) (a .labels .now)
+    (start .pre) (at-if1 .before .bad-class .ensures) (at-if1 .if1 .left) (at-bad-area .bad-area .ensures) (c .if2 .taken)
 
 returns-3 : tie.Need-returns-3
 returns-3 c =
@@ -21,7 +26,7 @@ returns-3 c =
     let at-bad-packages : tie.After-bad-packages = search in
     let at-if3 : tie.Then3 = search in
     let start = start-of at-if1 in
-    let a = start .args in link-26 (a .set .now) (a .abi .now) (a .c) (a .area .now) (a .stubs .now) (a .text .now) (a .labels .now)
+    let a = start .args in link-26 (a .set .now) (a .abi .now) (a .c) (a .area .now) (a .stubs .now) (a .missing .now) (a .text .now) (a .labels .now)
     (start .pre) (at-if1 .before .bad-class .ensures) (at-if1 .if1 .left) (at-bad-area .bad-area .ensures) (at-if2 .if2 .left)
     (at-bad-packages .bad-packages .ensures) (at-if3 .if3 .taken)
 
@@ -33,7 +38,7 @@ link-planned-requires c κs =
     let at-bad-packages : tie.After-bad-packages = search in
     let at-if3 : tie.Else3 = search in
     let start = start-of at-if1 in
-    let a = start .args in link-accepted (a .set .now) (a .abi .now) (a .c) (a .area .now) (a .stubs .now) (a .text .now) (a .labels .now)
+    let a = start .args in link-accepted (a .set .now) (a .abi .now) (a .c) (a .area .now) (a .stubs .now) (a .missing .now) (a .text .now) (a .labels .now)
     (start .pre) (at-if1 .before .bad-class .ensures) (at-if1 .if1 .left) (at-bad-area .bad-area .ensures) (at-if2 .if2 .left)
     (at-bad-packages .bad-packages .ensures) (at-if3 .if3 .left)
 
@@ -53,6 +58,7 @@ link-read-spec =
     (λ c. search needs)
     returns-3
     link-planned-requires
+    (λ c. search needs)
     (λ c. search needs)
     (λ c. search needs)
     (λ c. search needs))

@@ -11,12 +11,15 @@ use Rattle.listing.proofs.link_classes.Statement.{statement}
 use Rattle.listing.proofs.link_classes.Tie as tie
 
 abbrev Inv-loop : tie.InvT-loop
-Inv-loop set₀ abi n area₀ stubs rows₀ i₀ set area rows i =
-    ((i ≤ n) × (n ≤ length rows₀) × (length set ≡ length set₀) × (length area ≡ length area₀) × (length rows ≡ length rows₀))
-    × (linksFrom abi stubs n i rows set area ≡ linkAll abi stubs n 1 set₀ area₀)
+Inv-loop set₀ abi n area₀ stubs missing₀ rows₀ i₀ set area missing rows i =
+    (
+    (i ≤ n) × (n ≤ length rows₀) × (length set ≡ length set₀) × (length area ≡ length area₀) × (length missing ≡ length missing₀)
+    × (length rows ≡ length rows₀)
+    )
+    × (linksFrom abi stubs n i rows set area missing ≡ linkAll abi stubs n 1 set₀ area₀ missing₀)
 
 abbrev μ-loop : tie.MeasureT-loop
-μ-loop set₀ abi n area₀ stubs rows₀ i₀ set area rows i = n - i
+μ-loop set₀ abi n area₀ stubs missing₀ rows₀ i₀ set area missing rows i = n - i
 
 loop-holds : tie.Need-loop-holds Inv-loop μ-loop
 loop-holds c = (omega arith, search links-start)
@@ -28,12 +31,12 @@ loop-again c =
     let stored : tie.After-put-word Inv-loop μ-loop = search in
     let place : tie.After-wide Inv-loop μ-loop = search in (
       omega arith,
-      links-turn _ _ _ _ _ _ _ (at-loop .loop-test .taken) (omega arith) (linked .link-class .ensures) (place .wide .ensures)
+      links-turn _ _ _ _ _ _ _ _ (at-loop .loop-test .taken) (omega arith) (linked .link-class .ensures) (place .wide .ensures)
           (stored .put-word .ensures) (at-loop .before .loop .inv .1),
     )
 
 returns : tie.Need-returns Inv-loop μ-loop
-returns c = links-end _ _ _ _ _ _ _ (c .loop-test .left) (omega arith) (c .before .loop .inv .1)
+returns c = links-end _ _ _ _ _ _ _ _ (c .loop-test .left) (omega arith) (c .before .loop .inv .1)
 
 pub link-classes-spec : {M : Type 1} → statement M
 link-classes-spec =
@@ -49,6 +52,7 @@ link-classes-spec =
     (λ c. search needs)
     (λ c. omega arith)
     loop-again
+    (λ c. omega arith)
     (λ c. omega arith)
     (λ c. omega arith)
     (λ c. omega arith)

@@ -7,11 +7,11 @@ use Rattle.reading.proofs.mark_of.Tie as tie
 
 returns : tie.Need-returns
 unfolding markOf
-returns c = rw (c .before .before .f .given .1) (simp (lt-ltb _ 4294967295 (c .if1 .taken)))
+returns c = rw (c .before .before .f .given .1) (simp (lt-ltb _ 4095 (c .if1 .taken)))
 
 returns-2 : tie.Need-returns-2
 unfolding markOf
-returns-2 c = rw (c .before .before .f .given .1) (simp (le-ltb _ 4294967295 (c .if1 .left)))
+returns-2 c = rw (c .before .before .f .given .1) (simp (le-ltb _ 4095 (c .if1 .left)))
 
 returns-3 : tie.Need-returns-3
 unfolding markOf

@@ -1,4 +1,4 @@
--- By cases: mark 0 stands for none, any other one for the number below it. Assumes nothing.
+-- By cases: a rest of 0 stands for none, any other one for the number below it. Assumes nothing.
 use borrow.Author.Tests.{eq-eqb, ne-eqb}
 use Rattle.reading.specs.Arrays.{methodOf}
 use borrow.Author.Needs.{needs}

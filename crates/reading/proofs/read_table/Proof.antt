@@ -37,6 +37,13 @@ mark-by-index-requires c κs = (
       (t .1 .0) (t .1 .1) (m .0) (m .1) (omega (arith, start .pre)) (omega (arith, start .pre)) (omega arith),
 )
 
+give-sources-requires : tie.Need-give-sources-requires
+give-sources-requires c κs =
+    let targeted : tie.After-mark-by-target = search in
+    let copied : tie.After-copy-slots = before-target targeted in
+    let placed : tie.After-class-table-place = copied .before .before .before .before in
+    omega (arith, placed .before .slot-count .ensures)
+
 returns : tie.Need-returns
 returns c =
     let indexed : tie.After-mark-by-index = search in
@@ -48,8 +55,10 @@ returns c =
     let t = copied .copy-slots .ensures in
     let m = targeted .mark-by-target .ensures in
     let i = indexed .mark-by-index .ensures in
+    let sourced : tie.After-give-sources = search in
+    let o = sourced .give-sources .ensures in
     let r = all-read (now (a .ws)) (now (a .text)) (now (a .abi)) (now (a .labels)) (now (a .area)) (placed .class-table-place .result) (a .c)
-    (placed .before .slot-count .result) _ _ (t .0) (t .1 .0) (m .0) (i .0) (omega (arith, start .pre))
+    (placed .before .slot-count .result) _ _ (t .0) (t .1 .0) (m .0) (i .0) o (omega (arith, start .pre))
     (omega (arith, start .pre)) in
     let d = read-classes (now (a .ws)) (now (a .area)) (placed .class-table-place .result) (a .c) (placed .before .slot-count .result) _ _ _ (t .0)
     (t .1 .0) (t .1 .1) (m .0) (m .1) (omega (arith, start .pre)) (omega (arith, start .pre))
@@ -68,6 +77,7 @@ read-table-spec =
     (λ c κs. search needs)
     mark-by-target-requires
     mark-by-index-requires
+    give-sources-requires
     (λ c. search needs)
     (λ c. search needs)
     returns)

@@ -12,10 +12,11 @@ returns c =
     let test : tie.Then1 = search in
     let count : tie.After-wide2 = search in
     let first : tie.After-word-at3 = search in
-    linked .link .ensures
-    ∙ link-told _ _ _ _ _ (test .before .word-at5 .ensures) (first .before .before .word-at .ensures)
+    let o = linked .link in
+    link-told _ _ _ _ _ _ (test .before .word-at5 .ensures) (first .before .before .word-at .ensures)
     (count .before .before .wide .ensures ∙ first .word-at3 .ensures) (count .wide2 .ensures ∙ count .before .word-at4 .ensures)
-    (test .before .before .word-part .ensures) (test .if1 .taken)
+    (test .before .before .word-part .ensures) (o .result) (o .last .0) (o .last .1 .1 .1 .0)
+    (o .last .1 .1 .1 .1 .1 .0) (test .if1 .taken) (o .ensures)
 
 -- an ask
 returns-2 : tie.Need-returns-2
@@ -24,10 +25,11 @@ returns-2 c =
     let test : tie.Else1 = search in
     let count : tie.After-wide2 = search in
     let first : tie.After-word-at3 = search in
-    asked .interface-dispatch-table .ensures
-    ∙ ask-told _ _ _ _ _ (test .before .word-at5 .ensures) (first .before .before .word-at .ensures)
+    let o = asked .interface-dispatch-table in
+    ask-told _ _ _ _ _ _ (test .before .word-at5 .ensures) (first .before .before .word-at .ensures)
     (count .before .before .wide .ensures ∙ first .word-at3 .ensures) (count .wide2 .ensures ∙ count .before .word-at4 .ensures)
-    (test .before .before .word-part .ensures) (test .if1 .left) (first .before .word-at2 .ensures)
+    (test .before .before .word-part .ensures) (o .result) (o .last .1 .1 .1 .1 .0)
+    (test .if1 .left) (first .before .word-at2 .ensures) (o .ensures)
 
 pub one-call-spec : {M : Type 1} → statement M
 one-call-spec =
@@ -42,6 +44,7 @@ one-call-spec =
     (λ c κs. search needs)
     (λ c κs. search needs)
     (λ c κs. search needs)
+    (λ c. search needs)
     (λ c. search needs)
     (λ c. search needs)
     returns

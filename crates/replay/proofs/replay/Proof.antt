@@ -4,24 +4,24 @@ use lib.ListN.{length}
 use mathlib.Core.Path.{_≡_, refl, _∙_}
 use Prim.Native.Nat.{_-_, _/_, _≤_}
 use native.Mathlib.Omega.{arith}
-use Rattle.calls.specs.Calls.{run}
-use Rattle.replay.specs.Replay.{callsOf, state, answersOf, over}
+use Rattle.calls.specs.Calls.{start, run}
+use Rattle.replay.specs.Replay.{callsOf, answersOf, over}
 use Rattle.replay.proofs.ReplayLaws.{leftRun, leftAnswers, run-start, answers-start, run-turn, answers-turn, run-end, answers-end}
 use borrow.Author.Needs.{needs}
 use Rattle.replay.proofs.replay.Statement.{statement}
 use Rattle.replay.proofs.replay.Tie as tie
 
 abbrev Inv-loop : tie.InvT-loop
-Inv-loop set₀ abi area₀ calls stubs answers₀ n i₀ set area answers i =
-    (i ≤ n) × (n ≡ length calls / 5) × (leftRun abi calls stubs (state set area) i ≡ run abi (callsOf calls stubs) (state set₀ area₀))
-    × (leftAnswers abi calls stubs (state set area) i answers ≡ over (answersOf abi (callsOf calls stubs) (state set₀ area₀)) answers₀)
-    × (length set ≡ length set₀) × (length area ≡ length area₀) × (length answers ≡ length answers₀)
+Inv-loop set₀ abi area₀ missing₀ calls stubs answers₀ n i₀ set area missing answers i =
+    (i ≤ n) × (n ≡ length calls / 5) × (leftRun abi calls stubs (start set area missing) i ≡ run abi (callsOf calls stubs) (start set₀ area₀ missing₀))
+    × (leftAnswers abi calls stubs (start set area missing) i answers ≡ over (answersOf abi (callsOf calls stubs) (start set₀ area₀ missing₀)) answers₀)
+    × (length set ≡ length set₀) × (length area ≡ length area₀) × (length missing ≡ length missing₀) × (length answers ≡ length answers₀)
 
 abbrev μ-loop : tie.MeasureT-loop
-μ-loop set₀ abi area₀ calls stubs answers₀ n i₀ set area answers i = n - i
+μ-loop set₀ abi area₀ missing₀ calls stubs answers₀ n i₀ set area missing answers i = n - i
 
 loop-holds : tie.Need-loop-holds Inv-loop μ-loop
-loop-holds c = (omega arith, refl, search run-start, search answers-start, refl, refl, refl)
+loop-holds c = (omega arith, refl, search run-start, search answers-start, refl, refl, refl, refl)
 
 loop-again : tie.Need-loop-again Inv-loop μ-loop
 loop-again c =
@@ -33,6 +33,7 @@ loop-again c =
       omega arith,
       run-turn _ _ _ _ (omega arith) w (o .result) _ _ _ _ (o .ensures) ∙ turn .loop .inv .2,
       answers-turn _ _ _ _ (omega arith) w (o .result) _ _ _ _ (o .ensures) _ (c .before .before .put-answer .ensures) ∙ turn .loop .inv .3,
+      search needs,
       search needs,
       search needs,
       search needs,
@@ -62,6 +63,7 @@ replay-spec =
     (λ c. search needs)
     (λ c. search needs)
     loop-again
+    (λ c. search needs)
     (λ c. search needs)
     (λ c. search needs)
     (λ c. search needs)

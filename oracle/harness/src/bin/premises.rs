@@ -36,7 +36,7 @@ fn main() -> ExitCode {
 /// How demand 3 fails on a case with a premise dropped.
 fn failure(oracle: &mut Oracle, case: &Case, premise: Premise) -> Option<String> {
     oracle.new_case(true);
-    let mut state = State { set: case.set.clone(), area: case.area.clone() };
+    let mut state = State::of(case);
     let answers: Vec<_> = case.calls.iter().map(|&call| perform(oracle, case, call, &mut state)).collect();
     judge(case, &answers, &state.area, Some(premise), &mut Demand3Counts::default()).err()
 }

@@ -1,7 +1,7 @@
 //! `steps SEED FILE`: for each bucket the smallest calls that reach it, each with all that it is
-//! lent and the Rust's answer. The file is little-endian u32 words. A call: kind (0 link, 1 ask),
-//! class, interface; refusal and the two answer words; the lengths of class words, ABI words, area
-//! and stubs; these four; then class words and area after the call. Then small calls of the other
+//! lent and the Rust's answer. The file is little-endian u32 words. A call: kind (0 link, 1 ask,
+//! 14 missing slots), class, interface; refusal and the two answer words; the lengths of class words, ABI words, area,
+//! stubs and the list of missing slots; these five; then class words, area and list after the call. Then small calls of the other
 //! functions, in the same form: what they read stands for the ABI words, what they write for the
 //! area, bytes one to a word, and a number that they take for the class (kinds 2 reference words,
 //! 3 reference count, 4 writing, 5 reading loosely, 6 renumbering, 7 and 8 reading a class and an
@@ -116,7 +116,7 @@ fn class_file_call(oracle: &mut Oracle, file: &class_files::FileCall) -> Vec<u32
     let (mut fields, mut methods, mut text) = (vec![7; file.fields], vec![7; file.methods], vec![7; file.text]);
     let answer = oracle.read_class_file(&file.bytes, &file.targets, &mut fields, &mut methods, &mut text);
     let head = [13, file.fields as u32, file.methods as u32, answer.refusal, 0, 0];
-    let lengths = [0, file.bytes.len(), before.len(), file.targets.len()].map(|length| length as u32);
+    let lengths = [0, file.bytes.len(), before.len(), file.targets.len(), 0].map(|length| length as u32);
     let lent = [&wide(&file.bytes)[..], &before, &file.targets];
     let after = [&fields[..], &methods, &text, &answer.words];
     [&head[..], &lengths, &lent.concat(), &after.concat()].concat()
@@ -130,7 +130,7 @@ fn is_small(words: &Vec<u32>) -> bool {
 /// A call in the file's form: class words, what is read, what is written before and after.
 fn call(kind: u32, number: u32, answer: Answer, set: &[u32], read: &[u32], before: &[u32], after: &[u32]) -> Vec<u32> {
     let head = [kind, number, 0, answer.refusal, answer.first, answer.second];
-    let lengths = [set.len(), read.len(), before.len(), 0].map(|length| length as u32);
+    let lengths = [set.len(), read.len(), before.len(), 0, 0].map(|length| length as u32);
     [&head[..], &lengths, set, read, before, set, after].concat()
 }
 
@@ -195,7 +195,7 @@ fn calls(oracle: &mut Oracle, seed: u64, number: u64) -> Vec<(Vec<usize>, Vec<u3
 
 fn calls_of<B>(oracle: &mut Oracle, case: &Case, reached: impl Fn(&Step) -> Vec<B>) -> Vec<(Vec<B>, Vec<u32>)> {
     oracle.new_case(case.rebuilds);
-    let mut before = State { set: case.set.clone(), area: case.area.clone() };
+    let mut before = State::of(case);
     let mut found = Vec::new();
     for &call in &case.calls {
         let mut after = before.clone();
@@ -205,14 +205,16 @@ fn calls_of<B>(oracle: &mut Oracle, case: &Case, reached: impl Fn(&Step) -> Vec<
         let (kind, class, interface) = match call {
             Call::Link { class, .. } => (0, class, 0),
             Call::Ask { class, interface, .. } => (1, class, interface),
+            Call::Missing { class } => (14, class, 0),
         };
-        let lent = [&before.set, &case.abi, &before.area, stubs];
+        let lent = [&before.set, &case.abi, &before.area, stubs, &before.missing];
         if lent.iter().all(|slice| slice.len() <= MOST_WORDS) {
             let mut words = vec![kind, class, interface, answer.refusal, answer.first, answer.second];
             words.extend(lent.iter().map(|slice| slice.len() as u32));
             lent.iter().for_each(|slice| words.extend_from_slice(slice));
             words.extend_from_slice(&after.set);
             words.extend_from_slice(&after.area);
+            words.extend_from_slice(&after.missing);
             found.push((buckets, words));
         }
         before = after;

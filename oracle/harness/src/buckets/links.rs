@@ -1,8 +1,8 @@
 //! The buckets that a link reaches.
 
-use crate::model::parts::{AbiClass, AbiRecord, Entry, eligible, fixed_index, minimum_size, reading};
+use crate::model::parts::{AbiClass, AbiRecord, EMPTY, Entry, eligible, entry_of, fixed_index, minimum_size, reading};
 
-use super::{Bucket, Hits, View, area_clauses, compiled, fields, hit, written};
+use super::{Bucket, Hits, View, area_clauses, compiled, fields, hit, missing, written};
 
 pub fn link(view: &View, class: u32, hits: &mut Hits) {
     match view.step.answer.refusal {
@@ -34,7 +34,10 @@ pub fn link(view: &View, class: u32, hits: &mut Hits) {
         _ => {}
     }
     match view.step.answer.refusal {
-        0 => written::accepted(view, class, hits),
+        0 => {
+            written::accepted(view, class, hits);
+            missing::counted(view, class, hits);
+        }
         14 => written::row_14(view, class, hits),
         15 => written::row_15(view, class, hits),
         _ => {}
@@ -158,7 +161,6 @@ fn is_orderly(view: &View, classes: &[AbiClass]) -> bool {
 
 /// Places the inherited entries and the methods; answers the refusal and the table then.
 pub fn place_methods<'a>(view: &View<'a>, class: u32, hits: &mut Hits) -> (Option<u32>, Vec<Entry<'a>>) {
-    const EMPTY: Entry = Entry { target: 0, method: None };
     let (sheet, abi) = (&view.sheet, &view.abi);
     let parent = sheet.class(class).parent;
     let classes = abi_classes(view, class);
@@ -221,7 +223,7 @@ pub fn place_methods<'a>(view: &View<'a>, class: u32, hits: &mut Hits) -> (Optio
                 table.len() - 1
             }
         };
-        table[slot] = Entry { target: method.target, method: Some(method) };
+        table[slot] = entry_of(method);
     }
     (None, table)
 }

@@ -112,14 +112,19 @@ pub fn row_15(view: &View, class: u32, hits: &mut Hits) {
     set.resize(set.len().max(11_684), 0);
     area.resize(area.len() + 2048, 0);
     let stubs = vec![1; 1024];
-    let Ok((_, slots)) = crate::model::link(&mut set, view.abi.words, class, &mut area, &stubs) else { return };
+    let mut missing = vec![0; 33 * 64];
+    let Ok((_, slots)) = crate::model::link(&mut set, view.abi.words, class, &mut area, &stubs, &mut missing) else { return };
     let slots = slots as usize;
     hit(hits, Bucket::Row15Stubs, view.stubs.len() < slots);
     let place = area[0] as usize - slots - 2;
     let needed = area[place + 1..][..slots].contains(&1);
     hit(hits, Bucket::Row15StubsUnneeded, view.stubs.len() < slots && !needed);
     hit(hits, Bucket::Row15Area, free < slots + 2);
-    hit(hits, Bucket::Row15Set, view.stubs.len() >= slots && free >= slots + 2);
+    let has_room = view.stubs.len() >= slots && free >= slots + 2;
+    let is_short = view.step.before.missing.len() < 33 * view.sheet.class_count() as usize;
+    hit(hits, Bucket::Row15Set, has_room && !is_short);
+    hit(hits, Bucket::Row15Missing, has_room && is_short);
+    hit(hits, Bucket::Row15MissingByOne, has_room && view.step.before.missing.len() + 1 == 33 * view.sheet.class_count() as usize);
 }
 
 /// Methods and ABI slots at the limit of argument words.

@@ -46,8 +46,9 @@ fn replay_case(reader: &mut Reader, random: &mut Random, side: &mut dyn Linker, 
     let [stub_lists] = reader.words()?;
     let stubs = (0..stub_lists).map(|_| reader.list()).collect::<Result<Vec<_>, _>>()?;
     let mut statics: Vec<u32> = (0..records(&old)).map(|_| inserted(random)).collect();
-    let mut found = State { set: widened(&old, &statics), area: area.clone() };
-    let mut expected = State { set: old, area };
+    let missing = vec![0; 33 * 64];
+    let mut found = State { set: widened(&old, &statics), area: area.clone(), missing: missing.clone() };
+    let mut expected = State { set: old, area, missing };
     let case = Case { abi, stubs, ..Case::default() };
     let [calls] = reader.words()?;
     for number in 0..calls {

@@ -30,7 +30,7 @@ pub fn case(random: &mut Random) -> Case {
     let stubs = memory::stub_lists(random, 40);
     let calls = memory::calls(random, draft.classes.len() as u32, stubs.len(), 8);
     let area = by_hand.unwrap_or_else(|| memory::area(random, 300));
-    Case { set: draft.set_words(), abi: draft.abi_words(), area, stubs, calls, rebuilds: true, spoiled: None }
+    Case { set: draft.set_words(), abi: draft.abi_words(), area, stubs, calls, rebuilds: true, ..Case::default() }
 }
 
 /// A class of kind 3, mostly under the one before it; where all is open its methods are public or protected, each signature once.

@@ -172,7 +172,7 @@ fn finish(random: &mut Random, draft: Draft, area: usize, slots: u32, calls: u32
         stubs,
         calls,
         rebuilds: random.chance(30),
-        spoiled: None,
+        ..Case::default()
     }
 }
 

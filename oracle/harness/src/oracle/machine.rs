@@ -30,6 +30,8 @@ pub struct Member {
 pub struct Linked {
     /// The slots' words, stubs in place.
     pub table: Vec<u32>,
+    /// The slots that took a stub, in rising order.
+    pub stubbed: Vec<usize>,
     /// The record's new instance words; none for a generated class.
     pub instance_words: Option<u32>,
     /// The record's new static words, as the Rust's descriptor has them after the link.
@@ -234,6 +236,7 @@ impl Machine {
         });
         Linked {
             table: (1..=slots).map(|slot| self.word(ptr_table + 4 * slot)).collect(),
+            stubbed: self.core.stubbed().into_iter().map(|slot| slot as usize).collect(),
             instance_words: (!is_generated).then_some(u32::from(descriptor.instance_field_word_count)),
             static_words: if is_generated && brought > MOST_STATIC_WORDS { brought } else { descriptor.static_field_word_count },
             methods: methods.collect(),

@@ -13,14 +13,14 @@ const STATIC: u32 = 0x0008;
 const PUBLIC_OR_PROTECTED: u32 = 0x0005;
 
 /// A class and a place in the method section.
-type Known = (u32, usize);
+pub type Known = (u32, usize);
 
-fn parent(set: &Set, class: u32) -> u32 {
+pub fn parent(set: &Set, class: u32) -> u32 {
     set.class(class).get(class_word::PARENT)
 }
 
 /// A class and its ancestors, nearest first; of class 0 none.
-fn chain(set: &Set, class: u32) -> impl Iterator<Item = u32> {
+pub fn chain(set: &Set, class: u32) -> impl Iterator<Item = u32> {
     let some = |class: u32| (class != 0).then_some(class);
     std::iter::successors(some(class), move |&class| some(parent(set, class)))
 }
@@ -48,7 +48,7 @@ fn methods(set: &Set, class: u32) -> impl Iterator<Item = Known> {
     set.class(class).range(class_word::METHODS).map(move |method| (class, method))
 }
 
-fn method(set: &Set, (_, method): Known) -> &MemberRecord {
+pub fn method(set: &Set, (_, method): Known) -> &MemberRecord {
     &set.methods[method]
 }
 
@@ -63,7 +63,7 @@ fn same_signature(set: &Set, one: Known, other: Known) -> bool {
 }
 
 /// The slots of a linked class: each word, and its method if there is one.
-fn reading(set: &Set, abi: &Abi, area: &[u32], class: u32) -> Vec<(u32, Option<Known>)> {
+pub fn reading(set: &Set, abi: &Abi, area: &[u32], class: u32) -> Vec<(u32, Option<Known>)> {
     let (place, slots) = set.class(class).span(class_word::PLACE);
     let by_target = |word: u32| chain(set, class).flat_map(|class| methods(set, class)).find(|&known| method(set, known).last == word);
     let by_abi = |index: u32| {
@@ -117,9 +117,11 @@ fn stubbed(table: Vec<u32>, stubs: &[u32]) -> Vec<u32> {
     table.into_iter().enumerate().map(|(slot, word)| if word == 0 { stub(slot) } else { word }).collect()
 }
 
-fn table(set: &Set, abi: &Abi, area: &[u32], class: u32) -> Vec<u32> {
+/// Each slot's word, and the parent's slot that it is a copy of.
+fn table(set: &Set, abi: &Abi, area: &[u32], class: u32) -> Vec<(u32, Option<usize>)> {
     let above = parent(set, class);
-    let mut table: Vec<u32> = chain(set, above).take(1).flat_map(|above| reading(set, abi, area, above)).map(|(word, _)| word).collect();
+    let inherited = chain(set, above).take(1).flat_map(|above| reading(set, abi, area, above)).enumerate();
+    let mut table: Vec<(u32, Option<usize>)> = inherited.map(|(slot, (word, _))| (word, Some(slot))).collect();
     let introduced: Vec<Option<Known>> = (0..table.len()).map(|slot| introducing(set, abi, area, above, slot)).collect();
     for own in methods(set, class) {
         let record = method(set, own);
@@ -129,16 +131,16 @@ fn table(set: &Set, abi: &Abi, area: &[u32], class: u32) -> Vec<u32> {
         let overridden = overridden(set, own);
         let is_taken = |slot: &usize| introduced[*slot].is_some_and(|introducing| overridden.contains(&introducing));
         let taken: Vec<usize> = (0..introduced.len()).filter(is_taken).collect();
-        taken.iter().for_each(|&slot| table[slot] = record.last);
+        taken.iter().for_each(|&slot| table[slot] = (record.last, None));
         if taken.is_empty() {
-            table.push(record.last);
+            table.push((record.last, None));
         }
     }
     table
 }
 
-/// A link of a class of kind 3, after row 26; row 10.
-pub fn link(set: &Set, abi: &Abi, class: u32, area: &[u32], stubs: &[u32]) -> Result<Linked, u32> {
+/// A link of a class of kind 3, after row 26, and of each slot the parent's slot that it is a copy of; row 10.
+pub fn link(set: &Set, abi: &Abi, class: u32, area: &[u32], stubs: &[u32]) -> Result<(Linked, Vec<Option<usize>>), u32> {
     let width = |field: &MemberRecord| if matches!(set.part(field.descriptor), "J" | "D") { 2 } else { 1 };
     let above = parent(set, class);
     let (mut words, mut statics) = (chain(set, above).take(1).map(|above| set.class(above).get(class_word::INSTANCE_WORDS)).sum(), 0);
@@ -154,13 +156,16 @@ pub fn link(set: &Set, abi: &Abi, class: u32, area: &[u32], stubs: &[u32]) -> Re
     if words > 0xFFFF || has_many {
         return Err(10);
     }
-    Ok(Linked {
-        table: stubbed(table(set, abi, area, class), stubs),
+    let (slots, copies): (Vec<u32>, Vec<Option<usize>>) = table(set, abi, area, class).into_iter().unzip();
+    let linked = Linked {
+        stubbed: (0..slots.len()).filter(|&slot| slots[slot] == 0).collect(),
+        table: stubbed(slots, stubs),
         instance_words: Some(words),
         static_words: statics,
         methods: set.methods_of(class).iter().map(|method| unnamed(method.flags, method.last)).collect(),
         fields,
-    })
+    };
+    Ok((linked, copies))
 }
 
 /// A declared member, whose name and descriptor stay.

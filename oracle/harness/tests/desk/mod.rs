@@ -62,6 +62,7 @@ pub struct Desk {
     pub abi: Vec<u32>,
     pub area: Vec<u32>,
     pub stubs: Vec<u32>,
+    pub missing: Vec<u32>,
 }
 
 impl Desk {
@@ -77,13 +78,16 @@ impl Desk {
         oracle.new_case(true);
         let mut area = vec![0; 2000];
         area[0] = 1;
-        Self { oracle, set: draft.set_words(), abi: draft.abi_words(), area, stubs: (0..1024).map(|index| FIRST_STUB + index).collect() }
+        let stubs = (0..1024).map(|index| FIRST_STUB + index).collect();
+        Self { oracle, set: draft.set_words(), abi: draft.abi_words(), area, stubs, missing: vec![7; 33 * 64] }
     }
 
     pub fn link(&mut self, class: u32) -> Answer {
         let (mut set, mut area) = (self.set.clone(), self.area.clone());
-        let by_model = Model.link(&mut set, &self.abi, class, &mut area, &self.stubs);
-        let answer = self.oracle.link(&mut self.set, &self.abi, class, &mut self.area, &self.stubs);
+        let mut missing = self.missing.clone();
+        let by_model = Model.link(&mut set, &self.abi, class, &mut area, &self.stubs, &mut missing);
+        let answer = self.oracle.link(&mut self.set, &self.abi, class, &mut self.area, &self.stubs, &mut self.missing);
+        assert_eq!(self.missing, missing, "oracle and model leave the same list of missing slots");
         self.agree(answer, by_model, &set, &area)
     }
 

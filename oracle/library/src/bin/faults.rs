@@ -102,7 +102,11 @@ fn main() -> ExitCode {
 fn one(seed: u64, number: u64, oracle: &mut Oracle, guarded: &mut Guarded, counts: &mut Counts) -> Result<(), String> {
     let case = malformed::case(seed, number);
     let result = compare::compare(oracle, guarded, &case, &mut |step| {
-        let what = if matches!(step.call, Call::Link { .. }) { "link" } else { "ask" };
+        let what = match step.call {
+            Call::Link { .. } => "link",
+            Call::Ask { .. } => "ask",
+            Call::Missing { .. } => "missing slots",
+        };
         counts.count(what, step.answer);
     });
     if result.is_err() {

@@ -20,6 +20,7 @@ struct Machine {
     memory: Vec<u8>,
     targets: VecDeque<u32>,
     stubs: Vec<u32>,
+    stubbed: Vec<u32>,
     reads: Option<Vec<u32>>,
 }
 
@@ -43,6 +44,12 @@ impl ArmCore {
         machine.targets = targets.collect();
         machine.stubs.clear();
         machine.stubs.extend_from_slice(stubs);
+        machine.stubbed.clear();
+    }
+
+    /// The slots without a method for which stubs were made since `set_stubs`, in turn.
+    pub fn stubbed(&self) -> Vec<u32> {
+        self.machine.borrow().stubbed.clone()
     }
 
     /// Starts to note the address of every read.
@@ -61,6 +68,7 @@ impl ArmCore {
     pub fn make_svc_stub(&mut self, category: u32, id: u32) -> Result<u32> {
         let mut machine = self.machine.borrow_mut();
         Ok(if category == MISSING_ENTRY {
+            machine.stubbed.push(id);
             machine.stubs.get(id as usize).copied().unwrap_or(0)
         } else {
             machine.targets.pop_front().unwrap_or(GETTER)

@@ -1,0 +1,3 @@
+pub mod AskLaws
+pub mod BitLaws
+pub mod ListLaws
