@@ -142,7 +142,7 @@ class Pages(unittest.TestCase):
     def test_figures(self):
         """The figures of docs/TRUST.md are those of the pages that it cites."""
         cited = "".join(contents(f"docs/{page}.md") for page in ("DIFFERENCES", "PERFORMANCE"))
-        figures = re.findall(r"\d+(?:,\d{3})+|\b0\.\d+|\b331\b|\b143\b|\b141\b", contents("docs/TRUST.md"))
+        figures = re.findall(r"\d+(?:,\d{3})+|\b0\.\d+|\b368\b|\b143\b|\b141\b", contents("docs/TRUST.md"))
         self.assertGreaterEqual(len(figures), 9)
         for figure in figures:
             self.assertIn(figure, cited)
