@@ -69,13 +69,15 @@ def snake(word):
     return "".join(out)
 
 
-def respelled(name, heads):
-    """Each part in snake case; a dash where both of its sides are names of their own, or the left one is a type, else an underscore."""
+def respelled(name, heads, in_specs):
+    """What specs/ declares has no dash. Of a lemma each part in snake case; a dash where both of its sides are names of their own, or the left one is a type, else an underscore."""
     if name[0].isupper():
         return name
     parts = name.split("-")
     if any(not p for p in parts):
         return name
+    if in_specs:
+        return snake(name.replace("-", "_"))
     new = [p if p[0].isupper() else snake(p) for p in parts]
     out = new[0]
     for left, right, old_left, old_right in zip(new, new[1:], parts, parts[1:]):
@@ -93,9 +95,9 @@ def table():
     heads = {n for n in names if "-" not in n} | HEADS
     out = {}
     for n in sorted(names):
-        if n in lib or n in walks or n in KEEP or not re.search(r"[A-Z]|-|′", n):
+        if n in lib or n in walks or n in KEEP or not re.search(r"[A-Z]|-|′", n) or "«" in n:
             continue
-        new = respelled(n, heads).replace("′", "'")
+        new = respelled(n, heads, any("/specs/" in p for p in names[n])).replace("′", "'")
         if new != n:
             out[n] = new
     return names, lib, walks, out
@@ -170,7 +172,7 @@ def main():
     for k, v in falls.items():
         first = min(v, key=lambda n: (not any("/specs/" in p for p in names.get(n, ())), "-" in n, n))
         for n in v:
-            out[n] = SEPARATE.get(n, k if n == first else k + "_lem")
+            out[n] = SEPARATE.get(n, k if n == first or any(m in SEPARATE for m in v - {n}) else k + "_lem")
     for p in files() + sorted(glob.glob("crates/*/src/*.rt")):
         old = read(p)
         new = antt(old, out) if p.endswith(".antt") else rt(old, out)
@@ -186,6 +188,27 @@ SEPARATE = {
     "oldRule": "by_old_rule",
     "oneIndex": "agrees_in_index",
     "openMethods": "has_open_methods",
+    # fields of records whose plain name a definition has
+    "abi-rows": "rows_of_abi",
+    "class-rows": "rows_of_classes",
+    "link-rows": "rows_of_link",
+    "class-count": "number_of_classes",
+    "compiler-count": "number_of_compilers",
+    "field-count": "number_of_fields",
+    "interface-count": "number_of_interfaces",
+    "method-count": "number_of_methods",
+    "entry-is": "entry_found",
+    "instance-words": "words_of_instance",
+    "is-eligible": "it_is_eligible",
+    "new-methods": "methods_added",
+    "of-class": "class_is",
+    "own-fields": "fields_own",
+    "own-methods": "methods_own",
+    "static-words": "words_of_statics",
+    "stubs-nonzero": "nonzero_stubs",
+    "targets-different": "different_targets",
+    "targets-nonzero": "nonzero_targets",
+    "text-length": "length_of_text",
 }
 
 if __name__ == "__main__":

@@ -9,9 +9,9 @@ use Rattle.text.specs.Text.{unpacked_text}
 use Rattle.abi_sheet.specs.AbiSheet.{abi_class_limit, abi_slot_limit, abi_field_limit, abi_text_limit, abi_content_limit, abi_block_limit, abi_sheet_words, abi_class_count, abi_slot_count, abi_field_count, abi_text_length, abi_slots_at, abi_fields_at, abi_text_at, abi_content_end, abi_text_words}
 
 -- the text unpacked from the part that begins at the text section
-pub text-is : (abi d : List ℕ) {n m at : ℕ} {p t : List ℕ} → at ≡ abi_text_at abi → n ≡ length abi → p ≡ take n (drop at abi)
+pub text_is : (abi d : List ℕ) {n m at : ℕ} {p t : List ℕ} → at ≡ abi_text_at abi → n ≡ length abi → p ≡ take n (drop at abi)
     → m ≡ abi_text_length abi → t ≡ unpacked_text p m d → t ≡ unpacked_text (abi_text_words abi) (abi_text_length abi) d
-text-is abi d e f g k h = h ∙ rw (g, f, e, k, part-rest abi (abi_text_at abi))
+text_is abi d e f g k h = h ∙ rw (g, f, e, k, part-rest abi (abi_text_at abi))
 
 -- ---- the most words that the content has, the blocks that hold them, and their words, as numbers
 

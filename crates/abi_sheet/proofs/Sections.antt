@@ -149,46 +149,46 @@ module _ (s : AbiSections) where
 
   -- ---- the counts
 
-  pub class-count : abi_class_count (abi_laid_out s) ≡ length s.classes
+  pub number_of_classes : abi_class_count (abi_laid_out s) ≡ length s.classes
   unfolding abi_laid_out abi_count_at
-  class-count = refl
+  number_of_classes = refl
 
-  pub slot-count : abi_slot_count (abi_laid_out s) ≡ length s.slots
+  pub slot_count : abi_slot_count (abi_laid_out s) ≡ length s.slots
   unfolding abi_laid_out abi_count_at
-  slot-count = refl
+  slot_count = refl
 
-  pub field-count : abi_field_count (abi_laid_out s) ≡ length s.fields
+  pub number_of_fields : abi_field_count (abi_laid_out s) ≡ length s.fields
   unfolding abi_laid_out abi_count_at
-  field-count = refl
+  number_of_fields = refl
 
-  pub text-length : abi_text_length (abi_laid_out s) ≡ s.bytes
+  pub length_of_text : abi_text_length (abi_laid_out s) ≡ s.bytes
   unfolding abi_laid_out abi_count_at
-  text-length = refl
+  length_of_text = refl
 
   pub end-at : abi_content_end (abi_laid_out s)
       ≡ abi_counts_width + abi_class_width * length s.classes + abi_member_width * length s.slots + abi_member_width * length s.fields
       + words_for s.bytes
   unfolding abi_content_end abi_text_at abi_fields_at abi_slots_at
-  end-at = rw (class-count, slot-count, field-count, text-length)
+  end-at = rw (number_of_classes, slot_count, number_of_fields, length_of_text)
 
   -- ---- where the sections begin, and what they hold
 
   module _ (f : AbiFormed s) where
     pub slots-start : length (to_slots s) ≡ abi_slots_at (abi_laid_out s)
     unfolding abi_slots_at
-    slots-start = omega (arith, length-append (counts_of s) (joined s.classes), length-joined f.classes, class-count)
+    slots-start = omega (arith, length-append (counts_of s) (joined s.classes), length-joined f.classes, number_of_classes)
 
     pub fields-start : length (to_fields s) ≡ abi_fields_at (abi_laid_out s)
     unfolding abi_fields_at
-    fields-start = omega (arith, length-append (to_slots s) (joined s.slots), length-joined f.slots, slot-count, slots-start)
+    fields-start = omega (arith, length-append (to_slots s) (joined s.slots), length-joined f.slots, slot_count, slots-start)
 
     pub text-start : length (to_text s) ≡ abi_text_at (abi_laid_out s)
     unfolding abi_text_at
-    text-start = omega (arith, length-append (to_fields s) (joined s.fields), length-joined f.fields, field-count, fields-start)
+    text-start = omega (arith, length-append (to_fields s) (joined s.fields), length-joined f.fields, number_of_fields, fields-start)
 
     pub rest-start : length (to_rest s) ≡ abi_content_end (abi_laid_out s)
     unfolding abi_content_end
-    rest-start = omega (arith, length-append (to_text s) s.text, f.text, text-length, text-start)
+    rest-start = omega (arith, length-append (to_text s) s.text, f.text, length_of_text, text-start)
 
     pub class-word : (a k : ℕ) → a < length s.classes → k < abi_class_width → abi_class_word (abi_laid_out s) a k ≡ row_word s.classes a k
     unfolding abi_class_word
@@ -224,7 +224,7 @@ module _ (s : AbiSections) where
 
     pub text-of : abi_text_of (abi_laid_out s) ≡ text_of_words s.text s.bytes
     unfolding text_of_words
-    text-of = rw (text-words, text-length) (table-ext s.bytes _ _ byte-here)
+    text-of = rw (text-words, length_of_text) (table-ext s.bytes _ _ byte-here)
 
     -- ---- the content, and what follows it
 
@@ -258,15 +258,15 @@ module _ (abi : List ℕ) (fits : abi_content_end abi ≤ length abi) where
 
   pub class_of : (a k : ℕ) → a < abi_class_count abi → k < abi_class_width → abi_class_word abi a k ≡ row_word s.classes a k
   class_of a k h g =
-      ap (λ (x : List ℕ). abi_class_word x a k) (sym laid) ∙ class-word s f a k (omega (arith, class-count s, ap abi_class_count laid)) g
+      ap (λ (x : List ℕ). abi_class_word x a k) (sym laid) ∙ class-word s f a k (omega (arith, number_of_classes s, ap abi_class_count laid)) g
 
   pub slot_of : (m k : ℕ) → m < abi_slot_count abi → k < abi_member_width → abi_slot_word abi m k ≡ row_word s.slots m k
   slot_of m k h g =
-      ap (λ (x : List ℕ). abi_slot_word x m k) (sym laid) ∙ slot-word s f m k (omega (arith, slot-count s, ap abi_slot_count laid)) g
+      ap (λ (x : List ℕ). abi_slot_word x m k) (sym laid) ∙ slot-word s f m k (omega (arith, slot_count s, ap abi_slot_count laid)) g
 
   pub field_of : (i k : ℕ) → i < abi_field_count abi → k < abi_member_width → abi_field_word abi i k ≡ row_word s.fields i k
   field_of i k h g =
-      ap (λ (x : List ℕ). abi_field_word x i k) (sym laid) ∙ field-word s f i k (omega (arith, field-count s, ap abi_field_count laid)) g
+      ap (λ (x : List ℕ). abi_field_word x i k) (sym laid) ∙ field-word s f i k (omega (arith, number_of_fields s, ap abi_field_count laid)) g
 
   pub text-of-words : abi_text_of abi ≡ text_of_words s.text s.bytes
   text-of-words = ap abi_text_of (sym laid) ∙ text-of s f
@@ -319,17 +319,17 @@ module _ (abi more : List ℕ) (fits : abi_content_end abi ≤ length abi) where
 
   pub class-kept : (a k : ℕ) → a < abi_class_count abi → k < abi_class_width → abi_class_word (abi ++ more) a k ≡ abi_class_word abi a k
   class-kept a k h i =
-      let n = as_many abi_class_count (class-count here) h in
+      let n = as_many abi_class_count (number_of_classes here) h in
       kept (λ (x : List ℕ). abi_class_word x a k) (class-word longer g a k n i ∙ sym (class-word here e a k n i))
 
   pub slot_kept : (m k : ℕ) → m < abi_slot_count abi → k < abi_member_width → abi_slot_word (abi ++ more) m k ≡ abi_slot_word abi m k
   slot_kept m k h i =
-      let n = as_many abi_slot_count (slot-count here) h in
+      let n = as_many abi_slot_count (slot_count here) h in
       kept (λ (x : List ℕ). abi_slot_word x m k) (slot-word longer g m k n i ∙ sym (slot-word here e m k n i))
 
   pub field-kept : (m k : ℕ) → m < abi_field_count abi → k < abi_member_width → abi_field_word (abi ++ more) m k ≡ abi_field_word abi m k
   field-kept m k h i =
-      let n = as_many abi_field_count (field-count here) h in
+      let n = as_many abi_field_count (number_of_fields here) h in
       kept (λ (x : List ℕ). abi_field_word x m k) (field-word longer g m k n i ∙ sym (field-word here e m k n i))
 
   pub text-kept : abi_text_of (abi ++ more) ≡ abi_text_of abi

@@ -13,13 +13,13 @@ use Rattle.area.specs.declared.Answer.TheVariants.{Done, Refused}
 abbrev pub Tells : Outcome → Type 0
 Tells o = o.refusal ≡ 0 → o.first ≢ 0
 
-pub answer-unique : (a b : Answer) (ws area ws' area' : List ℕ) {o : Outcome} → Tells o → outcome a ws area ≡ o → outcome b ws' area' ≡ o → a ≡ b
-answer-unique (Done i j) (Done k l) ws area ws' area' t e f =
+pub answer_unique : (a b : Answer) (ws area ws' area' : List ℕ) {o : Outcome} → Tells o → outcome a ws area ≡ o → outcome b ws' area' ≡ o → a ≡ b
+answer_unique (Done i j) (Done k l) ws area ws' area' t e f =
     let p = ap (λ (x : Outcome). x.first) (e ∙ sym f) in
     let q = ap (λ (x : Outcome). x.second) (e ∙ sym f) in
     ap (λ (x : ℕ). Done x j) p ∙ ap (Done k) q
-answer-unique (Done i j) (Refused n) ws area ws' area' t e f =
+answer_unique (Done i j) (Refused n) ws area ws' area' t e f =
     absurd (t (sym (ap (λ (x : Outcome). x.refusal) e)) (sym (ap (λ (x : Outcome). x.first) f)))
-answer-unique (Refused m) (Done k l) ws area ws' area' t e f =
+answer_unique (Refused m) (Done k l) ws area ws' area' t e f =
     absurd (t (sym (ap (λ (x : Outcome). x.refusal) f)) (sym (ap (λ (x : Outcome). x.first) e)))
-answer-unique (Refused m) (Refused n) ws area ws' area' t e f = ap Refused (ap (λ (x : Outcome). x.refusal) (e ∙ sym f))
+answer_unique (Refused m) (Refused n) ws area ws' area' t e f = ap Refused (ap (λ (x : Outcome). x.refusal) (e ∙ sym f))

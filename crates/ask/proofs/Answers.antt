@@ -22,7 +22,7 @@ use Rattle.linking.specs.Ask.{Walk, hit, missed, broken, walk, head_place, imple
 use Rattle.linking.specs.Ask.{on_dispatch, build_node, on_walk, bad_ask, ask_def}
 use Rattle.area.specs.Area.{outcome}
 use Rattle.area.specs.declared.Answer.{Answer}
-use Rattle.area.proofs.Answers.{Tells, answer-unique}
+use Rattle.area.proofs.Answers.{Tells, answer_unique}
 
 not-refused : {T : List Entry} {n : ℕ} → built T ≡ refused n → ⊥
 not-refused e = let z : ◌≡◌ {A = ℕ} 0 1 = cc in absurd (omega arith)
@@ -78,4 +78,4 @@ module _ (ws abi : List ℕ) (c i : ℕ) (area stubs : List ℕ) where
   -- the answer of an ask is determined
   pub ask-answer : (a b : Answer) (s t s' t' : List ℕ) → outcome a s t ≡ ask_def ws abi c i area stubs → outcome b s' t' ≡ ask_def ws abi c i area stubs
       → a ≡ b
-  ask-answer a b s t s' t' e f = answer-unique a b s t s' t' ask_tells e f
+  ask-answer a b s t s' t' e f = answer_unique a b s t s' t' ask_tells e f

@@ -136,23 +136,23 @@ module _ (ws abi : List ℕ) (c i : ℕ) (area stubs : List ℕ) {r : ℕ} (rows
 
   module _ (zero : r ≡ 0) {place head : ℕ} {u : Walk} (at : place ≡ head_place ws c) (from : head ≡ get_or area place 0)
       (walked : u ≡ walk area i 64 0 head) where
-    head-is : walk area i 64 0 (get_or area (head_place ws c) 0) ≡ u
-    head-is = rw (← at, ← from) (sym walked)
+    head_is : walk area i 64 0 (get_or area (head_place ws c) 0) ≡ u
+    head_is = rw (← at, ← from) (sym walked)
 
     pub ask-hit : (n nodes : ℕ) → u ≡ hit n nodes → outcome (Done (n + 1) nodes) ws area ≡ ask_def ws abi c i area stubs
     unfolding ask_def
     ask-hit n nodes e =
         let a = code-asks ws abi c i area rows zero in
-        rw (eq-eqb (set_refusal ws abi) 0 a.accepted, a.classes, a.tables, head-is, e)
+        rw (eq-eqb (set_refusal ws abi) 0 a.accepted, a.classes, a.tables, head_is, e)
 
     pub ask-built : (nodes : ℕ) {o : Outcome} → u ≡ missed nodes → o ≡ build_node ws abi c i area stubs nodes → o ≡ ask_def ws abi c i area stubs
     unfolding ask_def
     ask-built nodes e f =
         let a = code-asks ws abi c i area rows zero in
-        f ∙ rw (eq-eqb (set_refusal ws abi) 0 a.accepted, a.classes, a.tables, head-is, e)
+        f ∙ rw (eq-eqb (set_refusal ws abi) 0 a.accepted, a.classes, a.tables, head_is, e)
 
     pub ask-broken : u ≡ broken → refused_call 7 ws area ≡ ask_def ws abi c i area stubs
     unfolding ask_def
     ask-broken e =
         let a = code-asks ws abi c i area rows zero in
-        rw (eq-eqb (set_refusal ws abi) 0 a.accepted, a.classes, a.tables, head-is, e)
+        rw (eq-eqb (set_refusal ws abi) 0 a.accepted, a.classes, a.tables, head_is, e)

@@ -21,11 +21,11 @@ use Rattle.calls.specs.Missing.{left, CountIs, LinkBefore}
 use Rattle.calls.proofs.Rows.{link-cases, ask-cases}
 use Rattle.calls.proofs.Missing.{long-next}
 
-pub count-is : CountIs
-count-is = record {
-  count-is = count-read;
+pub count_is : CountIs
+count_is = record {
+  count_is = count-read;
   bits_are = bit-read;
-  rest-zero = λ list c bits words j h b. bit-read list c bits words j b ∙ get_or-eq_default bits false h;
+  rest_zero = λ list c bits words j h b. bit-read list c bits words j b ∙ get_or-eq_default bits false h;
 }
 
 -- ---- one link
@@ -108,12 +108,12 @@ module _ (ws abi : List ℕ) (c : ℕ) (area stubs list other : List ℕ) where
           | inr a ↦ true≢false (sym short ∙ le-ltb (length list) (missing_width * class_count ws) a.long)
         ]
 
-    short-accepted : (link_def ws abi c area stubs other).outcome.refusal ≡ 0 → (link_def ws abi c area stubs list).outcome ≡ refused_call 15 ws area
-    short-accepted e = elim either [ inl r ↦ r.1 | inr r ↦ absurd (refuses (ap (λ (o : Outcome). o.refusal) r ∙ e)) ]
+    short_accepted : (link_def ws abi c area stubs other).outcome.refusal ≡ 0 → (link_def ws abi c area stubs list).outcome ≡ refused_call 15 ws area
+    short_accepted e = elim either [ inl r ↦ r.1 | inr r ↦ absurd (refuses (ap (λ (o : Outcome). o.refusal) r ∙ e)) ]
 
-    short-refused : (link_def ws abi c area stubs other).outcome.refusal ≢ 0
+    short_refused : (link_def ws abi c area stubs other).outcome.refusal ≢ 0
         → (link_def ws abi c area stubs list).outcome ≡ (link_def ws abi c area stubs other).outcome
-    short-refused n = elim either [ inl r ↦ absurd (n r.0) | inr r ↦ r ]
+    short_refused n = elim either [ inl r ↦ absurd (n r.0) | inr r ↦ r ]
 
 -- ---- any list of calls: the list of missing slots keeps its length, and the set its classes
 
@@ -175,8 +175,8 @@ module _ (ws abi area list other : List ℕ) (h : missing_short ws list ≡ fals
 pub link-before : LinkBefore
 link-before = record {
   long = λ ws abi c area stubs list other h g. same ws abi c area stubs list other (h ∙ sym g);
-  short-accepted = short-accepted;
-  short-refused = short-refused;
-  calls-before = next-same;
+  short_accepted = short_accepted;
+  short_refused = short_refused;
+  calls_before = next-same;
   calls_leave = λ ws abi area list other h g calls. (alike ws abi area list other h g calls).same_but;
 }

@@ -47,8 +47,8 @@ module _ (ws : List ℕ) (c : ℕ) where
       packages : only_packaged ≡ true
       open_methods : has_open_methods ≡ true
       once-only : once ≡ true
-      targets-nonzero : targets_nonzero ws abi [] c ≡ true
-      targets-different : targets_different ws abi [] c ≡ true
+      nonzero_targets : targets_nonzero ws abi [] c ≡ true
+      different_targets : targets_different ws abi [] c ≡ true
 
     -- where they pass, the premises hold
     premises : Passes → Premises ws c
@@ -68,8 +68,8 @@ module _ (ws : List ℕ) (c : ℕ) where
           (every-each (λ m. every (again m) (own_methods ws d))
           (every-each (λ d. every (λ m. every (again m) (own_methods ws d)) (own_methods ws d)) p.once-only i) j) l)
           (rw (e, f, same_true ws (text_of ws) s)));
-      targets-nonzero = nonzero_hold ws abi [] c p.targets-nonzero;
-      targets-different = different_hold ws abi [] c p.targets-different;
+      nonzero_targets = nonzero_hold ws abi [] c p.nonzero_targets;
+      different_targets = different_hold ws abi [] c p.different_targets;
     }
 
 -- what examples by computation open
@@ -107,7 +107,7 @@ unlinked = refl
 
 passes : Passes sheet 3 none
 unfolding beside sheet none
-passes = record { packages = refl; open_methods = refl; once-only = refl; targets-nonzero = refl; targets-different = refl }
+passes = record { packages = refl; open_methods = refl; once-only = refl; nonzero_targets = refl; different_targets = refl }
 
 pub linked₃ : Linked sheet none area missing calls 3 9 3
 unfolding beside sheet none
@@ -215,8 +215,8 @@ pub record BesideZero : Type 0 where
   pub packages : Differs kind_zero 1 1 1 1 1 true (false ∷ true ∷ true ∷ true ∷ true ∷ []) (901 ∷ []) (902 ∷ [])
   pub open_methods : Differs package_private 2 4 2 4 1 true (true ∷ false ∷ true ∷ true ∷ true ∷ []) (1 ∷ 2 ∷ []) (2 ∷ [])
   pub once : Differs twice 1 1 2 1 1 true (true ∷ true ∷ false ∷ true ∷ true ∷ []) (10 ∷ 11 ∷ []) (11 ∷ [])
-  pub targets-nonzero : Differs zero_target 2 5 2 5 2 true (true ∷ true ∷ true ∷ false ∷ true ∷ []) (20001 ∷ 20001 ∷ []) (20001 ∷ 20000 ∷ [])
-  pub targets-different : Differs same_targets 3 8 2 8 3 true (true ∷ true ∷ true ∷ true ∷ false ∷ []) (1 ∷ 3 ∷ []) (3 ∷ 3 ∷ 1 ∷ [])
+  pub nonzero_targets : Differs zero_target 2 5 2 5 2 true (true ∷ true ∷ true ∷ false ∷ true ∷ []) (20001 ∷ 20001 ∷ []) (20001 ∷ 20000 ∷ [])
+  pub different_targets : Differs same_targets 3 8 2 8 3 true (true ∷ true ∷ true ∷ true ∷ false ∷ []) (1 ∷ 3 ∷ []) (3 ∷ 3 ∷ 1 ∷ [])
 
 unlinked-needed : Differs linked_before 2 4 1 4 1 false (true ∷ true ∷ true ∷ true ∷ true ∷ []) (10 ∷ []) (11 ∷ [])
 unfolding beside linked_before
@@ -302,6 +302,6 @@ beside-zero = record {
   packages = packages-needed;
   open_methods = open_needed;
   once = once-needed;
-  targets-nonzero = nonzero-needed;
-  targets-different = different-needed;
+  nonzero_targets = nonzero-needed;
+  different_targets = different-needed;
 }

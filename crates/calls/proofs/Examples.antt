@@ -80,9 +80,9 @@ passes = record {
   kinds = refl;
   no_interface = refl;
   orderly = refl;
-  targets-nonzero = refl;
-  stubs-nonzero = refl;
-  targets-different = refl;
+  nonzero_targets = refl;
+  nonzero_stubs = refl;
+  different_targets = refl;
   no_stub = refl;
 }
 

@@ -50,9 +50,9 @@ module _ (ws abi : List ℕ) (v : Valid ws) (w : ValidAbi abi) where
         name = part-word text _ _ r.name;
         descriptor = part-word text _ _ r.descriptor;
         number = without-flags (method_flags ws m) r.number;
-        derivation = meaning.valid-sound (method_descriptor ws text m) (without_abstract (method_flags ws m))
+        derivation = meaning.valid_sound (method_descriptor ws text m) (without_abstract (method_flags ws m))
             (same_receiver (without_abstract (method_flags ws m)) (method_flags ws m) (method_descriptor ws text m) (abstract_receiver (method_flags ws m))
-            ∙ meaning.valid-complete (method_descriptor ws text m) (method_flags ws m) r.derivation);
+            ∙ meaning.valid_complete (method_descriptor ws text m) (method_flags ws m) r.derivation);
       }
 
   from-slot : (s target : ℕ) → s < abi_slot_count abi → FineMethod (from_slot abi labels s target)
@@ -62,8 +62,8 @@ module _ (ws abi : List ℕ) (v : Valid ws) (w : ValidAbi abi) where
         name = part-word labels _ _ r.name;
         descriptor = part-word labels _ _ r.descriptor;
         number = (omega arith, refl);
-        derivation = meaning.valid-sound (abi_slot_descriptor abi labels s) 1
-            (meaning.static-more (abi_slot_descriptor abi labels s) 1 (meaning.valid-complete (abi_slot_descriptor abi labels s) 0 r.derivation));
+        derivation = meaning.valid_sound (abi_slot_descriptor abi labels s) 1
+            (meaning.static_more (abi_slot_descriptor abi labels s) 1 (meaning.valid_complete (abi_slot_descriptor abi labels s) 0 r.derivation));
       }
 
   pub fine_methods : (area : List ℕ) (c : ℕ) → c ≤ class_count ws → EachNew FineMethod (generated_methods ws text abi labels area c)

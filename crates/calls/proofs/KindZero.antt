@@ -277,7 +277,7 @@ module _ (ws abi area₃ area₀ missing₃ missing₀ : List ℕ) (unlinked : U
   same : Same ws text abi labels (table_of (final ws abi area₃ missing₃ valid₃ unlinked calls₃)) (P ws abi area₃ missing₃ valid₃ unlinked calls₃) zeros c
   same =
       same_tables ws text abi labels (table_of (final ws abi area₃ missing₃ valid₃ unlinked calls₃)) (P ws abi area₃ missing₃ valid₃ unlinked calls₃) zeros c c (omega arith)
-      among.0 premises.packages (record { nonzero = premises.targets-nonzero; different = premises.targets-different })
+      among.0 premises.packages (record { nonzero = premises.nonzero_targets; different = premises.different_targets })
       premises.open_methods (λ d m k i x y e f s. premises.once d m k i x y e f (signature-same ws text s)) made₃ made-zero
 
   equal : table_at (final ws abi area₃ missing₃ valid₃ unlinked calls₃).area p n ≡ table_at (final vs abi area₀ missing₀ valid₀ unlinked₀ calls₀).area q k
@@ -297,8 +297,8 @@ module _ (ws abi area₃ area₀ missing₃ missing₀ : List ℕ) (unlinked : U
     packages = λ e j. premises.packages e (up d i e j);
     open_methods = λ m j. premises.open_methods m (along j);
     once = λ e m k j. premises.once e m k (up d i e j);
-    targets-nonzero = λ m j. premises.targets-nonzero m (along j);
-    targets-different = λ m k j l. premises.targets-different m k (along j) (along l);
+    nonzero_targets = λ m j. premises.nonzero_targets m (along j);
+    different_targets = λ m k j l. premises.different_targets m k (along j) (along l);
   }
     where
       along : {m : ℕ} → ChainMethod ws d m → ChainMethod ws c m
@@ -312,15 +312,15 @@ module _ (ws abi area₃ area₀ missing₃ missing₀ : List ℕ) (unlinked : U
 
 -- ---- THE THEOREMS
 
-pub as_kind-zero : AsKindZero
-as_kind-zero ws abi area₃ area₀ missing₃ missing₀ unlinked calls₃ calls₀ c p n q k linked₃ linked₀ premises =
+pub as_kind_zero : AsKindZero
+as_kind_zero ws abi area₃ area₀ missing₃ missing₀ unlinked calls₃ calls₀ c p n q k linked₃ linked₀ premises =
     as_zero ws abi area₃ area₀ missing₃ missing₀ unlinked calls₃ calls₀ c p n q k linked₃ linked₀ premises
 
 pub throughout : Throughout
 throughout ws abi area₃ area₀ missing₃ missing₀ unlinked calls₃ calls₀ c p n q k linked₃ linked₀ premises d i =
     let a = linked-three ws abi area₃ area₀ missing₃ missing₀ unlinked calls₃ calls₀ c p n q k linked₃ linked₀ premises d i in
     let b = linked-zero ws abi area₃ area₀ missing₃ missing₀ unlinked calls₃ calls₀ c p n q k linked₃ linked₀ premises d i in
-    let s = as_kind-zero ws abi area₃ area₀ missing₃ missing₀ unlinked calls₃ calls₀ d a.0 a.1 b.0 b.1 a.2 b.2
+    let s = as_kind_zero ws abi area₃ area₀ missing₃ missing₀ unlinked calls₃ calls₀ d a.0 a.1 b.0 b.1 a.2 b.2
     (premises-of ws abi area₃ area₀ missing₃ missing₀ unlinked calls₃ calls₀ c p n q k linked₃ linked₀ premises d i) in
     record {
       place₃ = a.0;

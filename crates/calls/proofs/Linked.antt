@@ -14,7 +14,7 @@ use Rattle.class_sheet.specs.ClassSheet.{class_width, member_width, first_method
 use Rattle.words.specs.Rows.{row_word}
 use Rattle.words.specs.Words.{AreBytes}
 use Rattle.class_sheet.specs.Sections.{Sections, laid_out, sections_of}
-use Rattle.class_sheet.proofs.Sections.{class-count, method-count, class-word, method-word, text-of, formed-of, class_of, method-of, text-of-words}
+use Rattle.class_sheet.proofs.Sections.{number_of_classes, number_of_methods, class-word, method-word, text-of, formed-of, class_of, method-of, text-of-words}
 use Rattle.linking.specs.Set.{new_text}
 use Rattle.linking.specs.Link.{Plan, is_none, linked_words}
 use Rattle.linking.specs.Grown.{linked_sections}
@@ -81,8 +81,8 @@ module _ (ws : List ℕ) (c place words statics : ℕ) (p : Plan) (some : 1 ≤ 
   leaves : Leaves ws (laid_out g) c place (length p.table)
   leaves = record {
     like = record {
-      classes = class-count g ∙ left.classes ∙ sym (lies-of ws fits).classes;
-      methods = omega (arith, method-count g, left.more-methods, (lies-of ws fits).methods);
+      classes = number_of_classes g ∙ left.classes ∙ sym (lies-of ws fits).classes;
+      methods = omega (arith, number_of_methods g, left.more-methods, (lies-of ws fits).methods);
       word = λ d k l h b.
           by (eqb d c)
           (λ t. let e : d ≡ c = eqb-true d c t in rw e (kept c k some among (omega arith) (left.kept k (early k b))))
@@ -100,8 +100,8 @@ module _ (ws : List ℕ) (c place words statics : ℕ) (p : Plan) (some : 1 ≤ 
     slots = at-class c slot_count_word some among (omega arith) ∙ left.slots;
   }
 
-  pub link-leaves : Leaves ws (linked_words ws c place words statics p) c place (length p.table)
-  link-leaves = rw (linked-laid ws fits c place words statics p some among inside methods fields) leaves
+  pub link_leaves : Leaves ws (linked_words ws c place words statics p) c place (length p.table)
+  link_leaves = rw (linked-laid ws fits c place words statics p some among inside methods fields) leaves
 
   -- its method list is where it was, or begins where the section ended
   own-list : ((class_first_method (laid_out g) c ≡ class_first_method ws c) × (class_method_count (laid_out g) c ≡ class_method_count ws c))

@@ -14,7 +14,7 @@ use Rattle.set_rules.specs.Valid.{Valid}
 use Rattle.linking.specs.Link.{Outcome, LinkOutcome, link_def}
 use Rattle.linking.specs.Ask.{head_place, asked_area, ask_def}
 use Rattle.linking.proofs.Rows.{Linked}
-use Rattle.calls.specs.Calls.{Call, link, ask, State, step, run, LinkedIn, now, later, Lent, lent-now, lent-later, stubs_of}
+use Rattle.calls.specs.Calls.{Call, link, ask, State, step, run, LinkedIn, now, later, Lent, lent_now, lent_later, stubs_of}
 use Rattle.calls.proofs.Area.{asked-length, asked-before}
 use Rattle.calls.proofs.Rows.{link-cases, Asked, ask-cases}
 use Rattle.calls.proofs.Runs.{table_of, Keeps, keeps_same, still, keeps-next, Inv, made-keeps, whole-keeps, link-keeps, link-inv, new-place, new-slots, new-linked, was}
@@ -100,8 +100,8 @@ module _ (ws₀ abi : List ℕ) (valid₀ : Valid ws₀) (P : ℕ → Type 0) wh
   unfolding run
   run-goes [] s inv lent = record { keeps = keeps_same s; inv = inv }
   run-goes (k ∷ ks) s inv lent =
-      let one = step-goes s inv k (λ x i. lent x (lent-now i)) in
-      let all = run-goes ks (step abi s k) one.inv (λ x i. lent x (lent-later i)) in
+      let one = step-goes s inv k (λ x i. lent x (lent_now i)) in
+      let all = run-goes ks (step abi s k) one.inv (λ x i. lent x (lent_later i)) in
       record { keeps = keeps-next one.keeps all.keeps; inv = all.inv }
 
   -- ---- the table that a link answered is the class's table after the list
@@ -119,9 +119,9 @@ module _ (ws₀ abi : List ℕ) (valid₀ : Valid ws₀) (P : ℕ → Type 0) wh
         | inl r ↦ absurd (r.number e)
         | inr a ↦
             let o : LinkOutcome = link_def s.set abi c s.area stubs s.missing in
-            let given : (x : ℕ) → Memᴰ x stubs → P x = λ x i. lent x (lent-now i) in
+            let given : (x : ℕ) → Memᴰ x stubs → P x = λ x i. lent x (lent_now i) in
             let l = new-linked ws₀ abi valid₀ P s inv c stubs o a given in
-            let k = (run-goes ks (record { set = o.outcome.set; area = o.outcome.area; missing = o.missing }) (link-inv ws₀ abi valid₀ P s inv c stubs o a given) (λ x i. lent x (lent-later i))).keeps in
+            let k = (run-goes ks (record { set = o.outcome.set; area = o.outcome.area; missing = o.missing }) (link-inv ws₀ abi valid₀ P s inv c stubs o a given) (λ x i. lent x (lent_later i))).keeps in
             record {
               linked = still k c l;
               place = k.place c l ∙ new-place ws₀ abi valid₀ P s inv c stubs o a given ∙ sym a.answers-place ∙ f;
@@ -129,7 +129,7 @@ module _ (ws₀ abi : List ℕ) (valid₀ : Valid ws₀) (P : ℕ → Type 0) wh
             }
       ]
   answered {s = s} (later {k = k} i) inv lent =
-      answered i (step-goes s inv k (λ x j. lent x (lent-now j))).inv (λ x j. lent x (lent-later j))
+      answered i (step-goes s inv k (λ x j. lent x (lent_now j))).inv (λ x j. lent x (lent_later j))
 
   -- ---- a class that is linked after the list was linked before it, or in it
 
@@ -166,8 +166,8 @@ module _ (ws₀ abi : List ℕ) (valid₀ : Valid ws₀) (P : ℕ → Type 0) wh
   unfolding run
   history [] s inv lent d l = inl l
   history (k ∷ ks) s inv lent d l =
-      let first : (x : ℕ) → Memᴰ x (stubs_of k) → P x = λ x i. lent x (lent-now i) in
-      elim (history ks (step abi s k) (step-goes s inv k first).inv (λ x i. lent x (lent-later i)) d l) [
+      let first : (x : ℕ) → Memᴰ x (stubs_of k) → P x = λ x i. lent x (lent_now i) in
+      elim (history ks (step abi s k) (step-goes s inv k first).inv (λ x i. lent x (lent_later i)) d l) [
         | inl m ↦ step-new s inv k first ks d m
         | inr r ↦ inr (record { place = r.place; slots = r.slots; found = later r.found })
       ]

@@ -30,7 +30,7 @@ use Rattle.linking.specs.Link.{next_free, is_none, built_table, generated_table,
 use Rattle.linking.specs.Ask.{ask_def}
 use Rattle.linking.specs.Counts.{bits_of, bit_count, missing_width, pack_bits, missing_at, parent_bit, counted_after, missing_short}
 use Rattle.linking.specs.Missing.{missing_def, entries_built, table_by, recounted_along, recounted}
-use Rattle.linking.proofs.ChainLaws.{parent-within, parent-below, chain-none, chain_more}
+use Rattle.linking.proofs.ChainLaws.{parent-within, parent_below, chain-none, chain_more}
 use Rattle.linking.proofs.Plans.{Plans, plans}
 use Rattle.linking.proofs.Rows.{Linked}
 use Rattle.linking.proofs.LinkRead.{After, Added, link-after, link-still, link-added}
@@ -40,7 +40,7 @@ use Rattle.linking.proofs.Rebuilt.{Unmoved, Any, unmoved-other, chain_same, tabl
 use Rattle.linking.proofs.RenumberedPackages.{Held, has-below, last_of}
 use Rattle.linking.proofs.RebuiltGrown.{table-grown}
 use Rattle.linking.proofs.Renumbered.{SameBuilt}
-use Rattle.linking.proofs.MissingLaws.{bits-built, bits-ext, word_same, length-same, length-bits, rebuilds, length_pack, own-words, other-words, count-read, parent-read, no_parent}
+use Rattle.linking.proofs.MissingLaws.{bits-built, bits-ext, word_same, length-same, length-bits, rebuilds, length_pack, own-words, other_words, count-read, parent-read, no_parent}
 use Rattle.linking.proofs.Packed.{text-bytes}
 use Rattle.calls.specs.Calls.{Call, link, ask, State, start, step, run, Unlinked}
 use Rattle.calls.specs.Missing.{HasTable, bits_now, Rebuilt, Counted, left, MissingKept, AskedCount}
@@ -92,8 +92,8 @@ abbrev Whatever : ℕ → Type 0
 Whatever x = Unit {0}
 
 module _ (abi ws₀ : List ℕ) (valid₀ : Valid ws₀) (s : State) (inv : Inv ws₀ abi valid₀ Whatever s) where
-  parent-linked : (d : ℕ) → Linked s.set d → parent_of s.set d ≢ 0 → Linked s.set (parent_of s.set d)
-  parent-linked d l n =
+  parent_linked : (d : ℕ) → Linked s.set d → parent_of s.set d ≢ 0 → Linked s.set (parent_of s.set d)
+  parent_linked d l n =
       let e : parent_of s.set d ≡ parent_of ws₀ d =
       parent-same ws₀ s.set valid₀ (alike inv.like) d l.some (omega (arith, l.among, inv.like.classes)) in
       rw e (inv.parent d l (rw e at n))
@@ -101,12 +101,12 @@ module _ (abi ws₀ : List ℕ) (valid₀ : Valid ws₀) (s : State) (inv : Inv 
   chain-linked : (bound d : ℕ) → d ≤ bound → Linked s.set d → (e : ℕ) → Memᴰ e (chain s.set d) → Linked s.set e
   chain-linked zero d b l e i = absurd (omega (arith, l.some))
   chain-linked (suc bound) d b l e i =
-      let f = parent-below s.set d l.some in
+      let f = parent_below s.set d l.some in
       ⊎_elim (λ (q : e ≡ d). rw q l)
       (λ j.
       by (eqb (parent_of s.set d) 0)
       (λ t. absurd (Memᴰ.not-nil (rw (chain-none s.set (parent_of s.set d) (eqb-true (parent_of s.set d) 0 t)) at j)))
-      (λ t. chain-linked bound (parent_of s.set d) (omega arith) (parent-linked d l (eqb-false (parent_of s.set d) 0 t)) e j))
+      (λ t. chain-linked bound (parent_of s.set d) (omega arith) (parent_linked d l (eqb-false (parent_of s.set d) 0 t)) e j))
       (Memᴰ.cases_cons (rw (chain_more s.set d l.some) at i))
 
   -- above a class whose parent, if it has one, is linked
@@ -264,7 +264,7 @@ module _ (abi : List ℕ) (s : State) (c : ℕ) (stubs : List ℕ) (o : LinkOutc
     -- classes that were linked
 
     parent-of : (d : ℕ) → Linked s.set d → parent_of s.set d ≢ 0 → Linked s.set (parent_of s.set d)
-    parent-of = parent-linked abi ws₀ valid₀ s inv
+    parent-of = parent_linked abi ws₀ valid₀ s inv
 
     unmoved : (e : ℕ) → Linked s.set e → Unmoved s.set next.set e
     unmoved e l = unmoved-other s.set next.set abi c valid-now after moves e (l.some, l.among) (one e l)
@@ -359,7 +359,7 @@ module _ (abi : List ℕ) (s : State) (c : ℕ) (stubs : List ℕ) (o : LinkOutc
           let k = counted d l in
           record {
             words = ap (λ (x : List ℕ). take missing_width (drop (missing_at d) x)) list-is
-                ∙ other-words s.missing (pack_bits bits) c (length_pack bits) room-list d here.0 l.some (one d l) ∙ k.words
+                ∙ other_words s.missing (pack_bits bits) c (length_pack bits) room-list d here.0 l.some (one d l) ∙ k.words
                 ∙ ap pack_bits (bits-other d l);
             many = ap length (sym (bits-other d l)) ∙ k.many ∙ sym (keeps.slots d l);
             long = long-next;
@@ -379,7 +379,7 @@ module _ (abi ws₀ : List ℕ) (valid₀ : Valid ws₀) (s : State) (inv : Inv 
       let p : ℕ = parent_of s.set d in
       by (eqb p 0) (λ t. rw t refl)
       (λ t.
-      let h = held s asked keeps p (parent-linked abi ws₀ valid₀ s inv d l (eqb-false p 0 t)) in
+      let h = held s asked keeps p (parent_linked abi ws₀ valid₀ s inv d l (eqb-false p 0 t)) in
       rw t
       (list_ext (λ i. read_entry s.set (text_of s.set) abi (abi_text_of abi) p i (get_or s.area (class_table_place s.set p + 1 + i) 0))
       (λ i. read_entry s.set (text_of s.set) abi (abi_text_of abi) p i (get_or area (class_table_place s.set p + 1 + i) 0)) 0
@@ -394,7 +394,7 @@ module _ (abi ws₀ : List ℕ) (valid₀ : Valid ws₀) (s : State) (inv : Inv 
       by-found (topmost (table_has s.set i) (chain s.set (parent_of s.set d)))
       (λ e q.
       let r = last_of (table_has s.set i) (chain s.set (parent_of s.set d)) e q in
-      let h = held s asked keeps e (above-linked abi ws₀ valid₀ s inv d (parent-linked abi ws₀ valid₀ s inv d l) e r.0) in
+      let h = held s asked keeps e (above-linked abi ws₀ valid₀ s inv d (parent_linked abi ws₀ valid₀ s inv d l) e r.0) in
       rw (q, h.words i (has-below s.set i e r.1)))
       (λ q. rw q)
 

@@ -20,7 +20,7 @@ use Rattle.linking.proofs.Packaged.{packaged, foo}
 use Rattle.linking.proofs.Opened.{opened}
 use Rattle.slots.specs.Slots.{Unique, Known, Kept}
 use Rattle.slots.proofs.ListFacts.{not_found, in_none}
-use Rattle.calls.specs.Calls.{Call, link, start, run, Unlinked, LinkedIn, now, later, table_at, lent-now}
+use Rattle.calls.specs.Calls.{Call, link, start, run, Unlinked, LinkedIn, now, later, table_at, lent_now}
 use Rattle.calls.specs.Demand.{Conditions, Claim}
 use Rattle.calls.proofs.Tests.{is_unlinked, by_old_rule, old-holds, verdicts, shown}
 
@@ -92,7 +92,7 @@ module _ (x : Case) where
   module _ (c p n p' n' : ℕ) (has : parent_of x.set c ≢ 0)
       (none : class_abi x.set (text_of x.set) x.sheet (abi_text_of x.sheet) c ≡ Nothing) (linked : LinkedAt (parent_of x.set c) p' n') where
     broken : (KeptAt c (final_table p n) (final_table p' n') → ⊥) → Holds c p n → ⊥
-    broken f claim = f ((claim.keeps-parent has none).kept p' n' linked)
+    broken f claim = f ((claim.keeps_parent has none).kept p' n' linked)
 
 -- the class is linked in the list; of the premises, `unlinked` and the tests in the order of `Conditions` are as written, so that demand 3 does not
 -- speak to it; and the claim fails
@@ -201,7 +201,7 @@ unfolding opened shown zero_target
 targets-nonzero-needed = record {
   start_is = refl;
   premises = refl;
-  outside = λ u k. k.targets-nonzero 1 (record { owner = 2; along = Memᴰ.head refl; own = Memᴰ.head refl }) refl;
+  outside = λ u k. k.nonzero_targets 1 (record { owner = 2; along = Memᴰ.head refl; own = Memᴰ.head refl }) refl;
   linked = later (now (902 ∷ []) refl refl refl);
   fails =
       broken zero_target 2 4 1 1 1 (omega arith) refl (now (901 ∷ []) refl refl refl)
@@ -220,7 +220,7 @@ unfolding opened shown zero_stub
 stubs-nonzero-needed = record {
   start_is = refl;
   premises = refl;
-  outside = λ u k. k.stubs-nonzero 0 (lent-now (Memᴰ.head refl)) refl;
+  outside = λ u k. k.nonzero_stubs 0 (lent_now (Memᴰ.head refl)) refl;
   linked = later (now (902 ∷ []) refl refl refl);
   fails =
       broken zero_stub 2 4 1 1 1 (omega arith) refl (now (0 ∷ []) refl refl refl)
@@ -239,7 +239,7 @@ targets-different-needed = record {
   premises = refl;
   outside = λ u k.
       apart
-      (k.targets-different 0 1 (record { owner = 1; along = Memᴰ.head refl; own = Memᴰ.head refl })
+      (k.different_targets 0 1 (record { owner = 1; along = Memᴰ.head refl; own = Memᴰ.head refl })
       (record { owner = 1; along = Memᴰ.head refl; own = Memᴰ.tail (Memᴰ.head refl) }) refl)
       (omega arith);
   linked = now (901 ∷ 902 ∷ []) refl refl refl;
@@ -256,7 +256,7 @@ unfolding opened shown stub_target
 no_stub-needed = record {
   start_is = refl;
   premises = refl;
-  outside = λ u k. k.no_stub 902 0 (lent-now (Memᴰ.tail (Memᴰ.head refl))) (record { owner = 1; along = Memᴰ.head refl; own = Memᴰ.head refl }) refl;
+  outside = λ u k. k.no_stub 902 0 (lent_now (Memᴰ.tail (Memᴰ.head refl))) (record { owner = 1; along = Memᴰ.head refl; own = Memᴰ.head refl }) refl;
   linked = now (901 ∷ 902 ∷ 903 ∷ []) refl refl refl;
   fails = twice stub_target 1 1 3 (901 ∷ 902 ∷ 902 ∷ []) refl 1 2 0 0 (omega arith) (omega arith) (omega arith) refl refl refl refl refl;
 }
@@ -271,7 +271,7 @@ moved_slot =
 pub record WithEntry : Type 0 where
   pub start_is : is_unlinked moved_slot.set ≡ true
   pub premises : verdicts moved_slot.set moved_slot.sheet moved_slot.calls 2 ≡ true ∷ true ∷ true ∷ true ∷ true ∷ true ∷ true ∷ []
-  pub parent-linked : LinkedAt moved_slot 1 1 1
+  pub parent_linked : LinkedAt moved_slot 1 1 1
   pub linked : LinkedAt moved_slot 2 4 2
   pub fails : KeptAt moved_slot 2 (final_table moved_slot 4 2) (final_table moved_slot 1 1) → ⊥
 
@@ -280,7 +280,7 @@ unfolding opened shown moved_slot
 without-entry-needed = record {
   start_is = refl;
   premises = refl;
-  parent-linked = now (901 ∷ []) refl refl refl;
+  parent_linked = now (901 ∷ []) refl refl refl;
   linked = later (now (902 ∷ 903 ∷ []) refl refl refl);
   fails = not_known moved_slot 2 (final_table moved_slot 4 2) (final_table moved_slot 1 1) (902 ∷ 5 ∷ []) (5 ∷ []) refl refl 0 0 (omega arith) refl refl;
 }
@@ -294,7 +294,7 @@ second_slot =
 pub record SecondSlot : Type 0 where
   pub start_is : is_unlinked second_slot.set ≡ true
   pub premises : verdicts second_slot.set second_slot.sheet second_slot.calls 2 ≡ true ∷ true ∷ true ∷ true ∷ true ∷ true ∷ true ∷ []
-  pub parent-linked : LinkedAt second_slot 1 1 1
+  pub parent_linked : LinkedAt second_slot 1 1 1
   pub linked : LinkedAt second_slot 2 4 2
   pub table_is : final_table second_slot 4 2 ≡ 10 ∷ 20 ∷ []
   pub fails : Unique second_slot.set (text_of second_slot.set) second_slot.sheet (abi_text_of second_slot.sheet) 2 (final_table second_slot 4 2) → ⊥
@@ -304,7 +304,7 @@ unfolding opened shown second_slot
 second-slot = record {
   start_is = refl;
   premises = refl;
-  parent-linked = now (901 ∷ []) refl refl refl;
+  parent_linked = now (901 ∷ []) refl refl refl;
   linked = later (now (902 ∷ 903 ∷ []) refl refl refl);
   table_is = refl;
   fails = not-unique second_slot 2 4 2 (10 ∷ 20 ∷ []) refl 0 1 0 1 (omega arith) (omega arith) (omega arith) refl refl refl refl;
@@ -317,9 +317,9 @@ pub record Needed : Type 0 where
   pub kinds : Breaks generated_child 2 4 2 true (false ∷ true ∷ true ∷ true ∷ true ∷ true ∷ true ∷ [])
   pub no_interface : Breaks interface_child 2 4 0 true (true ∷ false ∷ true ∷ true ∷ true ∷ true ∷ true ∷ [])
   pub orderly : Breaks two_indices 1 1 2 true (true ∷ true ∷ false ∷ true ∷ true ∷ true ∷ true ∷ [])
-  pub targets-nonzero : Breaks zero_target 2 4 1 true (true ∷ true ∷ true ∷ false ∷ true ∷ true ∷ true ∷ [])
-  pub stubs-nonzero : Breaks zero_stub 2 4 1 true (true ∷ true ∷ true ∷ true ∷ false ∷ true ∷ true ∷ [])
-  pub targets-different : Breaks same_targets 1 1 2 true (true ∷ true ∷ true ∷ true ∷ true ∷ false ∷ true ∷ [])
+  pub nonzero_targets : Breaks zero_target 2 4 1 true (true ∷ true ∷ true ∷ false ∷ true ∷ true ∷ true ∷ [])
+  pub nonzero_stubs : Breaks zero_stub 2 4 1 true (true ∷ true ∷ true ∷ true ∷ false ∷ true ∷ true ∷ [])
+  pub different_targets : Breaks same_targets 1 1 2 true (true ∷ true ∷ true ∷ true ∷ true ∷ false ∷ true ∷ [])
   pub no_stub : Breaks stub_target 1 1 3 true (true ∷ true ∷ true ∷ true ∷ true ∷ true ∷ false ∷ [])
   pub without-entry : WithEntry
   pub old_rule_lem : SecondSlot
@@ -330,9 +330,9 @@ needed = record {
   kinds = kinds-needed;
   no_interface = no_interface-needed;
   orderly = orderly-needed;
-  targets-nonzero = targets-nonzero-needed;
-  stubs-nonzero = stubs-nonzero-needed;
-  targets-different = targets-different-needed;
+  nonzero_targets = targets-nonzero-needed;
+  nonzero_stubs = stubs-nonzero-needed;
+  different_targets = targets-different-needed;
   no_stub = no_stub-needed;
   without-entry = without-entry-needed;
   old_rule_lem = second-slot;

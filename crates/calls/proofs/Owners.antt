@@ -19,7 +19,7 @@ use Rattle.linking.proofs.Whose.{whose}
 use Rattle.linking.proofs.Packed.{text-bytes}
 use Rattle.calls.specs.Calls.{Call, link, ask, State, step, run}
 use Rattle.calls.specs.Owners.{Owners}
-use Rattle.calls.proofs.Linked.{Leaves, link-leaves, link-own}
+use Rattle.calls.proofs.Linked.{Leaves, link_leaves, link-own}
 use Rattle.calls.proofs.Rows.{Accepted, link-cases, ask-cases}
 
 -- class c's method list in the new words: where it was, or past all that was there
@@ -45,7 +45,7 @@ module _ (ws abi : List ℕ) (c : ℕ) (area stubs missing : List ℕ) (o : Link
       let i = planning.indices in
       let t = text-bytes (text_words ws) (text_length ws) in
       let l = text-bytes (abi_text_words abi) (abi_text_length abi) in (
-        link-leaves ws c (next_free area) (new_words ws (text_of ws) abi (abi_text_of abi) c) (new_statics ws (text_of ws) c) acc.coming
+        link_leaves ws c (next_free area) (new_words ws (text_of ws) abi (abi_text_of abi) c) (new_statics ws (text_of ws) c) acc.coming
             acc.class.some acc.class.among valid-now.fits v.methods v.fields (omega (arith, i, v.fields)) planning.generated
             (planning.method-bytes t l) (planning.field-bytes t l),
         link-own ws c (next_free area) (new_words ws (text_of ws) abi (abi_text_of abi) c) (new_statics ws (text_of ws) c) acc.coming

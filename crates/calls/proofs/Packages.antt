@@ -49,15 +49,15 @@ module _ (old new : List ℕ) (valid : Valid old) (like : Alike old new) (abi la
     above : (d : ℕ) → Memᴰ d (chain old (parent_of old c)) → Unmoved old new d
     above d i = still d (chain-up old c s i)
 
-    parent-below : parent_of old c ≤ class_count old
-    parent-below = let w = parent-within old c in omega arith
+    parent_below : parent_of old c ≤ class_count old
+    parent_below = let w = parent-within old c in omega arith
 
     pub inherited-kept : Tables (Own (method_count old)) (inherited_from old (text_of old) abi labels tables c) (inherited_from new (text_of new) abi labels tables c)
     unfolding inherited_from
     inherited-kept =
         rw (parent-same old new valid like c s a)
         (by (eqb (parent_of old c) 0) (λ t. rw t none)
-        (λ t. rw t (read-words-kept old new valid like abi labels (parent_of old c) parent-below above (tables (parent_of old c)))))
+        (λ t. rw t (read-words-kept old new valid like abi labels (parent_of old c) parent_below above (tables (parent_of old c)))))
 
     pub packages-same : packages_from old (text_of old) abi labels tables c ≡ packages_from new (text_of new) abi labels tables c
     unfolding packages_from
@@ -67,5 +67,5 @@ module _ (old new : List ℕ) (valid : Valid old) (like : Alike old new) (abi la
         (rw (parent-same old new valid like c s a)
         (over-same old (text_of old) new (text_of new) abi labels (Own (method_count old)) (kept old new valid like abi labels)
         (λ m k n j r q. rw (r.same, q.same)) (introduced_from old (text_of old) abi labels tables p) (introduced_from new (text_of new) abi labels tables p)
-        (introduced-kept p parent-below above) c (class-kept old new valid like abi labels c s a (still c (chain-here old c s)))
-        (sym (parent-same old new valid like c s a)) (chain-kept old new valid like abi labels p parent-below above) inherited-kept))
+        (introduced-kept p parent_below above) c (class-kept old new valid like abi labels c s a (still c (chain-here old c s)))
+        (sym (parent-same old new valid like c s a)) (chain-kept old new valid like abi labels p parent_below above) inherited-kept))

@@ -13,7 +13,7 @@ use borrow.Author.Tests.{eqb-true, eqb-false, eq-eqb, ne_eqb}
 use Rattle.words.specs.Lists.{list_from}
 use Rattle.words.specs.declared.Found.TheVariants.{At, Nothing}
 use Rattle.words.proofs.Bools.{by}
-use Rattle.words.proofs.ListLaws.{by-found, length-list-from, get_d_list-from}
+use Rattle.words.proofs.ListLaws.{by-found, length-list-from, get_d_list_from}
 use Rattle.class_sheet.specs.ClassSheet.{text_of, is_packaged, is_array, method_target}
 use Rattle.abi_sheet.specs.AbiSheet.{abi_text_of}
 use Rattle.set_rules.specs.Valid.{Valid}
@@ -25,7 +25,7 @@ use Rattle.linking.specs.Counts.{is_counted, bits_of, missing_bit, parent_bit}
 use Rattle.linking.specs.Link.{Outcome, LinkOutcome, link_def}
 use Rattle.linking.specs.Ask.{ask_def}
 use Rattle.linking.specs.Missing.{recounted_along, recounted}
-use Rattle.linking.proofs.ChainLaws.{parent-below, chain-none}
+use Rattle.linking.proofs.ChainLaws.{parent_below, chain-none}
 use Rattle.linking.proofs.Plans.{built-same}
 use Rattle.linking.proofs.Rows.{Linked}
 use Rattle.linking.proofs.MissingLaws.{bits-ext, bit-read}
@@ -33,7 +33,7 @@ use Rattle.slots.specs.Slots.{ChainMethod}
 use Rattle.slots.specs.Made.{read_words, start_from, table_from, inherited_from, introduced_from, packages_from, made_from}
 use Rattle.slots.proofs.ChainFacts.{chain-here, chain-up}
 use Rattle.slots.proofs.ReadFacts.{length-words, word_at}
-use Rattle.calls.specs.Calls.{Call, link, ask, State, start, step, run, Unlinked, LinkedIn, table_at, Lent, lent-now, lent-later, stubs_of}
+use Rattle.calls.specs.Calls.{Call, link, ask, State, start, step, run, Unlinked, LinkedIn, table_at, Lent, lent_now, lent_later, stubs_of}
 use Rattle.calls.specs.Demand.{Conditions}
 use Rattle.calls.specs.Missing.{bits_now, HasTable, NoRealMethod}
 use Rattle.calls.proofs.Rows.{Accepted, link-cases, ask-cases}
@@ -106,7 +106,7 @@ module _ (ws abi : List ℕ) (tables : ℕ → List ℕ) (d : ℕ) where
       rw t
       (all-each (list_from f 0 n)
       (λ j h.
-      let q : get_or (list_from f 0 n) j empty ≡ f (0 + j) = get_d_list-from f 0 n j empty (omega arith) in
+      let q : get_or (list_from f 0 n) j empty ≡ f (0 + j) = get_d_list_from f 0 n j empty (omega arith) in
       let z : 0 + j ≡ j = omega arith in
       rw (q, z) (read-copy p j (tables p) (omega arith)))))
 
@@ -208,7 +208,7 @@ module _ (ws₀ abi : List ℕ) (valid₀ : Valid ws₀) (P : ℕ → Type 0) wh
       lent = λ i h. lent (get_or stubs i 0) (in_at stubs i (omega (arith, acc.room.stubbed)));
       words = new-table ws₀ abi valid₀ P s st.inv c stubs o acc lent;
       origins = subst (λ (t : List ℕ). All (From ws₀ t c) T)
-          (sym (same-parent s next keeps same c (runs.parent-linked ws₀ abi valid₀ P s st.inv c stubs o acc lent)))
+          (sym (same-parent s next keeps same c (runs.parent_linked ws₀ abi valid₀ P s st.inv c stubs o acc lent)))
           (from-made ws₀ abi (table_of s) c T (new-from ws₀ abi valid₀ P s st.inv c stubs o acc lent p));
       bits = bits-here;
     }
@@ -262,7 +262,7 @@ module _ (ws₀ abi : List ℕ) (valid₀ : Valid ws₀) (P : ℕ → Type 0) wh
   unfolding run
   run-stands [] s st lent = st
   run-stands (k ∷ ks) s st lent =
-      run-stands ks (step abi s k) (step-stands s st k (λ x i. lent x (lent-now i))) (λ x i. lent x (lent-later i))
+      run-stands ks (step abi s k) (step-stands s st k (λ x i. lent x (lent_now i))) (λ x i. lent x (lent_later i))
 
   -- ---- along the chain
 
@@ -317,7 +317,7 @@ module _ (ws₀ abi : List ℕ) (valid₀ : Valid ws₀) (P : ℕ → Type 0) wh
         → i < length (table_of s d) → SlotReal d i
     slots-real zero d b l p targets i h = absurd (omega (arith, l.some))
     slots-real (suc bound) d b l p targets i h =
-        let f = parent-below ws₀ d l.some in
+        let f = parent_below ws₀ d l.some in
         let w = st.witness d l p in
         let k : i < length w.entries = omega (arith, h, ap length w.words, length-words w.stubs 0 w.entries) in
         let bit : get_or (bits_now abi s d) i false ≡ is_counted (λ j. get_or (bits_now abi s (parent_of ws₀ d)) j false) (get_or w.entries i empty) =
@@ -375,7 +375,7 @@ module _ (ws abi area missing : List ℕ) (unlinked : Unlinked ws) (calls : List
   real-slot : (i : ℕ) → i < slots → Real ws abi valid₀ P c (get_or (bits_now abi final c) i false) (get_or (table_at final.area place slots) i 0)
   real-slot i h =
       rw (← table-now)
-      (slots-real ws abi valid₀ P k.stubs-nonzero final stands c c (omega arith) now plain k.targets-nonzero i
+      (slots-real ws abi valid₀ P k.nonzero_stubs final stands c c (omega arith) now plain k.nonzero_targets i
       (omega (arith, h, ap length table-now, whole_is ws abi area missing valid₀ unlinked calls linked)))
 
   has : HasTable final c

@@ -17,7 +17,7 @@ use Rattle.class_sheet.specs.ClassSheet.{flags_word, kind_word, method_count_wor
 use Rattle.abi_sheet.specs.AbiSheet.{abi_text_length, abi_text_words, abi_text_of}
 use Rattle.set_rules.specs.Valid.{Valid}
 use Rattle.set_rules.proofs.Valid.{valid}
-use Rattle.linking.proofs.ChainLaws.{parent-below, parent-within, chain-none}
+use Rattle.linking.proofs.ChainLaws.{parent_below, parent-within, chain-none}
 use Rattle.linking.specs.Chain.{list_count, own_methods, parent_of, chain, is_interface}
 use Rattle.linking.specs.Vtable.{Entry, built, read_entry, parent_entries, slot_words}
 use Rattle.linking.specs.Packages.{topmost, unfit_for_packages, bad_packages}
@@ -38,7 +38,7 @@ use Rattle.slots.proofs.LinkFacts.{read-area, plan-table}
 use Rattle.slots.proofs.ReadFacts.{length-words}
 use Rattle.calls.specs.Calls.{State, table_at}
 use Rattle.calls.proofs.Area.{linked-length, linked-before, linked-slots}
-use Rattle.calls.proofs.Linked.{Leaves, link-leaves}
+use Rattle.calls.proofs.Linked.{Leaves, link_leaves}
 use Rattle.calls.proofs.Rows.{Accepted}
 use Rattle.calls.proofs.Like.{Like, like-next, alike, unmoved-kind}
 use Rattle.calls.proofs.View.{parent-same, chain_same, chain-class, class-abi}
@@ -164,7 +164,7 @@ module _ (ws₀ abi : List ℕ) (valid₀ : Valid ws₀) (P : ℕ → Type 0) wh
   pub chain-linked : {s : State} → Inv s → (bound c : ℕ) → c ≤ bound → Linked s.set c → (d : ℕ) → Memᴰ d (chain ws₀ c) → Linked s.set d
   chain-linked inv zero c b l d i = absurd (omega (arith, l.some))
   chain-linked inv (suc bound) c b l d i =
-      let f = parent-below ws₀ c l.some in
+      let f = parent_below ws₀ c l.some in
       elim (chain-cases ws₀ c l.some i) [
         | inl e ↦ rw e l
         | inr j ↦
@@ -213,7 +213,7 @@ module _ (ws₀ abi : List ℕ) (valid₀ : Valid ws₀) (P : ℕ → Type 0) wh
         let t = text-bytes (text_words s.set) (text_length s.set) in
         let l = text-bytes (abi_text_words abi) (abi_text_length abi) in
         subst (λ (x : List ℕ). Leaves s.set x c (next_free s.area) (length T)) (sym acc.new-set)
-        (link-leaves s.set c (next_free s.area) (new_words s.set (text_of s.set) abi (abi_text_of abi) c)
+        (link_leaves s.set c (next_free s.area) (new_words s.set (text_of s.set) abi (abi_text_of abi) c)
         (new_statics s.set (text_of s.set) c) acc.coming
         some among valid-now.fits v.methods v.fields (omega arith) planning.generated (planning.method-bytes t l) (planning.field-bytes t l))
 
@@ -271,8 +271,8 @@ module _ (ws₀ abi : List ℕ) (valid₀ : Valid ws₀) (P : ℕ → Type 0) wh
     pub parent_is : parent_of s.set c ≡ parent_of ws₀ c
     parent_is = parent-same ws₀ s.set valid₀ (alike inv.like) c some among₀
 
-    pub parent-linked : parent_of ws₀ c ≢ 0 → Linked s.set (parent_of ws₀ c)
-    parent-linked n =
+    pub parent_linked : parent_of ws₀ c ≢ 0 → Linked s.set (parent_of ws₀ c)
+    parent_linked n =
         let b = parent-within ws₀ c in
         record { some = omega arith; among = omega (arith, among); has = rw (← parent_is) (acc.class.parent (rw parent_is n)) }
 
@@ -285,7 +285,7 @@ module _ (ws₀ abi : List ℕ) (valid₀ : Valid ws₀) (P : ℕ → Type 0) wh
         rw parent_is
         (by (eqb (parent_of ws₀ c) 0) (λ q. rw q none)
         (λ q.
-        let l = parent-linked (eqb-false (parent_of ws₀ c) 0 q) in
+        let l = parent_linked (eqb-false (parent_of ws₀ c) 0 q) in
         let k = (valid-now.class (parent_of ws₀ c) (l.some, l.among)).slots l.has in
         let b = acc.lent.below (parent_of ws₀ c) l in
         let w = acc.lent.within in
@@ -317,7 +317,7 @@ module _ (ws₀ abi : List ℕ) (valid₀ : Valid ws₀) (P : ℕ → Type 0) wh
     parents d i =
         by (eqb (parent_of ws₀ c) 0)
         (λ t. in_none (chain-none ws₀ (parent_of ws₀ c) (eqb-true (parent_of ws₀ c) 0 t)) i)
-        (λ n. chain-linked inv (parent_of ws₀ c) (parent_of ws₀ c) (omega arith) (parent-linked (eqb-false (parent_of ws₀ c) 0 n)) d i)
+        (λ n. chain-linked inv (parent_of ws₀ c) (parent_of ws₀ c) (omega arith) (parent_linked (eqb-false (parent_of ws₀ c) 0 n)) d i)
 
     lies : (d : ℕ) → Memᴰ d (chain s.set (parent_of s.set c)) → Lies s.set (text_of s.set) abi (abi_text_of abi) s.area (table_of s) d
     lies d i =
@@ -337,7 +337,7 @@ module _ (ws₀ abi : List ℕ) (valid₀ : Valid ws₀) (P : ℕ → Type 0) wh
     packages-from-start : Plain ws₀ c → class_kind ws₀ c ≡ 3 → packages_from ws₀ (text_of ws₀) abi (abi_text_of abi) (table_of s) c ≡ T
     packages-from-start p k =
         packages-same ws₀ s.set valid₀ (alike inv.like) abi (abi_text_of abi) (table_of s) c some among₀ (plain_still inv.like among₀ p)
-        ∙ sym (packages-from s.set (text_of s.set) abi (abi_text_of abi) s.area (table_of s) c (omega (arith, among₀, valid₀.class-count)) lies)
+        ∙ sym (packages-from s.set (text_of s.set) abi (abi_text_of abi) s.area (table_of s) c (omega (arith, among₀, valid₀.number_of_classes)) lies)
         ∙ planning.packaged (here-kind ∙ k)
 
     pub new-from : Plain ws₀ c → made_from ws₀ (text_of ws₀) abi (abi_text_of abi) (table_of s) c ≡ built T
@@ -407,7 +407,7 @@ module _ (ws₀ abi : List ℕ) (valid₀ : Valid ws₀) (P : ℕ → Type 0) wh
       like = like-next ws₀ s.set o.outcome.set inv.like leaves.like;
       parent = λ d l n.
           by (eqb d c)
-          (λ t. let e : d ≡ c = eqb-true d c t in rw e (still link-keeps (parent_of ws₀ c) (parent-linked (rw e at n))))
+          (λ t. let e : d ≡ c = eqb-true d c t in rw e (still link-keeps (parent_of ws₀ c) (parent_linked (rw e at n))))
           (λ f. still link-keeps (parent_of ws₀ d) (inv.parent d (was d (eqb-false d c f) l) n));
       made = λ d l p.
           by (eqb d c)

@@ -13,7 +13,7 @@ use Rattle.words.specs.Lists.{list_from, and_then, fold, keep}
 use Rattle.words.specs.declared.Found.{Found}
 use Rattle.words.specs.declared.Found.TheVariants.{At, Nothing}
 use Rattle.words.proofs.Bools.{by}
-use Rattle.words.proofs.ListLaws.{by-found, found-by, length-list-from, get_d_list-from, numbers-within}
+use Rattle.words.proofs.ListLaws.{by-found, found-by, length-list-from, get_d_list_from, numbers-within}
 use Rattle.class_sheet.specs.ClassSheet.{class_kind, is_built_kind, is_packaged, is_generated, class_flags, class_compiler_table, class_table_place, class_slot_count, method_target, method_limit, method_name, method_descriptor, class_limit}
 use Rattle.linking.specs.Chain.{on_found, own_methods, parent_of, chain, is_interface, is_eligible, eligible, same_methods, find_by_target}
 use Rattle.linking.specs.Abi.{slot_at, class_abi, chain_abi, minimum_size}
@@ -242,7 +242,7 @@ module _ (ws text abi labels : List ℕ) where
         let n : ℕ = min (class_slot_count ws p) 1024 in
         let f : ℕ → Entry = λ i. read_entry ws text abi labels p i (get_or area (class_table_place ws p + 1 + i) 0) in
         let l = length-list-from f 0 n in
-        let q : get_or (list_from f 0 n) j empty ≡ f (0 + j) = get_d_list-from f 0 n j empty (omega (arith, rw t at h)) in
+        let q : get_or (list_from f 0 n) j empty ≡ f (0 + j) = get_d_list_from f 0 n j empty (omega (arith, rw t at h)) in
         let z : 0 + j ≡ j = omega arith in
         rw (t, q, z) (unfold read_entry in refl, λ m e. known-room p j _ m e))
 

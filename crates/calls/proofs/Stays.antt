@@ -18,7 +18,7 @@ use Rattle.descriptor.specs.Grammar.{FieldDerivation}
 use Rattle.descriptor.specs.Words.{ValidDescriptor}
 use Rattle.class_sheet.specs.ClassSheet.{class_width, parent_word, flags_word, kind_word, first_method_word, method_count_word, first_field_word, field_count_word, first_interface_word, interface_count_word, link_state_word, instance_words_word, compiler_table_word, compiler_slots_word, table_place_word, slot_count_word, class_count, method_count, field_count, interface_count, compiler_count, text_length, text_words, text_of, content_end, class_word, method_word, field_word, interface_word, class_first_method, class_method_count, class_first_field, class_field_count, class_slot_count, class_table_place, class_name, method_limit, field_limit, member_limit, text_limit}
 use Rattle.class_sheet.specs.Sections.{Sections, laid_out, sections_of}
-use Rattle.class_sheet.proofs.Sections.{class-count, method-count, field-count, interface-count, compiler-count, text-length, length-laid, class-word, method-word, field-word, interface-word, text-of, formed-of, class_of, method-of, field_of, interface-of, text-of-words}
+use Rattle.class_sheet.proofs.Sections.{number_of_classes, number_of_methods, number_of_fields, number_of_interfaces, number_of_compilers, length_of_text, length-laid, class-word, method-word, field-word, interface-word, text-of, formed-of, class_of, method-of, field_of, interface-of, text-of-words}
 use Rattle.abi_sheet.specs.AbiSheet.{abi_text_length, abi_text_words, abi_text_of}
 use Rattle.set_rules.specs.SetRules.{set_refusal}
 use Rattle.set_rules.specs.Valid.{IsClass, ValidClass, MethodFlags, Valid, ValidAbi}
@@ -28,7 +28,7 @@ use Rattle.linking.specs.Set.{new_text, section_full}
 use Rattle.linking.specs.Link.{next_free, Plan, is_none, lists_full, new_words, new_statics, LinkOutcome, link_def}
 use Rattle.linking.specs.Grown.{bytes_of, linked_sections, methods_growing, fields_growing, new_members, row_indices}
 use Rattle.linking.proofs.Grown.{length-bytes, length-row-indices}
-use Rattle.linking.proofs.Appended.{text-back, word_kept, first-is, count-is, length-all, name-front}
+use Rattle.linking.proofs.Appended.{text-back, word_kept, first-is, count_is, length-all, name-front}
 use Rattle.linking.proofs.Added.{none-new}
 use Rattle.linking.proofs.Packed.{text-bytes}
 use Rattle.linking.proofs.Plans.{Plans, plans}
@@ -120,8 +120,8 @@ module _ (ws abi : List ℕ) (c : ℕ) (area stubs missing : List ℕ) (o : Link
 
   -- ---- what is added is fine
 
-  new-methods : (j : ℕ) → j < length p.new_methods → FineMethod ws abi v w (get_or p.new_methods j no_new)
-  new-methods =
+  methods_added : (j : ℕ) → j < length p.new_methods → FineMethod ws abi v w (get_or p.new_methods j no_new)
+  methods_added =
       elim plan.methods [ inl e ↦ rw e (none-new (FineMethod ws abi v w)) | inr e ↦ rw e (fine_methods ws abi v w area c in_set) ]
 
   new-fields : (j : ℕ) → j < length p.new_fields → FineField ws abi v w (get_or p.new_fields j no_new)
@@ -154,14 +154,14 @@ module _ (ws abi : List ℕ) (c : ℕ) (area stubs missing : List ℕ) (o : Link
   first-method : row_word n.classes (c - 1) first_method_word ≡ row_word s.classes (c - 1) first_method_word
   first-method = same-num first_method_word (omega arith) (omega arith)
 
-  own-methods : row_word n.classes (c - 1) method_count_word ≡ row_word s.classes (c - 1) method_count_word
-  own-methods = same-num method_count_word (omega arith) (omega arith)
+  methods_own : row_word n.classes (c - 1) method_count_word ≡ row_word s.classes (c - 1) method_count_word
+  methods_own = same-num method_count_word (omega arith) (omega arith)
 
   first_field : row_word n.classes (c - 1) first_field_word ≡ row_word s.classes (c - 1) first_field_word
   first_field = same-num first_field_word (omega arith) (omega arith)
 
-  own-fields : row_word n.classes (c - 1) field_count_word ≡ row_word s.classes (c - 1) field_count_word
-  own-fields = same-num field_count_word (omega arith) (omega arith)
+  fields_own : row_word n.classes (c - 1) field_count_word ≡ row_word s.classes (c - 1) field_count_word
+  fields_own = same-num field_count_word (omega arith) (omega arith)
 
   rows-methods : AllRows (MethodRow (bytes_of g)) g.methods
   unfolding linked_sections methods_growing fields_growing
@@ -172,14 +172,14 @@ module _ (ws abi : List ℕ) (c : ℕ) (area stubs missing : List ℕ) (o : Link
       (λ u.
       let M : List New = p.new_methods in
       let copy : List (List ℕ) = take (row_word s.classes (c - 1) method_count_word) (drop (row_word s.classes (c - 1) first_method_word) s.methods) in
-      rw (t, u, text-back s M method-bytes, first-method, own-methods)
+      rw (t, u, text-back s M method-bytes, first-method, methods_own)
       (rows_append ValidDescriptor MethodFlags (bytes_of s ++ new_text M) s.methods (copy ++ new_members s.bytes M)
       (rows_more ValidDescriptor MethodFlags (bytes_of s) (new_text M) s.methods old-methods)
       (rows_append ValidDescriptor MethodFlags (bytes_of s ++ new_text M) copy (new_members s.bytes M)
       (rows_more ValidDescriptor MethodFlags (bytes_of s) (new_text M) copy
       (rows-part ValidDescriptor MethodFlags (bytes_of s) s.methods (row_word s.classes (c - 1) first_method_word) (row_word s.classes (c - 1) method_count_word)
       list-methods old-methods))
-      (rows_new ValidDescriptor MethodFlags (bytes_of s) s.bytes (length-bytes s) M new-methods)))))
+      (rows_new ValidDescriptor MethodFlags (bytes_of s) s.bytes (length-bytes s) M methods_added)))))
       (λ t.
       rw (t, text-back s p.new_fields field-bytes)
       (rows_more ValidDescriptor MethodFlags (bytes_of s) (new_text p.new_fields) s.methods old-methods))
@@ -201,7 +201,7 @@ module _ (ws abi : List ℕ) (c : ℕ) (area stubs missing : List ℕ) (o : Link
       let F : List New = p.new_fields in
       let part : List (List ℕ) = take (row_word s.classes (c - 1) field_count_word) (drop (row_word s.classes (c - 1) first_field_word) s.fields) in
       let copy : List (List ℕ) = row_indices 0 p.indices part in
-      rw (t, text-back s F field-bytes, first_field, own-fields)
+      rw (t, text-back s F field-bytes, first_field, fields_own)
       (rows_append D W (bytes_of s ++ new_text F) s.fields (copy ++ new_members s.bytes F)
       (rows_more D W (bytes_of s) (new_text F) s.fields old-fields)
       (rows_append D W (bytes_of s ++ new_text F) copy (new_members s.bytes F)
@@ -216,9 +216,9 @@ module _ (ws abi : List ℕ) (c : ℕ) (area stubs missing : List ℕ) (o : Link
   still : (k : ℕ) → first_interface_word ≤ k → k < table_place_word → k ≢ instance_words_word → Untouched k
   still k low high ne = record {
     first-method = omega arith;
-    method-count = omega arith;
+    number_of_methods = omega arith;
     first_field = omega arith;
-    field-count = omega arith;
+    number_of_fields = omega arith;
     words = ne;
     place = omega arith;
     slots = omega arith;
@@ -231,7 +231,7 @@ module _ (ws abi : List ℕ) (c : ℕ) (area stubs missing : List ℕ) (o : Link
       let h =
       record_instance s.classes c place (length p.table) words_new statics_new (formed-of ws fit).classes (omega (arith, in_rows, one)) (omega arith)
       (omega arith) 65535 (omega arith) plan.words
-      (omega (arith, vc.instance-words, own-word instance_words_word (omega arith))) in
+      (omega (arith, vc.words_of_instance, own-word instance_words_word (omega arith))) in
       by (is_none p.new_fields)
       (λ t.
       by (is_none p.new_methods) (λ u. rw (t, u) h)
@@ -269,7 +269,7 @@ module _ (ws abi : List ℕ) (c : ℕ) (area stubs missing : List ℕ) (o : Link
   unfolding linked_sections methods_growing fields_growing
   method-list =
       let e₅ = first-method in
-      let e₆ = own-methods in
+      let e₆ = methods_own in
       by (is_none p.new_fields)
       (λ t.
       by (is_none p.new_methods) (λ u. rw (t, u) (inl (e₅, e₆)))
@@ -278,7 +278,7 @@ module _ (ws abi : List ℕ) (c : ℕ) (area stubs missing : List ℕ) (o : Link
       let first : ℕ = row_word n.classes (c - 1) first_method_word in
       let count : ℕ = own + length p.new_methods in
       let f = first-is n.classes c first_method_word method_count_word (length s.methods) count class_width rows-n among-n (omega arith) (omega arith) in
-      let k = count-is n.classes c first_method_word method_count_word (length s.methods) count class_width rows-n among-n (omega arith) in
+      let k = count_is n.classes c first_method_word method_count_word (length s.methods) count class_width rows-n among-n (omega arith) in
       let l = length-all s.methods (take own (drop first s.methods)) s.bytes p.new_methods own
       (length_part s.methods first own (omega (arith, list-methods))) in
       rw (t, u) (inr (f, omega arith))))
@@ -295,7 +295,7 @@ module _ (ws abi : List ℕ) (c : ℕ) (area stubs missing : List ℕ) (o : Link
   unfolding linked_sections methods_growing fields_growing
   field-list =
       let e₇ = first_field in
-      let e₈ = own-fields in
+      let e₈ = fields_own in
       by (is_none p.new_fields)
       (λ t.
       by (is_none p.new_methods) (λ u. rw (t, u) (inl (e₇, e₈)))
@@ -311,7 +311,7 @@ module _ (ws abi : List ℕ) (c : ℕ) (area stubs missing : List ℕ) (o : Link
       let first : ℕ = row_word n.classes (c - 1) first_field_word in
       let count : ℕ = own + length p.new_fields in
       let f = first-is n.classes c first_field_word field_count_word (length s.fields) count class_width rows-n among-n (omega arith) (omega arith) in
-      let k = count-is n.classes c first_field_word field_count_word (length s.fields) count class_width rows-n among-n (omega arith) in
+      let k = count_is n.classes c first_field_word field_count_word (length s.fields) count class_width rows-n among-n (omega arith) in
       let l = length-all s.fields (row_indices 0 p.indices (take own (drop first s.fields))) s.bytes p.new_fields own
       (length-row-indices 0 p.indices (take own (drop first s.fields)) ∙ length_part s.fields first own (omega (arith, list-fields))) in
       rw t (inr (f, omega arith)))
@@ -336,13 +336,13 @@ module _ (ws abi : List ℕ) (c : ℕ) (area stubs missing : List ℕ) (o : Link
   unfolding linked_sections methods_growing fields_growing
   counts =
       let z = lies-of ws fit in
-      let m = v.method-count in
-      let f = v.field-count in
-      let b = v.text-length in
+      let m = v.number_of_methods in
+      let f = v.number_of_fields in
+      let b = v.length_of_text in
       let e₅ = first-method in
-      let e₆ = own-methods in
+      let e₆ = methods_own in
       let e₇ = first_field in
-      let e₈ = own-fields in
+      let e₈ = fields_own in
       let o₆ = own-word method_count_word (omega arith) in
       let o₈ = own-word field_count_word (omega arith) in
       let i = length-row-indices (row_word s.classes (c - 1) first_field_word) p.indices s.fields in
@@ -391,11 +391,11 @@ module _ (ws abi : List ℕ) (c : ℕ) (area stubs missing : List ℕ) (o : Link
       by (eqb d c) (λ t. let e : d ≡ c = eqb-true d c t in rw e (own k (omega arith) (left.kept k (still k low high ne))))
       (λ t. other d k h (omega arith) (eqb-false d c t))
 
-  text-is : text_of N ≡ text_of ws ++ left-all.0
-  text-is = text-of g left.formed ∙ left.text ∙ ap (λ (x : List ℕ). x ++ left-all.0) (sym (text-of-words ws fit))
+  text_is : text_of N ≡ text_of ws ++ left-all.0
+  text_is = text-of g left.formed ∙ left.text ∙ ap (λ (x : List ℕ). x ++ left-all.0) (sym (text-of-words ws fit))
 
   count-classes : class_count N ≡ class_count ws
-  count-classes = class-count g ∙ left.classes ∙ sym (lies-of ws fit).classes
+  count-classes = number_of_classes g ∙ left.classes ∙ sym (lies-of ws fit).classes
 
   same_class : (d : ℕ) → IsClass N d → IsClass ws d
   same_class d h = let e = count-classes in let a = h.0 in let b = h.1 in (omega arith, omega arith)
@@ -422,25 +422,25 @@ module _ (ws abi : List ℕ) (c : ℕ) (area stubs missing : List ℕ) (o : Link
 
   methods-lie : (d : ℕ) → IsClass ws d → Lies d first_method_word method_count_word (method_count ws) (method_count N)
   methods-lie d h =
-      rw ((lies-of ws fit).methods, method-count g)
+      rw ((lies-of ws fit).methods, number_of_methods g)
       (lie first_method_word method_count_word (length s.methods) (length g.methods) (omega arith) (omega arith) method-list d h)
 
   fields_lie : (d : ℕ) → IsClass ws d → Lies d first_field_word field_count_word (field_count ws) (field_count N)
   fields_lie d h =
-      rw ((lies-of ws fit).fields, field-count g)
+      rw ((lies-of ws fit).fields, number_of_fields g)
       (lie first_field_word field_count_word (length s.fields) (length g.fields) (omega arith) (omega arith) field-list d h)
 
   more-methods : method_count ws ≤ method_count N
-  more-methods = omega (arith, method-count g, left.more-methods, (lies-of ws fit).methods)
+  more-methods = omega (arith, number_of_methods g, left.more-methods, (lies-of ws fit).methods)
 
   more-fields : field_count ws ≤ field_count N
-  more-fields = omega (arith, field-count g, counts.more-fields, (lies-of ws fit).fields)
+  more-fields = omega (arith, number_of_fields g, counts.more-fields, (lies-of ws fit).fields)
 
   count-interfaces : interface_count N ≡ interface_count ws
-  count-interfaces = interface-count g ∙ ap length left.interfaces ∙ sym (lies-of ws fit).interfaces
+  count-interfaces = number_of_interfaces g ∙ ap length left.interfaces ∙ sym (lies-of ws fit).interfaces
 
   count-compilers : compiler_count N ≡ compiler_count ws
-  count-compilers = compiler-count g ∙ ap length left.compilers ∙ sym (lies-of ws fit).compilers
+  count-compilers = number_of_compilers g ∙ ap length left.compilers ∙ sym (lies-of ws fit).compilers
 
   -- ---- rows 3 to 5
 
@@ -448,11 +448,11 @@ module _ (ws abi : List ℕ) (c : ℕ) (area stubs missing : List ℕ) (o : Link
     vd : ValidClass ws d
     vd = v.class d h
 
-    instance-words : class_word N d instance_words_word ≤ 65535
-    instance-words =
+    words_of_instance : class_word N d instance_words_word ≤ 65535
+    words_of_instance =
         by (eqb d c)
         (λ t. let e : d ≡ c = eqb-true d c t in rw e (omega (arith, class-at c instance_words_word (one, in_set) (omega arith), instance)))
-        (λ t. omega (arith, other d instance_words_word h (omega arith) (eqb-false d c t), vd.instance-words))
+        (λ t. omega (arith, other d instance_words_word h (omega arith) (eqb-false d c t), vd.words_of_instance))
 
     slots : (class_table_place N d ≡ 0 → ⊥) → class_slot_count N d ≤ 1024
     slots z =
@@ -465,8 +465,8 @@ module _ (ws abi : List ℕ) (c : ℕ) (area stubs missing : List ℕ) (o : Link
         let b = other d slot_count_word h (omega arith) (eqb-false d c t) in
         rw b (vd.slots (λ q. z (a ∙ q))))
 
-    methods-fit : class_first_method N d + class_method_count N d ≤ method_count N
-    methods-fit =
+    methods_fit : class_first_method N d + class_method_count N d ≤ method_count N
+    methods_fit =
         ⊎_elim (λ q. omega (arith, q.0, q.1, vd.methods, more-methods)) (λ q. omega (arith, q.2)) (methods-lie d h)
 
     fields_fit : class_first_field N d + class_field_count N d ≤ field_count N
@@ -474,16 +474,16 @@ module _ (ws abi : List ℕ) (c : ℕ) (area stubs missing : List ℕ) (o : Link
 
     class-valid : ValidClass N d
     class-valid = record {
-      name = rw (early d name_start_word h (omega arith), early d name_length_word h (omega arith), text-is)
+      name = rw (early d name_start_word h (omega arith), early d name_length_word h (omega arith), text_is)
           (part-more (text_of ws) left-all.0 (class_word ws d name_start_word) (class_word ws d name_length_word) vd.name);
-      parent-below = rw (early d parent_word h (omega arith)) vd.parent-below;
+      parent_below = rw (early d parent_word h (omega arith)) vd.parent_below;
       flags = rw (early d flags_word h (omega arith)) vd.flags;
       kind = rw (early d kind_word h (omega arith)) vd.kind;
-      link-state = rw (quiet d link_state_word h (omega arith) (omega arith) (omega arith)) vd.link-state;
-      instance-words = instance-words;
-      compiler-slots = rw (quiet d compiler_slots_word h (omega arith) (omega arith) (omega arith)) vd.compiler-slots;
+      link_state = rw (quiet d link_state_word h (omega arith) (omega arith) (omega arith)) vd.link_state;
+      words_of_instance = words_of_instance;
+      compiler_slots = rw (quiet d compiler_slots_word h (omega arith) (omega arith) (omega arith)) vd.compiler_slots;
       slots = slots;
-      methods = methods-fit;
+      methods = methods_fit;
       fields = fields_fit;
       interfaces = rw (
         quiet d first_interface_word h (omega arith) (omega arith) (omega arith),
@@ -503,7 +503,7 @@ module _ (ws abi : List ℕ) (c : ℕ) (area stubs missing : List ℕ) (o : Link
 
     same_name : class_name N (text_of N) d ≡ class_name ws (text_of ws) d
     same_name =
-        rw (early d name_start_word h (omega arith), early d name_length_word h (omega arith), text-is)
+        rw (early d name_start_word h (omega arith), early d name_length_word h (omega arith), text_is)
         (name-front (text_of ws) left-all.0 (class_word ws d name_start_word) (class_word ws d name_length_word) vd.name.inside)
 
   -- two classes share no member: a list that was moved lies after all that there was
@@ -542,28 +542,28 @@ module _ (ws abi : List ℕ) (c : ℕ) (area stubs missing : List ℕ) (o : Link
 
   stands : Valid N
   stands = record {
-    class-count = omega (arith, count-classes, v.class-count);
-    method-count = omega (arith, method-count g, counts.methods);
-    field-count = omega (arith, field-count g, counts.fields);
-    interface-count = omega (arith, count-interfaces, v.interface-count);
-    compiler-count = omega (arith, count-compilers, v.compiler-count);
-    text-length = omega (arith, text-length g, counts.bytes);
+    number_of_classes = omega (arith, count-classes, v.number_of_classes);
+    number_of_methods = omega (arith, number_of_methods g, counts.methods);
+    number_of_fields = omega (arith, number_of_fields g, counts.fields);
+    number_of_interfaces = omega (arith, count-interfaces, v.number_of_interfaces);
+    number_of_compilers = omega (arith, count-compilers, v.number_of_compilers);
+    length_of_text = omega (arith, length_of_text g, counts.bytes);
     fits = omega (arith, length-laid g left.formed);
     class = λ d k. class-valid d (same_class d k);
     method = λ m h.
-        let b : m < length g.methods = omega (arith, method-count g) in
+        let b : m < length g.methods = omega (arith, number_of_methods g) in
         rw (text-of g left.formed)
         (row_same ValidDescriptor MethodFlags (bytes_of g) (method_word N m) (row_word g.methods m)
         (λ k l. method-word g left.formed m k b (omega arith)) (rows-methods m b));
     field = λ f h.
-        let b : f < length g.fields = omega (arith, field-count g) in
+        let b : f < length g.fields = omega (arith, number_of_fields g) in
         rw (text-of g left.formed)
         (row_same (λ flags z. FieldDerivation z) (λ x. x ≤ 65535) (bytes_of g) (field_word N f) (row_word g.fields f)
         (λ k l. field-word g left.formed f k b (omega arith)) (rows-fields f b));
     interface = λ i h.
         let b : i < interface_count ws = omega (arith, count-interfaces) in
         let e : interface_word N i ≡ interface_word ws i =
-        interface-word g left.formed i (omega (arith, interface-count g)) ∙ ap (λ (l : List ℕ). get_or l i 0) left.interfaces
+        interface-word g left.formed i (omega (arith, number_of_interfaces g)) ∙ ap (λ (l : List ℕ). get_or l i 0) left.interfaces
         ∙ sym (interface-of ws fit i b) in
         rw (e, count-classes) (v.interface i b);
     names = λ a b ka kb e.
@@ -608,7 +608,7 @@ run-stands abi (k ∷ ks) s e = run-stands abi ks (step abi s k) (step-stands ab
 
 pub stays-accepted : StaysAccepted
 stays-accepted = record {
-  link-leaves = λ ws abi c area stubs missing e.
+  link_leaves = λ ws abi c area stubs missing e.
       elim (link-cases ws abi c area stubs missing) [
         | inl r ↦ absurd (r.number e)
         | inr a ↦ link-stands ws abi c area stubs missing (link_def ws abi c area stubs missing) a

@@ -72,11 +72,11 @@ module _ (ws text abi labels : List ℕ) (c : ℕ) (introduced : ℕ → Found) 
   takes = take_slots (same_methods ws text) ws text introduced (length P) c
 
   record Taker (m i : ℕ) : Type 0 where
-    is-eligible : eligible ws text m ≡ true
+    it_is_eligible : eligible ws text m ≡ true
     slot : Memᴰ i (slots m)
 
   record Newly (m : ℕ) : Type 0 where
-    is-eligible : eligible ws text m ≡ true
+    it_is_eligible : eligible ws text m ≡ true
     takes_none : (i : ℕ) → Taker m i → ⊥
 
   slot-below : (m j : ℕ) → Memᴰ j (slots m) → j < length P
@@ -98,7 +98,7 @@ module _ (ws text abi labels : List ℕ) (c : ℕ) (introduced : ℕ → Found) 
 
   put_one : (T : List Entry) (m i : ℕ) → eligible ws text m ≡ true → i < length P → length P ≤ length T → {f : Entry} → PutAt (entry m) T (slots m) i f
       → (Taker m i × (f ≡ entry m)) ⊎ ((Taker m i → ⊥) × (f ≡ at T i))
-  put_one T m i t h l (stored b k q) = inl (record { is-eligible = t; slot = k }, q)
+  put_one T m i t h l (stored b k q) = inl (record { it_is_eligible = t; slot = k }, q)
   put_one T m i t h l (left b n q) = inr (λ k. n k.slot, q)
   put_one T m i t h l (added b k q) = absurd (omega arith)
 
@@ -110,7 +110,7 @@ module _ (ws text abi labels : List ℕ) (c : ℕ) (introduced : ℕ → Found) 
       rw (puts T m t)
       (put_one T m i t h l
       (put-at (entry m) T (slots m) (λ j k. omega (arith, slot-below m j k)) i (omega (arith, put-length (entry m) T (slots m))))))
-      (λ f. rw (passes T m f) (inr (λ k. true≢false (sym k.is-eligible ∙ f), refl)))
+      (λ f. rw (passes T m f) (inr (λ k. true≢false (sym k.it_is_eligible ∙ f), refl)))
 
   one-new : (T : List Entry) (m : ℕ) → length P ≤ length T
       → (Newly m × (takes T m ≡ T ++ (entry m ∷ [])))
@@ -120,17 +120,17 @@ module _ (ws text abi labels : List ℕ) (c : ℕ) (introduced : ℕ → Found) 
       by (eligible ws text m)
       (λ t.
       by-list (slots m)
-      (λ e. inl (record { is-eligible = t; takes_none = λ i k. Memᴰ.not-nil (rw e at k.slot) }, puts T m t ∙ rw e))
+      (λ e. inl (record { it_is_eligible = t; takes_none = λ i k. Memᴰ.not-nil (rw e at k.slot) }, puts T m t ∙ rw e))
       (λ j js e.
       let below : (i : ℕ) → Memᴰ i (j ∷ js) → i < length P = λ i k. slot-below m i (rw e k) in
       let s : takes T m ≡ fold (λ U i. set U i (entry m)) T (j ∷ js) = puts T m t ∙ (unfold fold in rw e) in
       inr (
-        λ n. n.takes_none j (record { is-eligible = t; slot = rw e (Memᴰ.head refl) }),
+        λ n. n.takes_none j (record { it_is_eligible = t; slot = rw e (Memᴰ.head refl) }),
         ap (drop (length P)) s ∙ stores-drop (entry m) (length P) (j ∷ js) T below,
         ap length s ∙ stores-length (entry m) (j ∷ js) T,
       )))
       (λ f.
-      inr (λ n. true≢false (sym n.is-eligible ∙ f), ap (drop (length P)) (passes T m f), ap length (passes T m f)))
+      inr (λ n. true≢false (sym n.it_is_eligible ∙ f), ap (drop (length P)) (passes T m f), ap length (passes T m f)))
 
   -- all of them, in order: an inherited slot goes to the last that takes it
 
@@ -174,19 +174,19 @@ module _ (ws text abi labels : List ℕ) (c : ℕ) (introduced : ℕ → Found) 
   record Added (ms : List ℕ) (T U : List Entry) : Type 0 where
     new : List ℕ
     picked : Picked Newly ms new
-    last-slots : drop (length P) U ≡ drop (length P) T ++ method_entries ws new
+    last_slots : drop (length P) U ≡ drop (length P) T ++ method_entries ws new
     count : length U ≡ length T + length new
 
   all_new : (ms : List ℕ) (T : List Entry) → length P ≤ length T → Added ms T (fold takes T ms)
   unfolding fold method_entries
-  all_new [] T l = record { new = []; picked = none; last-slots = sym (append-nil (drop (length P) T)); count = omega arith }
+  all_new [] T l = record { new = []; picked = none; last_slots = sym (append-nil (drop (length P) T)); count = omega arith }
   all_new (m ∷ ms) T l =
       let r = all_new ms (takes T m) (longer T m l) in
       elim (one-new T m l) [
         | inl n ↦ record {
           new = m ∷ r.new;
           picked = pick n.0 r.picked;
-          last-slots = r.last-slots
+          last_slots = r.last_slots
               ∙ ap (λ (x : List Entry). drop (length P) x ++ method_entries ws r.new) n.1
               ∙ ap (λ (x : List Entry). x ++ method_entries ws r.new) (drop_snoc (length P) T (entry m) l)
               ∙ append_assoc (drop (length P) T) (entry m ∷ []) (method_entries ws r.new);
@@ -195,7 +195,7 @@ module _ (ws text abi labels : List ℕ) (c : ℕ) (introduced : ℕ → Found) 
         | inr n ↦ record {
           new = r.new;
           picked = skip n.0 r.picked;
-          last-slots = r.last-slots ∙ ap (λ (x : List Entry). x ++ method_entries ws r.new) n.1;
+          last_slots = r.last_slots ∙ ap (λ (x : List Entry). x ++ method_entries ws r.new) n.1;
           count = omega (arith, r.count, n.2);
         }
       ]
@@ -224,7 +224,7 @@ module _ (ws abi area : List ℕ) (c : ℕ) (some : 0 < c) (room : c ≤ class_l
       let o = overridden-overrides ws text c m k.method own k.among in
       record {
         own = own;
-        is-eligible = t.is-eligible;
+        it_is_eligible = t.it_is_eligible;
         slot = k.below;
         introducer = k.method;
         introduced = k.introduces;
@@ -234,7 +234,7 @@ module _ (ws abi area : List ℕ) (c : ℕ) (some : 0 < c) (room : c ≤ class_l
 
   by-walk : (m i : ℕ) → TakesSlot ws abi area c m i → ByWalk m i
   by-walk m i t = record {
-    is-eligible = t.is-eligible;
+    it_is_eligible = t.it_is_eligible;
     slot = taken_in_lem first (overridden (same_methods ws text) ws text c m) (length inherited) i
         (record {
           below = t.slot;
@@ -281,11 +281,11 @@ module _ (ws abi area : List ℕ) (c : ℕ) (some : 0 < c) (room : c ≤ class_l
             stands T first-own own-count i own-numbers
             (rw g at (all-at ws text abi labels c first inherited own-count first-own inherited i h (omega arith)));
         new = a.new;
-        new-methods = picked-by (own_methods ws c)
-            (λ m own n. record { is-eligible = n.is-eligible; takes_none = λ i t. n.takes_none i (by-walk m i t) })
-            (λ m own n. record { is-eligible = n.is-eligible; takes_none = λ i t. n.takes_none i (by_section m i own t) })
+        methods_added = picked-by (own_methods ws c)
+            (λ m own n. record { it_is_eligible = n.it_is_eligible; takes_none = λ i t. n.takes_none i (by-walk m i t) })
+            (λ m own n. record { it_is_eligible = n.it_is_eligible; takes_none = λ i t. n.takes_none i (by_section m i own t) })
             a.picked;
-        last-slots = a.last-slots ∙ ap (λ (x : List Entry). x ++ method_entries ws a.new) (drop-whole inherited);
+        last_slots = a.last_slots ∙ ap (λ (x : List Entry). x ++ method_entries ws a.new) (drop-whole inherited);
         slots = a.count;
       }
 
@@ -295,7 +295,7 @@ accepted-takes : (ws abi : List ℕ) (c : ℕ) (area stubs missing : List ℕ) �
     → LinkTakes ws abi c area stubs missing
 accepted-takes ws abi c area stubs missing kind a = record {
   table = a.coming.table;
-  takes = table-takes ws abi area c a.class.some (omega (arith, a.class.among, (valid ws abi a.valid).0.class-count)) a.coming.table
+  takes = table-takes ws abi area c a.class.some (omega (arith, a.class.among, (valid ws abi a.valid).0.number_of_classes)) a.coming.table
       ((plans ws (text_of ws) abi (abi_text_of abi) area c a.coming a.comes).packaged kind);
   answered = a.answers-slots;
   written = a.new-area;

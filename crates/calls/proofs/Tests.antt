@@ -20,7 +20,7 @@ use Rattle.linking.specs.Chain.{own_methods, chain, is_interface}
 use Rattle.linking.specs.Abi.{abi_slots, slot_index, class_abi}
 use Rattle.slots.specs.Slots.{OldRule, ChainMethod, ChainSlot, Orderly}
 use Rattle.slots.proofs.ListFacts.{all_found_lem}
-use Rattle.calls.specs.Calls.{Call, State, outcome, step, run, Unlinked, Lent, lent-now, lent-later, stubs_of}
+use Rattle.calls.specs.Calls.{Call, State, outcome, step, run, Unlinked, Lent, lent_now, lent_later, stubs_of}
 use Rattle.calls.specs.Demand.{BuiltOrArray, Conditions}
 
 -- ---- lists
@@ -61,8 +61,8 @@ stubs_lent (k ∷ ks) = stubs_of k ++ stubs_lent ks
 
 in_lent : {x : ℕ} {ks : List Call} → Lent x ks → Memᴰ x (stubs_lent ks)
 unfolding stubs_lent
-in_lent (lent-now {ks = ks} i) = Memᴰ.append_left (stubs_lent ks) i
-in_lent (lent-later {k = k} i) = Memᴰ.append_right (stubs_of k) (in_lent i)
+in_lent (lent_now {ks = ks} i) = Memᴰ.append_left (stubs_lent ks) i
+in_lent (lent_later {k = k} i) = Memᴰ.append_right (stubs_of k) (in_lent i)
 
 -- ---- the tests
 
@@ -175,7 +175,7 @@ module _ (ws abi : List ℕ) (calls : List Call) (c : ℕ) where
   orderly-holds h = record {
     one_index = index h;
     one_name = λ s z k l e. (signature h s z k l e).0;
-    one-descriptor = λ s z k l e. (signature h s z k l e).1;
+    one_descriptor = λ s z k l e. (signature h s z k l e).1;
   }
 
   pub nonzero_hold : targets_nonzero ≡ true → (m : ℕ) → ChainMethod ws c m → method_target ws m ≢ 0
@@ -216,9 +216,9 @@ pub record Passes (ws abi : List ℕ) (calls : List Call) (c : ℕ) : Type 0 whe
   pub kinds : built_or_array ws abi calls c ≡ true
   pub no_interface : without_interface ws abi calls c ≡ true
   pub orderly : is_orderly ws abi calls c ≡ true
-  pub targets-nonzero : targets_nonzero ws abi calls c ≡ true
-  pub stubs-nonzero : stubs_nonzero ws abi calls c ≡ true
-  pub targets-different : targets_different ws abi calls c ≡ true
+  pub nonzero_targets : targets_nonzero ws abi calls c ≡ true
+  pub nonzero_stubs : stubs_nonzero ws abi calls c ≡ true
+  pub different_targets : targets_different ws abi calls c ≡ true
   pub no_stub : without_stub ws abi calls c ≡ true
 
 pub conditions : (ws abi : List ℕ) (calls : List Call) (c : ℕ) → Passes ws abi calls c → Conditions ws abi calls c
@@ -226,9 +226,9 @@ conditions ws abi calls c p = record {
   kinds = kinds_hold ws abi calls c p.kinds;
   no_interface = flags_hold ws abi calls c p.no_interface;
   orderly = orderly-holds ws abi calls c p.orderly;
-  targets-nonzero = nonzero_hold ws abi calls c p.targets-nonzero;
-  stubs-nonzero = stubs_hold ws abi calls c p.stubs-nonzero;
-  targets-different = different_hold ws abi calls c p.targets-different;
+  nonzero_targets = nonzero_hold ws abi calls c p.nonzero_targets;
+  nonzero_stubs = stubs_hold ws abi calls c p.nonzero_stubs;
+  different_targets = different_hold ws abi calls c p.different_targets;
   no_stub = no_stub-holds ws abi calls c p.no_stub;
 }
 

@@ -16,7 +16,7 @@ use Rattle.abi_sheet.specs.AbiSheet.{abi_text_of}
 use Rattle.set_rules.specs.SetRules.{set_refusal}
 use Rattle.set_rules.specs.Valid.{Valid}
 use Rattle.set_rules.proofs.Valid.{valid}
-use Rattle.linking.proofs.ChainLaws.{parent-below, chain-none}
+use Rattle.linking.proofs.ChainLaws.{parent_below, chain-none}
 use Rattle.linking.specs.Chain.{parent_of, chain}
 use Rattle.linking.specs.Abi.{class_abi}
 use Rattle.linking.specs.Packages.{bad_packages}
@@ -100,7 +100,7 @@ module _ (ws abi area missing : List ℕ) (valid₀ : Valid ws) (unlinked : Unli
       → Linked final.set d × Plain ws d
   chain-linked zero c b l p d i = absurd (omega (arith, l.some))
   chain-linked (suc bound) c b l p d i =
-      let f = parent-below ws c l.some in
+      let f = parent_below ws c l.some in
       elim (chain-cases ws c l.some i) [
         | inl e ↦ rw e (l, p)
         | inr j ↦
@@ -147,7 +147,7 @@ module _ (ws abi area missing : List ℕ) (valid₀ : Valid ws) (unlinked : Unli
     made = chain-made linked plain
 
     within : c ≤ class_limit
-    within = omega (arith, (after linked).linked.among, goes.inv.like.classes, valid₀.class-count)
+    within = omega (arith, (after linked).linked.among, goes.inv.like.classes, valid₀.number_of_classes)
 
     unique : OldRule ws c → Unique ws (text_of ws) abi (abi_text_of abi) c (table_at final.area place slots)
     unique old =
@@ -161,17 +161,17 @@ module _ (ws abi area missing : List ℕ) (valid₀ : Valid ws) (unlinked : Unli
         elim plain.kinds [
           | inl old ↦ table_kept ws (text_of ws) abi (abi_text_of abi) (table_of final) P c within old conditions made n e
           | inr packages ↦ packages-kept ws (text_of ws) abi (abi_text_of abi) (table_of final) P c packages
-              (record { nonzero = conditions.targets-nonzero; different = conditions.targets-different }) made n
+              (record { nonzero = conditions.nonzero_targets; different = conditions.different_targets }) made n
         ]
 
-    keeps-parent : parent_of ws c ≢ 0 → class_abi ws (text_of ws) abi (abi_text_of abi) c ≡ Nothing → KeepsParent ws abi area missing calls c place slots
-    keeps-parent n e =
+    keeps_parent : parent_of ws c ≢ 0 → class_abi ws (text_of ws) abi (abi_text_of abi) c ≡ Nothing → KeepsParent ws abi area missing calls c place slots
+    keeps_parent n e =
         elim (history ws abi valid₀ P calls (start ws area missing) begins (λ x i. i) (parent_of ws c) (goes.inv.parent c (after linked).linked n)) [
           | inl l ↦ absurd (not_yet (parent_of ws c) l)
           | inr r ↦ record {
             parent_place = r.place;
-            parent-slots = r.slots;
-            parent-linked = r.found;
+            parent_slots = r.slots;
+            parent_linked = r.found;
             kept = λ p m l. subst (λ (t : List ℕ). Kept ws (text_of ws) abi (abi_text_of abi) c t (table_at final.area p m)) (table_is linked)
                 (subst (λ (t : List ℕ). Kept ws (text_of ws) abi (abi_text_of abi) c (table_of final c) t) (table_is l)
                 (both-kept n e));
@@ -181,7 +181,7 @@ module _ (ws abi area missing : List ℕ) (valid₀ : Valid ws) (unlinked : Unli
     claim : Claim ws abi area missing calls c place slots
     claim = record {
       unique = unique;
-      keeps-parent = keeps-parent;
+      keeps_parent = keeps_parent;
       whole = whole_is linked;
       one_table = λ p n i. let a = after i in let b = after linked in (sym a.place ∙ b.place, sym a.slots ∙ b.slots);
     }
@@ -211,8 +211,8 @@ demand_3 ws abi area missing unlinked calls c place slots linked k =
     (record { kinds = one_rule ws (text_of ws) abi (abi_text_of abi) c fits k.kinds; flags = λ d i q. k.no_interface d i })
     (record {
       one_index = k.orderly.one_index;
-      targets-nonzero = k.targets-nonzero;
-      targets-different = k.targets-different;
-      stubs-nonzero = k.stubs-nonzero;
+      nonzero_targets = k.nonzero_targets;
+      different_targets = k.different_targets;
+      nonzero_stubs = k.nonzero_stubs;
       no_stub = k.no_stub;
     })

@@ -64,5 +64,5 @@ stubs_of (ask c i stubs) = stubs
 
 -- x is one of "all stubs lent": a word of the stub list of a call of the list, accepted or refused
 pub data Lent (x : ℕ) : List Call → Type 0 where
-  lent-now : {k : Call} {ks : List Call} → Memᴰ x (stubs_of k) → Lent x (k ∷ ks)
-  lent-later : {k : Call} {ks : List Call} → Lent x ks → Lent x (k ∷ ks)
+  lent_now : {k : Call} {ks : List Call} → Memᴰ x (stubs_of k) → Lent x (k ∷ ks)
+  lent_later : {k : Call} {ks : List Call} → Lent x ks → Lent x (k ∷ ks)

@@ -24,10 +24,10 @@ pub record Conditions (ws abi : List ℕ) (calls : List Call) (c : ℕ) : Type 0
   -- "under an orderly ABI sheet,"
   pub orderly : Orderly ws (text_of ws) abi (abi_text_of abi) c
   -- "where the chain's method targets and all stubs lent are nonzero,"
-  pub targets-nonzero : (m : ℕ) → ChainMethod ws c m → method_target ws m ≢ 0
-  pub stubs-nonzero : (x : ℕ) → Lent x calls → x ≢ 0
+  pub nonzero_targets : (m : ℕ) → ChainMethod ws c m → method_target ws m ≢ 0
+  pub nonzero_stubs : (x : ℕ) → Lent x calls → x ≢ 0
   -- "the targets all different"
-  pub targets-different : (m k : ℕ) → ChainMethod ws c m → ChainMethod ws c k → method_target ws m ≡ method_target ws k → m ≡ k
+  pub different_targets : (m k : ℕ) → ChainMethod ws c m → ChainMethod ws c k → method_target ws m ≡ method_target ws k → m ≡ k
   -- "and none of them a stub"
   pub no_stub : (x m : ℕ) → Lent x calls → ChainMethod ws c m → method_target ws m ≢ x
 
@@ -46,8 +46,8 @@ module _ (ws abi area missing : List ℕ) (calls : List Call) where
   -- slots of the parent's
   pub record KeepsParent (c place slots : ℕ) : Type 0 where
     pub parent_place : ℕ
-    pub parent-slots : ℕ
-    pub parent-linked : Linked (parent_of ws c) parent_place parent-slots
+    pub parent_slots : ℕ
+    pub parent_linked : Linked (parent_of ws c) parent_place parent_slots
     -- "each known slot of its parent's table is known at the same index with the same signature, and the child's target there is the parent's
     -- or that of an eligible method of that signature which the child declares"
     pub kept : (p n : ℕ) → Linked (parent_of ws c) p n → Kept ws (text_of ws) abi (abi_text_of abi) c (table place slots) (table p n)
@@ -55,7 +55,7 @@ module _ (ws abi area missing : List ℕ) (calls : List Call) where
   pub record Claim (c place slots : ℕ) : Type 0 where
     -- "no two known slots in a class's table have one signature": "made only for the old rule"
     pub unique : OldRule ws c → Unique ws (text_of ws) abi (abi_text_of abi) c (table place slots)
-    pub keeps-parent : parent_of ws c ≢ 0 → class_abi ws (text_of ws) abi (abi_text_of abi) c ≡ Nothing → KeepsParent c place slots
+    pub keeps_parent : parent_of ws c ≢ 0 → class_abi ws (text_of ws) abi (abi_text_of abi) c ≡ Nothing → KeepsParent c place slots
     -- "as many as the slots it answered": the table lies inside the area
     pub whole : length (table place slots) ≡ slots
     -- "the place that this link answered" is one place: no second link of a class is accepted

@@ -30,8 +30,8 @@ module _ (ws : List ℕ) where
     pub once : (d m k : ℕ) → Memᴰ d (chain ws c) → Memᴰ m (own_methods ws d) → Memᴰ k (own_methods ws d) → eligible ws (text_of ws) m ≡ true
         → eligible ws (text_of ws) k ≡ true → SameSignature ws (text_of ws) m k → m ≡ k
     -- "targets and stubs are as the old claim needs them", of targets
-    pub targets-nonzero : (m : ℕ) → ChainMethod ws c m → method_target ws m ≢ 0
-    pub targets-different : (m k : ℕ) → ChainMethod ws c m → ChainMethod ws c k
+    pub nonzero_targets : (m : ℕ) → ChainMethod ws c m → method_target ws m ≢ 0
+    pub different_targets : (m k : ℕ) → ChainMethod ws c m → ChainMethod ws c k
         → method_target ws m ≡ method_target ws k → m ≡ k
 
 -- class c is linked in both lists, of the sheet and of the sheet with kind 0, whatever the areas, the lists of missing slots and the stubs lent

@@ -51,11 +51,11 @@ pub record MissingKept : Type 0 where
 
 -- what the 33 words of a class say, wherever a list has them for these bits: "the count, then a bit for each slot, set if counted, lowest first, the rest 0"
 pub record CountIs : Type 0 where
-  pub count-is : (list : List ℕ) (c : ℕ) (bits : List Bool) → take missing_width (drop (missing_at c) list) ≡ pack_bits bits
+  pub count_is : (list : List ℕ) (c : ℕ) (bits : List Bool) → take missing_width (drop (missing_at c) list) ≡ pack_bits bits
       → get_or list (missing_at c) 0 ≡ bit_count bits
   pub bits_are : (list : List ℕ) (c : ℕ) (bits : List Bool) → take missing_width (drop (missing_at c) list) ≡ pack_bits bits
       → (j : ℕ) → j < 1024 → missing_bit list c j ≡ get_or bits j false
-  pub rest-zero : (list : List ℕ) (c : ℕ) (bits : List Bool) → take missing_width (drop (missing_at c) list) ≡ pack_bits bits
+  pub rest_zero : (list : List ℕ) (c : ℕ) (bits : List Bool) → take missing_width (drop (missing_at c) list) ≡ pack_bits bits
       → (j : ℕ) → length bits ≤ j → j < 1024 → missing_bit list c j ≡ false
 
 -- "row 15 also takes a shorter list", and that is all that the list changes: answers, set and area are as with any other list
@@ -64,12 +64,12 @@ pub record LinkBefore : Type 0 where
   pub long : (ws abi : List ℕ) (c : ℕ) (area stubs list other : List ℕ) → missing_short ws list ≡ false → missing_short ws other ≡ false
       → (link_def ws abi c area stubs list).outcome ≡ (link_def ws abi c area stubs other).outcome
   -- a shorter one: a link that would be accepted is refused by 15, any other one as it was
-  pub short-accepted : (ws abi : List ℕ) (c : ℕ) (area stubs list other : List ℕ) → missing_short ws list ≡ true
+  pub short_accepted : (ws abi : List ℕ) (c : ℕ) (area stubs list other : List ℕ) → missing_short ws list ≡ true
       → (link_def ws abi c area stubs other).outcome.refusal ≡ 0 → (link_def ws abi c area stubs list).outcome ≡ refused_call 15 ws area
-  pub short-refused : (ws abi : List ℕ) (c : ℕ) (area stubs list other : List ℕ) → missing_short ws list ≡ true
+  pub short_refused : (ws abi : List ℕ) (c : ℕ) (area stubs list other : List ℕ) → missing_short ws list ≡ true
       → (link_def ws abi c area stubs other).outcome.refusal ≢ 0 → (link_def ws abi c area stubs list).outcome ≡ (link_def ws abi c area stubs other).outcome
   -- so, call by call, for any list of calls: whatever calls went before, the next one gives the same answers and leaves the same set and area
-  pub calls-before : (ws abi area list other : List ℕ) → missing_short ws list ≡ false → missing_short ws other ≡ false → (calls : List Call) (k : Call)
+  pub calls_before : (ws abi area list other : List ℕ) → missing_short ws list ≡ false → missing_short ws other ≡ false → (calls : List Call) (k : Call)
       → outcome abi (left ws abi area list calls) k ≡ outcome abi (left ws abi area other calls) k
   pub calls_leave : (ws abi area list other : List ℕ) → missing_short ws list ≡ false → missing_short ws other ≡ false → (calls : List Call)
       → ((left ws abi area list calls).set ≡ (left ws abi area other calls).set) × ((left ws abi area list calls).area ≡ (left ws abi area other calls).area)

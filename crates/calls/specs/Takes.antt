@@ -24,7 +24,7 @@ module _ (ws abi area : List ℕ) (c : ℕ) where
   -- the class's own method m takes inherited slot i: it is eligible, and overrides the method that introduced the slot
   pub record TakesSlot (m i : ℕ) : Type 0 where
     pub own : Memᴰ m (own_methods ws c)
-    pub is-eligible : eligible ws (text_of ws) m ≡ true
+    pub it_is_eligible : eligible ws (text_of ws) m ≡ true
     pub slot : i < length inherited
     pub introducer : ℕ
     pub introduced : introducing ws (text_of ws) abi (abi_text_of abi) area (parent_of ws c) i ≡ At introducer
@@ -38,15 +38,15 @@ module _ (ws abi area : List ℕ) (c : ℕ) where
 
   -- a method that gets a new slot
   pub record IsNew (m : ℕ) : Type 0 where
-    pub is-eligible : eligible ws (text_of ws) m ≡ true
+    pub it_is_eligible : eligible ws (text_of ws) m ≡ true
     pub takes_none : (i : ℕ) → TakesSlot m i → ⊥
 
   -- the table: the inherited slots, then the new ones in the order of the methods
   pub record Takes (T : List Entry) : Type 0 where
     pub stands : (i : ℕ) → i < length inherited → Stands T i
     pub new : List ℕ
-    pub new-methods : Picked IsNew (own_methods ws c) new
-    pub last-slots : drop (length inherited) T ≡ method_entries ws new
+    pub methods_added : Picked IsNew (own_methods ws c) new
+    pub last_slots : drop (length inherited) T ≡ method_entries ws new
     pub slots : length T ≡ length inherited + length new
 
 -- what an accepted link answers and writes is such a table

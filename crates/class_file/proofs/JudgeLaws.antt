@@ -70,7 +70,7 @@ length-places bs zero p = refl
 length-places bs (suc n) p = ap suc (length-places bs n _)
 
 pub record Seen (bs name parent : List ℕ) (index field_count method_count : ℕ) (f m : Tally) : Type 0 where
-  pub name-is : name ≡ file_name bs
+  pub name_is : name ≡ file_name bs
   pub index_is : index ≡ parent_index bs
   pub parent_is : parent ≡ file_parent bs
   pub fields_are : field_count ≡ length (file_fields bs)
@@ -94,11 +94,11 @@ module _ (bs : List ℕ) {head : ℕ} (h : head_place bs ≡ head) where
 module _ (bs marks : List ℕ) (at : Places) (parted : Parted bs marks at) where
   pub fields_read : {n : ℕ} → n ≡ u2 bs at.fields → members_at bs [] 0 (places_from bs n (at.fields + 2)) ≡ file_fields bs
   unfolding file_fields field_places
-  fields_read e = rw (e, parted.fields-is)
+  fields_read e = rw (e, parted.fields_is)
 
   pub methods-read : {n : ℕ} (ls : List ℕ) → n ≡ u2 bs at.methods → members_at bs ls 0 (places_from bs n (at.methods + 2)) ≡ file_methods bs ls
   unfolding file_methods method_places
-  methods-read ls e = rw (e, parted.methods-is)
+  methods-read ls e = rw (e, parted.methods_is)
 
   count-read : {n : ℕ} (ls : List ℕ) (p : ℕ) {xs : List New} → members_at bs ls 0 (places_from bs n p) ≡ xs → n ≡ length xs
   count-read {n} ls p e = sym (length-places bs n p) ∙ sym (length_at bs ls 0 (places_from bs n p)) ∙ ap length e
@@ -111,7 +111,7 @@ module _ (bs marks : List ℕ) (at : Places) (parted : Parted bs marks at) where
 
   pub flags-read : {n : ℕ} → n ≡ u2 bs at.head → n ≡ file_flags bs
   unfolding file_flags
-  flags-read e = e ∙ rw parted.head-is
+  flags-read e = e ∙ rw parted.head_is
 
   pub seen : {i ix fc mc : ℕ} {name parent : List ℕ} {f m : Tally} → i ≡ u2 bs (at.head + 2) → name ≡ class_bytes bs i → ix ≡ u2 bs (at.head + 4)
       → parent ≡ parent_of bs ix → fc ≡ u2 bs at.fields → mc ≡ u2 bs at.methods
@@ -119,9 +119,9 @@ module _ (bs marks : List ℕ) (at : Places) (parted : Parted bs marks at) where
       → m ≡ tally true (members_at bs [] 0 (places_from bs mc (at.methods + 2))) → Seen bs name parent ix fc mc f m
   seen a b c d e g h k =
       record {
-        name-is = name-at bs parted.head-is a b;
-        index_is = index_at bs parted.head-is c;
-        parent_is = parent-at bs parted.head-is c d;
+        name_is = name-at bs parted.head_is a b;
+        index_is = index_at bs parted.head_is c;
+        parent_is = parent-at bs parted.head_is c d;
         fields_are = fields-counted e;
         methods_are = methods-counted g;
         field-tally = h ∙ ap (tally false) (fields_read e);
@@ -150,7 +150,7 @@ module _ (bs name parent : List ℕ) (index fc mc : ℕ) (f m : Tally) (s : Seen
 
   names-seen : {a b : Bool} → a ≡ string_ok name → b ≡ string_ok parent → (a && (eqb index 0 || b) && f.named && m.named) ≡ names_ok bs []
   unfolding names_ok
-  names-seen e g = rw (e, g, s.name-is, s.index_is, s.parent_is, field-named, method-named)
+  names-seen e g = rw (e, g, s.name_is, s.index_is, s.parent_is, field-named, method-named)
 
   module _ (ok : names_ok bs [] ≡ true) where
     all-ok : (every field_ok (file_fields bs) ≡ true) × (every method_ok (file_methods bs []) ≡ true)
@@ -172,7 +172,7 @@ module _ (bs name parent : List ℕ) (index fc mc : ℕ) (f m : Tally) (s : Seen
     unfolding file_text
     text-seen =
         rw (
-          s.name-is,
+          s.name_is,
           s.parent_is,
           ap (λ (t : Tally). t.text) s.field-tally ∙ tally-text false (file_fields bs) all-ok.0,
           ap (λ (t : Tally). t.text) s.method-tally ∙ tally-text true (file_methods bs []) all-ok.1,
@@ -282,7 +282,7 @@ module _ (bs name parent : List ℕ) (index fc mc : ℕ) (f m : Tally) (form : f
       (λ v.
       let held : sheet_holds bs [] ≡ true = not-false _ (sym (sheet-seen bs name parent index fc mc f m s ok refl) ∙ v) in
       sym (decide_members named f m (length name) (length parent) flags fc mc (ap not t) (ap not u) v)
-      ∙ head-members bs (refusal-none bs form ok typed held) (ap length s.name-is) (ap length s.parent_is) g s.fields_are s.methods_are
+      ∙ head-members bs (refusal-none bs form ok typed held) (ap length s.name_is) (ap length s.parent_is) g s.fields_are s.methods_are
       (text-seen bs name parent index fc mc f m s ok)))
       (λ u.
       let typed : descriptors_ok bs [] ≡ false = sym (descriptors-seen bs name parent index fc mc f m s ok) ∙ u in

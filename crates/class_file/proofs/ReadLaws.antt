@@ -46,11 +46,11 @@ parted bs {h} {f} {m} bytes d g k =
     record {
       form = sym (form-refusal bs) ∙ rw e;
       near = rw k (pool-near bs (count_small bs bytes) p.pool);
-      head-is = rw p.pool;
-      fields-is = rw (p.pool, p.classes);
-      methods-is = rw (p.pool, p.classes, p.first);
-      fields-count = members-there bs f m p.first;
-      methods-count = members-there bs m p.attributes p.second;
+      head_is = rw p.pool;
+      fields_is = rw (p.pool, p.classes);
+      methods_is = rw (p.pool, p.classes, p.first);
+      fields_count = members-there bs f m p.first;
+      methods_count = members-there bs m p.attributes p.second;
     }
 
 -- ---- a file that is refused before its lists are looked at
@@ -135,8 +135,8 @@ fits bs targets fields methods text e =
     (leb (length (file_text bs targets)) text_limit) (file-passed bs targets p.0).sheet in
     record {
       fields_fit = leb-true _ _ r.0;
-      methods-fit = leb-true _ _ r.1;
-      text-fits = leb-true _ _ r.2;
+      methods_fit = leb-true _ _ r.1;
+      text_fits = leb-true _ _ r.2;
       limit = leb-true _ _ s.2;
     }
 
@@ -145,9 +145,9 @@ pub record HeadIs (bs : List ℕ) (h : FileHead) : Type 0 where
   pub accepted : file_refusal bs [] ≡ 0
   pub words : h ≡ words_of bs
 
-head-is : (bs : List ℕ) {r : FileRead} {h : FileHead} → r ≡ head_read bs → r ≡ Members h → HeadIs bs h
+head_is : (bs : List ℕ) {r : FileRead} {h : FileHead} → r ≡ head_read bs → r ≡ Members h → HeadIs bs h
 unfolding head_read
-head-is bs {h = h} e g =
+head_is bs {h = h} e g =
     by (eqb (file_refusal bs []) 0)
     (λ t.
     let u : Members h ≡ Members (words_of bs) = sym g ∙ e ∙ rw t in
@@ -161,10 +161,10 @@ module _ (bs : List ℕ) {r : FileRead} {h : FileHead} (e : r ≡ head_read bs) 
     (k : b ≡ holds h.fields h.methods h.text (length targets) (length fields) (length methods) (length text)) where
   lists_are : b ≡ lists_hold bs targets fields methods text
   unfolding holds lists_hold
-  lists_are = k ∙ rw ((head-is bs e g).words, methods-length bs targets, text_same bs targets)
+  lists_are = k ∙ rw ((head_is bs e g).words, methods-length bs targets, text_same bs targets)
 
   accepted : file_refusal bs targets ≡ 0
-  accepted = refusal-same bs targets ∙ (head-is bs e g).accepted
+  accepted = refusal-same bs targets ∙ (head_is bs e g).accepted
 
   short : not b ≡ true → read_refusal bs targets fields methods text ≡ 14
   unfolding read_refusal
@@ -185,15 +185,15 @@ module _ (bs : List ℕ) {r : FileRead} {h : FileHead} (e : r ≡ head_read bs) 
       → m ≡ overlaid (new_records (methods_start bs) (file_methods bs targets)) methods → t ≡ overlaid (packed (file_text bs targets)) text
       → file_outcome (Members h) f m t ≡ read_class_file bs targets fields methods text
   unfolding read_class_file
-  read_done n p q s = rw (read-room n, p, q, s, (head-is bs e g).words, methods-length bs targets, text_same bs targets)
+  read_done n p q s = rw (read-room n, p, q, s, (head_is bs e g).words, methods-length bs targets, text_same bs targets)
 
 -- ---- the lists, written
 
 -- the parts of the text
-pub text-length : (bs targets : List ℕ) → length (file_text bs targets)
+pub length_of_text : (bs targets : List ℕ) → length (file_text bs targets)
     ≡ length (file_name bs) + length (file_parent bs) + length (new_text (file_fields bs)) + length (new_text (file_methods bs targets))
 unfolding file_text
-text-length bs targets = simp length-append (omega arith)
+length_of_text bs targets = simp length-append (omega arith)
 
 -- the two names in front
 pub head-put : (bs l : List ℕ) {head i k : ℕ} {name parent d : List ℕ} → head_place bs ≡ head → i ≡ u2 bs (head + 2) → name ≡ class_bytes bs i
@@ -217,7 +217,7 @@ module _ (bs marks targets fields methods text : List ℕ) (at : Places) (parted
   -- the text ends within its limit
   starts : fields_start bs + length (new_text (file_fields bs)) + length (new_text (file_methods bs targets)) ≤ text_limit
   unfolding fields_start
-  starts = omega (arith, text-length bs targets, room.limit)
+  starts = omega (arith, length_of_text bs targets, room.limit)
 
   pub start_fits : fields_start bs ≤ text_limit
   start_fits = omega (arith, starts)
@@ -269,7 +269,7 @@ module _ (bs marks targets fields methods text : List ℕ) (at : Places) (parted
     room-methods l k f =
         record {
           near = parted.near;
-          enough = omega (arith, room.methods-fit, methods-counted bs marks at parted c, methods-length bs targets);
+          enough = omega (arith, room.methods_fit, methods-counted bs marks at parted c, methods-length bs targets);
           fits = rw (methods_are, f) (omega (arith, starts));
           limit = omega arith;
         }
@@ -286,7 +286,7 @@ module _ (bs marks targets fields methods text : List ℕ) (at : Places) (parted
       pub methods-end : {r : ℕ} → r ≡ s + length (new_text (members_at bs targets 0 (places_from bs n (at.methods + 2))))
           → r ≡ length (file_text bs targets)
       unfolding methods_start fields_start
-      methods-end p = p ∙ rw (methods_are, f) (sym (text-length bs targets))
+      methods-end p = p ∙ rw (methods_are, f) (sym (length_of_text bs targets))
 
 -- the three writes of the text, one after the other
 text-written : (bs targets l : List ℕ) {d e w : List ℕ} → d ≡ write_at l 0 (file_name bs ++ file_parent bs)
@@ -312,9 +312,9 @@ module _ (bs targets l text : List ℕ) {d e w b : List ℕ} {k j : ℕ} (p : d 
   part-read : b ≡ file_text bs targets
   part-read = g ∙ rw (text-written bs targets l p q r) (write-part l (file_text bs targets) j (i ∙ f))
 
-  pub text-room : length (file_text bs targets) ≤ 4 * length text → length (file_text bs targets) ≤ text_limit
+  pub text_room : length (file_text bs targets) ≤ 4 * length text → length (file_text bs targets) ≤ text_limit
       → (words_for (length b) ≤ length text) × (length b ≤ text_limit)
-  text-room x y = rw part-read (omega arith, omega arith)
+  text_room x y = rw part-read (omega arith, omega arith)
 
   pub text-done : {o : List ℕ} → o ≡ write_at text 0 (packed b) → o ≡ overlaid (packed (file_text bs targets)) text
   text-done h = front text (packed (file_text bs targets)) (h ∙ rw part-read)

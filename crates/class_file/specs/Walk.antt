@@ -84,11 +84,11 @@ answered named f m name parent flags fields methods =
 pub record Parted (bs marks : List ℕ) (at : Places) : Type 0 where
   pub form : form_refusal bs ≡ 0
   pub near : Near bs marks
-  pub head-is : head_place bs ≡ at.head
-  pub fields-is : fields_place bs ≡ at.fields
-  pub methods-is : methods_place bs ≡ at.methods
-  pub fields-count : at.fields + 2 ≤ length bs
-  pub methods-count : at.methods + 2 ≤ length bs
+  pub head_is : head_place bs ≡ at.head
+  pub fields_is : fields_place bs ≡ at.fields
+  pub methods_is : methods_place bs ≡ at.methods
+  pub fields_count : at.fields + 2 ≤ length bs
+  pub methods_count : at.methods + 2 ≤ length bs
 
 -- ---- there is room for the records of n members, and for their strings from `start` on
 
@@ -102,6 +102,6 @@ pub record Room (records text : List ℕ) (start : ℕ) (bs marks : List ℕ) (n
 
 pub record Fits (bs targets fields methods text : List ℕ) : Type 0 where
   pub fields_fit : member_width * length (file_fields bs) ≤ length fields
-  pub methods-fit : member_width * length (file_methods bs targets) ≤ length methods
-  pub text-fits : length (file_text bs targets) ≤ 4 * length text
+  pub methods_fit : member_width * length (file_methods bs targets) ≤ length methods
+  pub text_fits : length (file_text bs targets) ≤ 4 * length text
   pub limit : length (file_text bs targets) ≤ text_limit

@@ -148,9 +148,9 @@ form-parts bs e =
 
 pub record Found (bs : List ℕ) (p q : ℕ) : Type 0 where
   pub name : ℕ
-  pub name-is : utf8_at bs (u2 bs (p + 2)) ≡ To name
+  pub name_is : utf8_at bs (u2 bs (p + 2)) ≡ To name
   pub descriptor : ℕ
-  pub descriptor-is : utf8_at bs (u2 bs (p + 4)) ≡ To descriptor
+  pub descriptor_is : utf8_at bs (u2 bs (p + 4)) ≡ To descriptor
   pub attributes_are : after_attributes bs (p + 6) ≡ To q
 
 on_inv : (s : Step) (g : ℕ → Step) {r : ℕ} → on_step s g ≡ To r → (q : ℕ) × (s ≡ To q) × (g q ≡ To r)
@@ -179,9 +179,9 @@ member-found bs p q e =
     let v : c.0 ≡ p + 6 = omega (arith, d.2) in
     record {
       name = n.0;
-      name-is = rw (← x.0) n.1;
+      name_is = rw (← x.0) n.1;
       descriptor = d.0;
-      descriptor-is = rw (← u) d.1;
+      descriptor_is = rw (← u) d.1;
       attributes_are = rw (← v) c.2;
     }
 

@@ -21,9 +21,9 @@ use Rattle.class_members.proofs.SheetForm.{file-passed, read-passed}
 abbrev pub Tells : FileOutcome → Type 0
 Tells o = o.refusal ≡ 0 → o.name ≢ 0
 
-pub answer-unique : (a b : FileRead) (fs ms ts fs' ms' ts' : List ℕ) {o : FileOutcome} → Tells o → file_outcome a fs ms ts ≡ o
+pub answer_unique : (a b : FileRead) (fs ms ts fs' ms' ts' : List ℕ) {o : FileOutcome} → Tells o → file_outcome a fs ms ts ≡ o
     → file_outcome b fs' ms' ts' ≡ o → a ≡ b
-answer-unique (Members h) (Members k) fs ms ts fs' ms' ts' t e f =
+answer_unique (Members h) (Members k) fs ms ts fs' ms' ts' t e f =
     ap
     (λ (o : FileOutcome).
     Members (record {
@@ -35,11 +35,11 @@ answer-unique (Members h) (Members k) fs ms ts fs' ms' ts' t e f =
       text = o.text_length;
     }))
     (e ∙ sym f)
-answer-unique (Members h) (Refused k) fs ms ts fs' ms' ts' t e f =
+answer_unique (Members h) (Refused k) fs ms ts fs' ms' ts' t e f =
     absurd (t (sym (ap (λ (o : FileOutcome). o.refusal) e)) (sym (ap (λ (o : FileOutcome). o.name) f)))
-answer-unique (Refused j) (Members k) fs ms ts fs' ms' ts' t e f =
+answer_unique (Refused j) (Members k) fs ms ts fs' ms' ts' t e f =
     absurd (t (sym (ap (λ (o : FileOutcome). o.refusal) f)) (sym (ap (λ (o : FileOutcome). o.name) e)))
-answer-unique (Refused j) (Refused k) fs ms ts fs' ms' ts' t e f = ap Refused (ap (λ (o : FileOutcome). o.refusal) (e ∙ sym f))
+answer_unique (Refused j) (Refused k) fs ms ts fs' ms' ts' t e f = ap Refused (ap (λ (o : FileOutcome). o.refusal) (e ∙ sym f))
 
 -- ---- an accepted class has a name
 

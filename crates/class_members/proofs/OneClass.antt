@@ -9,7 +9,7 @@ use lib.ListN.{length, get_or, set, replicate, length-append}
 use borrow.Author.Tests.{le-leb}
 use Rattle.words.specs.Folds.{all_of}
 use Rattle.words.specs.Words.{inside, AreBytes}
-use Rattle.words.specs.Rows.{no_rows, a-row}
+use Rattle.words.specs.Rows.{no_rows, a_row}
 use Rattle.words.proofs.Bools.{and_both, and_3}
 use Rattle.words.proofs.Bytes.{append-bytes}
 use Rattle.words.proofs.FoldLaws.{all-if}
@@ -22,7 +22,7 @@ use Rattle.class_sheet.specs.ClassSheet.{class_count, method_count, field_count,
 use Rattle.class_sheet.specs.ClassSheet.{method_flags, method_target, field_flags, field_index, target_word, index_word}
 use Rattle.class_sheet.specs.ClassSheet.{method_word, field_word, class_name, method_name, method_descriptor, field_name, field_descriptor}
 use Rattle.class_sheet.specs.Sections.{Sections, Formed, laid_out}
-use Rattle.class_sheet.proofs.Sections.{class-count, method-count, field-count, interface-count, compiler-count, text-length, class-word, method-word}
+use Rattle.class_sheet.proofs.Sections.{number_of_classes, number_of_methods, number_of_fields, number_of_interfaces, number_of_compilers, length_of_text, class-word, method-word}
 use Rattle.class_sheet.proofs.Sections.{field-word, text-of, length-laid}
 use Rattle.abi_sheet.specs.AbiSheet.{abi_count_at, abi_slots_at, abi_fields_at, abi_text_at, abi_content_end, abi_text_of}
 use Rattle.class_rules.specs.ClassRules.{class_limits, class_fits, compiler_ok, own_numbers, class_numbers, class_lists, class_record, method_flags_ok, method_record}
@@ -87,7 +87,7 @@ module _ (name parent : List ℕ) (flags : ℕ) (fs ms : List New) (rest : List 
 
   pub formed : Formed class_width sections
   formed = record {
-    classes = a-row refl no_rows;
+    classes = a_row refl no_rows;
     methods = rows-members methods_from ms;
     fields = rows-members fields_from fs;
     text = length-packed text;
@@ -96,13 +96,13 @@ module _ (name parent : List ℕ) (flags : ℕ) (fs ms : List New) (rest : List 
   -- ---- the counts
 
   one : class_count ws ≡ 1
-  one = class-count sections
+  one = number_of_classes sections
 
   pub methods : method_count ws ≡ length ms
-  methods = method-count sections ∙ length-members methods_from ms
+  methods = number_of_methods sections ∙ length-members methods_from ms
 
   pub fields : field_count ws ≡ length fs
-  fields = field-count sections ∙ length-members fields_from fs
+  fields = number_of_fields sections ∙ length-members fields_from fs
 
   -- ---- words of records
 
@@ -149,26 +149,26 @@ module _ (name parent : List ℕ) (flags : ℕ) (fs ms : List New) (rest : List 
 
   -- ---- the members are those
 
-  pub name-is : class_name ws text 1 ≡ name
-  name-is = rw (class-is name_start_word (omega arith), class-is name_length_word (omega arith))
+  pub name_is : class_name ws text 1 ≡ name
+  name_is = rw (class-is name_start_word (omega arith), class-is name_length_word (omega arith))
       (part-is [] name (parent ++ (new_text fs ++ new_text ms)) 0 (length name) refl refl)
 
   pub parent_is : name_at text (length name) (length parent) ≡ parent
   parent_is = part-is name parent (new_text fs ++ new_text ms) (length name) (length parent) refl refl
 
   pub method-name : (m : ℕ) → m < length ms → method_name ws text m ≡ (get_or ms m no_new).name
-  method-name m h = rw (method-at m h name_start_word (omega arith), method-at m h name_length_word (omega arith)) (method-stands m h).name-is
+  method-name m h = rw (method-at m h name_start_word (omega arith), method-at m h name_length_word (omega arith)) (method-stands m h).name_is
 
   pub method-descriptor : (m : ℕ) → m < length ms → method_descriptor ws text m ≡ (get_or ms m no_new).descriptor
   method-descriptor m h =
-      rw (method-at m h descriptor_start_word (omega arith), method-at m h descriptor_length_word (omega arith)) (method-stands m h).descriptor-is
+      rw (method-at m h descriptor_start_word (omega arith), method-at m h descriptor_length_word (omega arith)) (method-stands m h).descriptor_is
 
   pub field-name : (f : ℕ) → f < length fs → field_name ws text f ≡ (get_or fs f no_new).name
-  field-name f h = rw (field_at f h name_start_word (omega arith), field_at f h name_length_word (omega arith)) (field-stands f h).name-is
+  field-name f h = rw (field_at f h name_start_word (omega arith), field_at f h name_length_word (omega arith)) (field-stands f h).name_is
 
   pub field-descriptor : (f : ℕ) → f < length fs → field_descriptor ws text f ≡ (get_or fs f no_new).descriptor
   field-descriptor f h =
-      rw (field_at f h descriptor_start_word (omega arith), field_at f h descriptor_length_word (omega arith)) (field-stands f h).descriptor-is
+      rw (field_at f h descriptor_start_word (omega arith), field_at f h descriptor_length_word (omega arith)) (field-stands f h).descriptor_is
 
   -- ---- rows 3 to 5
 
@@ -192,8 +192,8 @@ module _ (name parent : List ℕ) (flags : ℕ) (fs ms : List New) (rest : List 
         (append-bytes (new_text fs) (new_text ms) (members-bytes fs field_strings)
         (members-bytes ms (λ m h. ((method_strings m h).0, (method_strings m h).1)))))
 
-    pub text-is : text_of ws ≡ text
-    text-is = text-of sections formed ∙ text-packed text bytes (length text) refl
+    pub text_is : text_of ws ≡ text
+    text_is = text-of sections formed ∙ text-packed text bytes (length text) refl
 
     fits : class_fits ws ≡ true
     unfolding class_fits class_limits
@@ -202,9 +202,9 @@ module _ (name parent : List ℕ) (flags : ℕ) (fs ms : List New) (rest : List 
           le-leb (class_count ws) class_limit (omega (arith, one)),
           le-leb (method_count ws) method_limit (omega (arith, methods, good.few-methods)),
           le-leb (field_count ws) field_limit (omega (arith, fields, good.few-fields)),
-          le-leb (interface_count ws) interface_limit (omega (arith, interface-count sections)),
-          le-leb (compiler_count ws) compiler_limit (omega (arith, compiler-count sections)),
-          le-leb (text_length ws) text_limit (omega (arith, text-length sections, good.few_bytes)),
+          le-leb (interface_count ws) interface_limit (omega (arith, number_of_interfaces sections)),
+          le-leb (compiler_count ws) compiler_limit (omega (arith, number_of_compilers sections)),
+          le-leb (text_length ws) text_limit (omega (arith, length_of_text sections, good.few_bytes)),
           le-leb (content_end ws) (length ws) (omega (arith, length-laid sections formed)),
         )
 
@@ -235,7 +235,7 @@ module _ (name parent : List ℕ) (flags : ℕ) (fs ms : List New) (rest : List 
           le-leb flags 65535 good.flags-small,
           le-leb (get_or row first_method_word 0 + get_or row method_count_word 0) (method_count ws) (omega (arith, methods)),
           le-leb (get_or row first_field_word 0 + get_or row field_count_word 0) (field_count ws) (omega (arith, fields)),
-          interface-count sections,
+          number_of_interfaces sections,
         )
 
     method-ok : (m : ℕ) → m < length ms → method_record ws text m ≡ true
@@ -252,8 +252,8 @@ module _ (name parent : List ℕ) (flags : ℕ) (fs ms : List New) (rest : List 
           method-at m h 4 (omega arith),
         )
         (simp (
-          part-ok text s.start x.name refl s.name-is (omega (arith, s.within)) p.0,
-          part-ok text (s.start + length x.name) x.descriptor refl s.descriptor-is (omega (arith, s.within)) p.1,
+          part-ok text s.start x.name refl s.name_is (omega (arith, s.within)) p.0,
+          part-ok text (s.start + length x.name) x.descriptor refl s.descriptor_is (omega (arith, s.within)) p.1,
           p.2,
         ))
 
@@ -271,8 +271,8 @@ module _ (name parent : List ℕ) (flags : ℕ) (fs ms : List New) (rest : List 
           field_at f h 4 (omega arith),
         )
         (simp (
-          part-ok text s.start x.name refl s.name-is (omega (arith, s.within)) p.0,
-          part-ok text (s.start + length x.name) x.descriptor refl s.descriptor-is (omega (arith, s.within)) p.1,
+          part-ok text s.start x.name refl s.name_is (omega (arith, s.within)) p.0,
+          part-ok text (s.start + length x.name) x.descriptor refl s.descriptor_is (omega (arith, s.within)) p.1,
           le-leb x.flags 65535 (good.field-flags f h),
         ))
 
@@ -291,7 +291,7 @@ module _ (name parent : List ℕ) (flags : ℕ) (fs ms : List New) (rest : List 
           all-if (class_count ws) (λ i. class_record ws text (i + 1)) (λ i l. let e : i ≡ 0 = omega (arith, one) in rw e class-ok),
           all-if (method_count ws) (method_record ws text) (λ m l. method-ok m (omega (arith, methods))),
           all-if (field_count ws) (field_record ws text) (λ f l. field-ok f (omega (arith, fields))),
-          all-if (interface_count ws) (interface_names ws) (λ i l. absurd (omega (arith, interface-count sections))),
+          all-if (interface_count ws) (interface_names ws) (λ i l. absurd (omega (arith, number_of_interfaces sections))),
           all-if (class_count ws) (λ i. apart_before ws text (i + 1))
               (λ i l. all-if (i + 1 - 1) (λ j. classes_apart ws text (j + 1) (i + 1)) (λ j k. absurd (omega (arith, one)))),
         )
@@ -312,4 +312,4 @@ module _ (name parent : List ℕ) (flags : ℕ) (fs ms : List New) (rest : List 
     pub accepted : set_refusal ws no_abi ≡ 0
     unfolding set_refusal set_fits records_refusal
     accepted =
-        simp (text-is, fits, records, descriptors, no_abi_lem.0, no_abi_lem.1, no_abi_lem.2)
+        simp (text_is, fits, records, descriptors, no_abi_lem.0, no_abi_lem.1, no_abi_lem.2)

@@ -29,8 +29,8 @@ part-is a b c i n e f = rw (drop_at a (b ++ c) i e) (take_at b c n f)
 pub record Stands (text row : List ℕ) (x : New) : Type 0 where
   pub start : ℕ
   pub row_is : row ≡ member_row start x
-  pub name-is : name_at text start (length x.name) ≡ x.name
-  pub descriptor-is : name_at text (start + length x.name) (length x.descriptor) ≡ x.descriptor
+  pub name_is : name_at text start (length x.name) ≡ x.name
+  pub descriptor_is : name_at text (start + length x.name) (length x.descriptor) ≡ x.descriptor
   pub within : start + length x.name + length x.descriptor ≤ length text
 
 -- the text of a member and of those after it
@@ -49,8 +49,8 @@ first-stands pre x rest {at} e =
     record {
       start = at;
       row_is = refl;
-      name-is = part-is pre x.name (x.descriptor ++ rest) at (length x.name) e refl;
-      descriptor-is = rw a (part-is (pre ++ x.name) x.descriptor rest (at + length x.name) (length x.descriptor) l refl);
+      name_is = part-is pre x.name (x.descriptor ++ rest) at (length x.name) e refl;
+      descriptor_is = rw a (part-is (pre ++ x.name) x.descriptor rest (at + length x.name) (length x.descriptor) l refl);
       within = simp length-append (omega arith);
     }
 

@@ -180,27 +180,27 @@ module _ (bs targets : List ℕ) (bytes : AreBytes bs) (p : Passed bs targets) w
     abbrev laid : List ℕ
     laid = one.ws (file_name bs) (file_parent bs) (file_flags bs) fs ms rest
 
-    text-is : text_of laid ≡ file_name bs ++ (file_parent bs ++ (new_text fs ++ new_text ms))
-    text-is = one.text-is (file_name bs) (file_parent bs) (file_flags bs) fs ms rest good
+    text_is : text_of laid ≡ file_name bs ++ (file_parent bs ++ (new_text fs ++ new_text ms))
+    text_is = one.text_is (file_name bs) (file_parent bs) (file_flags bs) fs ms rest good
 
     field_yielded : (f : ℕ) → f < length fs
         → MemberIs bs (get_or (field_places bs) f 0) (field_name laid (text_of laid) f) (field_descriptor laid (text_of laid) f) (field_flags laid f)
     field_yielded f h = record {
-      name-is = rw text-is (one.field-name (file_name bs) (file_parent bs) (file_flags bs) fs ms rest f h) ∙ ap (λ (x : New). x.name) (field_is_lem f h);
-      descriptor-is =
-          rw text-is (one.field-descriptor (file_name bs) (file_parent bs) (file_flags bs) fs ms rest f h)
+      name_is = rw text_is (one.field-name (file_name bs) (file_parent bs) (file_flags bs) fs ms rest f h) ∙ ap (λ (x : New). x.name) (field_is_lem f h);
+      descriptor_is =
+          rw text_is (one.field-descriptor (file_name bs) (file_parent bs) (file_flags bs) fs ms rest f h)
           ∙ ap (λ (x : New). x.descriptor) (field_is_lem f h);
-      flags-is = one.field-flags (file_name bs) (file_parent bs) (file_flags bs) fs ms rest f h ∙ ap (λ (x : New). x.flags) (field_is_lem f h);
+      flags_is = one.field-flags (file_name bs) (file_parent bs) (file_flags bs) fs ms rest f h ∙ ap (λ (x : New). x.flags) (field_is_lem f h);
     }
 
     method_yielded : (m : ℕ) → m < length ms
         → MemberIs bs (get_or (method_places bs) m 0) (method_name laid (text_of laid) m) (method_descriptor laid (text_of laid) m) (method_flags laid m)
     method_yielded m h = record {
-      name-is = rw text-is (one.method-name (file_name bs) (file_parent bs) (file_flags bs) fs ms rest m h) ∙ ap (λ (x : New). x.name) (method-is m h);
-      descriptor-is =
-          rw text-is (one.method-descriptor (file_name bs) (file_parent bs) (file_flags bs) fs ms rest m h)
+      name_is = rw text_is (one.method-name (file_name bs) (file_parent bs) (file_flags bs) fs ms rest m h) ∙ ap (λ (x : New). x.name) (method-is m h);
+      descriptor_is =
+          rw text_is (one.method-descriptor (file_name bs) (file_parent bs) (file_flags bs) fs ms rest m h)
           ∙ ap (λ (x : New). x.descriptor) (method-is m h);
-      flags-is = one.method-flags (file_name bs) (file_parent bs) (file_flags bs) fs ms rest m h ∙ ap (λ (x : New). x.flags) (method-is m h);
+      flags_is = one.method-flags (file_name bs) (file_parent bs) (file_flags bs) fs ms rest m h ∙ ap (λ (x : New). x.flags) (method-is m h);
     }
 
     yields : Yields bs targets (given bs targets fields methods text) laid
@@ -209,13 +209,13 @@ module _ (bs targets : List ℕ) (bytes : AreBytes bs) (p : Passed bs targets) w
         let k = one.fields (file_name bs) (file_parent bs) (file_flags bs) fs ms rest in
         record {
           accepted = one.accepted (file_name bs) (file_parent bs) (file_flags bs) fs ms rest good;
-          name = rw text-is (one.name-is (file_name bs) (file_parent bs) (file_flags bs) fs ms rest);
+          name = rw text_is (one.name_is (file_name bs) (file_parent bs) (file_flags bs) fs ms rest);
           flags = one.class-is (file_name bs) (file_parent bs) (file_flags bs) fs ms rest flags_word (omega arith);
-          parent = rw text-is (one.parent_is (file_name bs) (file_parent bs) (file_flags bs) fs ms rest);
+          parent = rw text_is (one.parent_is (file_name bs) (file_parent bs) (file_flags bs) fs ms rest);
           methods = n ∙ length-methods;
-          own-methods = one.class-is (file_name bs) (file_parent bs) (file_flags bs) fs ms rest method_count_word (omega arith) ∙ length-methods;
+          methods_own = one.class-is (file_name bs) (file_parent bs) (file_flags bs) fs ms rest method_count_word (omega arith) ∙ length-methods;
           fields = k ∙ length_fields;
-          own-fields = one.class-is (file_name bs) (file_parent bs) (file_flags bs) fs ms rest field_count_word (omega arith) ∙ length_fields;
+          fields_own = one.class-is (file_name bs) (file_parent bs) (file_flags bs) fs ms rest field_count_word (omega arith) ∙ length_fields;
           method = λ m h. method_yielded m (omega arith);
           target = λ m h.
               let l : m < length ms = omega arith in

@@ -41,9 +41,9 @@ no_abi = 0 ∷ 0 ∷ 0 ∷ 0 ∷ []
 
 -- a name, a descriptor and flags are those of the file's member at p
 pub record MemberIs (bs : List ℕ) (p : ℕ) (name descriptor : List ℕ) (flags : ℕ) : Type 0 where
-  pub name-is : name ≡ utf8_bytes bs (member_at bs p).name
-  pub descriptor-is : descriptor ≡ utf8_bytes bs (member_at bs p).descriptor
-  pub flags-is : flags ≡ (member_at bs p).flags
+  pub name_is : name ≡ utf8_bytes bs (member_at bs p).name
+  pub descriptor_is : descriptor ≡ utf8_bytes bs (member_at bs p).descriptor
+  pub flags_is : flags ≡ (member_at bs p).flags
 
 -- of a reading that left o, and the words of the set
 pub record Yields (bs targets : List ℕ) (o : FileOutcome) (ws : List ℕ) : Type 0 where
@@ -53,9 +53,9 @@ pub record Yields (bs targets : List ℕ) (o : FileOutcome) (ws : List ℕ) : Ty
   -- the parent's name stands after the class's
   pub parent : name_at (text_of ws) o.name o.parent ≡ file_parent bs
   pub methods : method_count ws ≡ length (method_places bs)
-  pub own-methods : class_method_count ws 1 ≡ length (method_places bs)
+  pub methods_own : class_method_count ws 1 ≡ length (method_places bs)
   pub fields : field_count ws ≡ length (field_places bs)
-  pub own-fields : class_field_count ws 1 ≡ length (field_places bs)
+  pub fields_own : class_field_count ws 1 ≡ length (field_places bs)
   -- method m is the m-th in file order, with target m of the list
   pub method : (m : ℕ) → m < method_count ws
       → MemberIs bs (get_or (method_places bs) m 0) (method_name ws (text_of ws) m) (method_descriptor ws (text_of ws) m) (method_flags ws m)

@@ -9,9 +9,9 @@ use Rattle.text.specs.Text.{unpacked_text}
 use Rattle.class_sheet.specs.ClassSheet.{class_limit, method_limit, field_limit, interface_limit, compiler_limit, text_limit, content_limit, block_limit, sheet_words, class_count, method_count, field_count, interface_count, compiler_count, text_length, methods_at, fields_at, interfaces_at, compilers_at, text_at, content_end, text_words}
 
 -- the text unpacked from the part that begins at the text section
-pub text-is : (ws d : List ℕ) {n m at : ℕ} {p t : List ℕ} → at ≡ text_at ws → n ≡ length ws → p ≡ take n (drop at ws)
+pub text_is : (ws d : List ℕ) {n m at : ℕ} {p t : List ℕ} → at ≡ text_at ws → n ≡ length ws → p ≡ take n (drop at ws)
     → m ≡ text_length ws → t ≡ unpacked_text p m d → t ≡ unpacked_text (text_words ws) (text_length ws) d
-text-is ws d e f g k h = h ∙ rw (g, f, e, k, part-rest ws (text_at ws))
+text_is ws d e f g k h = h ∙ rw (g, f, e, k, part-rest ws (text_at ws))
 
 -- ---- the most words that the content has, the blocks that hold them, and their words, as numbers
 

@@ -21,7 +21,7 @@ use Rattle.reading.proofs.ArrayLaws.{method-back, no_source, push_slot}
 use Rattle.compiler.specs.Methods.{name_in, descriptor_in, mark_same, some_same, flags_in, takes_slot, target_in, append_method, method_number}
 use Rattle.native_view.specs.Native.{mark_entry, marks_in}
 use Rattle.words.proofs.Ext.{list_ext}
-use Rattle.compiler.proofs.MethodLaws.{name-is, descriptor-is, flags-is, target_is}
+use Rattle.compiler.proofs.MethodLaws.{name_is, descriptor_is, flags_is, target_is}
 
 -- ---- folds and tests, in general
 
@@ -89,10 +89,10 @@ module _ (ws text abi labels refs flags lasts : List ℕ) (n : ℕ) where
         (λ j q.
         rw (
           q,
-          name-is ws text abi labels refs flags lasts n m,
-          name-is ws text abi labels refs flags lasts n j,
-          descriptor-is ws text abi labels refs flags lasts n m,
-          descriptor-is ws text abi labels refs flags lasts n j,
+          name_is ws text abi labels refs flags lasts n m,
+          name_is ws text abi labels refs flags lasts n j,
+          descriptor_is ws text abi labels refs flags lasts n m,
+          descriptor_is ws text abi labels refs flags lasts n j,
         ))
         (λ q. rw q)
 
@@ -107,7 +107,7 @@ module _ (ws text abi labels refs flags lasts : List ℕ) (n : ℕ) where
     test_is : (is_eligible (flags_of ws new m) (name_of ws text new m) && not (has_slot ws text new m (entries_of ts ms size)))
         ≡ takes_slot ws text abi labels refs n flags ms size m
     unfolding takes_slot
-    test_is = rw (flags-is ws text abi labels refs flags lasts n m, name-is ws text abi labels refs flags lasts n m, has-is)
+    test_is = rw (flags_is ws text abi labels refs flags lasts n m, name_is ws text abi labels refs flags lasts n m, has-is)
 
   -- ---- by mark
 

@@ -192,10 +192,10 @@ module _ (ws text abi labels refs flags lasts : List ℕ) (n c : ℕ) (vs vm : L
       )
       (or_assoc (find p (own_methods ws c)) (find p (numbers method_limit n)) (first_found (λ i. mark_target ws lasts n t (get_or vm i 0)) (numbers 0 size)))
 
-  entry-is : (i : ℕ) → compiler_entry ws new c (entries_of vs vm size) i (compiler_word ws (class_compiler_table ws c - 1 + i))
+  entry_found : (i : ℕ) → compiler_entry ws new c (entries_of vs vm size) i (compiler_word ws (class_compiler_table ws c - 1 + i))
       ≡ table_slot ws lasts n c vs vm size i
   unfolding compiler_entry table_slot method_at source_at
-  entry-is i =
+  entry_found i =
       by (eqb (compiler_word ws (class_compiler_table ws c - 1 + i)) 0) (λ q. rw q (slot-below vs vm size i))
       (λ q. rw (q, match_is (compiler_word ws (class_compiler_table ws c - 1 + i))))
 
@@ -212,7 +212,7 @@ module _ (ws text abi labels refs flags lasts : List ℕ) (n c : ℕ) (vs vm : L
       rw (← e)
       (sym (entries_from (λ i. compiler_word ws (class_compiler_table ws c - 1 + i)) 0 count
       ∙ list_ext (λ j. compiler_entry ws new c (entries_of vs vm size) j (compiler_word ws (class_compiler_table ws c - 1 + j)))
-      (table_slot ws lasts n c vs vm size) 0 count (λ i l. entry-is i)))
+      (table_slot ws lasts n c vs vm size) 0 count (λ i l. entry_found i)))
 
   -- ---- the whole table
 

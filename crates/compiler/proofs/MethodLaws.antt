@@ -11,7 +11,7 @@ use Rattle.words.specs.Lists.{list_from}
 use Rattle.words.specs.declared.Found.{Found}
 use Rattle.words.specs.declared.Found.TheVariants.{At, Nothing}
 use Rattle.words.proofs.Bools.{by}
-use Rattle.words.proofs.ListLaws.{get_d_list-from, length-list-from}
+use Rattle.words.proofs.ListLaws.{get_d_list_from, length-list-from}
 use Rattle.words.proofs.Lists.{part_at, length_part}
 use Rattle.words.proofs.Ext.{list_ext}
 use Rattle.text.specs.Text.{same_bytes}
@@ -90,7 +90,7 @@ module _ (ws text abi labels refs flags lasts : List ℕ) (n : ℕ) where
   new_in : (j : ℕ) → j < n → get_or (first_news ws text abi labels refs flags lasts n) j no_new ≡ new_at ws text abi labels refs flags lasts j
   unfolding first_news
   new_in j h =
-      get_d_list-from (new_at ws text abi labels refs flags lasts) 0 n j no_new h
+      get_d_list_from (new_at ws text abi labels refs flags lasts) 0 n j no_new h
       ∙ ap (new_at ws text abi labels refs flags lasts) (omega arith)
 
   new_out : (j : ℕ) → n ≤ j → get_or (first_news ws text abi labels refs flags lasts n) j no_new ≡ no_new
@@ -111,17 +111,17 @@ module _ (ws text abi labels refs flags lasts : List ℕ) (n : ℕ) where
       (λ p. rw (q, p, new_out (m - method_limit) (ltb-false (m - method_limit) n p))))
 
   module _ (m : ℕ) where
-    pub name-is : name_of ws text (first_news ws text abi labels refs flags lasts n) m ≡ name_in ws text abi labels refs n m
+    pub name_is : name_of ws text (first_news ws text abi labels refs flags lasts n) m ≡ name_in ws text abi labels refs n m
     unfolding name_of name_in new_at
-    name-is = member_is (λ x. x.name) (method_name ws text m) m
+    name_is = member_is (λ x. x.name) (method_name ws text m) m
 
-    pub descriptor-is : descriptor_of ws text (first_news ws text abi labels refs flags lasts n) m ≡ descriptor_in ws text abi labels refs n m
+    pub descriptor_is : descriptor_of ws text (first_news ws text abi labels refs flags lasts n) m ≡ descriptor_in ws text abi labels refs n m
     unfolding descriptor_of descriptor_in new_at
-    descriptor-is = member_is (λ x. x.descriptor) (method_descriptor ws text m) m
+    descriptor_is = member_is (λ x. x.descriptor) (method_descriptor ws text m) m
 
-    pub flags-is : flags_of ws (first_news ws text abi labels refs flags lasts n) m ≡ flags_in ws flags n m
+    pub flags_is : flags_of ws (first_news ws text abi labels refs flags lasts n) m ≡ flags_in ws flags n m
     unfolding flags_of flags_in new_at below
-    flags-is = member_is (λ x. x.flags) (method_flags ws m) m
+    flags_is = member_is (λ x. x.flags) (method_flags ws m) m
 
     pub target_is : target_of ws (first_news ws text abi labels refs flags lasts n) m ≡ target_in ws lasts n m
     unfolding target_of target_in new_at below

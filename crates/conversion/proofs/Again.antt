@@ -172,7 +172,7 @@ module _ (bs : List ℕ) (small : AreBytes bs) (accepted : old_sheet_refusal bs 
       let f = few-blocks (forward ws) (forward-fits ws rows.1) in
       let p = forward-passed ws rows.1 (512 * blocks_of (forward ws)) (omega arith) in
       rw (forward-content ws rows.1, forward-blocks ws rows.1) at
-      ((round_trip.domain-blocks (forward ws) (512 * blocks_of (forward ws)) layout.sheet_words forward-small (forward-fits ws rows.1) (omega arith)
+      ((round_trip.domain_blocks (forward ws) (512 * blocks_of (forward ws)) layout.sheet_words forward-small (forward-fits ws rows.1) (omega arith)
       (omega arith)).0 (write-accepts (forward ws) (512 * blocks_of (forward ws)) p))
 
   again-old : (sheet_bytes (take (old_end ws) ws) (blocks_for (old_end ws)) ≡ bs) × (blocks_for (old_end ws) ≡ block_count bs)

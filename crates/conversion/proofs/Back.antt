@@ -10,7 +10,7 @@ use lib.ListN.{length, get_or, take, drop, replicate, get_or-eq_default}
 use lib.Seq.{take_at, take-suc, take_all}
 use lib.Dec.{eqb, ltb}
 use borrow.Author.Tests.{eqb-true, eqb-false, eq-eqb, le-leb, le-ltb, ltb-true, ltb-false, not-false}
-use Rattle.words.specs.Rows.{Rows, no_rows, a-row, row_word}
+use Rattle.words.specs.Rows.{Rows, no_rows, a_row, row_word}
 use Rattle.words.proofs.Bools.{by, and_both, and_4, passed}
 use Rattle.words.proofs.FoldLaws.{all-each, all-if}
 use Rattle.words.specs.Words.{AreWords, AreBytes}
@@ -48,7 +48,7 @@ widen-narrow : (f : ℕ → ℕ) (c : ℕ) {rs : List (List ℕ)} → Rows class
     → widen f c (narrow rs) ≡ rs
 unfolding widen narrow
 widen-narrow f c no_rows h = refl
-widen-narrow f c (a-row {r = r} {rs = rs} e p) h =
+widen-narrow f c (a_row {r = r} {rs = rs} e p) h =
     let z : c + 0 ≡ c = omega arith in
     let last : f c ≡ get_or r old_width 0 = rw z at (h 0 (omega arith)) in
     let one : take old_width r ++ (f c ∷ []) ≡ r = rw last (last_word r e) in

@@ -39,16 +39,16 @@ module _ (t : Sections) (x : List (List ℕ)) (y : List ℕ) (f : Formed class_w
         laid-front class_width s g k l ∙ ap (λ (y : List ℕ). get_or y k 0) same-counts ∙ sym (laid-front class_width t f k l);
     classes = λ c l h k i.
         let b = ltb-true k static_words_word i in
-        let n : c ≤ length t.classes = omega (arith, S.class-count t) in
+        let n : c ≤ length t.classes = omega (arith, S.number_of_classes t) in
         S.class-word s g c k l (omega (arith, number)) (omega arith) ∙ words _ k (omega arith) b ∙ sym (S.class-word t f c k l n (omega arith));
     methods = λ m h k i.
         let b = ltb-true k member_width i in
-        let n : m < length t.methods = omega (arith, S.method-count t) in S.method-word s g m k n b ∙ sym (S.method-word t f m k n b);
+        let n : m < length t.methods = omega (arith, S.number_of_methods t) in S.method-word s g m k n b ∙ sym (S.method-word t f m k n b);
     fields = λ m h k i.
         let b = ltb-true k member_width i in
-        let n : m < length t.fields = omega (arith, S.field-count t) in S.field-word s g m k n b ∙ sym (S.field-word t f m k n b);
+        let n : m < length t.fields = omega (arith, S.number_of_fields t) in S.field-word s g m k n b ∙ sym (S.field-word t f m k n b);
     interfaces = λ i h.
-        let n : i < length t.interfaces = omega (arith, S.interface-count t) in S.interface-word s g i n ∙ sym (S.interface-word t f i n);
+        let n : i < length t.interfaces = omega (arith, S.number_of_interfaces t) in S.interface-word s g i n ∙ sym (S.interface-word t f i n);
   }
 
   pub text_same : text_of (laid_out s) ≡ text_of (laid_out t)

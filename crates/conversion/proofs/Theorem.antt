@@ -62,9 +62,9 @@ module _ (bs out : List ℕ) (accepted : (widen_sheet bs out).refusal ≡ 0) whe
   written = made ∙ forward_writing (sheet_words bs) rows out (widen-passed bs out accepted).1
 
   module _ (small : AreBytes bs) where
-    forward-back : (lent : List ℕ) → length bs ≤ length lent
+    forward_back : (lent : List ℕ) → length bs ≤ length lent
         → narrow_sheet (sheet_made (widen_sheet bs out)) lent ≡ record { refusal = 0; blocks = block_count bs; memory = bs ++ drop (length bs) lent }
-    forward-back lent l = rw sheet-made (back-again bs small (widen-passed bs out accepted).0 lent l)
+    forward_back lent l = rw sheet-made (back-again bs small (widen-passed bs out accepted).0 lent l)
 
     read_again : (set : List ℕ) → 127 * (widen_sheet bs out).blocks ≤ length set
         → ((read_class_sheet (sheet_made (widen_sheet bs out)) set).refusal ≡ 0)
@@ -75,7 +75,7 @@ module _ (bs out : List ℕ) (accepted : (widen_sheet bs out).refusal ≡ 0) whe
         let h : 127 * (write_class_sheet content out).blocks ≤ length set = rw written at l in
         rw written (
           ap (λ o. o.refusal) (round_trip.write_read content out set s z h),
-          round_trip.same-content content out set s z h ∙ forward-content (sheet_words bs) rows,
+          round_trip.same_content content out set s z h ∙ forward-content (sheet_words bs) rows,
         )
 
   few : (block_count bs ≤ (widen_sheet bs out).blocks) × ((widen_sheet bs out).blocks ≤ block_count bs + 1) × ((widen_sheet bs out).blocks ≤ block_limit)
@@ -113,32 +113,32 @@ module _ (bs out : List ℕ) (accepted : (narrow_sheet bs out).refusal ≡ 0) wh
       (eqb-true _ _ q, p.0, roomed (narrowed (sheet_words bs)) (length out) p.1, r))
       (λ q. absurd (eqb-false _ _ q (rw q at r)))
 
-  class-rows : class_rows (sheet_words bs) ≡ 0
+  rows_of_classes : class_rows (sheet_words bs) ≡ 0
   unfolding class_sheet_refusal
-  class-rows = (sheet-passed class_rows bs layout.sheet_words narrow-passed.0).1
+  rows_of_classes = (sheet-passed class_rows bs layout.sheet_words narrow-passed.0).1
 
   some_back : (narrow_sheet bs out).blocks ≢ 0
   unfolding narrow_sheet blocks_for
   some_back z =
       let blocks : (narrow_sheet bs out).blocks ≡ blocks_for (length (narrowed (sheet_words bs))) =
       rw narrow-passed.3 (blocks-made (narrowed (sheet_words bs)) out) in
-      omega (arith, z, blocks, narrowed-length (sheet_words bs) (fits (sheet_words bs) class-rows), old-some (sheet_words bs))
+      omega (arith, z, blocks, narrowed-length (sheet_words bs) (fits (sheet_words bs) rows_of_classes), old-some (sheet_words bs))
 
-  back-few : ((narrow_sheet bs out).blocks ≤ block_count bs) × (block_count bs ≤ (narrow_sheet bs out).blocks + 1)
+  back_few : ((narrow_sheet bs out).blocks ≤ block_count bs) × (block_count bs ≤ (narrow_sheet bs out).blocks + 1)
   unfolding narrow_sheet blocks_for
-  back-few =
+  back_few =
       let ws : List ℕ = sheet_words bs in
       let blocks : (narrow_sheet bs out).blocks ≡ blocks_for (length (narrowed ws)) = rw narrow-passed.3 (blocks-made (narrowed ws) out) in
-      let four : _ = four ws class-rows in
+      let four : _ = four ws rows_of_classes in
       let least = least-blocks (content_end ws) (block_count bs) (rw (length-words bs) at four.1) in
-      let n : length (narrowed ws) ≡ old_end ws = narrowed-length ws (fits ws class-rows) in
+      let n : length (narrowed ws) ≡ old_end ws = narrowed-length ws (fits ws rows_of_classes) in
       let classes = (class.limits ws four.0).classes in
       (omega (arith, blocks, least.1, n, old-end ws), omega (arith, blocks, least.1, n, old-end ws, classes))
 
-  back-forward : AreBytes bs → (lent : List ℕ) → length bs ≤ length lent
+  back_forward : AreBytes bs → (lent : List ℕ) → length bs ≤ length lent
       → widen_sheet (sheet_made (narrow_sheet bs out)) lent ≡ record { refusal = 0; blocks = block_count bs; memory = bs ++ drop (length bs) lent }
   unfolding narrow_sheet
-  back-forward small lent l =
+  back_forward small lent l =
       rw (narrow-passed.3, made-is (narrowed (sheet_words bs)) out narrow-passed.2)
       (forward-again bs small narrow-passed.0 narrow-passed.1 lent l)
 
@@ -207,9 +207,9 @@ class-few : (ws : List ℕ) → class_rows ws ≤ 5
 unfolding class_rows
 class-few ws = at_most (not (class_form ws)) 3 _ (omega arith) (records-few ws (text_of ws))
 
-back-rows : (bs : List ℕ) → new_sheet_refusal bs ≤ 5
+back_rows : (bs : List ℕ) → new_sheet_refusal bs ≤ 5
 unfolding class_sheet_refusal sheet_refusal
-back-rows bs =
+back_rows bs =
     at_most (eqb (block_refusal bs layout.sheet_words block_limit) 0) _ _ (class-few (sheet_words bs)) (blocks-few bs layout.sheet_words block_limit)
 
 module _ (bs out : List ℕ) where
@@ -226,10 +226,10 @@ module _ (bs out : List ℕ) where
   unfolding narrow_sheet narrow_refusal room_refusal blocks_or_row
   back-short e d l = rw (e, d, lt-ltb _ _ l)
 
-  back-enough : new_sheet_refusal bs ≡ 0 → drops_statics (sheet_words bs) ≡ false → 512 * blocks_for (length (narrowed (sheet_words bs))) ≤ length out
+  back_enough : new_sheet_refusal bs ≡ 0 → drops_statics (sheet_words bs) ≡ false → 512 * blocks_for (length (narrowed (sheet_words bs))) ≤ length out
       → (narrow_sheet bs out).refusal ≡ 0
   unfolding narrow_sheet narrow_refusal room_refusal blocks_or_row
-  back-enough e d l = rw (e, d, le-ltb _ _ l)
+  back_enough e d l = rw (e, d, le-ltb _ _ l)
 
   -- a row that is none of 1 to 5: the reading's accept the sheet, and it drops static words, or has no room, or has some
   beyond : {X : Type 0} → 6 ≤ (narrow_sheet bs out).refusal
@@ -244,45 +244,45 @@ module _ (bs out : List ℕ) where
       (λ d.
       by (ltb (length out) (512 * blocks_for (length (narrowed (sheet_words bs)))))
       (λ t. short z d (ltb-true _ _ t))
-      (λ t. absurd (omega (arith, h, back-enough z d (ltb-false _ _ t))))))
-      (λ q. let n = eqb-false (new_sheet_refusal bs) 0 q in absurd (omega (arith, h, back_early (omega arith), back-rows bs)))
+      (λ t. absurd (omega (arith, h, back_enough z d (ltb-false _ _ t))))))
+      (λ q. let n = eqb-false (new_sheet_refusal bs) 0 q in absurd (omega (arith, h, back_early (omega arith), back_rows bs)))
 
-  back-statics : ((narrow_sheet bs out).refusal ≡ 23) ↔ ((new_sheet_refusal bs ≡ 0) × (drops_statics (sheet_words bs) ≡ true))
-  back-statics = (
+  back_statics : ((narrow_sheet bs out).refusal ≡ 23) ↔ ((new_sheet_refusal bs ≡ 0) × (drops_statics (sheet_words bs) ≡ true))
+  back_statics = (
     λ e. beyond (omega arith) (λ z d. (z, d)) (λ z d l. absurd (omega (arith, e, back-short z d l))),
     λ p. back_dropped p.0 p.1,
   )
 
-  back-room : ((narrow_sheet bs out).refusal ≡ 18)
+  back_room : ((narrow_sheet bs out).refusal ≡ 18)
       ↔ ((new_sheet_refusal bs ≡ 0) × (drops_statics (sheet_words bs) ≡ false) × (length out < 512 * blocks_for (length (narrowed (sheet_words bs)))))
-  back-room = (
+  back_room = (
     λ e. beyond (omega arith) (λ z d. absurd (omega (arith, e, back_dropped z d))) (λ z d l. (z, d, l)),
     λ p. back-short p.0 p.1 p.2,
   )
 
 pub converted : Converted
 converted = record {
-  forward-back = λ bs out lent small a l. forward-back bs out a small lent l;
-  back-forward = λ bs out lent small a l. back-forward bs out a small lent l;
+  forward_back = λ bs out lent small a l. forward_back bs out a small lent l;
+  back_forward = λ bs out lent small a l. back_forward bs out a small lent l;
   written = λ bs out small a. written bs out a;
   read_again = λ bs out set small a l. read_again bs out a small set l;
   counts = λ ws f fits k h. widened-front ws fits f k h;
   all_words = λ ws f fits. widened-length ws fits f;
-  class-words = λ ws f fits c k l h g. widened_word_lem ws fits f c k l h g;
-  static-words = λ ws f fits c l h. widened-statics ws fits f c l h;
-  other-words = λ ws f fits t h. widened-after ws fits f t h;
+  class_words = λ ws f fits c k l h g. widened_word_lem ws fits f c k l h g;
+  words_of_statics = λ ws f fits c l h. widened-statics ws fits f c l h;
+  other_words = λ ws f fits t h. widened-after ws fits f t h;
   few = few;
-  widened-some = some;
+  widened_some = some;
   narrowed_some = some_back;
   rows = rows_few;
   early = early;
   room = room;
   enough = enough;
   most = most;
-  back-rows = back-rows;
+  back_rows = back_rows;
   back_early = back_early;
-  back-statics = back-statics;
-  back-room = back-room;
-  back-enough = back-enough;
-  back-few = back-few;
+  back_statics = back_statics;
+  back_room = back_room;
+  back_enough = back_enough;
+  back_few = back_few;
 }

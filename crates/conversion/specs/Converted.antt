@@ -13,10 +13,10 @@ sheet_made o = take (512 * o.blocks) o.memory
 
 pub record Converted : Type 0 where
   -- 1. "Forward then back gives the first sheet's bytes": back is handed the blocks that forward answered, and enough bytes.
-  pub forward-back : (bs out lent : List ℕ) → AreBytes bs → (widen_sheet bs out).refusal ≡ 0 → length bs ≤ length lent
+  pub forward_back : (bs out lent : List ℕ) → AreBytes bs → (widen_sheet bs out).refusal ≡ 0 → length bs ≤ length lent
       → narrow_sheet (sheet_made (widen_sheet bs out)) lent ≡ record { refusal = 0; blocks = block_count bs; memory = bs ++ drop (length bs) lent }
   -- 2. Back, then forward.
-  pub back-forward : (bs out lent : List ℕ) → AreBytes bs → (narrow_sheet bs out).refusal ≡ 0 → length bs ≤ length lent
+  pub back_forward : (bs out lent : List ℕ) → AreBytes bs → (narrow_sheet bs out).refusal ≡ 0 → length bs ≤ length lent
       → widen_sheet (sheet_made (narrow_sheet bs out)) lent ≡ record { refusal = 0; blocks = block_count bs; memory = bs ++ drop (length bs) lent }
   -- 3. "as the writer makes them": what forward answers and leaves is the writing of the new content, so that the new reader reads these words again.
   pub written : (bs out : List ℕ) → AreBytes bs → (widen_sheet bs out).refusal ≡ 0 → widen_sheet bs out ≡ write_class_sheet (forward (sheet_words bs)) out
@@ -27,16 +27,16 @@ pub record Converted : Type 0 where
   -- follows the records is what followed them, and that is all.
   pub counts : (ws : List ℕ) (f : ℕ → ℕ) → old_end ws ≤ length ws → (k : ℕ) → k < counts_width → get_or (widened ws f) k 0 ≡ get_or ws k 0
   pub all_words : (ws : List ℕ) (f : ℕ → ℕ) → old_end ws ≤ length ws → length (widened ws f) ≡ content_end ws
-  pub class-words : (ws : List ℕ) (f : ℕ → ℕ) → old_end ws ≤ length ws → (c k : ℕ) → 1 ≤ c → c ≤ class_count ws → k < old_width
+  pub class_words : (ws : List ℕ) (f : ℕ → ℕ) → old_end ws ≤ length ws → (c k : ℕ) → 1 ≤ c → c ≤ class_count ws → k < old_width
       → class_word (widened ws f) c k ≡ get_or ws (counts_width + old_width * (c - 1) + k) 0
-  pub static-words : (ws : List ℕ) (f : ℕ → ℕ) → old_end ws ≤ length ws → (c : ℕ) → 1 ≤ c → c ≤ class_count ws → class_static_words (widened ws f) c ≡ f c
-  pub other-words : (ws : List ℕ) (f : ℕ → ℕ) → old_end ws ≤ length ws → (t : ℕ) → counts_width + class_width * class_count ws + t < content_end ws
+  pub words_of_statics : (ws : List ℕ) (f : ℕ → ℕ) → old_end ws ≤ length ws → (c : ℕ) → 1 ≤ c → c ≤ class_count ws → class_static_words (widened ws f) c ≡ f c
+  pub other_words : (ws : List ℕ) (f : ℕ → ℕ) → old_end ws ≤ length ws → (t : ℕ) → counts_width + class_width * class_count ws + t < content_end ws
       → get_or (widened ws f) (counts_width + class_width * class_count ws + t) 0 ≡ get_or ws (counts_width + old_width * class_count ws + t) 0
   -- 5. At most one block more, and 92 at the most.
   pub few : (bs out : List ℕ) → (widen_sheet bs out).refusal ≡ 0
       → (block_count bs ≤ (widen_sheet bs out).blocks) × ((widen_sheet bs out).blocks ≤ block_count bs + 1) × ((widen_sheet bs out).blocks ≤ block_limit)
   -- An accepted call has made a block, so that an accepted and a refused call never have one outcome.
-  pub widened-some : (bs out : List ℕ) → (widen_sheet bs out).refusal ≡ 0 → (widen_sheet bs out).blocks ≢ 0
+  pub widened_some : (bs out : List ℕ) → (widen_sheet bs out).refusal ≡ 0 → (widen_sheet bs out).blocks ≢ 0
   pub narrowed_some : (bs out : List ℕ) → (narrow_sheet bs out).refusal ≡ 0 → (narrow_sheet bs out).blocks ≢ 0
   -- 6. Forward refuses by 1 to 5 and 18 alone, and by 18 exactly where only the room is missing, which 92 blocks never are.
   pub rows : (bs : List ℕ) → old_sheet_refusal bs ≤ 5
@@ -48,13 +48,13 @@ pub record Converted : Type 0 where
   pub most : (bs : List ℕ) → old_sheet_refusal bs ≡ 0 → blocks_for (length (forward (sheet_words bs))) ≤ block_limit
   -- 7. Back refuses by 1 to 5, 23 and 18 alone: by 23 exactly where a reading accepts the sheet and it has a generated class whose word is not its sum, by 18
   -- exactly where only the room is missing; and it takes no more blocks than the new sheet has.
-  pub back-rows : (bs : List ℕ) → new_sheet_refusal bs ≤ 5
+  pub back_rows : (bs : List ℕ) → new_sheet_refusal bs ≤ 5
   pub back_early : (bs out : List ℕ) → 1 ≤ new_sheet_refusal bs → (narrow_sheet bs out).refusal ≡ new_sheet_refusal bs
-  pub back-statics : (bs out : List ℕ) → ((narrow_sheet bs out).refusal ≡ 23)
+  pub back_statics : (bs out : List ℕ) → ((narrow_sheet bs out).refusal ≡ 23)
       ↔ ((new_sheet_refusal bs ≡ 0) × (drops_statics (sheet_words bs) ≡ true))
-  pub back-room : (bs out : List ℕ) → ((narrow_sheet bs out).refusal ≡ 18)
+  pub back_room : (bs out : List ℕ) → ((narrow_sheet bs out).refusal ≡ 18)
       ↔ ((new_sheet_refusal bs ≡ 0) × (drops_statics (sheet_words bs) ≡ false) × (length out < 512 * blocks_for (length (narrowed (sheet_words bs)))))
-  pub back-enough : (bs out : List ℕ) → new_sheet_refusal bs ≡ 0 → drops_statics (sheet_words bs) ≡ false
+  pub back_enough : (bs out : List ℕ) → new_sheet_refusal bs ≡ 0 → drops_statics (sheet_words bs) ≡ false
       → 512 * blocks_for (length (narrowed (sheet_words bs))) ≤ length out → (narrow_sheet bs out).refusal ≡ 0
-  pub back-few : (bs out : List ℕ) → (narrow_sheet bs out).refusal ≡ 0
+  pub back_few : (bs out : List ℕ) → (narrow_sheet bs out).refusal ≡ 0
       → ((narrow_sheet bs out).blocks ≤ block_count bs) × (block_count bs ≤ (narrow_sheet bs out).blocks + 1)

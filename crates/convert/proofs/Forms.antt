@@ -9,7 +9,7 @@ use lib.Seq.{ext_get_or, take_at, get_or_at, get_or-take, length-take-le}
 use lib.Dec.{eqb, ltb}
 use borrow.Author.Tests.{eqb-true, eqb-false, ltb-true, ltb-false}
 use Rattle.words.specs.Words.{words_for}
-use Rattle.words.specs.Rows.{Rows, no_rows, a-row, joined, row_word}
+use Rattle.words.specs.Rows.{Rows, no_rows, a_row, joined, row_word}
 use Rattle.words.specs.Folds.{table}
 use Rattle.words.proofs.Bools.{by}
 use Rattle.words.proofs.FoldLaws.{length-table, get_d_table}
@@ -28,7 +28,7 @@ use Rattle.convert.proofs.Judging.{old-end}
 pub rows-widen : (f : ℕ → ℕ) (c : ℕ) {w : ℕ} {rs : List (List ℕ)} → Rows w rs → Rows (w + 1) (widen f c rs)
 unfolding widen
 rows-widen f c no_rows = no_rows
-rows-widen f c (a-row {r = r} e p) = a-row (length-append r (f c ∷ []) ∙ omega arith) (rows-widen f (c + 1) p)
+rows-widen f c (a_row {r = r} e p) = a_row (length-append r (f c ∷ []) ∙ omega arith) (rows-widen f (c + 1) p)
 
 pub length-widen : (f : ℕ → ℕ) (c : ℕ) (rs : List (List ℕ)) → length (widen f c rs) ≡ length rs
 unfolding widen
@@ -38,26 +38,26 @@ length-widen f c (r ∷ rs) = ap suc (length-widen f (c + 1) rs)
 pub narrow-widen : (f : ℕ → ℕ) (c : ℕ) {rs : List (List ℕ)} → Rows old_width rs → narrow (widen f c rs) ≡ rs
 unfolding widen narrow
 narrow-widen f c no_rows = refl
-narrow-widen f c (a-row {r = r} {rs = rs} e p) =
+narrow-widen f c (a_row {r = r} {rs = rs} e p) =
     rw (take_at r (f c ∷ []) old_width e) (ap (λ (x : List (List ℕ)). r ∷ x) (narrow-widen f (c + 1) p))
 
 pub widen-word : (f : ℕ → ℕ) (c : ℕ) {w : ℕ} {rs : List (List ℕ)} → Rows w rs → (i k : ℕ) → k < w
     → row_word (widen f c rs) i k ≡ row_word rs i k
 unfolding widen
 widen-word f c no_rows i k h = refl
-widen-word f c (a-row {r = r} e p) zero k h = get_or-append r (f c ∷ []) 0 k (omega arith)
-widen-word f c (a-row e p) (suc i) k h = widen-word f (c + 1) p i k h
+widen-word f c (a_row {r = r} e p) zero k h = get_or-append r (f c ∷ []) 0 k (omega arith)
+widen-word f c (a_row e p) (suc i) k h = widen-word f (c + 1) p i k h
 
 pub widen-last : (f : ℕ → ℕ) (c : ℕ) {w : ℕ} {rs : List (List ℕ)} → Rows w rs → (i : ℕ) → i < length rs → row_word (widen f c rs) i w ≡ f (c + i)
 unfolding widen
 widen-last f c no_rows i h = absurd (omega arith)
-widen-last f c {w} (a-row {r = r} e p) zero h = let z : c + 0 ≡ c = omega arith in rw z (get_or_at r (f c) [] 0 w e)
-widen-last f c (a-row e p) (suc i) h = let z : c + suc i ≡ c + 1 + i = omega arith in rw z (widen-last f (c + 1) p i (omega arith))
+widen-last f c {w} (a_row {r = r} e p) zero h = let z : c + 0 ≡ c = omega arith in rw z (get_or_at r (f c) [] 0 w e)
+widen-last f c (a_row e p) (suc i) h = let z : c + suc i ≡ c + 1 + i = omega arith in rw z (widen-last f (c + 1) p i (omega arith))
 
 pub rows-narrow : {rs : List (List ℕ)} → Rows class_width rs → Rows old_width (narrow rs)
 unfolding narrow
 rows-narrow no_rows = no_rows
-rows-narrow (a-row {r = r} e p) = a-row (length-take-le old_width r (omega arith)) (rows-narrow p)
+rows-narrow (a_row {r = r} e p) = a_row (length-take-le old_width r (omega arith)) (rows-narrow p)
 
 pub length-narrow : (rs : List (List ℕ)) → length (narrow rs) ≡ length rs
 unfolding narrow
@@ -141,7 +141,7 @@ module _ (ws : List ℕ) (fits : old_end ws ≤ length ws) where
   old-words = laid_more old_sections old.rest ∙ laid-sections old_width ws fits
 
   pub old-classes : length old.classes ≡ class_count ws
-  old-classes = sym (sections.class-count old) ∙ ap class_count (laid-sections old_width ws fits)
+  old-classes = sym (sections.number_of_classes old) ∙ ap class_count (laid-sections old_width ws fits)
 
   pub old-length : length (laid_out old_sections) ≡ old_end ws
   unfolding end_by
@@ -151,11 +151,11 @@ module _ (ws : List ℕ) (fits : old_end ws ≤ length ws) where
         arith,
         length-laid old_width old_sections old-formed,
         old-classes,
-        sym (sections.method-count old) ∙ ap method_count e,
-        sym (sections.field-count old) ∙ ap field_count e,
-        sym (sections.interface-count old) ∙ ap interface_count e,
-        sym (sections.compiler-count old) ∙ ap compiler_count e,
-        sym (sections.text-length old) ∙ ap text_length e,
+        sym (sections.number_of_methods old) ∙ ap method_count e,
+        sym (sections.number_of_fields old) ∙ ap field_count e,
+        sym (sections.number_of_interfaces old) ∙ ap interface_count e,
+        sym (sections.number_of_compilers old) ∙ ap compiler_count e,
+        sym (sections.length_of_text old) ∙ ap text_length e,
       )
 
   pub old-at : (j : ℕ) → j < old_end ws → get_or ws j 0 ≡ get_or (laid_out old_sections) j 0
@@ -190,7 +190,7 @@ module _ (ws : List ℕ) (fits : old_end ws ≤ length ws) where
 
     pub widened-count : class_count (widened ws f) ≡ class_count ws
     unfolding widened
-    widened-count = sections.class-count (widened_sections ws f) ∙ new-classes
+    widened-count = sections.number_of_classes (widened_sections ws f) ∙ new-classes
 
     -- "a class's word k" and its static words, by their names
     pub widened_word_lem : (c k : ℕ) → 1 ≤ c → c ≤ class_count ws → k < old_width
@@ -297,7 +297,7 @@ module _ (ws : List ℕ) (fits : content_end ws ≤ length ws) where
   content-words = laid_more new_sections new.rest ∙ sections.laid_of ws fits
 
   pub content-classes : length new.classes ≡ class_count ws
-  content-classes = sym (sections.class-count new) ∙ ap class_count (sections.laid_of ws fits)
+  content-classes = sym (sections.number_of_classes new) ∙ ap class_count (sections.laid_of ws fits)
 
   pub content-length : length (laid_out new_sections) ≡ content_end ws
   content-length =

@@ -36,8 +36,8 @@ module _ (ws : List ℕ) {m n : ℕ} (count : m ≡ class_count ws) (wide : n �
   pub end_is : {e : ℕ} → e ≡ content_end ws → e - n ≡ old_end ws
   end_is h = omega (arith, old-end ws)
 
-  pub text-is : {t : ℕ} → t ≡ text_at ws → t - n ≡ old_text_at ws
-  text-is h = omega (arith, old-text ws)
+  pub text_is : {t : ℕ} → t ≡ text_at ws → t - n ≡ old_text_at ws
+  text_is h = omega (arith, old-text ws)
 
 -- ---- row 3 but for the links
 

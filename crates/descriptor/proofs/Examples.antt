@@ -15,19 +15,19 @@ use Rattle.descriptor.specs.Machine.{field_next, method_next, is_method_descript
 use Rattle.descriptor.specs.Words.{byte_width, width, begun_words, begun_from, is_method, counted, refused, argument_answer}
 
 -- ( I J ) V, and [ L a / b ;
-abbrev pub int_long-void : MethodDescriptor
-int_long-void = record { parameters = parameter (base I) ∷ parameter (base J) ∷ []; result = void «V» }
+abbrev pub int_long_void : MethodDescriptor
+int_long_void = record { parameters = parameter (base I) ∷ parameter (base J) ∷ []; result = void «V» }
 
 pub letter : (b : ℕ) → So (is_name_byte b) → UnqualifiedName
 letter b h = record { first = record { code = b; allowed = h }; rest = [] }
 
-pub array-of-a_b : FieldDescriptor
+pub array-of_a_b : FieldDescriptor
 unfolding is_name_byte some
-array-of-a_b = field (array (of (component (object (L (record { first = letter (byte "a") refl; rest = letter (byte "b") refl ∷ [] }))))))
+array-of_a_b = field (array (of (component (object (L (record { first = letter (byte "a") refl; rest = letter (byte "b") refl ∷ [] }))))))
 
 pub record Rows : Type 0 where
-  pub method : method_spelling int_long-void ≡ text "(IJ)V"
-  pub class : field_spelling array-of-a_b ≡ text "[La/b;"
+  pub method : method_spelling int_long_void ≡ text "(IJ)V"
+  pub class : field_spelling array-of_a_b ≡ text "[La/b;"
   -- of bytes that are no descriptor the first counts
   pub any_width : width (text "D;") ≡ 2
   pub no_width : width (text "") ≡ 1
@@ -35,7 +35,7 @@ pub record Rows : Type 0 where
 pub rows : Rows
 unfolding is_base_byte is_name_byte some width byte_width method_spelling parameters_spelling
     parameter_spelling result_spelling void_spelling field_spelling type_spelling
-    base_byte object_spelling class_spelling rest_spelling name_spelling name_bytes array-of-a_b letter
+    base_byte object_spelling class_spelling rest_spelling name_spelling name_bytes array-of_a_b letter
 rows = record { method = refl; class = refl; any_width = refl; no_width = refl }
 
 -- ---- at the limit

@@ -17,7 +17,7 @@ use Rattle.descriptor.specs.Words.{is_method, capped, capped_from}
 use Rattle.descriptor.specs.declared.MethodState.{MethodState}
 use Rattle.descriptor.specs.declared.MethodState.TheVariants.{Begin}
 use Rattle.descriptor.proofs.Counts.{method-begins, method-small, byte_small}
-use Rattle.descriptor.proofs.Machines.{method-sound, method-complete}
+use Rattle.descriptor.proofs.Machines.{method_sound, method_complete}
 
 -- ---- bytes that the grammar has and that are within the limit
 
@@ -33,26 +33,26 @@ module _ (s : List ℕ) (flags : ℕ) where
   within g h = simp (g, le-leb (receiver_words flags + begun_from Begin s) argument_limit h)
 
 module _ (s : List ℕ) (flags : ℕ) where
-  pub valid-sound : is_method flags s ≡ true → ValidDescriptor flags s
+  pub valid_sound : is_method flags s ≡ true → ValidDescriptor flags s
   unfolding argument_words
-  valid-sound h =
+  valid_sound h =
       let p = parts s flags h in
-      let d = method-sound s p.0 in
+      let d = method_sound s p.0 in
       (d.0, d.1, omega (arith, method-begins d.0, ap (begun_from Begin) d.1))
 
-  pub valid-complete : ValidDescriptor flags s → is_method flags s ≡ true
+  pub valid_complete : ValidDescriptor flags s → is_method flags s ≡ true
   unfolding argument_words
-  valid-complete d =
-      within s flags (rw (← d.1) (method-complete d.0)) (omega (arith, method-begins d.0, ap (begun_from Begin) d.1))
+  valid_complete d =
+      within s flags (rw (← d.1) (method_complete d.0)) (omega (arith, method-begins d.0, ap (begun_from Begin) d.1))
 
   -- an instance method has the receiver's word besides
-  pub static-more : is_method 0 s ≡ true → is_method flags s ≡ true
-  static-more h = within s flags (parts s 0 h).0 (omega (arith, (parts s 0 h).1))
+  pub static_more : is_method 0 s ≡ true → is_method flags s ≡ true
+  static_more h = within s flags (parts s 0 h).0 (omega (arith, (parts s 0 h).1))
 
   -- two words a byte, and the receiver's
-  pub short-within : is_method_descriptor s ≡ true → length s ≤ 127 → is_method flags s ≡ true
-  short-within g l =
-      let d = method-sound s g in
+  pub short_within : is_method_descriptor s ≡ true → length s ≤ 127 → is_method flags s ≡ true
+  short_within g l =
+      let d = method_sound s g in
       within s flags g (omega (arith, method-begins d.0, method-small d.0, ap (begun_from Begin) d.1, ap length d.1))
 
 -- ---- the count that stops

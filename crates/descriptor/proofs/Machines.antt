@@ -54,17 +54,17 @@ whole_of s h =
     let r = type_of field-ends field-accepts s h in
     (r.0, sym (r.2 ∙ ap (λ (l : List ℕ). type_spelling r.0 ++ l) (done-ends r.1 r.3) ∙ append-nil (type_spelling r.0)))
 
-pub field-sound : (s : List ℕ) → is_field_descriptor s ≡ true → FieldDerivation s
+pub field_sound : (s : List ℕ) → is_field_descriptor s ≡ true → FieldDerivation s
 unfolding is_field_descriptor field_spelling
-field-sound s h = let r = whole_of s h in (field r.0, r.1)
+field_sound s h = let r = whole_of s h in (field r.0, r.1)
 
 field-ends-at : (t : FieldType) → field-ends Open (type_spelling t) ≡ true
 unfolding fold
 field-ends-at t = rw append-nil at (type_read field-ends field-accepts.steps t [])
 
-pub field-complete : (d : FieldDescriptor) → is_field_descriptor (field_spelling d) ≡ true
+pub field_complete : (d : FieldDescriptor) → is_field_descriptor (field_spelling d) ≡ true
 unfolding is_field_descriptor field_spelling
-field-complete (field t) = field-ends-at t
+field_complete (field t) = field-ends-at t
 
 -- ---- the return descriptor
 
@@ -197,10 +197,10 @@ method-begins (b ∷ s) h =
     by (eqb b 40) (λ e. rw (eqb-true b 40 e) (method-of s (simp e at h)))
     (λ e. absurd (false≢true (simp (e, bad-parameter s) at h)))
 
-pub method-sound : (s : List ℕ) → is_method_descriptor s ≡ true → MethodDerivation s
+pub method_sound : (s : List ℕ) → is_method_descriptor s ≡ true → MethodDerivation s
 unfolding is_method_descriptor
-method-sound s h = method-begins s h
+method_sound s h = method-begins s h
 
-pub method-complete : (d : MethodDescriptor) → is_method_descriptor (method_spelling d) ≡ true
+pub method_complete : (d : MethodDescriptor) → is_method_descriptor (method_spelling d) ≡ true
 unfolding is_method_descriptor method_spelling fold method_next
-method-complete d = parameters-end-at d.parameters (result_spelling d.result) ∙ result-ends d.result
+method_complete d = parameters-end-at d.parameters (result_spelling d.result) ∙ result-ends d.result

@@ -10,18 +10,18 @@ use Rattle.descriptor.specs.Words.{argument_words, argument_limit, ValidDescript
 use Rattle.descriptor.specs.declared.DescriptorWords.{DescriptorWords}
 use Rattle.descriptor.specs.declared.DescriptorWords.TheVariants.{Count, Refused}
 use Rattle.descriptor.proofs.Counts.{width_is, method-begins}
-use Rattle.descriptor.proofs.Limit.{valid-sound, valid-complete, static-more, short-within}
-use Rattle.descriptor.proofs.Machines.{field-sound, field-complete, method-sound, method-complete}
-use Rattle.descriptor.proofs.Unique.{field-unique, method-unique}
+use Rattle.descriptor.proofs.Limit.{valid_sound, valid_complete, static_more, short_within}
+use Rattle.descriptor.proofs.Machines.{field_sound, field_complete, method_sound, method_complete}
+use Rattle.descriptor.proofs.Unique.{field_unique, method_unique}
 
 method-counts : (t : MethodDescriptor) (flags : ℕ) → argument_words t flags ≤ argument_limit
     → argument_answer (method_spelling t) flags ≡ counted (argument_words t flags)
 unfolding argument_answer argument_words
-method-counts t flags l = rw (valid-complete (method_spelling t) flags (t, refl, l), method-begins t)
+method-counts t flags l = rw (valid_complete (method_spelling t) flags (t, refl, l), method-begins t)
 
 no_method : (s : List ℕ) (flags : ℕ) → (ValidDescriptor flags s → ⊥) → (argument_answer s flags).refusal ≡ 5
 unfolding argument_answer
-no_method s flags n = by (is_method flags s) (λ y. absurd (n (valid-sound s flags y))) (λ y. rw y)
+no_method s flags n = by (is_method flags s) (λ y. absurd (n (valid_sound s flags y))) (λ y. rw y)
 
 -- an answer that counts is no refusal
 not-refused : (a : Answer) (n : ℕ) → a ≡ counted n → a.refusal ≡ 5 → ⊥
@@ -36,22 +36,22 @@ answers-unique Refused Refused e = refl
 pub meaning : Meaning
 meaning =
     record {
-      field-sound = field-sound;
-      field-complete = λ s d. rw (← d.1) (field-complete d.0);
-      method-sound = method-sound;
-      method-complete = λ s d. rw (← d.1) (method-complete d.0);
-      field-unique = field-unique;
-      method-unique = method-unique;
+      field_sound = field_sound;
+      field_complete = λ s d. rw (← d.1) (field_complete d.0);
+      method_sound = method_sound;
+      method_complete = λ s d. rw (← d.1) (method_complete d.0);
+      field_unique = field_unique;
+      method_unique = method_unique;
       width_is = width_is;
-      valid-sound = valid-sound;
-      valid-complete = valid-complete;
-      static-more = static-more;
-      short-within = short-within;
-      argument_words-exact = method-counts;
-      argument_words-refused =
+      valid_sound = valid_sound;
+      valid_complete = valid_complete;
+      static_more = static_more;
+      short_within = short_within;
+      argument_words_exact = method-counts;
+      argument_words_refused =
           λ s flags. (
             λ h d. not-refused (argument_answer s flags) (argument_words d.0 flags) (rw (← d.1) (method-counts d.0 flags d.2)) h,
             no_method s flags,
           );
-      answer-unique = answers-unique;
+      answer_unique = answers-unique;
     }

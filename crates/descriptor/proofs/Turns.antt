@@ -15,7 +15,7 @@ use Rattle.descriptor.specs.declared.MethodState.TheVariants.{Begin, Returned}
 use Rattle.descriptor.specs.Machine.{field_next, method_next, is_method_descriptor}
 use Rattle.descriptor.specs.Words.{receiver_words, argument_limit, begun_words, begun_from, is_method, capped, capped_from, counted, refused}
 use Rattle.descriptor.specs.Words.{argument_answer}
-use Rattle.descriptor.proofs.Limit.{parts, short-within, capped-exact, capped-within}
+use Rattle.descriptor.proofs.Limit.{parts, short_within, capped-exact, capped-within}
 
 -- ---- a step of the method machine in the return type
 
@@ -50,7 +50,7 @@ module _ (s : List ℕ) (flags : ℕ) where
   no_grammar e t = rw (sym e ∙ not-true _ t)
 
   pub short-method : {b : Bool} → b ≡ is_method_descriptor s → not b ≡ false → length s ≤ 127 → true ≡ is_method flags s
-  short-method e t l = sym (short-within s flags (sym e ∙ not-false _ t) l)
+  short-method e t l = sym (short_within s flags (sym e ∙ not-false _ t) l)
 
   pub counted-method : {b : Bool} {r p : ℕ} → b ≡ is_method_descriptor s → not b ≡ false → r ≡ receiver_words flags → p ≡ capped_from 0 Begin s
       → leb (r + p) argument_limit ≡ is_method flags s

@@ -166,9 +166,9 @@ mutual
 whole_unique : (t u : FieldType) → type_spelling t ≡ type_spelling u → t ≡ u
 whole_unique t u e = (type_unique t u [] [] (ap (λ (s : List ℕ). s ++ []) e)).0
 
-pub field-unique : (c d : FieldDescriptor) → field_spelling c ≡ field_spelling d → c ≡ d
+pub field_unique : (c d : FieldDescriptor) → field_spelling c ≡ field_spelling d → c ≡ d
 unfolding field_spelling
-field-unique (field t) (field u) e = ap field (whole_unique t u e)
+field_unique (field t) (field u) e = ap field (whole_unique t u e)
 
 -- ---- methods
 
@@ -208,9 +208,9 @@ result-unique (value t) (void «V») e = absurd (value-void t (sym e))
 result-unique (void «V») (value u) e = absurd (value-void u e)
 result-unique (void «V») (void «V») e = refl
 
-pub method-unique : (t u : MethodDescriptor) → method_spelling t ≡ method_spelling u → t ≡ u
+pub method_unique : (t u : MethodDescriptor) → method_spelling t ≡ method_spelling u → t ≡ u
 unfolding method_spelling
-method-unique t u e =
+method_unique t u e =
     let p = parameters-unique t.parameters u.parameters (result_spelling t.result) (result_spelling u.result) (tail e) in
     let r = result-unique t.result u.result p.1 in
     λ i. record { parameters = p.0 i; result = r i }

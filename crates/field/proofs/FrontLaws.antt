@@ -6,8 +6,8 @@ use Rattle.field.specs.Numbers.{numbered, numbered_of}
 use Rattle.field.specs.declared.Numbered.{Numbered}
 
 -- a turn that stores at i leaves what lies after it
-pub rest-stays : (i v : ℕ) (l d : List ℕ) {l' : List ℕ} {j : ℕ} → drop i l ≡ drop i d → l' ≡ set l j v → j ≡ i → drop (i + 1) l' ≡ drop (i + 1) d
-rest-stays i v l d e f g =
+pub rest_stays : (i v : ℕ) (l d : List ℕ) {l' : List ℕ} {j : ℕ} → drop i l ≡ drop i d → l' ≡ set l j v → j ≡ i → drop (i + 1) l' ≡ drop (i + 1) d
+rest_stays i v l d e f g =
     rw (f, g, drop-set-lt (i + 1) l i v (omega arith)) (sym (drop-drop 1 i l) ∙ (ap (λ (s : List ℕ). drop 1 s) e ∙ drop-drop 1 i d))
 
 -- the array at the end: its front over what it was, and how long that front is

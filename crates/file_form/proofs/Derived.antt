@@ -21,7 +21,7 @@ use Rattle.file_form.proofs.File.{file}
 use Rattle.file_form.proofs.Spelled.{Spelled, join, split, begins-at, whole, all_of, spelled-u2, spelled-u4, some-u2, some-u4}
 use Rattle.file_form.proofs.Pool.{Constants, pool-taken, PoolOf, pool-read}
 use Rattle.file_form.proofs.Formed.{head-taken, body-taken, HeadAt, BodyAt, head_read_lem, body-read, head-count}
-use Rattle.file_form.proofs.Unique.{file-unique, one-constant}
+use Rattle.file_form.proofs.Unique.{file-unique, one_constant}
 
 -- ---- an accepted file, by its tests
 
@@ -185,4 +185,4 @@ sound bs bytes z =
     (body-read bs pool.pool p.0 pool.has bytes h.0 (length bs) h.2)
 
 pub derived : Derived
-derived = record { sound = sound; complete = complete; unique = file-unique; one-constant = one-constant }
+derived = record { sound = sound; complete = complete; unique = file-unique; one_constant = one_constant }

@@ -18,7 +18,7 @@ use Rattle.file_form.specs.Grammar.{IsUtf8, IsClassInfo, MemberHolds, All, all_n
 use Rattle.file_form.proofs.Outcome.{on_to, to_same, taken_to}
 use Rattle.file_form.proofs.Spelled.{Spelled, nothing, join, split, ends_at, spelled-taken, spelled-u2, spelled-u4, some_bytes, some-length}
 use Rattle.file_form.proofs.Spelled.{some-u2, some-u4}
-use Rattle.file_form.proofs.Pool.{Constants, utf8-found, utf8-stands, class-found, class-stands, class-count}
+use Rattle.file_form.proofs.Pool.{Constants, utf8-found, utf8-stands, class-found, class-stands, number_of_classes}
 
 -- ---- a number that was taken
 
@@ -333,4 +333,4 @@ head-count bs bytes p q e =
     let a = on_to (taken bs p 2) _ q e in
     let b = on_to (after_class bs a.0) _ q a.2 in
     let c = looked-read bs bytes (class_at bs) a.0 b.0 b.1 in
-    class-count bs (u2 bs a.0) c.1.0 c.1.1
+    number_of_classes bs (u2 bs a.0) c.1.0 c.1.1

@@ -208,9 +208,9 @@ constant-count bs i r f =
     (λ t. omega (arith, ltb-true i (pool_count bs) (and_both (leb 1 i) (ltb i (pool_count bs)) t).1))
     (λ t. stop_to (rw t at f))
 
-pub class-count : (bs : List ℕ) (i r : ℕ) → class_at bs i ≡ To r → 1 ≤ pool_count bs
+pub number_of_classes : (bs : List ℕ) (i r : ℕ) → class_at bs i ≡ To r → 1 ≤ pool_count bs
 unfolding class_at tagged_at
-class-count bs i r f =
+number_of_classes bs i r f =
     let a = on_to (tagged_at bs 7 i) _ r f in
     let b = on_to (constant_at bs i) _ a.0 a.1 in
     constant-count bs i b.0 b.1

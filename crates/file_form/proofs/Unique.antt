@@ -178,8 +178,8 @@ unfolding constant_of_index
 stands-first {i = i} here = rw (eq-eqb i i refl)
 stands-first {i = i} {j = j} (there {d = d} s) = rw (ne_eqb j i (λ e. omega (arith, stands-low s, some-entries d))) (stands-first s)
 
-pub one-constant : (pool : List Constant) (i : ℕ) (c d : Constant) → Stands c i 1 pool → Stands d i 1 pool → c ≡ d
-one-constant pool i c d s t = ap (λ (l : List Constant). get_or l 0 c) (sym (stands-first s) ∙ stands-first t)
+pub one_constant : (pool : List Constant) (i : ℕ) (c d : Constant) → Stands c i 1 pool → Stands d i 1 pool → c ≡ d
+one_constant pool i c d s t = ap (λ (l : List Constant). get_or l 0 c) (sym (stands-first s) ∙ stands-first t)
 
 -- ---- attributes and members
 

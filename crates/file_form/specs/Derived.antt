@@ -11,4 +11,4 @@ pub record Derived : Type 0 where
   -- only one spells them
   pub unique : (f g : ClassFile) → file_spelling f ≡ file_spelling g → f ≡ g
   -- an index of the pool names one constant, so a reference that holds has one string
-  pub one-constant : (pool : List Constant) (i : ℕ) (c d : Constant) → Stands c i 1 pool → Stands d i 1 pool → c ≡ d
+  pub one_constant : (pool : List Constant) (i : ℕ) (c d : Constant) → Stands c i 1 pool → Stands d i 1 pool → c ≡ d

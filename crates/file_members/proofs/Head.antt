@@ -55,10 +55,10 @@ module _ (bs : List ℕ) where
         rw (
           methods-length bs targets,
           text_same bs targets,
-          le-leb _ _ k.fields-room,
-          le-leb _ _ k.methods-room,
-          le-leb _ _ k.text-room,
-          eq-eqb _ _ k.each-target,
+          le-leb _ _ k.fields_room,
+          le-leb _ _ k.methods_room,
+          le-leb _ _ k.text_room,
+          eq-eqb _ _ k.each_target,
         )
         refl
 
@@ -71,10 +71,10 @@ module _ (bs : List ℕ) where
         (rw (methods-length bs targets, text_same bs targets) at h) in
         let k : Lent (members_by bs [] [] [] []) targets fields methods text =
         record {
-          fields-room = leb-true _ _ p.0;
-          methods-room = leb-true _ _ p.1;
-          text-room = leb-true _ _ p.2;
-          each-target = eqb-true _ _ p.3;
+          fields_room = leb-true _ _ p.0;
+          methods_room = leb-true _ _ p.1;
+          text_room = leb-true _ _ p.2;
+          each_target = eqb-true _ _ p.3;
         } in
         rw (head-accepted e) k
 

@@ -19,7 +19,7 @@ use Rattle.file_form.proofs.Spelled.{Spelled, split, begins-at, whole, spelled-u
 use Rattle.file_form.proofs.Pool.{Constants, utf8-found, class-found}
 use Rattle.file_form.proofs.Formed.{attributes-taken, members-taken}
 use Rattle.file_form.proofs.Derived.{Laid, laid, head-ends}
-use Rattle.file_members.specs.Own.{IsMember, AreMembers, no_members, a-member, Own}
+use Rattle.file_members.specs.Own.{IsMember, AreMembers, no_members, a_member, Own}
 
 -- ---- strings
 
@@ -77,7 +77,7 @@ module _ (bs : List ℕ) (pool : List Constant) (end : ℕ) (has : Constants bs 
   members-own lasts k p q (all_more {x = x} {xs = xs} g gs) a =
       let m = split (member_spelling x) (each member_spelling xs) a in
       let o = member-own x p m.mid (get_or lasts k 0) g m.left in
-      rw o.ends (a-member o.is (members-own lasts (k + 1) m.mid q gs m.right))
+      rw o.ends (a_member o.is (members-own lasts (k + 1) m.mid q gs m.right))
 
   counted-own : (ms : List Member) (lasts : List ℕ) (p q : ℕ) → All (MemberHolds pool) ms → Spelled bs p (counted member_spelling ms) q
       → AreMembers pool ms (members_at bs lasts 0 (member_places bs p))
@@ -158,15 +158,15 @@ module _ (bs : List ℕ) (f : ClassFile) (holds : Holds f) (l : Laid bs f) where
   unfolding file_parent
   own-parent n = rw (parent_is, ne_eqb f.super 0 n) (parent-class holds.super n)
 
-  own-fields : AreMembers f.pool f.fields (file_fields bs)
+  fields_own : AreMembers f.pool f.fields (file_fields bs)
   unfolding file_fields field_places
-  own-fields =
+  fields_own =
       rw fields-at
       (counted-own bs f.pool l.pool-end l.has f.fields [] l.head-end bodies.middle holds.fields bodies.fields)
 
-  own-methods : (targets : List ℕ) → AreMembers f.pool f.methods (file_methods bs targets)
+  methods_own : (targets : List ℕ) → AreMembers f.pool f.methods (file_methods bs targets)
   unfolding file_methods method_places
-  own-methods targets =
+  methods_own targets =
       rw methods-at
       (counted-own bs f.pool l.pool-end l.has f.methods targets bodies.middle bodies.end holds.methods bodies.methods)
 
@@ -182,6 +182,6 @@ own bs targets d =
       no_parent = own_no_parent bs d.file d.holds l;
       parent = own-parent bs d.file d.holds l;
       flags = own-flags bs d.file d.holds l;
-      fields = own-fields bs d.file d.holds l;
-      methods = own-methods bs d.file d.holds l targets;
+      fields = fields_own bs d.file d.holds l;
+      methods = methods_own bs d.file d.holds l targets;
     }

@@ -11,7 +11,7 @@ use lib.Dec.{eqb, leb}
 use borrow.Author.Tests.{eqb-true, eqb-false, ne_eqb, leb-true}
 use Rattle.words.specs.Lists.{list_from}
 use Rattle.words.proofs.Bools.{by, and_4}
-use Rattle.words.proofs.ListLaws.{length-list-from, get_d_list-from}
+use Rattle.words.proofs.ListLaws.{length-list-from, get_d_list_from}
 use Rattle.text.specs.Text.{name_at, printable, part_ok}
 use Rattle.linking.specs.Compiler.{New, no_new}
 use Rattle.class_form.specs.Parts.{member_at}
@@ -33,7 +33,7 @@ same-members bs lasts ps n g e h =
     (λ i l.
     let z : 0 + i ≡ i = omega arith in
     let inside : i < n = omega arith in
-    get_d_list-from g 0 n i no_new inside ∙ ap g z ∙ h i inside
+    get_d_list_from g 0 n i no_new inside ∙ ap g z ∙ h i inside
     ∙ sym (ap (λ (k : ℕ). new_of bs (member_at bs (get_or ps i 0)) (get_or lasts k 0)) z)
     ∙ sym (member-at bs lasts 0 ps i (omega arith)))
 
@@ -55,13 +55,13 @@ module _ (bs targets ws : List ℕ) {o : FileOutcome} (y : Yields bs targets o w
   unfolding file_fields
   fields_are =
       same-members bs [] (field_places bs) (field_count ws) (field_at ws) y.fields
-      (λ f h. let i = y.field f h in rw (i.name-is, i.descriptor-is, i.flags-is, y.index f h))
+      (λ f h. let i = y.field f h in rw (i.name_is, i.descriptor_is, i.flags_is, y.index f h))
 
   methods_are : methods_of ws ≡ file_methods bs targets
   unfolding file_methods
   methods_are =
       same-members bs targets (method_places bs) (method_count ws) (method_at ws) y.methods
-      (λ m h. let i = y.method m h in rw (i.name-is, i.descriptor-is, i.flags-is, y.target m h))
+      (λ m h. let i = y.method m h in rw (i.name_is, i.descriptor_is, i.flags_is, y.target m h))
 
 pub supplied : Supplied
 supplied bs targets fields methods text rest bytes e =

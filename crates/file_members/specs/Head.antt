@@ -10,10 +10,10 @@ answer_words o = o.name ∷ o.parent ∷ o.flags ∷ o.field_count ∷ o.method_
 
 -- the lists hold what these words tell, and there is a target for each method
 pub record Lent (o : FileOutcome) (targets fields methods text : List ℕ) : Type 0 where
-  pub fields-room : member_width * o.field_count ≤ length fields
-  pub methods-room : member_width * o.method_count ≤ length methods
-  pub text-room : o.text_length ≤ 4 * length text
-  pub each-target : length targets ≡ o.method_count
+  pub fields_room : member_width * o.field_count ≤ length fields
+  pub methods_room : member_width * o.method_count ≤ length methods
+  pub text_room : o.text_length ≤ 4 * length text
+  pub each_target : length targets ≡ o.method_count
 
 -- of a file's head, and a reading of it with any lists
 pub record HeadTells (head : FileOutcome) (targets fields methods text : List ℕ) (o : FileOutcome) : Type 0 where

@@ -14,7 +14,7 @@ pub record IsMember (pool : List Constant) (m : Member) (x : New) : Type 0 where
 -- one by one, in their order
 pub data AreMembers (pool : List Constant) : List Member → List New → Type 0 where
   no_members : AreMembers pool [] []
-  a-member : {m : Member} {ms : List Member} {x : New} {xs : List New} → IsMember pool m x → AreMembers pool ms xs → AreMembers pool (m ∷ ms) (x ∷ xs)
+  a_member : {m : Member} {ms : List Member} {x : New} {xs : List New} → IsMember pool m x → AreMembers pool ms xs → AreMembers pool (m ∷ ms) (x ∷ xs)
 
 -- what is read of bs, with the lent targets, is what f says
 pub record ReadsAs (bs targets : List ℕ) (f : ClassFile) : Type 0 where

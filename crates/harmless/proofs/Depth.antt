@@ -32,7 +32,7 @@ class-short ws c few h d l =
     let among = ltb-false (class_count ws) c (or-neither (eqb c 0) (ltb (class_count ws) c) h).1 in omega (arith, chain_length ws d)
 
 few-classes : (ws abi : List ℕ) → set_refusal ws abi ≡ 0 → class_count ws ≤ 64
-few-classes ws abi e = ((valid_exactly ws abi).0 e).0.class-count
+few-classes ws abi e = ((valid_exactly ws abi).0 e).0.number_of_classes
 
 -- ---- rows 3 to 6 of a call
 

@@ -402,9 +402,9 @@ of-ask ws abi c i area stubs =
 pub harmless : Harmless
 unfolding read_class_sheet read_unordered_sheet read_abi_sheet class_sheet_refusal unordered_sheet_refusal abi_sheet_refusal widen_sheet narrow_sheet
 harmless = record {
-  read-classes = λ bs ws. read-harmless class_sheet_refusal bs ws;
+  read_classes = λ bs ws. read-harmless class_sheet_refusal bs ws;
   read_unordered = λ bs ws. read-harmless unordered_sheet_refusal bs ws;
-  read-abi = λ bs ws. read-harmless abi_sheet_refusal bs ws;
+  read_abi = λ bs ws. read-harmless abi_sheet_refusal bs ws;
   write = write-harmless;
   widen = λ bs out. blocks-harmless (widen_refusal bs (length out)) (forward (sheet_words bs)) out;
   narrow = λ bs out. blocks-harmless (narrow_refusal bs (length out)) (narrowed (sheet_words bs)) out;
@@ -415,12 +415,12 @@ harmless = record {
   references = references-harmless;
   count = count-harmless;
   arguments = arguments-harmless;
-  class-file = file-harmless;
-  file-head = head-harmless;
-  link-rows = λ ws abi c area stubs missing. (of-link ws abi c area stubs missing).number;
-  missing-rows = λ ws abi missing c. (of-count ws abi missing c).number;
-  ask-rows = λ ws abi c i area stubs. (of-ask ws abi c i area stubs).number;
-  class-rows = λ bs ws. read-few 5 class_sheet_refusal bs ws (sheet-few 5 block_limit class_rows bs (length ws) (omega arith) class-few);
-  abi-rows = λ bs ws. read-few 5 abi_sheet_refusal bs ws (sheet-few 5 abi_block_limit abi_rows bs (length ws) (omega arith) abi-few);
+  class_file = file-harmless;
+  file_head = head-harmless;
+  rows_of_link = λ ws abi c area stubs missing. (of-link ws abi c area stubs missing).number;
+  missing_rows = λ ws abi missing c. (of-count ws abi missing c).number;
+  ask_rows = λ ws abi c i area stubs. (of-ask ws abi c i area stubs).number;
+  rows_of_classes = λ bs ws. read-few 5 class_sheet_refusal bs ws (sheet-few 5 block_limit class_rows bs (length ws) (omega arith) class-few);
+  rows_of_abi = λ bs ws. read-few 5 abi_sheet_refusal bs ws (sheet-few 5 abi_block_limit abi_rows bs (length ws) (omega arith) abi-few);
   unordered_rows = λ bs ws. read-few 3 unordered_sheet_refusal bs ws (sheet-few 3 block_limit loose_rows bs (length ws) (omega arith) loose_few);
 }

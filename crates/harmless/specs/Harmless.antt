@@ -40,9 +40,9 @@ refused_count n = record { refusal = n; words = 0 }
 
 pub record Harmless : Type 0 where
   -- 1. nothing but the number
-  pub read-classes : (bs ws : List ℕ) → Refused (λ o. o.refusal) (refused_reading ws) (read_class_sheet bs ws)
+  pub read_classes : (bs ws : List ℕ) → Refused (λ o. o.refusal) (refused_reading ws) (read_class_sheet bs ws)
   pub read_unordered : (bs ws : List ℕ) → Refused (λ o. o.refusal) (refused_reading ws) (read_unordered_sheet bs ws)
-  pub read-abi : (bs ws : List ℕ) → Refused (λ o. o.refusal) (refused_reading ws) (read_abi_sheet bs ws)
+  pub read_abi : (bs ws : List ℕ) → Refused (λ o. o.refusal) (refused_reading ws) (read_abi_sheet bs ws)
   pub write : (ws bs : List ℕ) → Refused (λ o. o.refusal) (refused_writing bs) (write_class_sheet ws bs)
   pub widen : (bs out : List ℕ) → Refused (λ o. o.refusal) (refused_writing out) (widen_sheet bs out)
   pub narrow : (bs out : List ℕ) → Refused (λ o. o.refusal) (refused_writing out) (narrow_sheet bs out)
@@ -54,18 +54,18 @@ pub record Harmless : Type 0 where
   pub references : (bitmap : List ℕ) (n : ℕ) (list : List ℕ) → Refused (λ o. o.refusal) (refused_bitmap list) (read_references bitmap n list)
   pub count : (bitmap : List ℕ) (n : ℕ) → Refused (λ o. o.refusal) (refused_bitmap []) (count_references bitmap n)
   pub arguments : (s : List ℕ) (flags : ℕ) → Refused (λ o. o.refusal) refused_count (argument_answer s flags)
-  pub class-file : (bs targets fields methods text : List ℕ)
+  pub class_file : (bs targets fields methods text : List ℕ)
       → Refused (λ o. o.refusal) (λ n. refused_by n fields methods text) (read_class_file bs targets fields methods text)
-  pub file-head : (bs : List ℕ) → Refused (λ o. o.refusal) (λ n. refused_by n [] [] []) (class_file_head bs)
+  pub file_head : (bs : List ℕ) → Refused (λ o. o.refusal) (λ n. refused_by n [] [] []) (class_file_head bs)
   -- 2. and which: a link 3 to 15 and 26, an ask 3 to 7, 15 and 16, asking for a count 3 to 6 and 15, a reading 1 to 5, one in any order 1 to 3
-  pub link-rows : (ws abi : List ℕ) (c : ℕ) (area stubs missing : List ℕ) → (link_def ws abi c area stubs missing).outcome.refusal ≢ 0
+  pub rows_of_link : (ws abi : List ℕ) (c : ℕ) (area stubs missing : List ℕ) → (link_def ws abi c area stubs missing).outcome.refusal ≢ 0
       → ((3 ≤ (link_def ws abi c area stubs missing).outcome.refusal) × ((link_def ws abi c area stubs missing).outcome.refusal ≤ 15))
       ⊎ ((link_def ws abi c area stubs missing).outcome.refusal ≡ 26)
-  pub missing-rows : (ws abi missing : List ℕ) (c : ℕ) → (missing_def ws abi missing c).refusal ≢ 0
+  pub missing_rows : (ws abi missing : List ℕ) (c : ℕ) → (missing_def ws abi missing c).refusal ≢ 0
       → ((3 ≤ (missing_def ws abi missing c).refusal) × ((missing_def ws abi missing c).refusal ≤ 6)) ⊎ ((missing_def ws abi missing c).refusal ≡ 15)
-  pub ask-rows : (ws abi : List ℕ) (c i : ℕ) (area stubs : List ℕ) → (ask_def ws abi c i area stubs).refusal ≢ 0
+  pub ask_rows : (ws abi : List ℕ) (c i : ℕ) (area stubs : List ℕ) → (ask_def ws abi c i area stubs).refusal ≢ 0
       → ((3 ≤ (ask_def ws abi c i area stubs).refusal) × ((ask_def ws abi c i area stubs).refusal ≤ 7))
       ⊎ ((15 ≤ (ask_def ws abi c i area stubs).refusal) × ((ask_def ws abi c i area stubs).refusal ≤ 16))
-  pub class-rows : (bs ws : List ℕ) → (read_class_sheet bs ws).refusal ≤ 5
-  pub abi-rows : (bs ws : List ℕ) → (read_abi_sheet bs ws).refusal ≤ 5
+  pub rows_of_classes : (bs ws : List ℕ) → (read_class_sheet bs ws).refusal ≤ 5
+  pub rows_of_abi : (bs ws : List ℕ) → (read_abi_sheet bs ws).refusal ≤ 5
   pub unordered_rows : (bs ws : List ℕ) → (read_unordered_sheet bs ws).refusal ≤ 3

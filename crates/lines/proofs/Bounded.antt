@@ -15,7 +15,7 @@ use Rattle.class_sheet.specs.ClassSheet.{class_width, first_method_word, method_
 use Rattle.words.specs.Rows.{row_word}
 use Rattle.text.specs.Text.{name_length_word, descriptor_length_word}
 use Rattle.class_sheet.specs.Sections.{Sections, Formed, laid_out, sections_of, with_classes, with_fields}
-use Rattle.class_sheet.proofs.Sections.{formed-of, class_of, method-of, class-count, method-count, class-word, method-word}
+use Rattle.class_sheet.proofs.Sections.{formed-of, class_of, method-of, number_of_classes, number_of_methods, class-word, method-word}
 use Rattle.abi_sheet.specs.AbiSheet.{abi_slot_count, abi_slot_name_length, abi_slot_descriptor_length}
 use Rattle.set_rules.specs.Valid.{IsClass, Valid, ValidAbi}
 use Rattle.linking.specs.Chain.{chain}
@@ -27,7 +27,7 @@ use Rattle.linking.specs.Grown.{methods_growing, fields_growing, record_rows, ro
 use Rattle.linking.proofs.Added.{EachNew, not_found, read-room, slot-room, generated-each}
 use Rattle.linking.proofs.Grown.{rows-indices, formed-methods_growing, formed-fields_growing}
 use Rattle.linking.proofs.Appended.{relisting, length-relisting, class-kept, word_kept}
-use Rattle.linking.proofs.MethodsBack.{methods-count, old-method, copied-method, new-method, other-class, own-word, own_first, own-count}
+use Rattle.linking.proofs.MethodsBack.{methods_count, old-method, copied-method, new-method, other-class, own-word, own_first, own-count}
 use Rattle.linking.proofs.LinkedSections.{lies-of, linked-laid, length_record, record_word_lem, record_class, record_slots, formed-recorded}
 use Rattle.lines.specs.Lines.{own_slot, fixed_slot}
 use Rattle.lines.proofs.Lengths.{Short, name-few}
@@ -101,8 +101,8 @@ pub record BoundedIn (s : Sections) : Type 0 where
 
 bounded-laid : (s : Sections) → Formed class_width s → BoundedIn s → Bounded (laid_out s)
 bounded-laid s f b =
-    let n = class-count s in
-    let m = method-count s in
+    let n = number_of_classes s in
+    let m = number_of_methods s in
     record {
       list = λ d k.
           omega (
@@ -159,14 +159,14 @@ module _ (s : Sections) (f : Formed class_width s) (c : ℕ) (some : 1 ≤ c) (a
   classes-grown : class_count grown ≡ length s.classes
   unfolding methods_growing
   classes-grown =
-      class-count (methods_growing s c new)
+      number_of_classes (methods_growing s c new)
       ∙ length-relisting s.classes c first_method_word method_count_word (length s.methods) (row_word s.classes (c - 1) method_count_word + length new)
 
   bounded-methods : Bounded grown
   bounded-methods =
       let count : ℕ = length s.methods in
       let own : ℕ = row_word s.classes (c - 1) method_count_word in
-      let n = methods-count s f c new inside in
+      let n = methods_count s f c new inside in
       let l = classes-grown in
       record {
         list = λ d k.
@@ -350,9 +350,9 @@ pub record Leaves (ws new : List ℕ) (c slots : ℕ) : Type 0 where
   pub own : class_slot_count new c ≡ slots
   pub others : (d : ℕ) → IsClass ws d → d ≢ c → class_slot_count new d ≡ class_slot_count ws d
 
-pub link-leaves : (ws : List ℕ) → Valid ws → (c place words statics : ℕ) (p : Plan) → IsClass ws c → ShortNews p.new_methods
+pub link_leaves : (ws : List ℕ) → Valid ws → (c place words statics : ℕ) (p : Plan) → IsClass ws c → ShortNews p.new_methods
     → class_first_field ws c + length p.indices ≤ field_count ws → Leaves ws (linked_words ws c place words statics p) c (length p.table)
-link-leaves ws v c place words statics p k short inside =
+link_leaves ws v c place words statics p k short inside =
     let l = lies-of ws v.fits in
     let n = l.classes in
     let m = l.fields in
@@ -366,7 +366,7 @@ link-leaves ws v c place words statics p k short inside =
     rw (linked-laid ws v.fits c place words statics p k.0 k.1 inside x.methods x.fields)
     (record {
       bounded = linked-bounded s f c place words statics p k.0 among b short fields;
-      classes = class-count (linked_sections s c place words statics p) ∙ (after-rows s f c place words statics p k.0 among b short fields).0 ∙ sym n;
+      classes = number_of_classes (linked_sections s c place words statics p) ∙ (after-rows s f c place words statics p k.0 among b short fields).0 ∙ sym n;
       own = linked-slots s f c place words statics p k.0 among b short fields c k.0 among
           ∙ record_slots s.classes c place (length p.table) words statics f.classes (omega arith) (omega arith) (omega arith);
       others = λ d i e.

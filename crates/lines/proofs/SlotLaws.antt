@@ -10,7 +10,7 @@ use lib.Dec.{ltb}
 use borrow.Author.Tests.{ltb-false}
 use Rattle.words.proofs.Bools.{or-neither}
 use Rattle.words.specs.Lists.{list_from}
-use Rattle.words.proofs.ListLaws.{rest_from, rest-start, rest-turn, rest_end, length-list-from, get_d_list-from}
+use Rattle.words.proofs.ListLaws.{rest_from, rest-start, rest-turn, rest_end, length-list-from, get_d_list_from}
 use Rattle.class_sheet.specs.ClassSheet.{class_count, text_of, text_length, class_name, class_instance_words, class_table_place, class_slot_count, class_limit, text_limit}
 use Rattle.abi_sheet.specs.AbiSheet.{abi_text_of, abi_text_length, abi_text_limit}
 use Rattle.linking.specs.Vtable.{Entry, empty, read_entry, read_slot, table_entries}
@@ -54,8 +54,8 @@ module _ (ws text abi labels area : List ℕ) (c : ℕ) where
         let m = length-list-from (entry_at ts ms) 0 n in
         let k = length-list-from (read_slot ws text abi labels area c) 0 (min (class_slot_count ws c) 1024) in
         let e : entry_at ts ms (0 + i) ≡ read_slot ws text abi labels area c (0 + i) =
-        sym (get_d_list-from (entry_at ts ms) 0 n i empty h) ∙ ap (λ (T : List Entry). get_or T i empty) table
-        ∙ get_d_list-from (read_slot ws text abi labels area c) 0 (min (class_slot_count ws c) 1024) i empty (omega arith) in
+        sym (get_d_list_from (entry_at ts ms) 0 n i empty h) ∙ ap (λ (T : List Entry). get_or T i empty) table
+        ∙ get_d_list_from (read_slot ws text abi labels area c) 0 (min (class_slot_count ws c) 1024) i empty (omega arith) in
         rw z at (ap (λ (x : Entry). x.word) e)
 
     -- and its class is the one that declares what Reading finds there
@@ -63,7 +63,7 @@ module _ (ws text abi labels area : List ℕ) (c : ℕ) where
     unfolding slot_class
     slot-class i h =
         let z : 0 + i ≡ i = omega arith in
-        let e = get_d_list-from (slot_class ws text abi labels area c) 0 n i 0 h in
+        let e = get_d_list_from (slot_class ws text abi labels area c) 0 n i 0 h in
         sym (get_or-take n cs i 0 h) ∙ ap (λ (l : List ℕ). get_or l i 0) classes ∙ e ∙ rw (z, slot-word i h)
 
     module _ (p : List ℕ × ℕ) {q : List ℕ × ℕ} (i : ℕ) {j k l w m d : ℕ} (h : i < n) (at-word : j ≡ i) (word : w ≡ get_or ts j 0) (at_mark : k ≡ i)

@@ -48,7 +48,7 @@ module _ (ws : List ℕ) (c : ℕ) (p : Plan) (new : List New) (methods : p.new_
     room_fields n =
         let a = (neither (is_none p.new_methods) (is_none p.new_fields) _ _ full).1 n in
         can_grow_lem ws p.new_fields (field_count ws) (class_first_field ws c) (class_field_count ws c) (valid.class c (some, among)).fields a
-        (fields-end ws p.new_fields valid.class-count valid.interface-count valid.compiler-count (class_field_count ws c) valid.method-count a)
+        (fields-end ws p.new_fields valid.number_of_classes valid.number_of_interfaces valid.number_of_compilers (class_field_count ws c) valid.number_of_methods a)
         ((neither (is_none p.new_methods) (is_none p.new_fields) _ _ short).1 n)
 
     room-methods : is_none p.new_methods ≡ false
@@ -57,7 +57,7 @@ module _ (ws : List ℕ) (c : ℕ) (p : Plan) (new : List New) (methods : p.new_
     room-methods n =
         let a = (neither (is_none p.new_methods) (is_none p.new_fields) _ _ full).0 n in
         can_grow_lem ws p.new_methods (method_count ws) (class_first_method ws c) (class_method_count ws c) (valid.class c (some, among)).methods a
-        (methods-end ws p.new_methods valid.class-count valid.interface-count valid.compiler-count (class_method_count ws c) valid.field-count a)
+        (methods-end ws p.new_methods valid.number_of_classes valid.number_of_interfaces valid.number_of_compilers (class_method_count ws c) valid.number_of_fields a)
         ((neither (is_none p.new_methods) (is_none p.new_fields) _ _ short).0 n)
 
     -- ---- the class words
@@ -93,7 +93,7 @@ pub record Finish (ws abi : List ℕ) (c : ℕ) (area slots marks : List ℕ) (n
   pub short-area : length area ≤ 4294967295
   pub methods : p.new_methods ≡ methods_of ws c new
   pub fields : p.new_fields ≡ fields_of ws c new
-  pub slot-count : length p.table ≡ n
+  pub slot_count : length p.table ≡ n
   pub table_is : entries_of slots marks n ≡ p.table
   pub words_are : words ≡ new_words ws (text_of ws) abi (abi_text_of abi) c
   pub statics_are : statics ≡ new_statics ws (text_of ws) c
@@ -103,7 +103,7 @@ module _ (ws abi : List ℕ) (c : ℕ) (area stubs slots marks missing : List �
     (f : Finish ws abi c area slots marks n words statics new p) where
   room-plan : room_row ws c (members_plan ws c new) area stubs missing n ≡ room_row ws c p area stubs missing (length p.table)
   unfolding room_row
-  room-plan = rw (full-plan ws c p new f.methods f.fields, short-plan ws c p new f.methods f.fields, f.slot-count)
+  room-plan = rw (full-plan ws c p new f.methods f.fields, short-plan ws c p new f.methods f.fields, f.slot_count)
 
   row-refuses : {row : ℕ} → row ≡ room_row ws c p area stubs missing (length p.table) → row ≢ 0
       → refused_link row ws area missing ≡ finish_link ws abi c area stubs missing p
@@ -140,6 +140,6 @@ module _ (ws abi : List ℕ) (c : ℕ) (area stubs slots marks missing : List �
       let r = room-is ws c p area stubs missing (length p.table) (sym room-plan ∙ e) in
       let w = words-linked ws c p new f.methods f.fields f.valid f.some f.among r.lists r.set-has (next_free area) words statics
       f.indices-fit in
-      let t = table-linked area slots marks stubs n (rw f.slot-count at r.area-has) f.short-area c in
+      let t = table-linked area slots marks stubs n (rw f.slot_count at r.area-has) f.short-area c in
       let m = counted-after missing c (parent_of ws c) (entries_of slots marks n) ws refl f.some f.among r.list-has in
-      rw (r.lists, r.area-has, r.set-has, r.list-has, t, m, f.table_is, ← f.slot-count, w, f.words_are, f.statics_are)
+      rw (r.lists, r.area-has, r.set-has, r.list-has, t, m, f.table_is, ← f.slot_count, w, f.words_are, f.statics_are)

@@ -51,13 +51,13 @@ link_outcome r ws area missing = record { outcome = outcome r ws area; missing =
 -- row 3 accepts the sheets, and the texts are theirs
 pub record Fitting (ws abi text labels : List ℕ) : Type 0 where
   pub fits : set_fits ws abi ≡ true
-  pub text-is : text ≡ text_of ws
+  pub text_is : text ≡ text_of ws
   pub labels_are : labels ≡ abi_text_of abi
 
 -- rows 3 to 5 accept them
 pub record Texts (ws abi text labels : List ℕ) : Type 0 where
   pub set : set_refusal ws abi ≡ 0
-  pub text-is : text ≡ text_of ws
+  pub text_is : text ≡ text_of ws
   pub labels_are : labels ≡ abi_text_of abi
 
 -- and rows 6, 7 and 26 the class and the area

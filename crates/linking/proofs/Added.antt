@@ -230,10 +230,10 @@ module _ (ws abi : List ℕ) (v : Valid ws) (w : ValidAbi abi) where
   Within m = is_method (method_flags ws m) (method_descriptor ws text m) ≡ true
 
   method-within : (m : ℕ) → m < method_count ws → Within m
-  method-within m h = meaning.valid-complete (method_descriptor ws text m) (method_flags ws m) (v.method m h).derivation
+  method-within m h = meaning.valid_complete (method_descriptor ws text m) (method_flags ws m) (v.method m h).derivation
 
   slot-within : (s flags : ℕ) → s < abi_slot_count abi → is_method flags (abi_slot_descriptor abi labels s) ≡ true
-  slot-within s flags h = meaning.static-more _ flags (meaning.valid-complete _ 0 (w.slot s h).derivation)
+  slot-within s flags h = meaning.static_more _ flags (meaning.valid_complete _ 0 (w.slot s h).derivation)
 
   -- its owner's link state is 3: a class of the set holds it
   owned_within : (m : ℕ) → eqb (owner_state ws m) 3 ≡ true → Within m

@@ -16,13 +16,13 @@ use Rattle.words.specs.declared.Found.TheVariants.{At, Nothing}
 use Rattle.words.proofs.Bools.{by}
 use Rattle.class_sheet.specs.ClassSheet.{method_limit, field_limit, interface_limit, class_parent, class_first_method, class_method_count, class_first_field, class_field_count, class_first_interface, class_interface_count, method_target}
 use Rattle.linking.specs.Chain.{list_count, own_methods, own_fields, own_interfaces, parent_of, chain_of, chain, method_is, own_target, find_by_target, own_method}
-use Rattle.words.proofs.ListLaws.{length-list-from, get_d_list-from, numbers-within, find-member, find-passes, found-by}
+use Rattle.words.proofs.ListLaws.{length-list-from, get_d_list_from, numbers-within, find-member, find-passes, found-by}
 
 -- ---- parents
 
-pub parent-below : (ws : List ℕ) (c : ℕ) → 0 < c → parent_of ws c < c
+pub parent_below : (ws : List ℕ) (c : ℕ) → 0 < c → parent_of ws c < c
 unfolding parent_of
-parent-below ws c h = by (ltb (class_parent ws c) c) (λ t. rw t (ltb-true _ _ t)) (λ f. rw f h)
+parent_below ws c h = by (ltb (class_parent ws c) c) (λ t. rw t (ltb-true _ _ t)) (λ f. rw f h)
 
 pub parent-within : (ws : List ℕ) (c : ℕ) → parent_of ws c ≤ c
 unfolding parent_of
@@ -46,7 +46,7 @@ chain-bound ws (suc k) zero zero h g = refl
 chain-bound ws (suc k) zero (suc c) h g = absurd (omega arith)
 chain-bound ws (suc k) (suc j) zero h g = refl
 chain-bound ws (suc k) (suc j) (suc c) h g =
-    let b : parent_of ws (suc c) < suc c = parent-below ws (suc c) (omega arith) in
+    let b : parent_of ws (suc c) < suc c = parent_below ws (suc c) (omega arith) in
     ap (λ (l : List ℕ). suc c ∷ l) (chain-bound ws k j (parent_of ws (suc c)) (omega arith) (omega arith))
 
 pub chain-none : (ws : List ℕ) (c : ℕ) → c ≡ 0 → chain ws c ≡ []
@@ -58,7 +58,7 @@ pub chain_more : (ws : List ℕ) (c : ℕ) → 0 < c → chain ws c ≡ c ∷ ch
 unfolding chain chain_of
 chain_more ws zero h = absurd (omega arith)
 chain_more ws (suc c) h =
-    let b : parent_of ws (suc c) < suc c = parent-below ws (suc c) h in
+    let b : parent_of ws (suc c) < suc c = parent_below ws (suc c) h in
     ap (λ (l : List ℕ). suc c ∷ l) (chain-bound ws c (parent_of ws (suc c)) (parent_of ws (suc c)) (omega arith) (omega arith))
 
 length-chain-of : (ws : List ℕ) (k c : ℕ) → length (chain_of ws k c) ≤ k
@@ -126,7 +126,7 @@ module _ (first count limit : ℕ) where
   list_length = length-list-from (λ k. k) first (list_count first count limit)
 
   pub list_at : (i : ℕ) → i < length (numbers first (list_count first count limit)) → get_or (numbers first (list_count first count limit)) i 0 ≡ first + i
-  list_at i h = let e = list_length in get_d_list-from (λ k. k) first (list_count first count limit) i 0 (omega arith)
+  list_at i h = let e = list_length in get_d_list_from (λ k. k) first (list_count first count limit) i 0 (omega arith)
 
   pub list-room : (m : ℕ) → Memᴰ m (numbers first (list_count first count limit)) → m < limit
   list-room m h = omega (arith, numbers-within first (list_count first count limit) m h)

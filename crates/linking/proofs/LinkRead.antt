@@ -15,7 +15,7 @@ use Rattle.class_sheet.specs.ClassSheet.{class_width, member_width, first_method
 use Rattle.words.specs.Rows.{row_word}
 use Rattle.words.specs.Words.{AreBytes}
 use Rattle.class_sheet.specs.Sections.{Sections, Formed, laid_out, sections_of, with_classes, with_fields}
-use Rattle.class_sheet.proofs.Sections.{class-count, method-count, interface-count, compiler-count, class-word, method-word, field-word, interface-word, compiler-word, text-of, formed-of, class_of, method-of, field_of, interface-of, compiler-of, text-of-words}
+use Rattle.class_sheet.proofs.Sections.{number_of_classes, number_of_methods, number_of_interfaces, number_of_compilers, class-word, method-word, field-word, interface-word, compiler-word, text-of, formed-of, class_of, method-of, field_of, interface-of, compiler-of, text-of-words}
 use Rattle.set_rules.specs.Valid.{Valid}
 use Rattle.linking.specs.Compiler.{New, no_new}
 use Rattle.linking.specs.Set.{new_text}
@@ -26,8 +26,8 @@ use Rattle.linking.proofs.Grown.{index-other, length-row-indices}
 use Rattle.linking.proofs.LinkedSections.{length_record, record_word_lem, formed-recorded, lies-of, linked-laid}
 use Rattle.linking.proofs.LinkedBack.{Untouched, early, Left, linked-left, linked-still, still-num, left-num}
 use Rattle.linking.proofs.FieldsBack as back
-use Rattle.linking.proofs.FieldsBack.{fields-count, old-field, copied-field, copied-index, new-field, fields-text}
-use Rattle.linking.proofs.MethodsBack.{methods-count, copied-method, new-method, own_first, own-count, methods-text, read_name, read-descriptor}
+use Rattle.linking.proofs.FieldsBack.{fields_count, old-field, copied-field, copied-index, new-field, fields-text}
+use Rattle.linking.proofs.MethodsBack.{methods_count, copied-method, new-method, own_first, own-count, methods-text, read_name, read-descriptor}
 
 -- ---- whichever list grows
 
@@ -115,18 +115,18 @@ module _ (ws : List ℕ) (c place words statics : ℕ) (p : Plan) (some : 1 ≤ 
   after =
       let z = lies-of ws fits in
       record {
-        classes = class-count g ∙ left.classes ∙ sym z.classes;
+        classes = number_of_classes g ∙ left.classes ∙ sym z.classes;
         others = λ d k l h b n. class-here d k l h b (left.others (d - 1) k (λ e. n (omega arith)));
         own = λ k b u. class-here c k some among b (left.kept k u);
-        methods = omega (arith, method-count g, left.more-methods, z.methods);
+        methods = omega (arith, number_of_methods g, left.more-methods, z.methods);
         method = λ m k h b.
             method-word g left.formed m k (omega (arith, left.more-methods, z.methods)) b
             ∙ ap (λ (r : List ℕ). get_or r k 0) (left.methods m (omega (arith, z.methods))) ∙ sym (method-of ws fits m k h b);
-        interfaces = interface-count g ∙ ap length left.interfaces ∙ sym z.interfaces;
+        interfaces = number_of_interfaces g ∙ ap length left.interfaces ∙ sym z.interfaces;
         interface = λ i h.
             interface-word g left.formed i (omega (arith, ap length left.interfaces, z.interfaces))
             ∙ ap (λ (x : List ℕ). get_or x i 0) left.interfaces ∙ sym (interface-of ws fits i h);
-        compilers = compiler-count g ∙ ap length left.compilers ∙ sym z.compilers;
+        compilers = number_of_compilers g ∙ ap length left.compilers ∙ sym z.compilers;
         compiler = λ i h.
             compiler-word g left.formed i (omega (arith, ap length left.compilers, z.compilers))
             ∙ ap (λ (x : List ℕ). get_or x i 0) left.compilers ∙ sym (compiler-of ws fits i h);
@@ -181,11 +181,11 @@ module _ (ws : List ℕ) (c place words statics : ℕ) (p : Plan) (some : 1 ≤ 
     own_is : row_word num.classes (c - 1) method_count_word ≡ class_method_count ws c
     own_is = still method_count_word (omega arith) ∙ sym (own_of method_count_word (omega arith))
 
-    count-is : length num.methods ≡ method_count ws
-    count-is = sym (lies-of ws fits).methods
+    count_is : length num.methods ≡ method_count ws
+    count_is = sym (lies-of ws fits).methods
 
     num_in : row_word num.classes (c - 1) first_method_word + row_word num.classes (c - 1) method_count_word ≤ length num.methods
-    num_in = omega (arith, methods, first-is, own_is, count-is)
+    num_in = omega (arith, methods, first-is, own_is, count_is)
 
     among-num : c ≤ length num.classes
     among-num = omega (arith, within, is-num.classes)
@@ -203,19 +203,19 @@ module _ (ws : List ℕ) (c place words statics : ℕ) (p : Plan) (some : 1 ≤ 
     new_word : (j k : ℕ) → j < length new → k < member_width
         → method_word grown (method_count ws + (class_method_count ws c + j)) k
         ≡ get_or (member_row (num.bytes + length (new_text (take j new))) (get_or new j no_new)) k 0
-    new_word j k h b = rw (count-is, own_is) at (new-method num is-num.formed c new num_in k b j h)
+    new_word j k h b = rw (count_is, own_is) at (new-method num is-num.formed c new num_in k b j h)
 
     added : Added ws grown c new
     added = record {
-      methods = rw (count-is, own_is) at (methods-count num is-num.formed c new num_in);
-      first = own_first num is-num.formed c new num_in some among-num ∙ count-is;
+      methods = rw (count_is, own_is) at (methods_count num is-num.formed c new num_in);
+      first = own_first num is-num.formed c new num_in some among-num ∙ count_is;
       many = own-count num is-num.formed c new num_in some among-num ∙ rw own_is;
       text = methods-text num is-num.formed c new num_in method-bytes ∙ ap (λ (t : List ℕ). t ++ new_text new) (sym (text-of-words ws fits));
       copied = λ j k h b.
-          (rw (count-is, first-is) at (copied-method num is-num.formed c new num_in k b j (omega (arith, own_is))))
+          (rw (count_is, first-is) at (copied-method num is-num.formed c new num_in k b j (omega (arith, own_is))))
           ∙ sym (method-of ws fits (class_first_method ws c + j) k (omega (arith, methods)) b);
-      new-name = λ j h. rw (count-is, own_is) at (read_name num is-num.formed c new num_in method-bytes j h);
-      new-descriptor = λ j h. rw (count-is, own_is) at (read-descriptor num is-num.formed c new num_in method-bytes j h);
+      new-name = λ j h. rw (count_is, own_is) at (read_name num is-num.formed c new num_in method-bytes j h);
+      new-descriptor = λ j h. rw (count_is, own_is) at (read-descriptor num is-num.formed c new num_in method-bytes j h);
       new-flags = λ j h. new_word j 4 h (omega arith);
       new-target = λ j h. new_word j 5 h (omega arith);
     }
@@ -239,14 +239,14 @@ module _ (ws : List ℕ) (c place words statics : ℕ) (p : Plan) (some : 1 ≤ 
     first_field : row_word rec.classes (c - 1) first_field_word ≡ class_first_field ws c
     first_field = stays first_field_word (omega arith) (omega arith) (omega arith) (omega arith) (omega arith)
 
-    own-fields : row_word rec.classes (c - 1) field_count_word ≡ class_field_count ws c
-    own-fields = stays field_count_word (omega arith) (omega arith) (omega arith) (omega arith) (omega arith)
+    fields_own : row_word rec.classes (c - 1) field_count_word ≡ class_field_count ws c
+    fields_own = stays field_count_word (omega arith) (omega arith) (omega arith) (omega arith) (omega arith)
 
     fields_are : length rec.fields ≡ field_count ws
     fields_are = sym (lies-of ws fits).fields
 
     rec_in : row_word rec.classes (c - 1) first_field_word + row_word rec.classes (c - 1) field_count_word ≤ length rec.fields
-    rec_in = omega (arith, fields, first_field, own-fields, fields_are)
+    rec_in = omega (arith, fields, first_field, fields_own, fields_are)
 
     among-rec : c ≤ length rec.classes
     among-rec = omega (arith, within, length_record s.classes c place (length p.table) words statics)
@@ -264,23 +264,23 @@ module _ (ws : List ℕ) (c place words statics : ℕ) (p : Plan) (some : 1 ≤ 
     new-field-word : (j k : ℕ) → j < length more-fields → k < member_width
         → field_word grown-fields (field_count ws + (class_field_count ws c + j)) k
         ≡ get_or (member_row (rec.bytes + length (new_text (take j more-fields))) (get_or more-fields j no_new)) k 0
-    new-field-word j k h b = rw (fields_are, own-fields) at (new-field rec rec-formed c p.indices more-fields rec_in k b j h)
+    new-field-word j k h b = rw (fields_are, fields_own) at (new-field rec rec-formed c p.indices more-fields rec_in k b j h)
 
     fields-added : FieldsAdded ws grown-fields c p.indices more-fields
     fields-added = record {
-      fields = rw (fields_are, own-fields) at (fields-count rec rec-formed c p.indices more-fields rec_in);
+      fields = rw (fields_are, fields_own) at (fields_count rec rec-formed c p.indices more-fields rec_in);
       first = back.own_first rec rec-formed c p.indices more-fields rec_in some among-rec ∙ fields_are;
-      many = back.own-count rec rec-formed c p.indices more-fields rec_in some among-rec ∙ rw own-fields;
+      many = back.own-count rec rec-formed c p.indices more-fields rec_in some among-rec ∙ rw fields_own;
       text = fields-text rec rec-formed c p.indices more-fields rec_in field-bytes
           ∙ ap (λ (t : List ℕ). t ++ new_text more-fields) (sym (text-of-words ws fits));
       old = λ m k h b.
           old-field rec rec-formed c p.indices more-fields rec_in k b m (omega (arith, fields_are)) ∙ sym (field_of ws fits m k h b);
       copied = λ j k h b n.
-          (rw (fields_are, first_field) at (copied-field rec rec-formed c p.indices more-fields rec_in k b j (omega (arith, own-fields)) n))
+          (rw (fields_are, first_field) at (copied-field rec rec-formed c p.indices more-fields rec_in k b j (omega (arith, fields_own)) n))
           ∙ sym (field_of ws fits (class_first_field ws c + j) k (omega (arith, fields)) b);
-      copied-index = λ j h l. rw fields_are at (copied-index rec rec-formed c p.indices more-fields rec_in j (omega (arith, own-fields)) l);
-      new-name = λ j h. rw (fields_are, own-fields) at (back.read_name rec rec-formed c p.indices more-fields rec_in field-bytes j h);
-      new-descriptor = λ j h. rw (fields_are, own-fields) at (back.read-descriptor rec rec-formed c p.indices more-fields rec_in field-bytes j h);
+      copied-index = λ j h l. rw fields_are at (copied-index rec rec-formed c p.indices more-fields rec_in j (omega (arith, fields_own)) l);
+      new-name = λ j h. rw (fields_are, fields_own) at (back.read_name rec rec-formed c p.indices more-fields rec_in field-bytes j h);
+      new-descriptor = λ j h. rw (fields_are, fields_own) at (back.read-descriptor rec rec-formed c p.indices more-fields rec_in field-bytes j h);
       new-flags = λ j h. new-field-word j 4 h (omega arith);
       new-index = λ j h. new-field-word j 5 h (omega arith);
     }

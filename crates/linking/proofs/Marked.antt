@@ -63,11 +63,11 @@ pub record Marked : Type 0 where
   -- "parent words 3, fields I, J, I: 3, 4, 6; words 7"
   pub parent-words : answers under_three both ≡ (0, 1, 0) ∷ (0, 3, 0) ∷ []
   pub parent-words-indices : indices_of 2 (after under_three both) ≡ 3 ∷ 4 ∷ 6 ∷ []
-  pub parent-words_total : words_of 2 (after under_three both) ≡ 7
+  pub parent_words_total : words_of 2 (after under_three both) ≡ 7
   -- "ABI words 3, runtime words 0: 4294967295, 4294967294, 4294967292; words 3"
   pub abi-words : answers given-three (link 1 ∷ []) ≡ (0, 1, 0) ∷ []
   pub abi-words-indices : indices_of 1 (after given-three (link 1 ∷ [])) ≡ 4294967295 ∷ 4294967294 ∷ 4294967292 ∷ []
-  pub abi-words_total : words_of 1 (after given-three (link 1 ∷ [])) ≡ 3
+  pub abi_words_total : words_of 1 (after given-three (link 1 ∷ [])) ≡ 3
   -- "total 7, indices 0, 1, 3 become 3, 4, 6"
   pub relative : answers (generated-of 7 (three 0 1 3)) (link 1 ∷ []) ≡ (0, 1, 0) ∷ []
   pub relative-indices : indices_of 1 (after (generated-of 7 (three 0 1 3)) (link 1 ∷ [])) ≡ 3 ∷ 4 ∷ 6 ∷ []
@@ -81,7 +81,7 @@ pub record Marked : Type 0 where
   pub static-arguments : argument_answer (text "(IJ)V") 9 ≡ counted 3
   pub void_argument : argument_answer (text "(V)V") 1 ≡ refused
   -- "Q declares foo, target 9000, compiler slots 0, 0, 0, 0, 0, 9000; built child declares foo: 11"
-  pub compiler-slots : answers compiler-slot all_three ≡ (0, 1, 4) ∷ (0, 7, 6) ∷ (11, 0, 0) ∷ []
+  pub compiler_slots : answers compiler-slot all_three ≡ (0, 1, 4) ∷ (0, 7, 6) ∷ (11, 0, 0) ∷ []
   pub compiler-table : table_of 2 (after compiler-slot both) ≡ 901 ∷ 902 ∷ 903 ∷ 904 ∷ 905 ∷ 9000 ∷ []
   pub child_unchanged : after compiler-slot all_three ≡ after compiler-slot both
   -- "fresh area; interface 1, one slot, at 1; class 2, two slots, at 4; ask: place 9, nodes 0, next free 11. Again: 9, nodes 1."
@@ -95,10 +95,10 @@ marked =
     record {
       parent-words = refl;
       parent-words-indices = refl;
-      parent-words_total = refl;
+      parent_words_total = refl;
       abi-words = refl;
       abi-words-indices = refl;
-      abi-words_total = refl;
+      abi_words_total = refl;
       relative = refl;
       relative-indices = refl;
       mixed = refl;
@@ -108,7 +108,7 @@ marked =
       instance-arguments = refl;
       static-arguments = refl;
       void_argument = refl;
-      compiler-slots = refl;
+      compiler_slots = refl;
       compiler-table = refl;
       child_unchanged = refl;
       asked = refl;

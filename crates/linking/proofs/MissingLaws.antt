@@ -15,7 +15,7 @@ use Rattle.words.specs.declared.Found.{Found}
 use Rattle.words.specs.declared.Found.TheVariants.{At, Nothing}
 use Rattle.words.proofs.Bools.{by}
 use Rattle.words.proofs.Lists.{part_at, part_ext}
-use Rattle.words.proofs.ListLaws.{length-list-from, get_d_list-from}
+use Rattle.words.proofs.ListLaws.{length-list-from, get_d_list_from}
 use Rattle.linking.specs.Chain.{on_found}
 use Rattle.linking.specs.Vtable.{Entry, empty, Built, built}
 use Rattle.linking.specs.Set.{write_at}
@@ -107,7 +107,7 @@ packed-bit bs j h =
     let s : 1 + j / 32 ≡ suc (j / 32) = omega arith in
     let k : 0 + j / 32 ≡ j / 32 = omega arith in
     let e : 32 * (j / 32) + j % 32 ≡ j = omega arith in
-    rw (s, get_d_list-from (λ k. bits_from bs (32 * k) 32) 0 32 (j / 32) 0 (omega arith), k, bit_at bs (32 * (j / 32)) 32 (j % 32) (omega arith), e)
+    rw (s, get_d_list_from (λ k. bits_from bs (32 * k) 32) 0 32 (j / 32) 0 (omega arith), k, bit_at bs (32 * (j / 32)) 32 (j % 32) (omega arith), e)
     (bit_is (get_or bs j false))
 
 -- ---- a class's words in the list
@@ -126,9 +126,9 @@ module _ (list xs : List ℕ) (c : ℕ) (many : length xs ≡ missing_width) (ro
   pub own-words : take missing_width (drop (missing_at c) (write_at list (missing_at c) xs)) ≡ xs
   own-words = rw (append-nil xs) at (part-again list (missing_at c) xs [] (omega arith) missing_width (sym many))
 
-  pub other-words : (d : ℕ) → 1 ≤ c → 1 ≤ d → d ≢ c
+  pub other_words : (d : ℕ) → 1 ≤ c → 1 ≤ d → d ≢ c
       → take missing_width (drop (missing_at d) (write_at list (missing_at c) xs)) ≡ take missing_width (drop (missing_at d) list)
-  other-words d some one n =
+  other_words d some one n =
       part_ext 0 (write_at list (missing_at c) xs) list (missing_at d) missing_width (length-write list (missing_at c) xs (omega arith))
       (λ i h b.
       by (ltb i (missing_at c))

@@ -17,7 +17,7 @@ use Rattle.class_sheet.specs.ClassSheet.{text_of, class_first_method, class_meth
 use Rattle.set_rules.specs.Valid.{IsClass, Valid}
 use Rattle.linking.specs.Chain.{list_count, own_methods, parent_of, chain, is_private, is_static, is_virtual, method_is, same_methods, SameSignature}
 use Rattle.linking.specs.Packages.{is_public, is_protected, package_at, open_to, is_overridden, overridden_in, reached_with, overridden_along, overridden, Above, Instance, Virtual, Open, public, protected, in_package, Overrides, open_method, through, OverridesMeaning}
-use Rattle.linking.proofs.ChainLaws.{parent-below, parent-within, chain-none, chain_more, chain-within}
+use Rattle.linking.proofs.ChainLaws.{parent_below, parent-within, chain-none, chain_more, chain-within}
 
 -- ---- elements that pass a test
 
@@ -59,7 +59,7 @@ chain-above ws zero c b h i =
     let e : c ≡ 0 = omega arith in absurd (mathlib.Core.List.Memᴰ.not-nil (rw (e, chain-none ws 0 refl) at h))
 chain-above ws (suc bound) c {a} {b} l h i =
     let r = chain-within ws c b h in
-    let f = parent-below ws c (omega arith) in
+    let f = parent_below ws c (omega arith) in
     ⊎_elim (λ (e : b ≡ c). rw (← e) i) (λ j. up (chain-above ws bound (parent_of ws c) (omega arith) j i))
     (mathlib.Core.List.Memᴰ.cases_cons (rw (chain_more ws c (omega arith)) at h))
   where
@@ -277,7 +277,7 @@ module _ (ws text : List ℕ) where
         (λ t. absurd (mathlib.Core.List.Memᴰ.not-nil (rw (eqb-true p 0 t, chain-none ws 0 refl) at h)))
         (λ t.
         let n = eqb-false p 0 t in
-        let f = parent-below ws p (omega arith) in
+        let f = parent_below ws p (omega arith) in
         elim (mathlib.Core.List.Memᴰ.append_cases (overridden_in same ws text m R p) (rw (chain_more ws p (omega arith)) at h)) [
           | inl i ↦ (let r = here_of m p k R i in
               let t = s r.class r.reached in
@@ -311,7 +311,7 @@ module _ (ws text : List ℕ) where
           | inl i ↦ i
           | inr i ↦ (let w = chain-within ws p r.from i in
               let v = chain-within ws (parent_of ws r.from) p r.above in
-              let u = parent-below ws r.from w.0 in absurd (omega arith))
+              let u = parent_below ws r.from w.0 in absurd (omega arith))
         ]
 
     full-next : (R : List ℕ) (p : ℕ) → 0 < p → p < c → Full R p → Full (reached_with same ws text m R p) (parent_of ws p)
@@ -338,7 +338,7 @@ module _ (ws text : List ℕ) where
     met-walk zero p k a R b l full i r = absurd (let w = chain-within ws p a i in omega arith)
     met-walk (suc bound) p k a R b l full i r =
         let w = chain-within ws p a i in
-        let f = parent-below ws p (omega arith) in
+        let f = parent_below ws p (omega arith) in
         rw (chain_more ws p (omega arith))
         (⊎_elim
         (λ (q : a ≡ p).
@@ -403,7 +403,7 @@ module _ (ws text : List ℕ) where
     overrides-overridden {a} {k} h o =
         let r = overrides-met o in
         rw (virtual_true r.0)
-        (met-walk (parent_of ws c) (parent_of ws c) k a (c ∷ []) (omega arith) (parent-below ws c h) full_start (met-above r.1) r.1)
+        (met-walk (parent_of ws c) (parent_of ws c) k a (c ∷ []) (omega arith) (parent_below ws c h) full_start (met-above r.1) r.1)
 
     -- what is overridden has m's signature
     pub overridden-same : (k : ℕ) → Memᴰ m (own_methods ws c) → Memᴰ k (overridden same ws text c m) → SameSignature ws text m k
@@ -426,7 +426,7 @@ overrides-meaning ws valid c m a k class own above mine = (there, back)
 
     among : {d : ℕ} → Memᴰ d (chain ws (parent_of ws c)) → IsClass ws d
     among {d} i =
-        let w = chain-within ws (parent_of ws c) d i in let f = parent-below ws c class.0 in
+        let w = chain-within ws (parent_of ws c) d i in let f = parent_below ws c class.0 in
         (omega arith, omega arith)
 
     owner : {d : ℕ} → Memᴰ d (chain ws (parent_of ws c)) → Memᴰ k (own_methods ws d) → d ≡ a

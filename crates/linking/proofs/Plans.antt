@@ -279,9 +279,9 @@ module _ (ws text abi labels area : List ℕ) (c : ℕ) where
       (ltb-false 65535 (built_words ws text abi labels (class_abi ws text abi labels c) c)
       (or-neither (ltb 65535 (built_words ws text abi labels (class_abi ws text abi labels c) c)) _ t).0)
 
-  other-words : is_built_kind (class_kind ws c) ≡ false → new_words ws text abi labels c ≤ 65535
+  other_words : is_built_kind (class_kind ws c) ≡ false → new_words ws text abi labels c ≤ 65535
   unfolding new_words
-  other-words n = rw n (omega arith)
+  other_words n = rw n (omega arith)
 
   plans-built : is_built_kind (class_kind ws c) ≡ true → (p : Plan) → plan_built ws text abi labels area c ≡ planned p → Plans p
   unfolding plan_built
@@ -322,7 +322,7 @@ module _ (ws text abi labels area : List ℕ) (c : ℕ) where
         packaged = λ k. absurd (omega arith);
         array = λ k. absurd (omega arith);
         table = table-generated kind ∙ r.1;
-        words = other-words (ap is_built_kind kind ∙ kind-other 1 (omega arith) (omega arith));
+        words = other_words (ap is_built_kind kind ∙ kind-other 1 (omega arith) (omega arith));
         slots = r.3;
         methods = inr refl;
         fields = inl refl;
@@ -344,7 +344,7 @@ module _ (ws text abi labels area : List ℕ) (c : ℕ) where
         packaged = λ k. absurd (true≢false (sym (built-kind (class_kind ws c) (inr k)) ∙ kind));
         array = λ k. refl;
         table = table-array kind other;
-        words = other-words kind;
+        words = other_words kind;
         slots = within-small (record { table = parent_entries ws text abi labels area c; indices = []; new_methods = []; new_fields = [] }) p e;
         methods = inl refl;
         fields = inl refl;

@@ -51,9 +51,9 @@ Any m k = Unit {0}
 untouched-state : Untouched link_state_word
 untouched-state = record {
   first-method = omega arith;
-  method-count = omega arith;
+  number_of_methods = omega arith;
   first_field = omega arith;
-  field-count = omega arith;
+  number_of_fields = omega arith;
   words = omega arith;
   place = omega arith;
   slots = omega arith;
@@ -63,9 +63,9 @@ untouched-state = record {
 untouched-interface : (k : ℕ) → first_interface_word ≤ k → k ≤ interface_count_word → Untouched k
 untouched-interface k a b = record {
   first-method = omega arith;
-  method-count = omega arith;
+  number_of_methods = omega arith;
   first_field = omega arith;
-  field-count = omega arith;
+  number_of_fields = omega arith;
   words = omega arith;
   place = omega arith;
   slots = omega arith;
@@ -75,9 +75,9 @@ untouched-interface k a b = record {
 pub untouched-compiler : (k : ℕ) → compiler_table_word ≤ k → k ≤ compiler_slots_word → Untouched k
 untouched-compiler k a b = record {
   first-method = omega arith;
-  method-count = omega arith;
+  number_of_methods = omega arith;
   first_field = omega arith;
-  field-count = omega arith;
+  number_of_fields = omega arith;
   words = omega arith;
   place = omega arith;
   slots = omega arith;
@@ -298,7 +298,7 @@ module _ (ws ws' abi area area' : List ℕ) (c : ℕ) (valid : Valid ws) (after 
   view-held = native_same ws (text_of ws) ws' (text_of ws') abi (abi_text_of abi) Q kept stays-owner area area' d parent-held chain-above
 
   pub small : (m k : ℕ) → Q m k → (m < method_limit) × (k < method_limit)
-  small m k r = let v = valid.method-count in let b = r.below in let e = r.same in (omega arith, omega arith)
+  small m k r = let v = valid.number_of_methods in let b = r.below in let e = r.same in (omega arith, omega arith)
 
   -- methods of the sheet, numbered on
   pub signed : (new new' : List New) (m k : ℕ) → Q m k → Signed ws (text_of ws) ws' (text_of ws') abi (abi_text_of abi) new new' m k

@@ -139,7 +139,7 @@ module _ (ws ws' abi area area' : List ℕ) (c : ℕ) (valid : Valid ws) (after 
       rw (own-before, own-after, append-nil (numbers count own ++ numbers (count + own) (length new)))
       (pairs-append
       (pairs_less
-      (λ m k r. of-sheet ws text ws' text' abi labels new [] (Copied ws ws') copied-keeps m k (omega (arith, r.below, valid.method-count)) r.small r)
+      (λ m k r. of-sheet ws text ws' text' abi labels new [] (Copied ws ws') copied-keeps m k (omega (arith, r.below, valid.number_of_methods)) r.small r)
       own-copied)
       (pairs-from (λ k. k) (λ k. k) method_limit (count + own) (length new) new-signed))
 

@@ -116,9 +116,9 @@ module _ (ws text ws' text' abi labels : List ℕ) (R : ℕ → ℕ → Type 0) 
       (λ e. rw e neither))
 
   module _ (c : ℕ) (s : SameChain c) where
-    by-target : (t : ℕ) → Both R (find_by_target ws c t) (find_by_target ws' c t)
+    by_target : (t : ℕ) → Both R (find_by_target ws c t) (find_by_target ws' c t)
     unfolding find_by_target
-    by-target t = rw (← s.along) (both_first R (own_target ws t) (own_target ws' t) (chain ws c) (λ d i. own-target t d (s.class d i)))
+    by_target t = rw (← s.along) (both_first R (own_target ws t) (own_target ws' t) (chain ws c) (λ d i. own-target t d (s.class d i)))
 
     by_index : (i : ℕ) → Both R (find_by_index ws text abi labels c i) (find_by_index ws' text' abi labels c i)
     unfolding find_by_index
@@ -128,7 +128,7 @@ module _ (ws text ws' text' abi labels : List ℕ) (R : ℕ → ℕ → Type 0) 
 
     pub read_same : (i w : ℕ) → SameEntry R (read_entry ws text abi labels c i w) (read_entry ws' text' abi labels c i w)
     unfolding read_entry
-    read_same i w = record { word = refl; method = both-or (by-target w) (by_index i); source = refl }
+    read_same i w = record { word = refl; method = both-or (by_target w) (by_index i); source = refl }
 
     -- the table, where both areas hold the same words
     pub entries-same : (area area' : List ℕ) → class_slot_count ws c ≡ class_slot_count ws' c
@@ -184,11 +184,11 @@ module _ (ws text ws' text' abi labels : List ℕ) (R : ℕ → ℕ → Type 0) 
   -- ---- own methods
 
   module _ (m k : ℕ) (r : R m k) where
-    entry-is : (e e' : Entry) → SameEntry R e e'
+    entry_found : (e e' : Entry) → SameEntry R e e'
         → entry_is ws text (method_name ws text m) (method_descriptor ws text m) e
         ≡ entry_is ws' text' (method_name ws' text' k) (method_descriptor ws' text' k) e'
     unfolding entry_is
-    entry-is e e' s =
+    entry_found e e' s =
         by_both s.method (λ n l p q t. rw (p, q, keeps.name m k r, keeps.descriptor m k r) (method-is n l t _ _)) (λ p q. rw (p, q))
 
     entry_other : (e e' : Entry) → SameEntry R e e'
@@ -204,7 +204,7 @@ module _ (ws text ws' text' abi labels : List ℕ) (R : ℕ → ℕ → Type 0) 
     unfolding slot_of
     slot_same h =
         pairs-position (entry_is ws text (method_name ws text m) (method_descriptor ws text m))
-        (entry_is ws' text' (method_name ws' text' k) (method_descriptor ws' text' k)) entry-is 0 h
+        (entry_is ws' text' (method_name ws' text' k) (method_descriptor ws' text' k)) entry_found 0 h
 
     put-method : (f slot : Found) {T U : List Entry} → Tables R T U
         → SameBuilt R (put_method ws text f slot m T) (put_method ws' text' f slot k U)

@@ -25,7 +25,7 @@ use Rattle.linking.specs.Abi.{class_abi, slot_at}
 use Rattle.linking.specs.Vtable.{own_fixed, find_by_index, read_entry, read_slot}
 use Rattle.linking.specs.Compiler.{holds, owner_state}
 use Rattle.linking.specs.Ask.{own_implementation, implementation}
-use Rattle.linking.specs.Whose.{method_of, declaring_class, or_declared, declared_in, first_declared, declared_by_target, declared_implementation, declared_by_index, read_declared, slot_class, Nearest, Declares, MethodsApart, FixedThere, Column, unknown-slot, known_slot, Whose}
+use Rattle.linking.specs.Whose.{method_of, declaring_class, or_declared, declared_in, first_declared, declared_by_target, declared_implementation, declared_by_index, read_declared, slot_class, Nearest, Declares, MethodsApart, FixedThere, Column, unknown_slot, known_slot, Whose}
 use Rattle.linking.proofs.ChainLaws.{chain-within, own-target-member, own-method-member, own-method-is}
 
 -- ---- every answer remains
@@ -104,7 +104,7 @@ fixed-there ws text abi labels i d m e =
     (λ a p. by-found (slot_at abi i a)
     (λ s q. let h : own_method ws text (abi_slot_name abi labels s) (abi_slot_descriptor abi labels s) d ≡ At m = rw q at (rw p at e) in (
       own-method-member ws text (abi_slot_name abi labels s) (abi_slot_descriptor abi labels s) d m h,
-      record { entry = a; row = s; entry-is = p; row_is = q; signature = own-method-is ws text (abi_slot_name abi labels s) (abi_slot_descriptor abi labels s) d m h },
+      record { entry = a; row = s; entry_found = p; row_is = q; signature = own-method-is ws text (abi_slot_name abi labels s) (abi_slot_descriptor abi labels s) d m h },
     ))
     (λ q. none (rw q at (rw p at e))))
     (λ p. none (rw p at e))
@@ -199,7 +199,7 @@ module _ (ws text abi labels : List ℕ) where
   column-is c i w =
       by-declared (read_declared ws text abi labels c i w)
       (λ d m e. rw (← reading-found ws text abi labels c i w, e) (known_slot (read_declares c i w d m e)))
-      (λ e. rw (← reading-found ws text abi labels c i w, e) unknown-slot)
+      (λ e. rw (← reading-found ws text abi labels c i w, e) unknown_slot)
 
   unknown-is : (area : List ℕ) (c i : ℕ) → (slot_class ws text abi labels area c i ≡ 0) ↔ ((read_slot ws text abi labels area c i).method ≡ Nothing)
   unfolding slot_class read_slot
@@ -219,10 +219,10 @@ module _ (ws text abi labels : List ℕ) where
 pub whose : Whose
 whose = record {
   remains = declared-found;
-  reading-remains = reading-found;
-  implementation-remains = implementation-found;
+  reading_remains = reading-found;
+  implementation_remains = implementation-found;
   nearest = nearest-counts;
-  by-target = target_declares;
+  by_target = target_declares;
   by_index = index_declares;
   implements = implementation_declares;
   no_other = owner-is;

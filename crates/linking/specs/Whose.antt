@@ -89,25 +89,25 @@ MethodsApart ws =
 pub record FixedThere (ws text abi labels : List ℕ) (d i m : ℕ) : Type 0 where
   pub entry : ℕ
   pub row : ℕ
-  pub entry-is : class_abi ws text abi labels d ≡ At entry
+  pub entry_found : class_abi ws text abi labels d ≡ At entry
   pub row_is : slot_at abi i entry ≡ At row
   pub signature : method_is ws text m (abi_slot_name abi labels row) (abi_slot_descriptor abi labels row) ≡ true
 
 -- a slot's last column, where Reading finds this method along class c's chain: "0 for an unknown slot", else the class that declares the method
 pub data Column (ws : List ℕ) (c : ℕ) : Found → ℕ → Type 0 where
-  unknown-slot : Column ws c Nothing 0
+  unknown_slot : Column ws c Nothing 0
   known_slot : {d m : ℕ} → Declares ws c d m → Column ws c (At m) d
 
 pub record Whose : Type 0 where
   -- every answer remains
   pub remains : (f : ℕ → Found) (cs : List ℕ) → method_of (first_declared f cs) ≡ first_found f cs
-  pub reading-remains : (ws text abi labels : List ℕ) (c i w : ℕ)
+  pub reading_remains : (ws text abi labels : List ℕ) (c i w : ℕ)
       → method_of (read_declared ws text abi labels c i w) ≡ (read_entry ws text abi labels c i w).method
-  pub implementation-remains : (ws text : List ℕ) (c m : ℕ) → method_of (declared_implementation ws text c m) ≡ implementation ws text c m
+  pub implementation_remains : (ws text : List ℕ) (c m : ℕ) → method_of (declared_implementation ws text c m) ≡ implementation ws text c m
   -- the nearest counts
   pub nearest : (f : ℕ → Found) (cs : List ℕ) (d m : ℕ) → first_declared f cs ≡ By d m → Nearest f cs d m
   -- it declares the method: by target, by index, of an implementation
-  pub by-target : (ws : List ℕ) (c t d m : ℕ) → declared_by_target ws c t ≡ By d m → Declares ws c d m × (method_target ws m ≡ t)
+  pub by_target : (ws : List ℕ) (c t d m : ℕ) → declared_by_target ws c t ≡ By d m → Declares ws c d m × (method_target ws m ≡ t)
   pub by_index : (ws text abi labels : List ℕ) (c i d m : ℕ) → declared_by_index ws text abi labels c i ≡ By d m
       → Declares ws c d m × FixedThere ws text abi labels d i m
   pub implements : (ws text : List ℕ) (c k d m : ℕ) → declared_implementation ws text c k ≡ By d m

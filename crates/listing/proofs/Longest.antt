@@ -27,7 +27,7 @@ use Rattle.calls.proofs.Area.{linked-length}
 use Rattle.linking.proofs.Plans.{plans}
 use Rattle.calls.proofs.Rows.{Refused, Accepted, link-cases}
 use Rattle.lines.proofs.Lengths.{limit, decimal-few, class-refused-few, class_lines_few}
-use Rattle.lines.proofs.Bounded.{Bounded, valid-bounded, class-short, ShortNews, news-short, Leaves, link-leaves}
+use Rattle.lines.proofs.Bounded.{Bounded, valid-bounded, class-short, ShortNews, news-short, Leaves, link_leaves}
 use Rattle.descriptor.specs.Bytes.{text}
 use Rattle.sheet.specs.Sheet.{read_class_sheet, read_abi_sheet}
 use Rattle.sheet.specs.Sheet as sheet
@@ -144,7 +144,7 @@ module _ (ws abi : List ℕ) (b : Bounded ws) (c : ℕ) (area stubs missing : Li
         | inl e ↦ rw (← e) none-short
         | inr e ↦ rw (← e) (news-short ws (text_of ws) abi (abi_text_of abi) (valid-bounded ws v.0) v.1 area c k.1)
       ] in
-      let l = link-leaves ws v.0 c (next_free area) (new_words ws (text_of ws) abi (abi_text_of abi) c) (new_statics ws (text_of ws) c)
+      let l = link_leaves ws v.0 c (next_free area) (new_words ws (text_of ws) abi (abi_text_of abi) c) (new_statics ws (text_of ws) c)
       p k short (omega (arith, (v.0.class c k).fields)) in
       let w = a.room.free in
       let f = a.lent.some in
@@ -278,13 +278,13 @@ set-few ws abi {s} {t} {u} {area} {missing} {stubs} rows {n} r e f i g k hs ht h
     let a : All ws area 1 n (link_all abi stubs n 1 ws area missing) =
     links-all abi stubs n 1 ws area missing (valid-bounded ws v.0) (rw e (omega arith)) (omega arith) (omega arith) in
     let x : All ws area 1 n (links (take n rows) s t u) = rw k a in
-    let few : class_count s ≤ class_limit = omega (arith, x.classes, v.0.class-count) in
+    let few : class_count s ≤ class_limit = omega (arith, x.classes, v.0.number_of_classes) in
     let l = x.rows in
     let y : slots_in s 1 (take n rows) ≤ 4093 =
     omega (arith, x.slots, x.within, ap next_free e, ap (λ (l : List ℕ). length l) e) in
     let w = texts-few s abi t x.bounded v.1 few (small-limit s hs) (small-limit t ht) 1 (take n rows) (omega arith) (omega (arith, x.classes))
     (small-take n rows hr) (omega arith) in
-    rw (← e, ← f, ← i, ← g, ← k) (omega (arith, w, v.0.class-count))
+    rw (← e, ← f, ← i, ← g, ← k) (omega (arith, w, v.0.number_of_classes))
 
 sheet-few : (sheet : List ℕ) (row : ℕ) → length sheet ≤ 7 → row < 4294967296 → length (sheet_refused sheet row) ≤ 27
 unfolding sheet_refused numbered
@@ -334,10 +334,10 @@ each-small ws h = h
 pub counts-fit : (ws abi missing : List ℕ) → set_refusal ws abi ≡ 0 → length missing ≡ length fresh_counts → missing_short ws missing ≡ false
 unfolding missing_short fresh_counts
 counts-fit ws abi missing r e =
-    let v = (valid ws abi r).0.class-count in
+    let v = (valid ws abi r).0.number_of_classes in
     let l = length-replicate {0} {A = ℕ} 2112 0 in
     le-ltb (length missing) (33 * class_count ws) (omega arith)
 
 -- a set that is accepted has at most 64 classes, so that many rows are enough
 pub set-fits : (ws abi : List ℕ) {n : ℕ} (rows : List ℕ) → set_refusal ws abi ≡ 0 → n ≡ class_count ws → length rows ≡ 64 → n ≤ length rows
-set-fits ws abi rows r e l = let v = (valid ws abi r).0.class-count in omega arith
+set-fits ws abi rows r e l = let v = (valid ws abi r).0.number_of_classes in omega arith

@@ -25,7 +25,7 @@ use Rattle.class_members.specs.Members.{file_text, string_ok, field_ok, method_o
 use Rattle.class_members.specs.Members.{FileOutcome, refused_by, file_outcome, members_by, class_file_head}
 use Rattle.class_members.proofs.SheetForm.{file-passed, length_at}
 use Rattle.class_members.proofs.Targets.{methods-text}
-use Rattle.class_file.proofs.ReadLaws.{text-length}
+use Rattle.class_file.proofs.ReadLaws.{length_of_text}
 use Rattle.member_text.proofs.TextLaws.{target_small}
 use Rattle.member_text.specs.MemberText.{extends, class_text, flags_text, member_text, member_texts, refused_text, targets, class_lines, members_text}
 
@@ -108,7 +108,7 @@ module _ (bs : List ℕ) (bytes : (j : ℕ) → get_or bs j 0 < 256) where
         let c = class-few (file_name bs) (file_parent bs) in
         let f = flags-few (file_flags bs) (u2-small bs bytes _) in
         let w = within in
-        simp length-append (omega (arith, methods-few, fields-few, text-length bs []))
+        simp length-append (omega (arith, methods-few, fields-few, length_of_text bs []))
 
 -- ---- which row refuses a file, by what the code was answered
 

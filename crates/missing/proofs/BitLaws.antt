@@ -16,7 +16,7 @@ use Rattle.words.specs.Lists.{list_from}
 use Rattle.words.specs.declared.Found.{Found}
 use Rattle.words.specs.declared.Found.TheVariants.{At, Nothing}
 use Rattle.words.proofs.Bools.{by, or-neither}
-use Rattle.words.proofs.ListLaws.{length-list-from, get_d_list-from}
+use Rattle.words.proofs.ListLaws.{length-list-from, get_d_list_from}
 use Rattle.linking.specs.Vtable.{Entry, empty}
 use Rattle.linking.specs.Counts.{is_counted, bits_of, bit, bit_count, bits_from, missing_at, missing_bit, parent_bit}
 use Rattle.reading.specs.Arrays.{source_of, entry_at, entries_of}
@@ -84,7 +84,7 @@ module _ (f : ℕ → Bool) (ts ms : List ℕ) (n : ℕ) where
       let l = length-entries ts ms n in
       let z : 0 + i ≡ i = omega arith in
       bits_at f (entries_of ts ms n) i (omega arith)
-      ∙ ap (λ (e : Entry). is_counted f e) (get_d_list-from (entry_at ts ms) 0 n i empty h ∙ ap (entry_at ts ms) z)
+      ∙ ap (λ (e : Entry). is_counted f e) (get_d_list_from (entry_at ts ms) 0 n i empty h ∙ ap (entry_at ts ms) z)
 
   pub bit-set : (i : ℕ) {x y w k : ℕ} {b : Bool} → i < n → x ≡ i → w ≡ get_or ts x 0 → y ≡ i → k ≡ get_or ms y 0 → b ≡ is_counted f (slot w k)
       → b ≡ true → 1 ≡ bit (get_or bits i false)

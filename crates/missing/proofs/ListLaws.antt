@@ -13,7 +13,7 @@ use Rattle.words.specs.Lists.{list_from}
 use Rattle.words.specs.Words.{copy_words}
 use Rattle.words.proofs.Bools.{by}
 use Rattle.words.proofs.Laws.{room, no_room_lem}
-use Rattle.words.proofs.ListLaws.{length-list-from, get_d_list-from}
+use Rattle.words.proofs.ListLaws.{length-list-from, get_d_list_from}
 use Rattle.class_sheet.specs.ClassSheet.{class_count}
 use Rattle.linking.specs.Chain.{parent_of}
 use Rattle.linking.specs.Vtable.{Entry}
@@ -41,7 +41,7 @@ module _ (bs : List Bool) where
   word-later j h l w =
       let s : j ≡ suc (j - 1) = omega arith in
       let z : 0 + (j - 1) ≡ j - 1 = omega arith in
-      let g = get_d_list-from (λ k. bits_from bs (32 * k) 32) 0 32 (j - 1) 0 (omega arith) in
+      let g = get_d_list_from (λ k. bits_from bs (32 * k) 32) 0 32 (j - 1) 0 (omega arith) in
       w ∙ sym (ap (λ (i : ℕ). get_or (pack_bits bs) i 0) s ∙ (rw z at g))
 
   module _ (out : List ℕ) where

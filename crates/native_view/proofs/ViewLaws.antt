@@ -11,7 +11,7 @@ use Rattle.words.specs.Lists.{list_from}
 use Rattle.words.specs.declared.Found.{Found}
 use Rattle.words.specs.declared.Found.TheVariants.{At, Nothing}
 use Rattle.words.proofs.Bools.{by}
-use Rattle.words.proofs.ListLaws.{length-list-from, get_d_list-from}
+use Rattle.words.proofs.ListLaws.{length-list-from, get_d_list_from}
 use Rattle.words.proofs.Ext.{list-more}
 use Rattle.class_sheet.specs.ClassSheet.{class_table_place, class_slot_count, method_limit}
 use Rattle.linking.specs.Chain.{on_found, parent_of}
@@ -19,7 +19,7 @@ use Rattle.linking.specs.Abi.{chain_abi}
 use Rattle.linking.specs.Vtable.{Entry, empty, read_slot, table_entries, parent_entries, fixed_of}
 use Rattle.linking.specs.Compiler.{owner_state, is_emptied, view_from, native_view}
 use Rattle.reading.specs.Arrays.{mark_of, method_of, source_of, entry_at, entries_of}
-use Rattle.reading.proofs.ArrayLaws.{no_source, sourceless, no_method, none-back, length-entries, entry-is, push_slot}
+use Rattle.reading.proofs.ArrayLaws.{no_source, sourceless, no_method, none-back, length-entries, entry_found, push_slot}
 use Rattle.reading.proofs.ReadLaws.{read-room}
 use Rattle.native_view.specs.Native.{below, SheetMark, SmallMarks, mark_entry, marks_in, methods_in}
 
@@ -38,7 +38,7 @@ pub slot-below : (ts ms : List ℕ) (n i : ℕ)
     → get_or (entries_of ts ms n) i empty ≡ record { word = below ts n i; method = method_of (below ms n i); source = source_of (below ms n i) }
 unfolding below entry_at
 slot-below ts ms n i =
-    by (ltb i n) (λ q. rw q (entry-is ts ms n i empty (ltb-true i n q)))
+    by (ltb i n) (λ q. rw q (entry_found ts ms n i empty (ltb-true i n q)))
     (λ q.
     let l = ltb-false i n q in
     let h : length (entries_of ts ms n) ≤ i = omega (arith, length-entries ts ms n) in
@@ -135,7 +135,7 @@ module _ (ws text abi labels : List ℕ) where
     table-room p i m e =
         by (ltb i (min (class_slot_count ws p) 1024))
         (λ q.
-        let g = get_d_list-from (read_slot ws text abi labels area p) 0 (min (class_slot_count ws p) 1024) i empty (ltb-true i (min (class_slot_count ws p) 1024) q) in
+        let g = get_d_list_from (read_slot ws text abi labels area p) 0 (min (class_slot_count ws p) 1024) i empty (ltb-true i (min (class_slot_count ws p) 1024) q) in
         read-room ws text abi labels p (0 + i) (get_or area (class_table_place ws p + 1 + (0 + i)) 0) m (rw g at e))
         (λ q.
         let l = ltb-false i (min (class_slot_count ws p) 1024) q in

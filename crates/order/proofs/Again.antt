@@ -20,7 +20,7 @@ use Rattle.renumber.proofs.Stop.{positive, some-none}
 use Rattle.order.specs.Order.{Orderable, Falling, accepted}
 use Rattle.order.proofs.Facts.{with_room, formed}
 use Rattle.order.proofs.Follows.{numbers-order, words_stay}
-use Rattle.order.proofs.Leaves.{count, parent-below, interface-class, fits-new, word_at, all-order}
+use Rattle.order.proofs.Leaves.{count, parent_below, interface-class, fits-new, word_at, all-order}
 
 -- ---- parents below their children
 
@@ -73,7 +73,7 @@ module _ (ws : List ℕ) (ok : Orderable ws) where
   form-new = rw (fits-new ws ok, fresh-new) (and_both (class_fits ws) (all_fresh ws) (formed ws ok)).1
 
   falling_new : Falling new
-  falling_new c k = parent-below ws ok c (k.0, rw (count ws ok 0 (omega arith)) at k.1)
+  falling_new c k = parent_below ws ok c (k.0, rw (count ws ok 0 (omega arith)) at k.1)
 
   names-new : names_classes new ≡ true
   unfolding names_classes stray_parent interface_names

@@ -89,7 +89,7 @@ module _ (ws : List ℕ) (ok : Orderable ws) where
         whole = whole;
         class = λ i h. element-class ws o (each-order ws) i (rw whole h);
         once = λ c k. record { stands = class-stands c k; one = λ i j h g e f. distinct.once i j h g (e ∙ sym f) };
-        parents-first = λ i h. element_settled ws o (each-order ws) i (rw whole h);
+        parents_first = λ i h. element_settled ws o (each-order ws) i (rw whole h);
         smallest = λ i c h k. element-smallest ws o (each-order ws) i (rw whole h) c k;
       }
 
@@ -107,7 +107,7 @@ module _ (ws l o : List ℕ) (p : Ordered ws l) (q : Ordered ws o) (i : ℕ) (h 
       let d : Before o i c = before_same l o i c same b in
       let e = (q.once c (q.class i h)).one d.place i (omega (arith, d.before, q.whole)) (omega (arith, q.whole)) d.is refl in
       omega (arith, d.before))
-      (⊎_elim (λ e. inl e) (λ b. inr (before_same o l i (class_parent ws c) (λ j g. sym (same j g)) b)) (q.parents-first i h))
+      (⊎_elim (λ e. inl e) (λ b. inr (before_same o l i (class_parent ws c) (λ j g. sym (same j g)) b)) (q.parents_first i h))
 
 agree : (ws l o : List ℕ) → Ordered ws l → Ordered ws o → (n i : ℕ) → i < n → n ≤ class_count ws → get_or l i 0 ≡ get_or o i 0
 agree ws l o p q zero i h g = absurd (omega arith)

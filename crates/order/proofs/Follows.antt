@@ -11,10 +11,10 @@ use lib.Dec.{eqb, ltb}
 use borrow.Author.Tests.{eqb-true, eqb-false, ne_eqb, eq-eqb, ltb-true, ltb-false}
 use Rattle.words.specs.Lists.{numbers}
 use Rattle.words.proofs.Bools.{by}
-use Rattle.words.proofs.ListLaws.{length-list-from, get_d_list-from}
+use Rattle.words.proofs.ListLaws.{length-list-from, get_d_list_from}
 use Rattle.class_sheet.specs.ClassSheet.{parent_word, class_width, class_count, interface_count, class_word, interface_word, text_of, class_parent, class_name}
 use Rattle.class_sheet.specs.Sections.{sections_of}
-use Rattle.class_sheet.proofs.Sections.{laid_of, class_of, interface-of, class-count, interface-count}
+use Rattle.class_sheet.proofs.Sections.{laid_of, class_of, interface-of, number_of_classes, number_of_interfaces}
 use Rattle.set_rules.specs.Valid.{IsClass}
 use Rattle.renumber.specs.Renumber.{order_of, new_number, moved_record, renumbered}
 use Rattle.renumber.specs.Places.{Before, Settled, up}
@@ -95,11 +95,11 @@ module _ (ws : List ℕ) (ok : Orderable ws) where
     compiler = compiler-same ws l (fits ws ok) (distinct ws ok) (whole ws ok);
     text = text_same ws l (fits ws ok) (distinct ws ok) (whole ws ok);
     rest = rest-same ws l (fits ws ok) (distinct ws ok) (whole ws ok);
-    length-is = length-same ws l (fits ws ok) (distinct ws ok) (whole ws ok);
+    length_is = length-same ws l (fits ws ok) (distinct ws ok) (whole ws ok);
     name = name_new;
     ancestor = up-new;
-    ancestor-name = λ i c k n. rw (up-new i c k) (name_new (up ws i c) (up-class i c k n));
-    interface-name =
+    ancestor_name = λ i c k n. rw (up-new i c k) (name_new (up ws i c) (up-class i c k n));
+    interface_name =
         λ i h. rw (interface-moved ws l (fits ws ok) (distinct ws ok) (whole ws ok) i h) (name_new (interface_word ws i) (interfaces-named ws ok i h));
   }
 
@@ -114,7 +114,7 @@ numbers-ordered ws below = record {
     stands = record { place = c - 1; before = omega (arith, k.0, k.1, long); is = stands c k };
     one = λ i j h g e f. omega (arith, is i (omega (arith, long)), is j (omega (arith, long)));
   };
-  parents-first = λ i h. rw (is i h) (first i h);
+  parents_first = λ i h. rw (is i h) (first i h);
   smallest = λ i c h k new settled. rw (is i h) (least i c h k new);
 }
   where
@@ -128,7 +128,7 @@ numbers-ordered ws below = record {
     long = length-list-from (λ k. k) 1 (class_count ws)
 
     is : (i : ℕ) → i < n → get_or o i 0 ≡ 1 + i
-    is i h = get_d_list-from (λ k. k) 1 (class_count ws) i 0 h
+    is i h = get_d_list_from (λ k. k) 1 (class_count ws) i 0 h
 
     stands : (c : ℕ) → IsClass ws c → get_or o (c - 1) 0 ≡ c
     stands c k = is (c - 1) (omega (arith, k.0, k.1)) ∙ omega (arith, k.0)
@@ -156,7 +156,7 @@ module _ (ws : List ℕ) (ok : Orderable ws) (below : (c : ℕ) → IsClass ws c
   numbers-order = one-order ws o (numbers 1 (class_count ws)) (order-ordered ws ok) (numbers-ordered ws below)
 
   is : (i : ℕ) → i < class_count ws → get_or o i 0 ≡ 1 + i
-  is i h = ap (λ (x : List ℕ). get_or x i 0) numbers-order ∙ get_d_list-from (λ k. k) 1 (class_count ws) i 0 h
+  is i h = ap (λ (x : List ℕ). get_or x i 0) numbers-order ∙ get_d_list_from (λ k. k) 1 (class_count ws) i 0 h
 
   same_number : (c : ℕ) → c ≤ class_count ws → new_number o c ≡ c
   same_number zero h = new-zero (class_count ws) o (distinct ws ok)
@@ -174,7 +174,7 @@ module _ (ws : List ℕ) (ok : Orderable ws) (below : (c : ℕ) → IsClass ws c
 
   classes-same : map (moved_record ws o) o ≡ (sections_of ws).classes
   classes-same =
-      let n : length (sections_of ws).classes ≡ class_count ws = sym (class-count (sections_of ws)) ∙ ap class_count (laid_of ws (fits ws ok)) in
+      let n : length (sections_of ws).classes ≡ class_count ws = sym (number_of_classes (sections_of ws)) ∙ ap class_count (laid_of ws (fits ws ok)) in
       let m : length (map (moved_record ws o) o) ≡ class_count ws = length-map (moved_record ws o) o ∙ whole ws ok in
       ext_get_or [] (map (moved_record ws o) o) (sections_of ws).classes (m ∙ sym n)
       (λ i h.
@@ -182,7 +182,7 @@ module _ (ws : List ℕ) (ok : Orderable ws) (below : (c : ℕ) → IsClass ws c
 
   interfaces-same : map (new_number o) (sections_of ws).interfaces ≡ (sections_of ws).interfaces
   interfaces-same =
-      let n : length (sections_of ws).interfaces ≡ interface_count ws = sym (interface-count (sections_of ws)) ∙ ap interface_count (laid_of ws (fits ws ok)) in
+      let n : length (sections_of ws).interfaces ≡ interface_count ws = sym (number_of_interfaces (sections_of ws)) ∙ ap interface_count (laid_of ws (fits ws ok)) in
       let m = length-map (new_number o) (sections_of ws).interfaces in
       ext_get_or 0 (map (new_number o) (sections_of ws).interfaces) (sections_of ws).interfaces m
       (λ i h.

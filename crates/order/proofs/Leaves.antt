@@ -94,8 +94,8 @@ module _ (ws : List ℕ) (ok : Orderable ws) where
   pub count : (k : ℕ) → k < counts_width → count_at new k ≡ count_at ws k
   count = count_same ws l (fits ws ok) (distinct ws ok) (whole ws ok)
 
-  pub parent-below : (c : ℕ) → IsClass ws c → class_parent new c < c
-  parent-below c k =
+  pub parent_below : (c : ℕ) → IsClass ws c → class_parent new c < c
+  parent_below c k =
       let p = parent-moved ws l (fits ws ok) (distinct ws ok) (whole ws ok) c k in
       ⊎_elim (λ (e : class_parent ws (get_or l (c - 1) 0) ≡ 0). omega (arith, k.0, p, ap (new_number l) e, new-zero n l (distinct ws ok)))
       (λ (b : Before l (c - 1) (class_parent ws (get_or l (c - 1) 0))).
@@ -135,7 +135,7 @@ module _ (ws : List ℕ) (ok : Orderable ws) where
   record_at_lem : (text : List ℕ) (i : ℕ) → i < n → class_record new text (i + 1) ≡ loose_record ws text (get_or l i 0)
   unfolding class_record own_numbers class_numbers class_lists loose_record loose_numbers
   record_at_lem text i h =
-      let below : ltb (class_parent new (i + 1)) (i + 1) ≡ true = lt-ltb _ _ (parent-below (i + 1) (omega arith, omega arith)) in
+      let below : ltb (class_parent new (i + 1)) (i + 1) ≡ true = lt-ltb _ _ (parent_below (i + 1) (omega arith, omega arith)) in
       let named : leb (class_parent ws (get_or l i 0)) n ≡ true = le-leb _ _ (parents-named ws ok (get_or l i 0) (at-class i h)) in
       simp (
         below,
@@ -308,7 +308,7 @@ module _ (ws : List ℕ) (ok : Orderable ws) where
   left_in_order =
       let t = text_same ws l (fits ws ok) (distinct ws ok) (whole ws ok) in
       record {
-        parent = parent-below;
+        parent = parent_below;
         interface = λ i h. let k = interface-class i h in (k.0, rw (count class_count_number (omega arith)) k.1);
         fits = fits-new;
         records = rw t (rows_4 (text_of ws));

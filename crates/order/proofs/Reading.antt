@@ -48,9 +48,9 @@ other : (b : Bool) (k r m : ℕ) → (k ≡ m → ⊥) → (r ≡ m → ⊥) →
 other true k r m f g e = f e
 other false k r m f g e = g e
 
-form-not_3 : (ws : List ℕ) (room : ℕ) → renumber_form ws ≡ true → renumber_refusal ws room ≢ 3
+form_not_3 : (ws : List ℕ) (room : ℕ) → renumber_form ws ≡ true → renumber_refusal ws room ≢ 3
 unfolding renumber_refusal
-form-not_3 ws room h e =
+form_not_3 ws room h e =
     other (not (names_classes ws)) 4 _ 3 (λ z. omega arith)
     (other (cyclic ws) 19 _ 3 (λ z. omega arith) (other (ltb room (class_count ws)) 15 0 3 (λ z. omega arith) (λ z. omega arith))) (rw h at e)
 
@@ -115,7 +115,7 @@ module _ (ws bs : List ℕ) where
       let r = sym (read-refusal unordered_sheet_refusal bs ws) ∙ e in
       let f = loose_formed (sheet_words bs) (sheet-rows _ loose_rows bs (length ws) r).1 in
       rw (read-accepted unordered_sheet_refusal bs ws r)
-      (form-not_3 (sheet_words bs ++ drop (127 * block_count bs) ws) room (form-kept (sheet_words bs) (drop (127 * block_count bs) ws) f))
+      (form_not_3 (sheet_words bs ++ drop (127 * block_count bs) ws) room (form-kept (sheet_words bs) (drop (127 * block_count bs) ws) f))
 
   pub reading_exactly : ((read_class_sheet bs ws).refusal ≡ 0)
       ↔ (((read_unordered_sheet bs ws).refusal ≡ 0) × (class_refusal (sheet_words bs) (text_of (sheet_words bs)) ≡ 0))

@@ -14,7 +14,7 @@ pub order : (ws : List ℕ) → Order ws
 order ws = record {
   ordered = order-ordered ws;
   only = λ l ok p. one-order ws l (order_of ws) p (order-ordered ws ok);
-  handed-back = handed ws;
+  handed_back = handed ws;
   stop = stops ws;
   returns_is = returns_is ws;
   follows = numbers-follow ws;
@@ -23,7 +23,7 @@ order ws = record {
       λ form names below.
       let ok = falling_orderable ws form names below in (ok, numbers-order ws ok below, words_stay ws ok below);
   again = λ list ok h. second-step ws ok list h;
-  after-reading = λ bs room e. reading-formed ws bs room e;
+  after_reading = λ bs room e. reading-formed ws bs room e;
   reading = λ bs. reading_exactly ws bs;
-  same-reading = λ bs e. reading-same ws bs e;
+  same_reading = λ bs e. reading-same ws bs e;
 }

@@ -39,7 +39,7 @@ pub record Ordered (ws l : List ℕ) : Type 0 where
   pub class : (i : ℕ) → i < class_count ws → IsClass ws (get_or l i 0)
   pub once : (c : ℕ) → IsClass ws c → Once l c
   -- "Parents come first"
-  pub parents-first : (i : ℕ) → i < class_count ws → Settled ws l i (get_or l i 0)
+  pub parents_first : (i : ℕ) → i < class_count ws → Settled ws l i (get_or l i 0)
   -- "among those ready the smallest old number goes next"
   pub smallest : (i c : ℕ) → i < class_count ws → IsClass ws c → (Before l i c → ⊥) → Settled ws l i c → get_or l i 0 ≤ c
 
@@ -61,13 +61,13 @@ pub record Follows (ws l new : List ℕ) : Type 0 where
   pub compiler : (i : ℕ) → i < compiler_count ws → compiler_word new i ≡ compiler_word ws i
   pub text : text_of new ≡ text_of ws
   pub rest : drop (content_end new) new ≡ drop (content_end ws) ws
-  pub length-is : length new ≡ length ws
+  pub length_is : length new ≡ length ws
   -- so each class keeps its name, and the names of its parents in order and of its interfaces
   pub name : (c : ℕ) → IsClass ws c → class_name new (text_of new) (new_number l c) ≡ class_name ws (text_of ws) c
   pub ancestor : (i c : ℕ) → IsClass ws c → up new i (new_number l c) ≡ new_number l (up ws i c)
-  pub ancestor-name : (i c : ℕ) → IsClass ws c → up ws i c ≢ 0
+  pub ancestor_name : (i c : ℕ) → IsClass ws c → up ws i c ≢ 0
       → class_name new (text_of new) (up new i (new_number l c)) ≡ class_name ws (text_of ws) (up ws i c)
-  pub interface-name : (i : ℕ) → i < interface_count ws
+  pub interface_name : (i : ℕ) → i < interface_count ws
       → class_name new (text_of new) (interface_word new i) ≡ class_name ws (text_of ws) (interface_word ws i)
 
 -- ---- what the step leaves is in order
@@ -105,7 +105,7 @@ pub record Order (ws : List ℕ) : Type 0 where
   -- accepted call hands back, with the words of which 5 and 6 speak.
   pub ordered : Orderable ws → Ordered ws (order_of ws)
   pub only : (l : List ℕ) → Orderable ws → Ordered ws l → l ≡ order_of ws
-  pub handed-back : (list : List ℕ) → (renumber_def ws list).refusal ≡ 0
+  pub handed_back : (list : List ℕ) → (renumber_def ws list).refusal ≡ 0
       → Orderable ws × (take (class_count ws) (renumber_def ws list).list ≡ order_of ws) × ((renumber_def ws list).set ≡ renumbered ws (order_of ws))
   -- 4. 19 is the stop, and `returns` means what it says.
   pub stop : Named ws → (cyclic ws ≡ true) ↔ (length (order_of ws) < class_count ws)
@@ -123,7 +123,7 @@ pub record Order (ws : List ℕ) : Type 0 where
       ≡ accepted (class_count ws) (renumbered ws (order_of ws)) (numbers 1 (class_count ws) ++ drop (class_count ws) list)
   -- 8. With ws lent to a reading: the step's 3 does not refuse what a reading by rows 1 to 3 leaves, whatever follows it; and a sheet is read by
   -- rows 1 to 5 exactly if it is by rows 1 to 3 and its words pass rows 4 and 5, with the same answer and the same memory.
-  pub after-reading : (bs : List ℕ) (room : ℕ) → (read_unordered_sheet bs ws).refusal ≡ 0 → renumber_refusal (read_unordered_sheet bs ws).memory room ≢ 3
+  pub after_reading : (bs : List ℕ) (room : ℕ) → (read_unordered_sheet bs ws).refusal ≡ 0 → renumber_refusal (read_unordered_sheet bs ws).memory room ≢ 3
   pub reading : (bs : List ℕ) → ((read_class_sheet bs ws).refusal ≡ 0)
       ↔ (((read_unordered_sheet bs ws).refusal ≡ 0) × (class_refusal (sheet_words bs) (text_of (sheet_words bs)) ≡ 0))
-  pub same-reading : (bs : List ℕ) → (read_class_sheet bs ws).refusal ≡ 0 → read_class_sheet bs ws ≡ read_unordered_sheet bs ws
+  pub same_reading : (bs : List ℕ) → (read_class_sheet bs ws).refusal ≡ 0 → read_class_sheet bs ws ≡ read_unordered_sheet bs ws

@@ -15,7 +15,7 @@ use Rattle.words.proofs.ListLaws.{rest_from, rest-start, rest-turn, rest_end, so
 use Rattle.class_sheet.specs.ClassSheet.{class_limit, class_first_method, class_method_count, method_flags, method_name, method_descriptor, method_limit}
 use Rattle.linking.specs.Chain.{list_count, own_methods, parent_of, chain, is_private, is_static, is_virtual, method_is, same_methods}
 use Rattle.linking.specs.Packages.{open_to, is_overridden, overridden_in, reached_with, overridden_along, overridden}
-use Rattle.linking.proofs.ChainLaws.{parent-below, parent-within, chain-none, chain_more}
+use Rattle.linking.proofs.ChainLaws.{parent_below, parent-within, chain-none, chain_more}
 use Rattle.packages.specs.Marks.{mark, is_some}
 
 -- ---- whether a method is overridden
@@ -204,7 +204,7 @@ module _ (p : ℕ → Bool) (reached : List ℕ) (n : ℕ) where
 -- ---- searches up the chain
 
 pub parent_less : (ws : List ℕ) (d : ℕ) {q : ℕ} → q ≡ parent_of ws d → 0 < d → q < d
-parent_less ws d e h = rw e (parent-below ws d h)
+parent_less ws d e h = rw e (parent_below ws d h)
 
 pub parent-room : (ws : List ℕ) (c : ℕ) {q : ℕ} → q ≡ parent_of ws c → c ≤ class_limit → q < class_limit
 parent-room ws zero e h = omega (arith, e, parent-within ws 0)

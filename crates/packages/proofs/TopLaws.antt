@@ -13,14 +13,14 @@ use Rattle.words.specs.Lists.{list_from, or_else, and_then}
 use Rattle.words.specs.declared.Found.{Found}
 use Rattle.words.specs.declared.Found.TheVariants.{At, Nothing}
 use Rattle.words.proofs.Bools.{by}
-use Rattle.words.proofs.ListLaws.{by-found, length-list-from, get_d_list-from}
+use Rattle.words.proofs.ListLaws.{by-found, length-list-from, get_d_list_from}
 use Rattle.class_sheet.specs.ClassSheet.{class_table_place, class_slot_count}
 use Rattle.linking.specs.Chain.{on_found, parent_of, chain}
 use Rattle.linking.specs.Vtable.{Entry, empty, read_slot, table_entries}
 use Rattle.linking.specs.Packages.{topmost, table_has, introducing}
 use Rattle.linking.proofs.ChainLaws.{chain-none, chain_more}
 use Rattle.reading.specs.Arrays.{method_of, entry_at, entries_of}
-use Rattle.reading.proofs.ArrayLaws.{length-entries, entry-is, no_method}
+use Rattle.reading.proofs.ArrayLaws.{length-entries, entry_found, no_method}
 use Rattle.reading.proofs.MarkLaws.{stores_at, stores-rest}
 use Rattle.packages.specs.Marks.{top_of, LaidUp, Tops}
 
@@ -52,20 +52,20 @@ module _ (ws text abi labels area : List ℕ) (d : ℕ) where
   unfolding table_has
   laid-unlinked tops e z i h = rw (eq-eqb (class_table_place ws d) 0 (sym e ∙ z))
 
-  count-is : (ps qs : List ℕ) (n : ℕ) → entries_of ps qs n ≡ table_entries ws text abi labels area d → n ≡ min (class_slot_count ws d) 1024
+  count_is : (ps qs : List ℕ) (n : ℕ) → entries_of ps qs n ≡ table_entries ws text abi labels area d → n ≡ min (class_slot_count ws d) 1024
   unfolding table_entries
-  count-is ps qs n e =
+  count_is ps qs n e =
       sym (length-entries ps qs n) ∙ ap length e ∙ length-list-from (read_slot ws text abi labels area d) 0 (min (class_slot_count ws d) 1024)
 
   slot_is_lem : (ps qs : List ℕ) (n i : ℕ) → entries_of ps qs n ≡ table_entries ws text abi labels area d → i < n
       → method_of (get_or qs i 0) ≡ (read_slot ws text abi labels area d i).method
   unfolding table_entries entry_at
   slot_is_lem ps qs n i e h =
-      let k = count-is ps qs n e in
+      let k = count_is ps qs n e in
       let z : 0 + i ≡ i = omega arith in
       let a : entry_at ps qs i ≡ read_slot ws text abi labels area d i =
-      sym (entry-is ps qs n i empty h) ∙ ap (λ (l : List Entry). get_or l i empty) e
-      ∙ get_d_list-from (read_slot ws text abi labels area d) 0 (min (class_slot_count ws d) 1024) i empty (omega arith)
+      sym (entry_found ps qs n i empty h) ∙ ap (λ (l : List Entry). get_or l i empty) e
+      ∙ get_d_list_from (read_slot ws text abi labels area d) 0 (min (class_slot_count ws d) 1024) i empty (omega arith)
       ∙ ap (read_slot ws text abi labels area d) z in
       ap (λ (x : Entry). x.method) a
 
@@ -74,7 +74,7 @@ module _ (ws text abi labels area : List ℕ) (d : ℕ) where
       → new ≡ stores i (λ j. get_or qs j 0) tops → Laid tops new
   unfolding table_has
   laid-linked {i = i} ps qs tops n e z t l k le ge s x h =
-      let m = count-is ps qs n t in
+      let m = count_is ps qs n t in
       let q : i ≡ n = omega arith in
       let u : eqb (class_table_place ws d) 0 ≡ false = ne_eqb (class_table_place ws d) 0 (λ y. z (e ∙ y)) in
       by (ltb x (min (class_slot_count ws d) 1024))

@@ -15,7 +15,7 @@ use Rattle.words.specs.Lists.{list_from}
 use Rattle.words.proofs.Bools.{by}
 use Rattle.words.specs.declared.Found.{Found}
 use Rattle.words.specs.declared.Found.TheVariants.{At, Nothing}
-use Rattle.words.proofs.ListLaws.{length-list-from, get_d_list-from}
+use Rattle.words.proofs.ListLaws.{length-list-from, get_d_list_from}
 use Rattle.linking.specs.Vtable.{Entry, empty}
 use Rattle.reading.specs.Arrays.{mark_of, copy_mark, method_of, source_of, entry_at, entries_of}
 
@@ -85,9 +85,9 @@ pub length-entries : (ts ms : List ℕ) (n : ℕ) → length (entries_of ts ms n
 unfolding entries_of
 length-entries ts ms n = length-list-from (entry_at ts ms) 0 n
 
-pub entry-is : (ts ms : List ℕ) (n i : ℕ) (d : Entry) → i < n → get_or (entries_of ts ms n) i d ≡ entry_at ts ms i
+pub entry_found : (ts ms : List ℕ) (n i : ℕ) (d : Entry) → i < n → get_or (entries_of ts ms n) i d ≡ entry_at ts ms i
 unfolding entries_of
-entry-is ts ms n i d h = get_d_list-from (entry_at ts ms) 0 n i d h ∙ ap (entry_at ts ms) (omega arith)
+entry_found ts ms n i d h = get_d_list_from (entry_at ts ms) 0 n i d h ∙ ap (entry_at ts ms) (omega arith)
 
 -- slot i after a store there, and elsewhere
 pub stored_here : (ts ms : List ℕ) (i w k : ℕ) → i < length ts → i < length ms
@@ -112,11 +112,11 @@ put-slot ts ms n i w k h r s =
     (λ q.
     let p : j ≡ i = eqb-true j i q in
     rw p
-    (entry-is (set ts i w) (set ms i k) n i empty h ∙ stored_here ts ms i w k (omega arith) (omega arith)
+    (entry_found (set ts i w) (set ms i k) n i empty h ∙ stored_here ts ms i w k (omega arith) (omega arith)
     ∙ sym (get_or-set_same (entries_of ts ms n) i (record { word = w; method = method_of k; source = source_of k }) empty (omega arith))))
     (λ q.
     let p : j ≢ i = eqb-false j i q in
-    entry-is (set ts i w) (set ms i k) n j empty g ∙ stored_other ts ms i j w k p ∙ sym (entry-is ts ms n j empty g)
+    entry_found (set ts i w) (set ms i k) n j empty g ∙ stored_other ts ms i j w k p ∙ sym (entry_found ts ms n j empty g)
     ∙ sym (get_or-set_other (entries_of ts ms n) i j (record { word = w; method = method_of k; source = source_of k }) empty p)))
 
 -- a store just after the last slot
@@ -133,11 +133,11 @@ push_slot ts ms n w k r s =
     (λ q.
     let h : j < n = ltb-true j n q in
     let p : j ≢ n = (λ (z : j ≡ n). omega arith) in
-    entry-is (set ts n w) (set ms n k) (n + 1) j empty g ∙ stored_other ts ms n j w k p ∙ sym (entry-is ts ms n j empty h)
+    entry_found (set ts n w) (set ms n k) (n + 1) j empty g ∙ stored_other ts ms n j w k p ∙ sym (entry_found ts ms n j empty h)
     ∙ sym (get_or-append (entries_of ts ms n) (record { word = w; method = method_of k; source = source_of k } ∷ []) empty j (omega arith)))
     (λ q.
     let h = ltb-false j n q in
     let p : j ≡ n = omega arith in
     rw p
-    (entry-is (set ts n w) (set ms n k) (n + 1) n empty (omega arith) ∙ stored_here ts ms n w k r s
+    (entry_found (set ts n w) (set ms n k) (n + 1) n empty (omega arith) ∙ stored_here ts ms n w k r s
     ∙ sym (get_or_at (entries_of ts ms n) (record { word = w; method = method_of k; source = source_of k }) [] empty n e))))

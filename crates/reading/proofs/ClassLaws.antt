@@ -15,7 +15,7 @@ use Rattle.words.specs.declared.Found.{Found}
 use Rattle.words.specs.declared.Found.TheVariants.{At, Nothing}
 use Rattle.words.proofs.Bools.{by}
 use Rattle.words.proofs.FoldLaws.{length-table, get_d_table, stores-turn, stores-is, length-stores}
-use Rattle.words.proofs.ListLaws.{length-list-from, get_d_list-from}
+use Rattle.words.proofs.ListLaws.{length-list-from, get_d_list_from}
 use Rattle.class_sheet.specs.ClassSheet.{class_first_method, class_method_count, class_table_place, method_limit}
 use Rattle.linking.specs.declared.Declared.{Declared}
 use Rattle.linking.specs.declared.Declared.TheVariants.{By, Nobody}
@@ -116,7 +116,7 @@ module _ (f : ℕ → Declared) (n : ℕ) (cs : List ℕ) where
       let t = length-table n v in
       let l = length-list-from v 0 n in
       rw (stores-is n v cs h) (take_at (table n v) (drop n cs) n t ∙ ext_get_or 0 (table n v) (list_from v 0 n) (omega arith)
-      (λ i j. let z : 0 + i ≡ i = omega arith in get_d_table n v i (omega arith) ∙ sym (get_d_list-from v 0 n i 0 (omega arith) ∙ ap v z)))
+      (λ i j. let z : 0 + i ≡ i = omega arith in get_d_table n v i (omega arith) ∙ sym (get_d_list_from v 0 n i 0 (omega arith) ∙ ap v z)))
 
   classes-none : ((i : ℕ) → f i ≡ Nobody) → cs ≡ classes_with f n cs
   unfolding classes_with
@@ -274,8 +274,8 @@ module _ (ws area : List ℕ) (place c n : ℕ) (ts ms cs : List ℕ) {us ns ds 
         let b : get_or us i 0 ≡ get_or area (class_table_place ws c + 1 + i) 0 = rw (t, ← at) (stores_at n (λ i. get_or area (place + 1 + i) 0) ts i h r) in
         rw (a, b)
 
-    pub read-classes : (take n fs ≡ list_from (slot_class ws text abi labels area c) 0 n) × (drop n fs ≡ drop n cs)
-    read-classes = (
+    pub read_classes : (take n fs ≡ list_from (slot_class ws text abi labels area c) 0 n) × (drop n fs ≡ drop n cs)
+    read_classes = (
       rw both_is (classes-taken both n ds classes-room
           ∙ list-from-ext (λ i. or_class (get_or ds i 0) (both i)) (slot_class ws text abi labels area c) 0 n (λ i h. slot_is_lem i (omega arith))),
       rw both_is (classes-past both n ds classes-room ∙ rw y (stores-past n (λ i. 0) cs q)),

@@ -7,8 +7,8 @@ use Rattle.references.specs.References.{Outcome, outcome, Told}
 use Rattle.references.specs.declared.References.{References}
 use Rattle.references.specs.declared.References.TheVariants.{Count, Refused}
 
-pub answer-unique : (a b : References) (m n : List ℕ) → Told a → Told b → outcome a m ≡ outcome b n → a ≡ b
-answer-unique (Count i) (Count j) m n p q e = ap Count (ap (λ (x : Outcome). x.count) e)
-answer-unique (Count i) (Refused k) m n p q e = absurd (q (sym (ap (λ (x : Outcome). x.refusal) e)))
-answer-unique (Refused k) (Count j) m n p q e = absurd (p (ap (λ (x : Outcome). x.refusal) e))
-answer-unique (Refused j) (Refused k) m n p q e = ap Refused (ap (λ (x : Outcome). x.refusal) e)
+pub answer_unique : (a b : References) (m n : List ℕ) → Told a → Told b → outcome a m ≡ outcome b n → a ≡ b
+answer_unique (Count i) (Count j) m n p q e = ap Count (ap (λ (x : Outcome). x.count) e)
+answer_unique (Count i) (Refused k) m n p q e = absurd (q (sym (ap (λ (x : Outcome). x.refusal) e)))
+answer_unique (Refused k) (Count j) m n p q e = absurd (p (ap (λ (x : Outcome). x.refusal) e))
+answer_unique (Refused j) (Refused k) m n p q e = ap Refused (ap (λ (x : Outcome). x.refusal) e)

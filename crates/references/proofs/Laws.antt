@@ -183,9 +183,9 @@ ones_count bitmap n (suc j) small h =
     (ones_more bitmap n j)
 
 -- "shown equal": the count byte by byte is the list's length
-pub count-is : (bitmap : List ℕ) (n : ℕ) → AreBytes bitmap → masked_ones bitmap n ≡ length (marked_words bitmap n)
+pub count_is : (bitmap : List ℕ) (n : ℕ) → AreBytes bitmap → masked_ones bitmap n ≡ length (marked_words bitmap n)
 unfolding masked_ones marked_words ones_before bytes_for
-count-is bitmap n small =
+count_is bitmap n small =
     let e : min n (8 * ((n + 7) / 8)) ≡ n = omega arith in rw e at (ones_count bitmap n (bytes_for n) small (omega arith))
 
 -- ---- the list
@@ -276,14 +276,14 @@ module _ (bitmap : List ℕ) (n : ℕ) (list : List ℕ) {b : Bool} (e : b ≡ t
 
   module _ (t : b ≡ false) {m : ℕ} (k : m ≡ masked_ones bitmap n) (small : AreBytes bitmap) where
     pub list-room : m ≤ length list → length (marked_words bitmap n) ≤ length list
-    list-room h = let q = count-is bitmap n small in omega arith
+    list-room h = let q = count_is bitmap n small in omega arith
 
     pub read_short : length list < m → record { refusal = 25; count = 0; memory = list } ≡ read_references bitmap n list
     unfolding read_references
-    read_short h = rw (sym e ∙ t, lt-ltb (length list) (length (marked_words bitmap n)) (rw (← count-is bitmap n small, ← k) h))
+    read_short h = rw (sym e ∙ t, lt-ltb (length list) (length (marked_words bitmap n)) (rw (← count_is bitmap n small, ← k) h))
 
     pub read-list : m ≤ length list → {l : List ℕ} → l ≡ written_over (marked_words bitmap n) list
         → record { refusal = 0; count = m; memory = l } ≡ read_references bitmap n list
     unfolding read_references
     read-list h f =
-        rw (sym e ∙ t, le-ltb (length list) (length (marked_words bitmap n)) (list-room h), f, k, count-is bitmap n small)
+        rw (sym e ∙ t, le-ltb (length list) (length (marked_words bitmap n)) (list-room h), f, k, count_is bitmap n small)

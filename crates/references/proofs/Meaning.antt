@@ -15,7 +15,7 @@ use Rattle.words.proofs.Bools.{by}
 use Rattle.words.specs.Words.{AreBytes}
 use Rattle.references.specs.Meaning.{Meaning}
 use Rattle.references.specs.References.{is_marked, marked_words, bytes_for, too_few, read_references, count_references}
-use Rattle.references.proofs.Laws.{marked_before, before-none, before_more, before-take, before-skip, before-bound, count-is}
+use Rattle.references.proofs.Laws.{marked_before, before-none, before_more, before-take, before-skip, before-bound, count_is}
 
 -- i + 1, as the inductions have it
 next : (bitmap : List ℕ) (i : ℕ) → marked_before bitmap (suc i) ≡ marked_before bitmap (i + 1)
@@ -104,7 +104,7 @@ counts bitmap list n small e =
     (λ t.
     by (ltb (length list) (length (marked_words bitmap n)))
     (λ s. let z : 25 ≡ 0 = rw (t, s) at e in absurd (omega arith))
-    (λ s. rw (t, s) (sym (count-is bitmap n small))))
+    (λ s. rw (t, s) (sym (count_is bitmap n small))))
 
 whole : (bitmap : List ℕ) (n : ℕ) → marked_words bitmap n ≡ marked_before bitmap n
 unfolding marked_words marked_before
@@ -113,10 +113,10 @@ whole bitmap n = refl
 pub meaning : Meaning
 meaning =
     record {
-      count-is-length = count-is;
-      one-count = counts;
-      listed-marked = λ bitmap n i h. listed bitmap n i (rw whole at h);
-      marked-listed = λ bitmap n i h e. rw whole (member bitmap n i h e);
+      count_is_length = count_is;
+      one_count = counts;
+      listed_marked = λ bitmap n i h. listed bitmap n i (rw whole at h);
+      marked_listed = λ bitmap n i h e. rw whole (member bitmap n i h e);
       rising = λ bitmap n k h. rw whole (rises bitmap n k (rw whole at h));
       beyond_ignored = λ a b n h. rw (whole a n, whole b n) (agree a b n h);
       more_ignored = λ bitmap more n f. rw (whole (bitmap ++ more) n, whole bitmap n) (agree _ _ n (follow bitmap more n f));

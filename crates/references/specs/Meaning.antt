@@ -6,13 +6,13 @@ use Rattle.references.specs.References.{is_marked, marked_words, masked_ones, to
 
 pub record Meaning : Type 0 where
   -- "The count is also to be had without the list, byte by byte, and is shown equal."
-  pub count-is-length : (bitmap : List ℕ) (n : ℕ) → AreBytes bitmap → masked_ones bitmap n ≡ length (marked_words bitmap n)
+  pub count_is_length : (bitmap : List ℕ) (n : ℕ) → AreBytes bitmap → masked_ones bitmap n ≡ length (marked_words bitmap n)
   -- hence both entries answer one count
-  pub one-count : (bitmap list : List ℕ) (n : ℕ) → AreBytes bitmap → (read_references bitmap n list).refusal ≡ 0
+  pub one_count : (bitmap list : List ℕ) (n : ℕ) → AreBytes bitmap → (read_references bitmap n list).refusal ≡ 0
       → (read_references bitmap n list).count ≡ (count_references bitmap n).count
   -- just those words stand in the list that are marked and instance words
-  pub listed-marked : (bitmap : List ℕ) (n i : ℕ) → Memᴰ i (marked_words bitmap n) → (i < n) × (is_marked bitmap i ≡ true)
-  pub marked-listed : (bitmap : List ℕ) (n i : ℕ) → i < n → is_marked bitmap i ≡ true → Memᴰ i (marked_words bitmap n)
+  pub listed_marked : (bitmap : List ℕ) (n i : ℕ) → Memᴰ i (marked_words bitmap n) → (i < n) × (is_marked bitmap i ≡ true)
+  pub marked_listed : (bitmap : List ℕ) (n i : ℕ) → i < n → is_marked bitmap i ≡ true → Memᴰ i (marked_words bitmap n)
   -- "in rising order": so no number stands there twice
   pub rising : (bitmap : List ℕ) (n k : ℕ) → k + 1 < length (marked_words bitmap n)
       → get_or (marked_words bitmap n) k 0 < get_or (marked_words bitmap n) (k + 1) 0

@@ -7,8 +7,8 @@ use Rattle.renumber.specs.Renumber.{Outcome, outcome, Told}
 use Rattle.renumber.specs.declared.Renumbered.{Renumbered}
 use Rattle.renumber.specs.declared.Renumbered.TheVariants.{Classes, Refused}
 
-pub answer-unique : (a b : Renumbered) (ws list ws' list' : List ℕ) → Told a → Told b → outcome a ws list ≡ outcome b ws' list' → a ≡ b
-answer-unique (Classes i) (Classes j) ws list ws' list' p q e = ap Classes (ap (λ (x : Outcome). x.classes) e)
-answer-unique (Classes i) (Refused k) ws list ws' list' p q e = absurd (q (sym (ap (λ (x : Outcome). x.refusal) e)))
-answer-unique (Refused k) (Classes j) ws list ws' list' p q e = absurd (p (ap (λ (x : Outcome). x.refusal) e))
-answer-unique (Refused j) (Refused k) ws list ws' list' p q e = ap Refused (ap (λ (x : Outcome). x.refusal) e)
+pub answer_unique : (a b : Renumbered) (ws list ws' list' : List ℕ) → Told a → Told b → outcome a ws list ≡ outcome b ws' list' → a ≡ b
+answer_unique (Classes i) (Classes j) ws list ws' list' p q e = ap Classes (ap (λ (x : Outcome). x.classes) e)
+answer_unique (Classes i) (Refused k) ws list ws' list' p q e = absurd (q (sym (ap (λ (x : Outcome). x.refusal) e)))
+answer_unique (Refused k) (Classes j) ws list ws' list' p q e = absurd (p (ap (λ (x : Outcome). x.refusal) e))
+answer_unique (Refused j) (Refused k) ws list ws' list' p q e = ap Refused (ap (λ (x : Outcome). x.refusal) e)

@@ -10,13 +10,13 @@ use lib.Seq.{get_or-set_same, get_or-set_other}
 use lib.Dec.{eqb}
 use borrow.Author.Tests.{eq-eqb, ne_eqb}
 use Rattle.words.specs.Lists.{position, some}
-use Rattle.words.specs.Rows.{Rows, no_rows, a-row}
+use Rattle.words.specs.Rows.{Rows, no_rows, a_row}
 use Rattle.words.specs.declared.Found.TheVariants.{At, Nothing}
 use Rattle.words.proofs.Bools.{by, or-neither}
 use Rattle.words.proofs.Rows.{row-length}
 use Rattle.class_sheet.specs.ClassSheet.{parent_word, counts_width, class_width, member_width, count_at, class_count, method_count, field_count, interface_count, compiler_count, text_length, content_end, class_word, method_word, field_word, interface_word, compiler_word, text_of, class_parent}
 use Rattle.class_sheet.specs.Sections.{Sections, Formed, laid_out, sections_of}
-use Rattle.class_sheet.proofs.Sections.{formed-of, laid_of, class_of, method-of, field_of, interface-of, compiler-of, text-of-words, class-count, method-count, field-count, interface-count, compiler-count, text-length, end-at, class-word, method-word, field-word, interface-word, compiler-word, text-of, rest-is, length-laid}
+use Rattle.class_sheet.proofs.Sections.{formed-of, laid_of, class_of, method-of, field_of, interface-of, compiler-of, text-of-words, number_of_classes, number_of_methods, number_of_fields, number_of_interfaces, number_of_compilers, length_of_text, end-at, class-word, method-word, field-word, interface-word, compiler-word, text-of, rest-is, length-laid}
 use Rattle.set_rules.specs.Valid.{IsClass}
 use Rattle.renumber.specs.Renumber.{placed, new_number, moved_record, renumbered}
 use Rattle.renumber.proofs.Distinct.{Distinct, placed-place}
@@ -66,7 +66,7 @@ length-map f (x ∷ l) = ap suc (length-map f l)
 
 rows-map : (w : ℕ) (f : ℕ → List ℕ) (l : List ℕ) → ((i : ℕ) → i < length l → length (f (get_or l i 0)) ≡ w) → Rows w (map f l)
 rows-map w f [] h = no_rows
-rows-map w f (x ∷ l) h = a-row (h 0 (omega arith)) (rows-map w f l (λ i g. h (suc i) (omega arith)))
+rows-map w f (x ∷ l) h = a_row (h 0 (omega arith)) (rows-map w f l (λ i g. h (suc i) (omega arith)))
 
 -- ---- the words
 
@@ -91,10 +91,10 @@ module _ (ws l : List ℕ) (fits : content_end ws ≤ length ws) (d : Distinct (
   moved-words = refl
 
   classes-old : length old.classes ≡ class_count ws
-  classes-old = sym (class-count old) ∙ ap class_count (laid_of ws fits)
+  classes-old = sym (number_of_classes old) ∙ ap class_count (laid_of ws fits)
 
   interfaces-old : length old.interfaces ≡ interface_count ws
-  interfaces-old = sym (interface-count old) ∙ ap interface_count (laid_of ws fits)
+  interfaces-old = sym (number_of_interfaces old) ∙ ap interface_count (laid_of ws fits)
 
   record_length : (c : ℕ) → IsClass ws c → length (moved_record ws l c) ≡ class_width
   unfolding moved_record
@@ -157,28 +157,28 @@ module _ (ws l : List ℕ) (fits : content_end ws ≤ length ws) (d : Distinct (
   pub method-same : (m k : ℕ) → m < method_count ws → k < member_width → method_word (renumbered ws l) m k ≡ method_word ws m k
   method-same m k h g =
       rw moved-words
-      (method-word moved formed-moved m k (omega (arith, method-count old, ap method_count (laid_of ws fits))) g ∙ sym (method-of ws fits m k h g))
+      (method-word moved formed-moved m k (omega (arith, number_of_methods old, ap method_count (laid_of ws fits))) g ∙ sym (method-of ws fits m k h g))
 
   pub field-same : (f k : ℕ) → f < field_count ws → k < member_width → field_word (renumbered ws l) f k ≡ field_word ws f k
   field-same f k h g =
       rw moved-words
-      (field-word moved formed-moved f k (omega (arith, field-count old, ap field_count (laid_of ws fits))) g ∙ sym (field_of ws fits f k h g))
+      (field-word moved formed-moved f k (omega (arith, number_of_fields old, ap field_count (laid_of ws fits))) g ∙ sym (field_of ws fits f k h g))
 
   pub compiler-same : (i : ℕ) → i < compiler_count ws → compiler_word (renumbered ws l) i ≡ compiler_word ws i
   compiler-same i h =
       rw moved-words
-      (compiler-word moved formed-moved i (omega (arith, compiler-count old, ap compiler_count (laid_of ws fits))) ∙ sym (compiler-of ws fits i h))
+      (compiler-word moved formed-moved i (omega (arith, number_of_compilers old, ap compiler_count (laid_of ws fits))) ∙ sym (compiler-of ws fits i h))
 
   pub text_same : text_of (renumbered ws l) ≡ text_of ws
   text_same = rw moved-words (text-of moved formed-moved ∙ sym (text-of-words ws fits))
 
   pub count_same : (k : ℕ) → k < counts_width → count_at (renumbered ws l) k ≡ count_at ws k
-  count_same zero h = rw moved-words (class-count moved ∙ classes-moved)
-  count_same (suc zero) h = rw moved-words (method-count moved ∙ sym (method-count old) ∙ ap method_count (laid_of ws fits))
-  count_same (suc (suc zero)) h = rw moved-words (field-count moved ∙ sym (field-count old) ∙ ap field_count (laid_of ws fits))
-  count_same (suc (suc (suc zero))) h = rw moved-words (interface-count moved ∙ interfaces-moved)
-  count_same (suc (suc (suc (suc zero)))) h = rw moved-words (compiler-count moved ∙ sym (compiler-count old) ∙ ap compiler_count (laid_of ws fits))
-  count_same (suc (suc (suc (suc (suc zero))))) h = rw moved-words (text-length moved ∙ sym (text-length old) ∙ ap text_length (laid_of ws fits))
+  count_same zero h = rw moved-words (number_of_classes moved ∙ classes-moved)
+  count_same (suc zero) h = rw moved-words (number_of_methods moved ∙ sym (number_of_methods old) ∙ ap method_count (laid_of ws fits))
+  count_same (suc (suc zero)) h = rw moved-words (number_of_fields moved ∙ sym (number_of_fields old) ∙ ap field_count (laid_of ws fits))
+  count_same (suc (suc (suc zero))) h = rw moved-words (number_of_interfaces moved ∙ interfaces-moved)
+  count_same (suc (suc (suc (suc zero)))) h = rw moved-words (number_of_compilers moved ∙ sym (number_of_compilers old) ∙ ap compiler_count (laid_of ws fits))
+  count_same (suc (suc (suc (suc (suc zero))))) h = rw moved-words (length_of_text moved ∙ sym (length_of_text old) ∙ ap text_length (laid_of ws fits))
   count_same (suc (suc (suc (suc (suc (suc k)))))) h = absurd (omega arith)
 
   pub rest-same : drop (content_end (renumbered ws l)) (renumbered ws l) ≡ drop (content_end ws) ws

@@ -18,7 +18,7 @@ use Rattle.words.proofs.Lists.{length_part}
 use Rattle.words.proofs.Rows.{joined-append}
 use Rattle.class_sheet.specs.ClassSheet.{parent_word, counts_width, class_width, class_limit, class_count, interface_count, methods_at, fields_at, interfaces_at, compilers_at, text_at, content_end, class_parent}
 use Rattle.class_sheet.specs.Sections.{Sections, Formed, sections_by, sections_of, with_classes}
-use Rattle.class_sheet.proofs.Sections.{at-classes, at-methods, at-interfaces, counts_of, to_methods, to_interfaces, from_methods, from_interfaces, from_compilers, class-count, interface-count, methods-start, interfaces-start, length-laid, laid_of, formed-of, sections-laid}
+use Rattle.class_sheet.proofs.Sections.{at-classes, at-methods, at-interfaces, counts_of, to_methods, to_interfaces, from_methods, from_interfaces, from_compilers, number_of_classes, number_of_interfaces, methods-start, interfaces-start, length-laid, laid_of, formed-of, sections-laid}
 use Rattle.set_rules.specs.Valid.{IsClass}
 use Rattle.renumber.specs.Renumber.{new_number, moved_record, renumbered, renumber_form, names_classes, cyclic, renumber_refusal, renumber_def, Outcome}
 use Rattle.renumber.specs.Steps.{Complete, records_moved, with_interfaces, interfaces_mapped}
@@ -117,7 +117,7 @@ module _ (ws l : List ℕ) (o : Complete ws l) where
 
   -- as many as before
   moved-count : length moved ≡ length old.classes
-  moved-count = length-map l (moved_record ws l) ∙ o.all ∙ sym (ap class_count (laid_of ws o.fits)) ∙ class-count old
+  moved-count = length-map l (moved_record ws l) ∙ o.all ∙ sym (ap class_count (laid_of ws o.fits)) ∙ number_of_classes old
 
   -- the methods begin after as many records
   methods-after : methods_at ws ≡ counts_width + class_width * length l
@@ -187,7 +187,7 @@ module _ (ws l : List ℕ) (content : content_end ws ≤ length ws) where
   cuts = sections_of ws
 
   interface-length : length cuts.interfaces ≡ interface_count ws
-  interface-length = sym (interface-count cuts) ∙ ap interface_count (laid_of ws content)
+  interface-length = sym (number_of_interfaces cuts) ∙ ap interface_count (laid_of ws content)
 
   pub interfaces-over : {at end : ℕ} {ys out : List ℕ} → at ≡ interfaces_at ws → end ≡ compilers_at ws
       → ys ≡ map (new_number l) (take (end - at) (drop at ws)) → out ≡ take at ws ++ (ys ++ drop (end - at) (drop at ws))

@@ -77,8 +77,8 @@ module _ (ws abi area missing answers calls stubs : List ℕ) (left : State) (an
       let said : (j : ℕ) → j < 3 * i + 3 → get_or xs j 0 ≡ get_or answers' j 0 =
       λ j h. sym (over-at xs answers j (omega (arith, t.among)) (omega (arith, t.room))) ∙ sym (ap (λ (x : List ℕ). get_or x j 0) made.1) in
       let z : 0 + i ≡ i = omega arith in
-      linked-at abi (call_at calls stubs) 0 (length calls / 5) s i t.among (ap (call_at calls stubs) z ∙ call-is calls stubs i t.is-link t.of-class)
-      (said (3 * i) (omega arith) ∙ t.accepted) (said (3 * i + 1) (omega arith) ∙ t.place_is) (said (3 * i + 2) (omega arith) ∙ t.slots-is)
+      linked-at abi (call_at calls stubs) 0 (length calls / 5) s i t.among (ap (call_at calls stubs) z ∙ call-is calls stubs i t.is_link t.class_is)
+      (said (3 * i) (omega arith) ∙ t.accepted) (said (3 * i + 1) (omega arith) ∙ t.place_is) (said (3 * i + 2) (omega arith) ∙ t.slots_is)
 
   -- the area that the theorem speaks of is the one left
   area-is : (run abi (calls_of calls stubs) (start ws area missing)).area ≡ left.area
@@ -88,10 +88,10 @@ module _ (ws abi area missing answers calls stubs : List ℕ) (left : State) (an
       → Holds ws abi area missing calls stubs left.area c place slots
   holds {c} {place} {slots} k = record {
     unique = λ old. subst (λ (a : List ℕ). Unique ws (text_of ws) abi (abi_text_of abi) c (table_at a place slots)) area-is (k.unique old);
-    keeps-parent = λ n e. let p = k.keeps-parent n e in record {
+    keeps_parent = λ n e. let p = k.keeps_parent n e in record {
       parent_place = p.parent_place;
-      parent-slots = p.parent-slots;
-      parent-linked = p.parent-linked;
+      parent_slots = p.parent_slots;
+      parent_linked = p.parent_linked;
       kept = λ q m l. subst (λ (a : List ℕ). Kept ws (text_of ws) abi (abi_text_of abi) c (table_at a place slots) (table_at a q m)) area-is (p.kept q m l);
     };
     whole = sym (ap (λ (a : List ℕ). length (table_at a place slots)) area-is) ∙ k.whole;

@@ -15,12 +15,12 @@ use Rattle.replay.specs.Replay.{calls_of, answers_of, over}
 pub record Told (calls answers : List ℕ) (c place slots : ℕ) : Type 0 where
   pub call : ℕ
   pub among : call < length calls / 5
-  pub is-link : get_or calls (5 * call) 0 ≡ 0
-  pub of-class : get_or calls (5 * call + 1) 0 ≡ c
+  pub is_link : get_or calls (5 * call) 0 ≡ 0
+  pub class_is : get_or calls (5 * call + 1) 0 ≡ c
   pub room : 3 * call + 2 < length answers
   pub accepted : get_or answers (3 * call) 0 ≡ 0
   pub place_is : get_or answers (3 * call + 1) 0 ≡ place
-  pub slots-is : get_or answers (3 * call + 2) 0 ≡ slots
+  pub slots_is : get_or answers (3 * call + 2) 0 ≡ slots
 
 -- the contract of `replay`, of memory before and after and the words of the calls: the set, the area and the counts are as the calls leave them, and
 -- their answers are laid over the lent ones
@@ -33,15 +33,15 @@ module _ (ws abi area missing calls stubs area' : List ℕ) where
   -- the parent is linked in the list, and whatever link of it was accepted, the child's table keeps the known slots of the parent's
   pub record Keeps (c place slots : ℕ) : Type 0 where
     pub parent_place : ℕ
-    pub parent-slots : ℕ
-    pub parent-linked : Linked ws abi area missing (calls_of calls stubs) (parent_of ws c) parent_place parent-slots
+    pub parent_slots : ℕ
+    pub parent_linked : Linked ws abi area missing (calls_of calls stubs) (parent_of ws c) parent_place parent_slots
     pub kept : (p n : ℕ) → Linked ws abi area missing (calls_of calls stubs) (parent_of ws c) p n
         → Kept ws (text_of ws) abi (abi_text_of abi) c (table_at area' place slots) (table_at area' p n)
 
   -- demand 3's claim, of the tables in the area that `replay` leaves
   pub record Holds (c place slots : ℕ) : Type 0 where
     pub unique : OldRule ws c → Unique ws (text_of ws) abi (abi_text_of abi) c (table_at area' place slots)
-    pub keeps-parent : parent_of ws c ≢ 0 → class_abi ws (text_of ws) abi (abi_text_of abi) c ≡ Nothing → Keeps c place slots
+    pub keeps_parent : parent_of ws c ≢ 0 → class_abi ws (text_of ws) abi (abi_text_of abi) c ≡ Nothing → Keeps c place slots
     pub whole : length (table_at area' place slots) ≡ slots
 
 -- for whatever `replay` is lent: where the set is unlinked at its start, the claim holds of every class that its answers tell linked and that

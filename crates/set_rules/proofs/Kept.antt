@@ -95,13 +95,13 @@ module _ (abi rest : List ℕ) (fits : abi_fits abi ≡ true) where
           all-ext (abi_field_count abi) (abi_field_record (abi ++ rest) text) (abi_field_record abi text) abi-field-kept,
         )
 
-    abi-slot_typed_kept : (s : ℕ) → s < abi_slot_count abi → abi_slot_typed (abi ++ rest) text s ≡ abi_slot_typed abi text s
+    abi_slot_typed_kept : (s : ℕ) → s < abi_slot_count abi → abi_slot_typed (abi ++ rest) text s ≡ abi_slot_typed abi text s
     unfolding abi_slot_typed
-    abi-slot_typed_kept s h = search (slot-words s h)
+    abi_slot_typed_kept s h = search (slot-words s h)
 
-    abi-field_typed_kept : (f : ℕ) → f < abi_field_count abi → abi_field_typed (abi ++ rest) text f ≡ abi_field_typed abi text f
+    abi_field_typed_kept : (f : ℕ) → f < abi_field_count abi → abi_field_typed (abi ++ rest) text f ≡ abi_field_typed abi text f
     unfolding abi_field_typed
-    abi-field_typed_kept f h = search (abi-field-words f h)
+    abi_field_typed_kept f h = search (abi-field-words f h)
 
     pub abi-descriptors-kept : abi_descriptors (abi ++ rest) text ≡ abi_descriptors abi text
     unfolding abi_descriptors
@@ -109,8 +109,8 @@ module _ (abi rest : List ℕ) (fits : abi_fits abi ≡ true) where
         rw (
           abi-counts abi_slot_count_number refl,
           abi-counts abi_field_count_number refl,
-          all-ext (abi_slot_count abi) (abi_slot_typed (abi ++ rest) text) (abi_slot_typed abi text) abi-slot_typed_kept,
-          all-ext (abi_field_count abi) (abi_field_typed (abi ++ rest) text) (abi_field_typed abi text) abi-field_typed_kept,
+          all-ext (abi_slot_count abi) (abi_slot_typed (abi ++ rest) text) (abi_slot_typed abi text) abi_slot_typed_kept,
+          all-ext (abi_field_count abi) (abi_field_typed (abi ++ rest) text) (abi_field_typed abi text) abi_field_typed_kept,
         )
 
 -- a set and an ABI sheet that rows 3 to 5 accept are accepted in longer slices too

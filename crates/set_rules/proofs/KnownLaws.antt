@@ -42,7 +42,7 @@ module _ (n : ℕ) (s : List ℕ) {kind : Members} {r : Bool} where
 -- what is good for an instance method is good for any
 any-number : (kind : Members) (n : ℕ) (s : List ℕ) → is_descriptor kind 0 s ≡ true → is_descriptor kind n s ≡ true
 unfolding is_descriptor
-any-number Methods n s h = meaning.static-more s n h
+any-number Methods n s h = meaning.static_more s n h
 any-number Slots n s h = h
 any-number Fields n s h = h
 

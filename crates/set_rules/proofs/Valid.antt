@@ -102,12 +102,12 @@ module _ (ws : List ℕ) (c : ℕ) where
   unfolding class_numbers own_numbers
   numbers-ok v =
       simp (
-        lt-ltb (class_parent ws c) c v.parent-below,
+        lt-ltb (class_parent ws c) c v.parent_below,
         le-leb (class_flags ws c) 65535 v.flags,
         le-leb (class_kind ws c) 3 v.kind,
-        le-leb (class_link_state ws c) 65535 v.link-state,
-        le-leb (class_instance_words ws c) 65535 v.instance-words,
-        le-leb (class_compiler_slots ws c) 1024 v.compiler-slots,
+        le-leb (class_link_state ws c) 65535 v.link_state,
+        le-leb (class_instance_words ws c) 65535 v.words_of_instance,
+        le-leb (class_compiler_slots ws c) 1024 v.compiler_slots,
       )
       (by (eqb (class_table_place ws c) 0) (λ e. simp e) (λ e. simp (e, le-leb (class_slot_count ws c) 1024 (v.slots (eqb-false _ _ e)))))
 
@@ -139,12 +139,12 @@ module _ (ws : List ℕ) (c : ℕ) where
       (compiler_ok (class_compiler_table ws c) (class_compiler_slots ws c) (compiler_count ws)) p.2 in
       record {
         name = (part _ _ _).0 p.0;
-        parent-below = q.0;
+        parent_below = q.0;
         flags = q.1;
         kind = q.2;
-        link-state = q.3;
-        instance-words = q.4;
-        compiler-slots = q.5;
+        link_state = q.3;
+        words_of_instance = q.4;
+        compiler_slots = q.5;
         slots = q.6;
         methods = inside_is _ _ _ r.0;
         fields = inside_is _ _ _ r.1;
@@ -177,10 +177,10 @@ module _ (text : List ℕ) (typed : List ℕ → Bool) (Derived : List ℕ → T
 
 -- the descriptors' tests are the Specification's
 method-exact : (flags : ℕ) (s : List ℕ) → (is_method flags s ≡ true) ↔ ValidDescriptor flags s
-method-exact flags s = (meaning.valid-sound s flags, meaning.valid-complete s flags)
+method-exact flags s = (meaning.valid_sound s flags, meaning.valid_complete s flags)
 
 field-exact : (s : List ℕ) → (is_field_descriptor s ≡ true) ↔ FieldDerivation s
-field-exact s = (meaning.field-sound s, meaning.field-complete s)
+field-exact s = (meaning.field_sound s, meaning.field_complete s)
 
 module _ (ws : List ℕ) where
   method-is : (m : ℕ) → method_record ws (text_of ws) m ≡ true → method_typed ws (text_of ws) m ≡ true → ValidMethod ws m
@@ -278,12 +278,12 @@ valid-class ws f h t =
     (all_of (class_count ws) (λ i. apart_before ws (text_of ws) (i + 1))) h in
     let q = and_both (all_of (method_count ws) (method_typed ws (text_of ws))) (all_of (field_count ws) (field_typed ws (text_of ws))) t in
     record {
-      class-count = l.0.classes;
-      method-count = l.0.methods;
-      field-count = l.0.fields;
-      interface-count = l.0.interfaces;
-      compiler-count = l.0.compilers;
-      text-length = l.0.text;
+      number_of_classes = l.0.classes;
+      number_of_methods = l.0.methods;
+      number_of_fields = l.0.fields;
+      number_of_interfaces = l.0.interfaces;
+      number_of_compilers = l.0.compilers;
+      length_of_text = l.0.text;
       fits = l.1;
       class = λ c k.
           let e : c - 1 + 1 ≡ c = omega arith in
@@ -304,12 +304,12 @@ pub class-tests : (ws : List ℕ) → Valid ws → (class_fits ws ≡ true) × (
 unfolding class_fits class_limits class_records class_descriptors
 class-tests ws v = (
   simp (
-    le-leb (class_count ws) class_limit v.class-count,
-    le-leb (method_count ws) method_limit v.method-count,
-    le-leb (field_count ws) field_limit v.field-count,
-    le-leb (interface_count ws) interface_limit v.interface-count,
-    le-leb (compiler_count ws) compiler_limit v.compiler-count,
-    le-leb (text_length ws) text_limit v.text-length,
+    le-leb (class_count ws) class_limit v.number_of_classes,
+    le-leb (method_count ws) method_limit v.number_of_methods,
+    le-leb (field_count ws) field_limit v.number_of_fields,
+    le-leb (interface_count ws) interface_limit v.number_of_interfaces,
+    le-leb (compiler_count ws) compiler_limit v.number_of_compilers,
+    le-leb (text_length ws) text_limit v.length_of_text,
     le-leb (content_end ws) (length ws) v.fits,
   ),
   simp (
@@ -377,10 +377,10 @@ valid-abi a f h t =
     (all_of (abi_field_count a) (abi_field_record a (abi_text_of a))) h in
     let q = and_both (all_of (abi_slot_count a) (abi_slot_typed a (abi_text_of a))) (all_of (abi_field_count a) (abi_field_typed a (abi_text_of a))) t in
     record {
-      class-count = l.0.classes;
-      slot-count = l.0.slots;
-      field-count = l.0.fields;
-      text-length = l.0.text;
+      number_of_classes = l.0.classes;
+      slot_count = l.0.slots;
+      number_of_fields = l.0.fields;
+      length_of_text = l.0.text;
       fits = l.1;
       class = λ m k. abi-class-is a m (all-each _ _ p.0 m k);
       slot = λ m k. abi-slot-is a m (all-each _ _ p.1 m k) (all-each _ _ q.0 m k);
@@ -391,10 +391,10 @@ pub abi-tests : (a : List ℕ) → ValidAbi a → (abi_fits a ≡ true) × (abi_
 unfolding abi_fits abi_limits abi_records abi_descriptors
 abi-tests a v = (
   simp (
-    le-leb (abi_class_count a) abi_class_limit v.class-count,
-    le-leb (abi_slot_count a) abi_slot_limit v.slot-count,
-    le-leb (abi_field_count a) abi_field_limit v.field-count,
-    le-leb (abi_text_length a) abi_text_limit v.text-length,
+    le-leb (abi_class_count a) abi_class_limit v.number_of_classes,
+    le-leb (abi_slot_count a) abi_slot_limit v.slot_count,
+    le-leb (abi_field_count a) abi_field_limit v.number_of_fields,
+    le-leb (abi_text_length a) abi_text_limit v.length_of_text,
     le-leb (abi_content_end a) (length a) v.fits,
   ),
   simp (

@@ -28,12 +28,12 @@ IsClass ws c = (1 ≤ c) × (c ≤ class_count ws)
 
 pub record ValidClass (ws : List ℕ) (c : ℕ) : Type 0 where
   pub name : Part (text_of ws) (class_name_start ws c) (class_name_length ws c)
-  pub parent-below : class_parent ws c < c
+  pub parent_below : class_parent ws c < c
   pub flags : class_flags ws c ≤ 65535
   pub kind : class_kind ws c ≤ 3
-  pub link-state : class_link_state ws c ≤ 65535
-  pub instance-words : class_instance_words ws c ≤ 65535
-  pub compiler-slots : class_compiler_slots ws c ≤ 1024
+  pub link_state : class_link_state ws c ≤ 65535
+  pub words_of_instance : class_instance_words ws c ≤ 65535
+  pub compiler_slots : class_compiler_slots ws c ≤ 1024
   pub slots : (class_table_place ws c ≡ 0 → ⊥) → class_slot_count ws c ≤ 1024
   pub methods : class_first_method ws c + class_method_count ws c ≤ method_count ws
   pub fields : class_first_field ws c + class_field_count ws c ≤ field_count ws
@@ -57,12 +57,12 @@ ValidField ws f =
 
 -- class words that rows 3 to 5 accept
 pub record Valid (ws : List ℕ) : Type 0 where
-  pub class-count : class_count ws ≤ class_limit
-  pub method-count : method_count ws ≤ method_limit
-  pub field-count : field_count ws ≤ field_limit
-  pub interface-count : interface_count ws ≤ interface_limit
-  pub compiler-count : compiler_count ws ≤ compiler_limit
-  pub text-length : text_length ws ≤ text_limit
+  pub number_of_classes : class_count ws ≤ class_limit
+  pub number_of_methods : method_count ws ≤ method_limit
+  pub number_of_fields : field_count ws ≤ field_limit
+  pub number_of_interfaces : interface_count ws ≤ interface_limit
+  pub number_of_compilers : compiler_count ws ≤ compiler_limit
+  pub length_of_text : text_length ws ≤ text_limit
   pub fits : content_end ws ≤ length ws
   pub class : (c : ℕ) → IsClass ws c → ValidClass ws c
   pub method : (m : ℕ) → m < method_count ws → ValidMethod ws m
@@ -97,10 +97,10 @@ ValidAbiField abi f =
 
 -- ABI words that rows 3 to 5 accept
 pub record ValidAbi (abi : List ℕ) : Type 0 where
-  pub class-count : abi_class_count abi ≤ abi_class_limit
-  pub slot-count : abi_slot_count abi ≤ abi_slot_limit
-  pub field-count : abi_field_count abi ≤ abi_field_limit
-  pub text-length : abi_text_length abi ≤ abi_text_limit
+  pub number_of_classes : abi_class_count abi ≤ abi_class_limit
+  pub slot_count : abi_slot_count abi ≤ abi_slot_limit
+  pub number_of_fields : abi_field_count abi ≤ abi_field_limit
+  pub length_of_text : abi_text_length abi ≤ abi_text_limit
   pub fits : abi_content_end abi ≤ length abi
   pub class : (a : ℕ) → a < abi_class_count abi → ValidAbiClass abi a
   pub slot : (s : ℕ) → s < abi_slot_count abi → ValidAbiSlot abi s

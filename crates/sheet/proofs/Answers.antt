@@ -22,13 +22,13 @@ use Rattle.sheet.specs.declared.Read.TheVariants.{Words, Refused}
 abbrev pub Tells : Outcome → Type 0
 Tells o = o.refusal ≡ 0 → o.words ≢ 0
 
-pub answer-unique : (a b : Read) (m n : List ℕ) {o : Outcome} → Tells o → outcome a m ≡ o → outcome b n ≡ o → a ≡ b
-answer-unique (Words i) (Words j) m n t e f = ap Words (ap (λ (x : Outcome). x.words) (e ∙ sym f))
-answer-unique (Words i) (Refused k) m n t e f =
+pub answer_unique : (a b : Read) (m n : List ℕ) {o : Outcome} → Tells o → outcome a m ≡ o → outcome b n ≡ o → a ≡ b
+answer_unique (Words i) (Words j) m n t e f = ap Words (ap (λ (x : Outcome). x.words) (e ∙ sym f))
+answer_unique (Words i) (Refused k) m n t e f =
     absurd (t (sym (ap (λ (x : Outcome). x.refusal) e)) (sym (ap (λ (x : Outcome). x.words) f)))
-answer-unique (Refused k) (Words j) m n t e f =
+answer_unique (Refused k) (Words j) m n t e f =
     absurd (t (sym (ap (λ (x : Outcome). x.refusal) f)) (sym (ap (λ (x : Outcome). x.words) e)))
-answer-unique (Refused j) (Refused k) m n t e f = ap Refused (ap (λ (x : Outcome). x.refusal) (e ∙ sym f))
+answer_unique (Refused j) (Refused k) m n t e f = ap Refused (ap (λ (x : Outcome). x.refusal) (e ∙ sym f))
 
 -- a sheet that rows 1 and 2 let pass has a block
 some_block : (bs : List ℕ) (room limit : ℕ) → block_refusal bs room limit ≡ 0 → 0 < block_count bs

@@ -45,9 +45,9 @@ module _ (ws text abi labels : List ℕ) where
     pub conditions-up : {P : ℕ → Type 0} → Conditions ws text abi labels P c → Conditions ws text abi labels P (parent_of ws c)
     conditions-up k = record {
       one_index = λ s z i j. k.one_index s z (slot-up i) (slot-up j);
-      targets-nonzero = λ m i. k.targets-nonzero m (method-up ws c h i);
-      targets-different = λ m n i j. k.targets-different m n (method-up ws c h i) (method-up ws c h j);
-      stubs-nonzero = k.stubs-nonzero;
+      nonzero_targets = λ m i. k.nonzero_targets m (method-up ws c h i);
+      different_targets = λ m n i j. k.different_targets m n (method-up ws c h i) (method-up ws c h j);
+      nonzero_stubs = k.nonzero_stubs;
       no_stub = λ x m p i. k.no_stub x m p (method-up ws c h i);
     }
 

@@ -14,7 +14,7 @@ use Rattle.linking.specs.Abi.{abi_slots, slot_index, class_abi}
 use Rattle.linking.specs.Vtable.{empty, method_entry}
 use Rattle.linking.proofs.Assemble.{Lent, method, built, array, slot, abi, lent, link, answers, after, table_of}
 use Rattle.linking.proofs.Opened.{opened}
-use Rattle.words.proofs.ListLaws.{get_d_list-from}
+use Rattle.words.proofs.ListLaws.{get_d_list_from}
 use Rattle.slots.specs.Slots.{OldRule, Unique, Keeps, Kept, ChainMethod, ChainSlot}
 use Rattle.slots.specs.Made.{Made, Conditions, read_words, start_from, table_from, inherited_from, made_from}
 use Rattle.slots.proofs.ListFacts.{not_found, found-same, in_none}
@@ -117,16 +117,16 @@ conditions = record {
       let a = a-slot s k in let b = a-slot z l in
       let e : get_or (abi_slot_name sheet labels s) 0 0 ≡ get_or (abi_slot_name sheet labels z) 0 0 = ap (λ (x : List ℕ). get_or x 0 0) n in
       a.index ∙ omega (arith, a.small, b.small, a.letter, b.letter, e) ∙ sym b.index;
-  targets-nonzero = λ m k e. omega (arith, (a-method m k).target, e);
-  targets-different = λ m n k l e. omega (arith, (a-method m k).target, (a-method n l).target, e);
-  stubs-nonzero = λ x p e. omega (arith, p.0, e);
+  nonzero_targets = λ m k e. omega (arith, (a-method m k).target, e);
+  different_targets = λ m n k l e. omega (arith, (a-method m k).target, (a-method n l).target, e);
+  nonzero_stubs = λ x p e. omega (arith, p.0, e);
   no_stub = λ x m p k e. omega (arith, p.0, (a-method m k).target, (a-method m k).small, e);
 }
 
 -- ---- its tables
 
 lent-stubs : (i : ℕ) → i < 8 → P (get_or world.stubs i 0)
-lent-stubs i h = rw (get_d_list-from (λ k. 901 + k) 0 8 i 0 h) (omega arith, omega arith)
+lent-stubs i h = rw (get_d_list_from (λ k. 901 + k) 0 8 i 0 h) (omega arith, omega arith)
 
 made : (c : ℕ) → Memᴰ c (3 ∷ 2 ∷ 1 ∷ []) → Made ws text sheet labels tables P c
 unfolding opened ws text sheet labels start_from table_from inherited_from made_from read_words

@@ -187,10 +187,10 @@ module _ (ws text abi labels : List ℕ) where
 
   -- ---- Reading's second rule: "the first chain class whose ABI entry fixes that index and which itself has a method of that signature"
 
-  own-fixed_live : {c d i m : ℕ} → Memᴰ d (chain ws c) → (class_kind ws d ≡ 2 → own_methods ws d ≡ []) → own_fixed ws text abi labels i d ≡ At m
+  own_fixed_live : {c d i m : ℕ} → Memᴰ d (chain ws c) → (class_kind ws d ≡ 2 → own_methods ws d ≡ []) → own_fixed ws text abi labels i d ≡ At m
       → Live c (method_signature ws text m) i
   unfolding own_fixed
-  own-fixed_live {c} {d} {i} {m} along bare e =
+  own_fixed_live {c} {d} {i} {m} along bare e =
       by-found (class_abi ws text abi labels d)
       (λ a q.
       by-found (slot_at abi i a)
@@ -222,7 +222,7 @@ module _ (ws text abi labels : List ℕ) where
       → Live c (method_signature ws text m) i
   unfolding find_by_index
   index_live c i m bare e =
-      let r = found_in (own_fixed ws text abi labels i) (chain ws c) m e in own-fixed_live r.along (bare r.element r.along) r.finds
+      let r = found_in (own_fixed ws text abi labels i) (chain ws c) m e in own_fixed_live r.along (bare r.element r.along) r.finds
 
   -- a class without an ABI entry reads what its parent does
   pub index-parent : (c i : ℕ) → 0 < c → class_abi ws text abi labels c ≡ Nothing

@@ -18,7 +18,7 @@ use Rattle.class_sheet.specs.ClassSheet.{class_kind, method_target}
 use Rattle.linking.specs.Chain.{own_methods, parent_of, chain, eligible}
 use Rattle.linking.specs.Vtable.{Entry, read_entry, slot_word, slot_words}
 use Rattle.linking.specs.Packages.{topmost}
-use Rattle.linking.proofs.ChainLaws.{parent-below, parent-within, chain-none, chain_more}
+use Rattle.linking.proofs.ChainLaws.{parent_below, parent-within, chain-none, chain_more}
 use Rattle.linking.proofs.Plans.{built-same}
 use Rattle.slots.specs.Slots.{PackageRule, Known, Redeclares, Keeps, Kept, ChainMethod}
 use Rattle.slots.specs.Made.{read_words, inherited_from, introduced_from, packages_from, made_from, Made}
@@ -362,7 +362,7 @@ module _ (ws text abi labels : List ℕ) where
         → ((d : ℕ) → Memᴰ d (chain ws c) → Made ws text abi labels tables P d) → Chained c
     chained zero c b h kinds t made = absurd (omega arith)
     chained (suc bound) c b h kinds t made =
-        let f = parent-below ws c h in
+        let f = parent_below ws c h in
         chained-one c h (kinds c (chain-here ws c h)) t (made c (chain-here ws c h))
         (λ n.
         chained bound (parent_of ws c) (omega arith) (omega arith) (λ d i. kinds d (chain-up ws c h i)) (targets-up c h t)
@@ -379,5 +379,5 @@ module _ (ws text abi labels : List ℕ) where
     stepped c h kinds t made =
         step-one c h (kinds c (chain-here ws c h)) t (made c (chain-here ws c h))
         (λ n.
-        chained c (parent_of ws c) (let f = parent-below ws c h in omega arith) (omega arith) (λ d i. kinds d (chain-up ws c h i)) (targets-up c h t)
+        chained c (parent_of ws c) (let f = parent_below ws c h in omega arith) (omega arith) (λ d i. kinds d (chain-up ws c h i)) (targets-up c h t)
         (λ d i. made d (chain-up ws c h i)))

@@ -22,7 +22,7 @@ use Rattle.linking.specs.Abi.{fixed_index}
 use Rattle.linking.specs.Vtable.{Entry, built, fixed_of, method_entry, put_method, add_method, add_methods, slot_word, slot_words}
 use Rattle.linking.specs.Packages.{is_public, is_protected, Virtual, Open, public, protected, open_method, overridden, put_taken, take_slots, packages_over}
 use Rattle.linking.proofs.Overriding.{virtual_of, overrides-overridden}
-use Rattle.linking.proofs.ChainLaws.{parent-below}
+use Rattle.linking.proofs.ChainLaws.{parent_below}
 use Rattle.linking.proofs.Plans.{built-same}
 use Rattle.slots.specs.Slots.{PackageRule, ChainMethod}
 use Rattle.slots.specs.Made.{read_words, inherited_from, introduced_from, packages_from, Made}
@@ -334,7 +334,7 @@ module _ (ws text abi labels : List ℕ) where
         → ((d : ℕ) → Memᴰ d (chain ws c) → Made ws text abi labels tables P d) → ((d : ℕ) → Memᴰ d (chain ws c) → MadeZero zeros d) → Same zeros c
     same_tables zeros zero c b h kinds t opens once made zero-made = absurd (omega arith)
     same_tables zeros (suc bound) c b h kinds t opens once made zero-made =
-        let f = parent-below ws c h in
+        let f = parent_below ws c h in
         same-one c h t (stepped ws text abi labels tables P c h kinds t made) zeros (zero-made c (chain-here ws c h))
         (λ n.
         same_tables zeros bound (parent_of ws c) (omega arith) (omega arith) (λ d i. kinds d (chain-up ws c h i)) (targets-up ws text abi labels c h t)

@@ -10,7 +10,7 @@ use lib.Dec.{ltb}
 use borrow.Author.Tests.{eq-eqb, ne_eqb, ltb-true, ltb-false}
 use Rattle.words.specs.declared.Found.TheVariants.{At, Nothing}
 use Rattle.words.proofs.Bools.{by}
-use Rattle.words.proofs.ListLaws.{length-list-from, get_d_list-from}
+use Rattle.words.proofs.ListLaws.{length-list-from, get_d_list_from}
 use Rattle.class_sheet.specs.ClassSheet.{class_kind, method_target}
 use Rattle.linking.specs.Chain.{own_methods, parent_of, chain}
 use Rattle.linking.specs.Abi.{class_abi}
@@ -58,7 +58,7 @@ module _ (ws text abi labels : List ℕ) where
     pub read_at : (i : ℕ) → i < length t → at (read_words ws text abi labels c t) i ≡ read_entry ws text abi labels c i (get_or t i 0)
     unfolding read_words
     read_at i h =
-        get_d_list-from (λ k. read_entry ws text abi labels c k (get_or t k 0)) 0 (length t) i empty h
+        get_d_list_from (λ k. read_entry ws text abi labels c k (get_or t k 0)) 0 (length t) i empty h
         ∙ ap (λ (k : ℕ). read_entry ws text abi labels c k (get_or t k 0)) (omega arith)
 
     pub read_known : (i m : ℕ) → (at (read_words ws text abi labels c t) i).method ≡ At m → Known ws text abi labels c t i m
@@ -99,7 +99,7 @@ module _ (ws text abi labels : List ℕ) where
     module _ (c : ℕ) (k : Conditions ws text abi labels P c) (i w : ℕ) where
       pub read-target : (m : ℕ) → ChainMethod ws c m → w ≡ method_target ws m → (read_entry ws text abi labels c i w).method ≡ At m
       unfolding read_entry
-      read-target m h e = rw (target-own ws c w k.targets-different m h (sym e)) refl
+      read-target m h e = rw (target-own ws c w k.different_targets m h (sym e)) refl
 
       pub read-stub : P w → (read_entry ws text abi labels c i w).method ≡ find_by_index ws text abi labels c i
       unfolding read_entry
@@ -143,9 +143,9 @@ module _ (ws text abi labels : List ℕ) where
     module _ (c : ℕ) (k : Conditions ws text abi labels P c) where
       written : (i : ℕ) (e : Entry) (x : ℕ) → P x → Firm c i e → Written c i e (slot_word e.word x)
       written i e x p (ours m h f g) =
-          let n : e.word ≢ 0 = λ z. k.targets-nonzero m h (sym g ∙ z) in method m h f (sym (full e.word x n)) (full e.word x n ∙ g)
+          let n : e.word ≢ 0 = λ z. k.nonzero_targets m h (sym g ∙ z) in method m h f (sym (full e.word x n)) (full e.word x n ∙ g)
       written i e x p (lent q f) =
-          let n : e.word ≢ 0 = k.stubs-nonzero e.word q in
+          let n : e.word ≢ 0 = k.nonzero_stubs e.word q in
           let r : slot_word e.word x ≡ e.word = full e.word x n in
           other (rw r q) (λ m g. sym r) f
       written i e x p (blank f g) = other (rw (bare-word e.word x f) p) (λ m q. not_found (sym g ∙ q)) (λ m q. not_found (sym g ∙ q))

@@ -15,7 +15,7 @@ use Rattle.class_sheet.specs.ClassSheet.{class_kind}
 use Rattle.linking.specs.Chain.{own_methods, parent_of, chain}
 use Rattle.linking.specs.Abi.{class_abi, chain_abi, minimum_size}
 use Rattle.linking.specs.Vtable.{Entry, built, read_entry, relayed, extended, add_methods, slot_words}
-use Rattle.linking.proofs.ChainLaws.{parent-below, parent-within}
+use Rattle.linking.proofs.ChainLaws.{parent_below, parent-within}
 use Rattle.linking.proofs.Plans.{built-same}
 use Rattle.slots.specs.Slots.{OldRule, Unique, Redeclares, Keeps, Kept}
 use Rattle.slots.specs.Made.{read_words, start_from, table_from, inherited_from, made_from, Made, Conditions}
@@ -198,7 +198,7 @@ module _ (ws text abi labels : List ℕ) (tables : ℕ → List ℕ) (P : ℕ �
       → ((d : ℕ) → Memᴰ d (chain ws c) → Made ws text abi labels tables P d) → Linked c
   all zero c b h within old k made = absurd (omega arith)
   all (suc bound) c b h within old k made =
-      let f = parent-below ws c h in
+      let f = parent_below ws c h in
       link c h within old k made
       (λ n.
       all bound (parent_of ws c) (omega arith) (omega arith) (omega arith) (λ d i. old d (chain-up ws c h i)) (conditions-up ws text abi labels c h k)

@@ -66,7 +66,7 @@ module _ (ws text abi labels : List ℕ) where
   -- so ordered, and "where the chain's method targets and all stubs lent are nonzero, the targets all different and none of them a stub"
   pub record Conditions (P : ℕ → Type 0) (c : ℕ) : Type 0 where
     pub one_index : OneSlotIndex c
-    pub targets-nonzero : (m : ℕ) → ChainMethod ws c m → method_target ws m ≢ 0
-    pub targets-different : (m k : ℕ) → ChainMethod ws c m → ChainMethod ws c k → method_target ws m ≡ method_target ws k → m ≡ k
-    pub stubs-nonzero : (x : ℕ) → P x → x ≢ 0
+    pub nonzero_targets : (m : ℕ) → ChainMethod ws c m → method_target ws m ≢ 0
+    pub different_targets : (m k : ℕ) → ChainMethod ws c m → ChainMethod ws c k → method_target ws m ≡ method_target ws k → m ≡ k
+    pub nonzero_stubs : (x : ℕ) → P x → x ≢ 0
     pub no_stub : (x m : ℕ) → P x → ChainMethod ws c m → method_target ws m ≢ x

@@ -73,5 +73,5 @@ module _ (ws text abi labels : List ℕ) where
         → abi_slot_descriptor abi labels s ≡ abi_slot_descriptor abi labels z → slot_index abi s ≡ slot_index abi z
     pub one_name : (s z : ℕ) → ChainSlot c s → ChainSlot c z → slot_index abi s ≡ slot_index abi z
         → abi_slot_name abi labels s ≡ abi_slot_name abi labels z
-    pub one-descriptor : (s z : ℕ) → ChainSlot c s → ChainSlot c z → slot_index abi s ≡ slot_index abi z
+    pub one_descriptor : (s z : ℕ) → ChainSlot c s → ChainSlot c z → slot_index abi s ≡ slot_index abi z
         → abi_slot_descriptor abi labels s ≡ abi_slot_descriptor abi labels z

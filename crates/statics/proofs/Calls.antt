@@ -165,5 +165,5 @@ module _ (ws abi : List ℕ) (start : Start ws) where
   run-inv [] s i = i
   run-inv (k ∷ ks) s i = run-inv ks (step abi s k) (step-inv s k i)
 
-  pub after-calls : (area missing : List ℕ) (calls : List Call) (c : ℕ) → IsClass ws c → After ws (run abi calls (begin.start ws area missing)).set c
-  after-calls area missing calls c k = (run-inv calls (begin.start ws area missing) start-inv).after c k
+  pub after_calls : (area missing : List ℕ) (calls : List Call) (c : ℕ) → IsClass ws c → After ws (run abi calls (begin.start ws area missing)).set c
+  after_calls area missing calls c k = (run-inv calls (begin.start ws area missing) start-inv).after c k

@@ -12,7 +12,7 @@ use Rattle.words.proofs.Bools.{by}
 use Rattle.words.specs.Words.{AreBytes}
 use Rattle.class_sheet.specs.ClassSheet.{class_width, member_width, kind_word, first_method_word, method_count_word, first_field_word, field_count_word, static_words_word, index_word, class_count, method_count, field_count, content_end, text_length, text_words, text_of, class_word, class_kind, is_built_kind, class_first_method, class_method_count, class_first_field, class_field_count, class_static_words, field_word}
 use Rattle.class_sheet.specs.Sections.{Sections, Formed, laid_out, sections_of}
-use Rattle.class_sheet.proofs.Sections.{field-count, class-word, field-word, formed-of, class_of, field_of}
+use Rattle.class_sheet.proofs.Sections.{number_of_fields, class-word, field-word, formed-of, class_of, field_of}
 use Rattle.abi_sheet.specs.AbiSheet.{abi_text_length, abi_text_words, abi_text_of}
 use Rattle.set_rules.specs.Valid.{Valid}
 use Rattle.set_rules.proofs.Valid.{valid}
@@ -27,7 +27,7 @@ use Rattle.linking.proofs.LinkedSections.{record_brought, record_statics, lies-o
 use Rattle.linking.proofs.LinkedBack.{linked-left}
 use Rattle.linking.proofs.Packed.{text-bytes}
 use Rattle.linking.proofs.LinkedBack as back
-use Rattle.calls.proofs.Linked.{Leaves, link-leaves}
+use Rattle.calls.proofs.Linked.{Leaves, link_leaves}
 use Rattle.calls.proofs.Rows.{Accepted, link-cases}
 use Rattle.statics.specs.Statics.{IsBuilt, Left}
 
@@ -128,7 +128,7 @@ module _ (ws abi : List ℕ) (c : ℕ) (area stubs missing : List ℕ) (o : Link
   pub leaves : Leaves ws o.outcome.set c (next_free area) (length p.table)
   leaves =
       subst (λ (x : List ℕ). Leaves ws x c (next_free area) (length p.table)) (sym acc.new-set)
-      (link-leaves ws c (next_free area) words statics p some among ok.fits methods_in_lem fields_in indices_in planning.generated method-bytes field-bytes)
+      (link_leaves ws c (next_free area) words statics p some among ok.fits methods_in_lem fields_in indices_in planning.generated method-bytes field-bytes)
 
   pub new-set : o.outcome.set ≡ laid_out left-sections
   new-set = acc.new-set ∙ linked-laid ws ok.fits c (next_free area) words statics p some among indices_in methods_in_lem fields_in
@@ -182,7 +182,7 @@ module _ (ws abi : List ℕ) (c : ℕ) (area stubs missing : List ℕ) (o : Link
       omega (
         arith,
         ap field_count new-set,
-        field-count left-sections,
+        number_of_fields left-sections,
         fields-more s formed c (next_free area) words statics p some within,
         (lies-of ws ok.fits).fields,
       )

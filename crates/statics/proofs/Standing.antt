@@ -199,20 +199,20 @@ module _ (ws abi : List ℕ) (c : ℕ) (area stubs missing : List ℕ) (o : Link
   fields_in = (ok.class c (acc.class.some, acc.class.among)).fields
 
   many : length (own_fields ws c) ≡ class_field_count ws c
-  many = omega (arith, own-fields-length ws c, fields_in, ok.field-count)
+  many = omega (arith, own-fields-length ws c, fields_in, ok.number_of_fields)
 
   first-is : class_first_field ws c ≡ row_word (sections_of ws).classes (c - 1) first_field_word
   first-is = one.own ws abi c area stubs missing o acc first_field_word (omega arith)
 
-  count-is : class_field_count ws c ≡ row_word (sections_of ws).classes (c - 1) field_count_word
-  count-is = one.own ws abi c area stubs missing o acc field_count_word (omega arith)
+  count_is : class_field_count ws c ≡ row_word (sections_of ws).classes (c - 1) field_count_word
+  count_is = one.own ws abi c area stubs missing o acc field_count_word (omega arith)
 
   inside : row_word (sections_of ws).classes (c - 1) first_field_word + row_word (sections_of ws).classes (c - 1) field_count_word
       ≤ length (sections_of ws).fields
-  inside = omega (arith, fields_in, first-is, count-is, (lies-of ws ok.fits).fields)
+  inside = omega (arith, fields_in, first-is, count_is, (lies-of ws ok.fits).fields)
 
   numbered : length acc.coming.indices ≡ row_word (sections_of ws).classes (c - 1) field_count_word
-  numbered = ap length comes.indices ∙ indices-length ws text abi labels (class_abi ws text abi labels c) c ∙ many ∙ count-is
+  numbered = ap length comes.indices ∙ indices-length ws text abi labels (class_abi ws text abi labels c) c ∙ many ∙ count_is
 
   abbrev Stands : List ℕ → Type 0
   Stands x =
@@ -234,7 +234,7 @@ module _ (ws abi : List ℕ) (c : ℕ) (area stubs missing : List ℕ) (o : Link
 
   word_same : (i k : ℕ) → i < class_field_count ws c → k < index_word → field_word o.outcome.set (now i) k ≡ field_word ws (was i) k
   word_same i k h g =
-      stands.kept i k (omega (arith, h, count-is)) g
+      stands.kept i k (omega (arith, h, count_is)) g
       ∙ ap (λ (n : ℕ). row_word (sections_of ws).fields (n + i) k) (sym first-is)
       ∙ sym (field_of ws ok.fits (was i) k (omega (arith, h, fields_in)) (omega arith))
 
@@ -254,7 +254,7 @@ module _ (ws abi : List ℕ) (c : ℕ) (area stubs missing : List ℕ) (o : Link
         arith,
         e,
         width_same i h,
-        stands.index i (omega (arith, h, count-is)) ∙ ap (λ (l : List ℕ). get_or l i 0) comes.indices,
+        stands.index i (omega (arith, h, count_is)) ∙ ap (λ (l : List ℕ). get_or l i 0) comes.indices,
         (one.left ws abi c area stubs missing o acc).built kind,
       )
 
@@ -262,7 +262,7 @@ module _ (ws abi : List ℕ) (c : ℕ) (area stubs missing : List ℕ) (o : Link
   added-not : (i : ℕ) → class_field_count ws c ≤ i → i < class_field_count o.outcome.set c → is_static (field_flags o.outcome.set (now i)) ≡ false
   added-not i l h =
       let j : ℕ = i - class_field_count ws c in
-      let n : row_word (sections_of ws).classes (c - 1) field_count_word + j ≡ i = omega (arith, l, count-is) in
+      let n : row_word (sections_of ws).classes (c - 1) field_count_word + j ≡ i = omega (arith, l, count_is) in
       let a = stands.added j (rw n h) in
       let m : j < length (new_fields_of abi labels (added_fields ws text abi labels (class_abi ws text abi labels c) c)) =
       rw (← comes.new-fields) a.0 in

@@ -8,7 +8,7 @@ use Rattle.statics.specs.Statics.{Start, Statics}
 use Rattle.statics.proofs.Numbering.{most, counted, begins, ends}
 use Rattle.statics.proofs.Linked.{linked, refused}
 use Rattle.statics.proofs.Standing.{link-stand}
-use Rattle.statics.proofs.Calls.{after-calls}
+use Rattle.statics.proofs.Calls.{after_calls}
 
 read : (bs out : List ℕ) → (read_class_sheet bs out).refusal ≡ 0 → Start (read_class_sheet bs out).memory
 read bs out e = record {
@@ -27,5 +27,5 @@ statics = record {
   ends = ends;
   stand = link-stand;
   read = read;
-  after-calls = λ ws abi area missing calls start. after-calls ws abi start area missing calls;
+  after_calls = λ ws abi area missing calls start. after_calls ws abi start area missing calls;
 }

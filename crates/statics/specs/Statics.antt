@@ -62,5 +62,5 @@ pub record Statics : Type 0 where
       → Standing (link_def ws abi c area stubs missing).outcome.set c
   -- 4. After any list of calls, from words that a reading left, whatever follows the sheet in them.
   pub read : (bs out : List ℕ) → (read_class_sheet bs out).refusal ≡ 0 → Start (read_class_sheet bs out).memory
-  pub after-calls : (ws abi area missing : List ℕ) (calls : List Call) → Start ws → (c : ℕ) → IsClass ws c
+  pub after_calls : (ws abi area missing : List ℕ) (calls : List Call) → Start ws → (c : ℕ) → IsClass ws c
       → After ws (run abi calls (start ws area missing)).set c

@@ -76,10 +76,10 @@ bytes_on ws n d zero = rw add-zero
 bytes_on ws n d (suc k) = rw (add-suc, bytes_on ws n d k)
 
 -- whole words and then the bytes that are left, and where there is no room
-pub text-is : (ws : List ℕ) (n : ℕ) (d : List ℕ) {i m : ℕ} {t o : List ℕ} → t ≡ stores i (text_byte ws) d → o ≡ text_stores ws i (m - i) t
+pub text_is : (ws : List ℕ) (n : ℕ) (d : List ℕ) {i m : ℕ} {t o : List ℕ} → t ≡ stores i (text_byte ws) d → o ≡ text_stores ws i (m - i) t
     → m ≡ n → i ≤ m → n ≤ length d → o ≡ unpacked_text ws n d
 unfolding unpacked_text text_of_words
-text-is ws n d {i = i} {m = m} {o = o} p q e l h =
+text_is ws n d {i = i} {m = m} {o = o} p q e l h =
     let f : i + (m - i) ≡ n = omega arith in
     let r : o ≡ stores n (text_byte ws) d = rw (← f) (q ∙ rw p (bytes_on ws i d (m - i))) in
     rw (r, stores-is n (text_byte ws) d h) (simp (le-ltb (length d) n h))
@@ -273,9 +273,9 @@ member_is ws text e at width most i f =
 
 -- ---- names
 
-pub name-is : (text : List ℕ) (start len : ℕ) {p : List ℕ} {a b : ℕ} → a ≡ start → b ≡ len → p ≡ take b (drop a text) → p ≡ name_at text start len
+pub name_is : (text : List ℕ) (start len : ℕ) {p : List ℕ} {a b : ℕ} → a ≡ start → b ≡ len → p ≡ take b (drop a text) → p ≡ name_at text start len
 unfolding name_at
-name-is text start len e f g = rw (← e, ← f) g
+name_is text start len e f g = rw (← e, ← f) g
 
 -- ---- zeros to the end
 

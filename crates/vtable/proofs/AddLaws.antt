@@ -20,7 +20,7 @@ use Rattle.vtable.specs.declared.Step.{Step}
 use Rattle.vtable.specs.declared.Step.TheVariants.{Next, Moved, Taken}
 use Rattle.reading.specs.Arrays.{mark_of, method_of, source_of, entry_at, entries_of}
 use Rattle.vtable.specs.Arrays.{slot_in, other_in, step_of, step_count}
-use Rattle.reading.proofs.ArrayLaws.{no_source, method-back, length-entries, entry-is}
+use Rattle.reading.proofs.ArrayLaws.{no_source, method-back, length-entries, entry_found}
 use Rattle.vtable.proofs.SlotLaws.{slot_in_lem}
 
 -- the entry with a method's mark is the method's
@@ -52,7 +52,7 @@ module _ (ws text : List ℕ) (m : ℕ) where
   unfolding entry_is_other other_in entry_at
   other-entry ts ms n i =
       by (ltb i n)
-      (λ q. rw q (rw (entry-is ts ms n i empty (ltb-true i n q))))
+      (λ q. rw q (rw (entry_found ts ms n i empty (ltb-true i n q))))
       (λ q. rw q (rw (get_or-eq_default (entries_of ts ms n) empty (past_end ts ms i n q))))
     where
       past_end : (ts ms : List ℕ) (i n : ℕ) → ltb i n ≡ false → length (entries_of ts ms n) ≤ i

@@ -44,12 +44,12 @@ module _ {ℓ} {A : Type ℓ} (f : ℕ → A) where
   length-list-from m (suc n) = ap suc (length-list-from (m + 1) n)
 
 -- element i
-pub get_d_list-from {ℓ} : {A : Type ℓ} (f : ℕ → A) (m n i : ℕ) (d : A) → i < n → get_or (list_from f m n) i d ≡ f (m + i)
+pub get_d_list_from {ℓ} : {A : Type ℓ} (f : ℕ → A) (m n i : ℕ) (d : A) → i < n → get_or (list_from f m n) i d ≡ f (m + i)
 unfolding list_from
-get_d_list-from f m zero i d h = absurd (omega arith)
-get_d_list-from f m (suc n) zero d h = let e : m + 0 ≡ m = omega arith in rw e
-get_d_list-from f m (suc n) (suc i) d h =
-    let e : m + 1 + i ≡ m + suc i = omega arith in get_d_list-from f (m + 1) n i d (omega arith) ∙ ap f e
+get_d_list_from f m zero i d h = absurd (omega arith)
+get_d_list_from f m (suc n) zero d h = let e : m + 0 ≡ m = omega arith in rw e
+get_d_list_from f m (suc n) (suc i) d h =
+    let e : m + 1 + i ≡ m + suc i = omega arith in get_d_list_from f (m + 1) n i d (omega arith) ∙ ap f e
 
 -- ---- the first number that passes a test
 

@@ -10,33 +10,33 @@ use lib.Seq.{take_at, drop_at, length-take-le, get_or-append-add, set-append_lef
 use lib.Dec.{ltb}
 use borrow.Author.Tests.{ltb-true, ltb-false}
 use Rattle.words.proofs.Bools.{by}
-use Rattle.words.specs.Rows.{Rows, no_rows, a-row, joined, cut, row_word, set_word}
+use Rattle.words.specs.Rows.{Rows, no_rows, a_row, joined, cut, row_word, set_word}
 
 -- ---- rows of lists of rows
 
 pub rows_append : {w : ℕ} {a b : List (List ℕ)} → Rows w a → Rows w b → Rows w (a ++ b)
 rows_append no_rows q = q
-rows_append (a-row e p) q = a-row e (rows_append p q)
+rows_append (a_row e p) q = a_row e (rows_append p q)
 
 pub rows_take : (n : ℕ) {w : ℕ} {a : List (List ℕ)} → Rows w a → Rows w (take n a)
 rows_take zero p = no_rows
 rows_take (suc n) no_rows = no_rows
-rows_take (suc n) (a-row e p) = a-row e (rows_take n p)
+rows_take (suc n) (a_row e p) = a_row e (rows_take n p)
 
 pub rows_drop : (n : ℕ) {w : ℕ} {a : List (List ℕ)} → Rows w a → Rows w (drop n a)
 rows_drop zero p = p
 rows_drop (suc n) no_rows = no_rows
-rows_drop (suc n) (a-row e p) = rows_drop n p
+rows_drop (suc n) (a_row e p) = rows_drop n p
 
 pub rows-set : (i : ℕ) {w : ℕ} {a : List (List ℕ)} (r : List ℕ) → length r ≡ w → Rows w a → Rows w (set a i r)
 rows-set i r e no_rows = no_rows
-rows-set zero r e (a-row f p) = a-row e p
-rows-set (suc i) r e (a-row f p) = a-row f (rows-set i r e p)
+rows-set zero r e (a_row f p) = a_row e p
+rows-set (suc i) r e (a_row f p) = a_row f (rows-set i r e p)
 
 pub row-length : (i : ℕ) {w : ℕ} {a : List (List ℕ)} → Rows w a → i < length a → length (get_or a i []) ≡ w
 row-length i no_rows h = absurd (omega arith)
-row-length zero (a-row e p) h = e
-row-length (suc i) (a-row e p) h = row-length i p (omega arith)
+row-length zero (a_row e p) h = e
+row-length (suc i) (a_row e p) h = row-length i p (omega arith)
 
 -- ---- a store to a row's word; outside the rows it changes nothing
 
@@ -83,7 +83,7 @@ word_comm rs i k v j u n =
 pub length-joined : {w : ℕ} {a : List (List ℕ)} → Rows w a → length (joined a) ≡ w * length a
 unfolding joined
 length-joined {w} no_rows = sym (mul-zero w)
-length-joined {w} (a-row {r = r} {rs = rs} e p) =
+length-joined {w} (a_row {r = r} {rs = rs} e p) =
     length-append r (joined rs) ∙ omega (arith, length-joined p, mul-suc w (length rs))
 
 pub joined-append : (a b : List (List ℕ)) → joined (a ++ b) ≡ joined a ++ joined b
@@ -95,7 +95,7 @@ pub take-joined : (n : ℕ) {w : ℕ} {a : List (List ℕ)} → Rows w a → (l 
 unfolding joined
 take-joined zero {w} p l h = rw (mul-zero w)
 take-joined (suc n) no_rows l h = absurd (omega arith)
-take-joined (suc n) {w} (a-row {r = r} {rs = rs} e p) l h =
+take-joined (suc n) {w} (a_row {r = r} {rs = rs} e p) l h =
     let k : w * suc n ≡ length r + w * n = omega (arith, mul-suc w n) in
     rw (append_assoc r (joined rs) l, k, take-append-add r (joined rs ++ l) (w * n)) (ap (λ (x : List ℕ). r ++ x) (take-joined n p l (omega arith)))
 
@@ -103,7 +103,7 @@ pub drop-joined : (n : ℕ) {w : ℕ} {a : List (List ℕ)} → Rows w a → (l 
 unfolding joined
 drop-joined zero {w} p l h = rw (mul-zero w)
 drop-joined (suc n) no_rows l h = absurd (omega arith)
-drop-joined (suc n) {w} (a-row {r = r} {rs = rs} e p) l h =
+drop-joined (suc n) {w} (a_row {r = r} {rs = rs} e p) l h =
     let k : w * suc n ≡ length r + w * n = omega (arith, mul-suc w n) in
     rw (append_assoc r (joined rs) l, k, drop-append-add r (joined rs ++ l) (w * n)) (drop-joined n p l (omega arith))
 
@@ -112,10 +112,10 @@ pub joined_word : (i k : ℕ) {w : ℕ} {a : List (List ℕ)} → Rows w a → (
     → get_or (joined a ++ l) (w * i + k) 0 ≡ row_word a i k
 unfolding joined
 joined_word i k no_rows l h g = absurd (omega arith)
-joined_word zero k {w} (a-row {r = r} {rs = rs} e p) l h g =
+joined_word zero k {w} (a_row {r = r} {rs = rs} e p) l h g =
     let z : w * 0 + k ≡ k = omega arith in
     rw (append_assoc r (joined rs) l, z) (get_or-append r (joined rs ++ l) 0 k (omega arith))
-joined_word (suc i) k {w} (a-row {r = r} {rs = rs} e p) l h g =
+joined_word (suc i) k {w} (a_row {r = r} {rs = rs} e p) l h g =
     let z : w * suc i + k ≡ length r + (w * i + k) = omega (arith, mul-suc w i) in
     rw (append_assoc r (joined rs) l, z, get_or-append-add r (joined rs ++ l) (w * i + k) 0) (joined_word i k p l (omega arith) g)
 
@@ -132,10 +132,10 @@ pub joined-set : (i k v : ℕ) {w : ℕ} {a : List (List ℕ)} → Rows w a → 
     → set (joined a ++ l) (w * i + k) v ≡ joined (set_word a i k v) ++ l
 unfolding joined
 joined-set i k v no_rows l h g = absurd (omega arith)
-joined-set zero k v {w} (a-row {r = r} {rs = rs} e p) l h g =
+joined-set zero k v {w} (a_row {r = r} {rs = rs} e p) l h g =
     let z : w * 0 + k ≡ k = omega arith in
     rw (append_assoc r (joined rs) l, z, append_assoc (set r k v) (joined rs) l) (set-append_left r (joined rs ++ l) k v (omega arith))
-joined-set (suc i) k v {w} (a-row {r = r} {rs = rs} e p) l h g =
+joined-set (suc i) k v {w} (a_row {r = r} {rs = rs} e p) l h g =
     let z : w * suc i + k ≡ length r + (w * i + k) = omega (arith, mul-suc w i) in
     rw (append_assoc r (joined rs) l, z, set_append_right r (joined rs ++ l) (w * i + k) v, append_assoc r (joined (set_word rs i k v)) l)
     (ap (λ (x : List ℕ). r ++ x) (joined-set i k v p l (omega arith) g))
@@ -152,7 +152,7 @@ unfolding cut
 rows_cut w zero l h = no_rows
 rows_cut w (suc n) l h =
     let m = mul-suc w n in
-    a-row (length-take-le w l (omega arith)) (rows_cut w n (drop w l) (omega (arith, length-drop w l)))
+    a_row (length-take-le w l (omega arith)) (rows_cut w n (drop w l) (omega (arith, length-drop w l)))
 
 -- cut and joined are inverse
 pub joined-cut : (w n : ℕ) (l : List ℕ) → joined (cut w n l) ≡ take (w * n) l
@@ -165,6 +165,6 @@ joined-cut w (suc n) l =
 pub cut-joined : {w : ℕ} {a : List (List ℕ)} → Rows w a → (l : List ℕ) → cut w (length a) (joined a ++ l) ≡ a
 unfolding joined cut
 cut-joined no_rows l = refl
-cut-joined {w} (a-row {r = r} {rs = rs} e p) l =
+cut-joined {w} (a_row {r = r} {rs = rs} e p) l =
     rw (append_assoc r (joined rs) l, take_at r (joined rs ++ l) w e, drop_at r (joined rs ++ l) w e)
     (ap (λ (x : List (List ℕ)). r ∷ x) (cut-joined p l))

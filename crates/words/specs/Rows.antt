@@ -4,7 +4,7 @@ use Rattle.std.specs.Prelude.{ℕ, zero, suc, ◌≡◌, List, [], ◌∷◌, �
 -- each row has w words
 pub data Rows (w : ℕ) : List (List ℕ) → Type 0 where
   no_rows : Rows w []
-  a-row : {r : List ℕ} {rs : List (List ℕ)} → length r ≡ w → Rows w rs → Rows w (r ∷ rs)
+  a_row : {r : List ℕ} {rs : List (List ℕ)} → length r ≡ w → Rows w rs → Rows w (r ∷ rs)
 
 -- the words of the rows, one row after the other
 unfoldable pub joined : List (List ℕ) → List ℕ

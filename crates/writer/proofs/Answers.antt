@@ -14,13 +14,13 @@ use Rattle.writer.proofs.RoundTrip.{round_trip}
 abbrev pub Tells : Outcome → Type 0
 Tells o = o.refusal ≡ 0 → o.blocks ≢ 0
 
-pub answer-unique : (a b : Written) (m n : List ℕ) {o : Outcome} → Tells o → outcome a m ≡ o → outcome b n ≡ o → a ≡ b
-answer-unique (Blocks i) (Blocks j) m n t e f = ap Blocks (ap (λ (x : Outcome). x.blocks) (e ∙ sym f))
-answer-unique (Blocks i) (Refused k) m n t e f =
+pub answer_unique : (a b : Written) (m n : List ℕ) {o : Outcome} → Tells o → outcome a m ≡ o → outcome b n ≡ o → a ≡ b
+answer_unique (Blocks i) (Blocks j) m n t e f = ap Blocks (ap (λ (x : Outcome). x.blocks) (e ∙ sym f))
+answer_unique (Blocks i) (Refused k) m n t e f =
     absurd (t (sym (ap (λ (x : Outcome). x.refusal) e)) (sym (ap (λ (x : Outcome). x.blocks) f)))
-answer-unique (Refused k) (Blocks j) m n t e f =
+answer_unique (Refused k) (Blocks j) m n t e f =
     absurd (t (sym (ap (λ (x : Outcome). x.refusal) f)) (sym (ap (λ (x : Outcome). x.blocks) e)))
-answer-unique (Refused j) (Refused k) m n t e f = ap Refused (ap (λ (x : Outcome). x.refusal) (e ∙ sym f))
+answer_unique (Refused j) (Refused k) m n t e f = ap Refused (ap (λ (x : Outcome). x.refusal) (e ∙ sym f))
 
 pub write_tells : (ws bs : List ℕ) → Tells (write_class_sheet ws bs)
 write_tells ws bs e z = omega (arith, (round_trip.few ws bs e).0)

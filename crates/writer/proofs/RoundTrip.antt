@@ -194,15 +194,15 @@ module _ (ws bs out : List ℕ) (small : AreWords ws) (accepted : (write_class_s
       rw (sheet-is ws bs e, blocks_are ws bs e)
       (read_is (sheet_bytes (content_of ws) (blocks_of ws)) out r ∙ rw (bytes_count ws small p.fits, bytes-words ws small p.fits))
 
-  same-content : content_of (read_class_sheet (sheet_written ws bs) out).memory ≡ content_of ws
-  same-content =
+  same_content : content_of (read_class_sheet (sheet_written ws bs) out).memory ≡ content_of ws
+  same_content =
       let p = write-passed ws (length bs) (write-accepted ws bs accepted) in
       rw (write_read, append_assoc) (content-longer ws p.fits _)
 
-read-write : (bs out lent : List ℕ) → AreBytes bs → (read_class_sheet bs out).refusal ≡ 0 → length bs ≤ length lent
+read_write : (bs out lent : List ℕ) → AreBytes bs → (read_class_sheet bs out).refusal ≡ 0 → length bs ≤ length lent
     → write_class_sheet (read_class_sheet bs out).memory lent
     ≡ record { refusal = 0; blocks = block_count bs; memory = bs ++ drop (length bs) lent }
-read-write bs out lent small a l =
+read_write bs out lent small a l =
     let e = read-accepted bs out a in rw (read_is bs out e) (left-written bs out small e lent l)
 
 domain : (ws : List ℕ) (room : ℕ) → class_fits ws ≡ true → 512 * blocks_of ws ≤ room
@@ -225,8 +225,8 @@ module _ (ws bs : List ℕ) (accepted : (write_class_sheet ws bs).refusal ≡ 0)
       (length-append (sheet_bytes (content_of ws) (blocks_of ws)) (drop (512 * blocks_of ws) bs)
       ∙ omega (arith, length-bytes (content_of ws) (blocks_of ws), length-drop (512 * blocks_of ws) bs, (write-passed ws (length bs) none).space))
 
-  rest-stays : (i : ℕ) → 512 * blocks_written ws bs ≤ i → get_or (write_class_sheet ws bs).memory i 0 ≡ get_or bs i 0
-  rest-stays i l =
+  rest_stays : (i : ℕ) → 512 * blocks_written ws bs ≤ i → get_or (write_class_sheet ws bs).memory i 0 ≡ get_or bs i 0
+  rest_stays i l =
       let h : 512 * blocks_of ws ≤ i = rw (blocks_are ws bs none) at l in
       let q : 512 * blocks_of ws + (i - 512 * blocks_of ws) ≡ i = omega arith in
       rw (write-is ws bs none)
@@ -240,9 +240,9 @@ and-true : (a : Bool) → (a && true) ≡ a
 and-true true = refl
 and-true false = refl
 
-as_for_a-link : (ws abi : List ℕ) → ValidAbi abi → link_rows ws ≡ set_refusal ws abi
+as_for_a_link : (ws abi : List ℕ) → ValidAbi abi → link_rows ws ≡ set_refusal ws abi
 unfolding link_rows class_refusal set_refusal set_fits records_refusal
-as_for_a-link ws abi v =
+as_for_a_link ws abi v =
     let t = abi-tests abi v in
     rw (
       t.0,
@@ -257,11 +257,11 @@ pub round_trip : RoundTrip
 round_trip =
     record {
       write_read = write_read;
-      same-content = same-content;
-      read-write = read-write;
+      same_content = same_content;
+      read_write = read_write;
       domain = domain;
-      domain-blocks = λ ws room lent small fits l h. rw (bytes-rows ws small fits lent h) (domain ws room fits l);
-      as_for_a-link = as_for_a-link;
+      domain_blocks = λ ws room lent small fits l h. rw (bytes-rows ws small fits lent h) (domain ws room fits l);
+      as_for_a_link = as_for_a_link;
       few = few;
-      rest-stays = λ ws bs a. (same_length ws bs a, rest-stays ws bs a);
+      rest_stays = λ ws bs a. (same_length ws bs a, rest_stays ws bs a);
     }

@@ -4,7 +4,7 @@ use native.Mathlib.Omega.{arith}
 use native.Mathlib.Nat.{pos_of_ne-zero}
 use mathlib.Core.Path.{refl, ◌∙◌}
 use Rattle.linking.specs.Chain.{parent_of}
-use Rattle.linking.proofs.ChainLaws.{parent-below}
+use Rattle.linking.proofs.ChainLaws.{parent_below}
 use Rattle.abi.proofs.Laws.{push_none, push_end, push_hit, push_miss, drop-later}
 use borrow.Author.Rules.{rules}
 use Prim.Native.Nat.{ℕ, ◌<◌}
@@ -59,7 +59,7 @@ push-requires t c κs = let start : Start t = search in start.pre.1
 
 -- the parent's number is smaller
 parent_falls : (t : ℕ) (c : Else1 t) → parent_of (entry t c).args.ws.now (entry t c).args.c < (entry t c).args.c
-parent_falls t c = parent-below _ _ (pos_of_ne-zero c.if1.false)
+parent_falls t c = parent_below _ _ (pos_of_ne-zero c.if1.false)
 
 push-chain-requires : (t : ℕ) → lts.Need-push-chain-requires (says t) (here t) pc.Post
 push-chain-requires t c κs =

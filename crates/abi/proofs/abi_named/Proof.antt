@@ -23,13 +23,13 @@ loop-holds c = (omega arith, find-start _ _ _ ∙ cc)
 
 returns : tie.Need-returns invariant-loop decreases-loop
 returns c =
-    seek_hit _ _ _ c.before.before.loop-test.true c.before.name-is.ensures c.if1.true
+    seek_hit _ _ _ c.before.before.loop-test.true c.before.name_is.ensures c.if1.true
     ∙ c.before.before.before.loop.invariant.1
 
 loop-again : tie.Need-loop-preserved invariant-loop decreases-loop
 loop-again c = (
   omega arith,
-  seek_miss _ _ _ c.before.before.loop-test.true c.before.name-is.ensures c.if1.false
+  seek_miss _ _ _ c.before.before.loop-test.true c.before.name_is.ensures c.if1.false
       ∙ c.before.before.before.loop.invariant.1,
 )
 

@@ -19,7 +19,7 @@ returns c =
       c.zero_rest.ensures,
       text.text_at.ensures.0,
       length.wide.ensures,
-      length.before.text-length.ensures,
+      length.before.length_of_text.ensures,
     )
     refl
 

@@ -11,7 +11,7 @@ returns c =
     let classes : tie.After-class-count = search in
     let slots : tie.After-slot-count = search in
     let fields : tie.After-field-count = search in
-    rw (classes.class-count.ensures, slots.slot-count.ensures, fields.field-count.ensures, c.text-length.ensures) refl
+    rw (classes.number_of_classes.ensures, slots.slot_count.ensures, fields.number_of_fields.ensures, c.length_of_text.ensures) refl
 
 pub limits-ok-spec : {M : Type 1} → statement M
 limits-ok-spec =

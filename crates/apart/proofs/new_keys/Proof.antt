@@ -25,7 +25,7 @@ decreases-loop ws text keys₀ n i₀ keys i = n - i
 returns : tie.Need-returns invariant-loop decreases-loop
 returns c =
     let start : tie.Start invariant-loop decreases-loop = search in
-    new-past _ _ start.args.keys.now c.before.before.class-count.ensures (omega arith)
+    new-past _ _ start.args.keys.now c.before.before.number_of_classes.ensures (omega arith)
 
 loop-holds : tie.Need-loop-init invariant-loop decreases-loop
 loop-holds c = (omega arith, omega arith, omega arith, refl, stores-none _ _, all_none _)

@@ -1,5 +1,5 @@
 -- The class's own method, or the parent's implementation: the class's number falls. Assumes nothing.
-use Rattle.linking.proofs.ChainLaws.{parent-below}
+use Rattle.linking.proofs.ChainLaws.{parent_below}
 use native.Mathlib.Nat.{pos_of_ne-zero}
 use native.Mathlib.Omega.{arith}
 use Rattle.ask.proofs.DispatchLaws.{implementation-none, implementation-hit, implementation-up}
@@ -50,7 +50,7 @@ implementation-requires : (t : ℕ) → lts.Need-implementation-requires (says t
 implementation-requires t c κs =
     let at-if1 = c.before.before.before.before.before.before in
     let a = at-if1.before.before.before.args in
-    (omega (arith, parent-below a.ws.now a.c (pos_of_ne-zero at-if1.if1.false)), tt)
+    (omega (arith, parent_below a.ws.now a.c (pos_of_ne-zero at-if1.if1.false)), tt)
 
 -- the class's own method
 returns-2 : (t : ℕ) → lts.Need-returns-2 (says t) (here t) own.Post

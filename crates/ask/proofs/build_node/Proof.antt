@@ -8,7 +8,7 @@ use Rattle.ask.proofs.build_node.Tie as tie
 dispatch-table-requires : tie.Need-dispatch-table-requires
 dispatch-table-requires c κs =
     let start : tie.Start = search in
-    let v = valid _ _ start.pre.0 in (v.0.text-length, v.1.text-length, search rules, search rules)
+    let v = valid _ _ start.pre.0 in (v.0.length_of_text, v.1.length_of_text, search rules, search rules)
 
 returns : tie.Need-returns
 returns c =

@@ -29,7 +29,7 @@ returns c =
     let a = (start bytes).args in
     let p = (start bytes).pre in
     table-handed a.ws.now a.abi.now a.area.now a.c a.i _ _ _
-    (text-handed _ _ _ p.0 refl bytes.unpack-text.ensures text.before.text-length.ensures text.name-at.ensures)
+    (text-handed _ _ _ p.0 refl bytes.unpack-text.ensures text.before.length_of_text.ensures text.name-at.ensures)
     (text-handed _ _ _ p.1 refl abi-bytes.unpack-text2.ensures labels.before.text-length2.ensures labels.name-at2.ensures)
     table.table-entries.ensures.0 slots.dispatch-slots.ensures
 

@@ -1,7 +1,7 @@
 -- The names in front, then the fields and the methods, each with its records, and the text packed. What is known of a later step is said over its
 -- place. Assumes nothing.
 use Rattle.class_file.proofs.ReadLaws.{start_fits, length-head, room_fields, fields-done, fields-text, fields-end, length_fields}
-use Rattle.class_file.proofs.ReadLaws.{room-methods, methods-done, methods-text, methods-end, text-room, text-done}
+use Rattle.class_file.proofs.ReadLaws.{room-methods, methods-done, methods-text, methods-end, text_room, text-done}
 use native.Mathlib.Omega.{arith}
 use borrow.Author.Rules.{rules}
 use Rattle.class_file.proofs.write_lists.Statement.{statement}
@@ -30,7 +30,7 @@ put-head-requires : tie.Need-put-head-requires
 put-head-requires c κs =
     let entry : tie.Start = search in
     let at = entry.pre.0 in
-    (at.near, at.head-is, omega (arith, start_fits _ _ _ _ _ _ _ at entry.pre.1), omega arith)
+    (at.near, at.head_is, omega (arith, start_fits _ _ _ _ _ _ _ at entry.pre.1), omega arith)
 
 put-members-requires : tie.Need-put-members-requires
 put-members-requires c κs =
@@ -80,9 +80,9 @@ put-packed-requires c κs =
     let w = first.put-members.ensures in
     let x = second.put-members2.ensures in
     let t = fields-end _ _ _ _ _ _ _ at fit a b s w.1.1 in
-    text-room _ _ _ entry.args.text.now put.put-head.ensures.0 (fields-text _ _ _ _ _ _ _ at fit a b s _ w.1.0)
+    text_room _ _ _ entry.args.text.now put.put-head.ensures.0 (fields-text _ _ _ _ _ _ _ at fit a b s _ w.1.0)
     (methods-text _ _ _ _ _ _ _ at fit d t _ x.1.0) (methods-end _ _ _ _ _ _ _ at fit d t x.1.1) c.before.wide.ensures
-    c.part.ensures fit.text-fits fit.limit
+    c.part.ensures fit.text_fits fit.limit
 
 returns : tie.Need-returns
 returns c =

@@ -41,8 +41,8 @@ loop-again c =
 returns : tie.Need-returns invariant-loop decreases-loop
 returns c =
     let l = c.before.loop in
-    let e : l.i ≡ c.before.before.compiler-count.result = omega arith in
-    (rw e at l.invariant.5, c.before.before.compiler-count.ensures)
+    let e : l.i ≡ c.before.before.number_of_compilers.result = omega arith in
+    (rw e at l.invariant.5, c.before.before.number_of_compilers.ensures)
 
 pub compiler-entries-spec : {M : Type 1} → statement M
 compiler-entries-spec =

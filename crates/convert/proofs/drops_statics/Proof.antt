@@ -13,7 +13,7 @@ returns c =
     let long : tie.After-text-length = search in
     let named : tie.After-name-at = search in
     drops_is _
-    (text-handed _ _ _ start.pre refl unpacked.unpack-text.ensures long.text-length.ensures named.name-at.ensures)
+    (text-handed _ _ _ start.pre refl unpacked.unpack-text.ensures long.length_of_text.ensures named.name-at.ensures)
     c.all-keep-statics.ensures
 
 pub drops-statics-spec : {M : Type 1} → statement M

@@ -14,7 +14,7 @@ returns c =
     let long : tie.After-text-length = search in
     let named : tie.After-name-at = search in
     let summed : tie.After-put-statics = search in
-    let t = text-handed _ _ _ start.pre refl unpacked.unpack-text.ensures long.text-length.ensures named.name-at.ensures in
+    let t = text-handed _ _ _ start.pre refl unpacked.unpack-text.ensures long.length_of_text.ensures named.name-at.ensures in
     (search fresh_3, sums_handed _ _ t summed.put-statics.ensures)
 
 -- rows 4 and 5
@@ -27,7 +27,7 @@ returns-2 c =
     let summed : tie.After-put-statics = search in
     let tested : tie.After-all-fresh = search in
     let clean : tie.Else1 = search in
-    let t = text-handed _ _ _ start.pre refl unpacked.unpack-text.ensures long.text-length.ensures named.name-at.ensures in
+    let t = text-handed _ _ _ start.pre refl unpacked.unpack-text.ensures long.length_of_text.ensures named.name-at.ensures in
     (fresh-rest _ tested.all-fresh.ensures clean.if1.left t c.class-refusal.ensures, sums_handed _ _ t summed.put-statics.ensures)
 
 pub forward-rows-spec : {M : Type 1} → statement M

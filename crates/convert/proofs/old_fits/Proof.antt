@@ -1,7 +1,7 @@
 -- Limits first, then the content's end, then the rest at once. Assumes nothing.
 use native.Mathlib.Omega.{arith}
 use borrow.Author.Tests.{not-true, not-false}
-use Rattle.convert.proofs.Judging.{classes-before-text, text-is, fits-limits, fits-short, fits-rest}
+use Rattle.convert.proofs.Judging.{classes-before-text, text_is, fits-limits, fits-short, fits-rest}
 use borrow.Author.Rules.{rules}
 use Rattle.convert.proofs.old_fits.Statement.{statement}
 use Rattle.convert.proofs.old_fits.Tie as tie
@@ -26,7 +26,7 @@ returns-3 c =
     let wide : tie.After-wide = search in
     let fits : tie.Else2 = search in
     fits-rest _ judged.limits-ok.ensures ended.old-end.ensures.0 (not-false _ fits.before.before.if1.left) (omega arith)
-    (omega (arith, text-is _ counted.class-count.ensures wide.wide.ensures begun.text_at.ensures.0))
+    (omega (arith, text_is _ counted.number_of_classes.ensures wide.wide.ensures begun.text_at.ensures.0))
     c.zero_rest.ensures
 
 pub old-fits-spec : {M : Type 1} → statement M

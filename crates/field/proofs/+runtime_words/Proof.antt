@@ -1,5 +1,5 @@
 -- By the falling class number: a chain's runtime words are its parent's chain's, counted on from the class's own. Assumes nothing.
-use Rattle.linking.proofs.ChainLaws.{parent-below}
+use Rattle.linking.proofs.ChainLaws.{parent_below}
 use Rattle.std.proofs.Common.{ℕ, ◌<◌, pos_of_ne-zero, arith, rules}
 use Rattle.field.proofs.RuntimeLaws.{runtime-none, runtime-up}
 use borrow.Fn.Kinds.{In}
@@ -30,7 +30,7 @@ returns t c = runtime-none _ _ _ _ c.if1.true
 requires : (t : ℕ) → lts.Need-runtime-words-requires (parent.Asked, parent.Learnt, own.Asked, own.Learnt, below t, self.Post) (here t) self.Post
 requires t c κs =
     let a = c.before.before.before.before.before.args in
-    (omega (arith, parent-below a.ws.now a.c (pos_of_ne-zero c.before.before.if1.false)), tt)
+    (omega (arith, parent_below a.ws.now a.c (pos_of_ne-zero c.before.before.if1.false)), tt)
 
 returns-2 : (t : ℕ) → lts.Need-returns-2 (parent.Asked, parent.Learnt, own.Asked, own.Learnt, below t, self.Post) (here t) self.Post
 returns-2 t c =

@@ -17,7 +17,7 @@ abbrev decreases-loop : tie.decreases-loop
 decreases-loop ws text abi labels c g first n i₀ i = n - i
 
 loop-holds : tie.Need-loop-init invariant-loop decreases-loop
-loop-holds c = (omega arith, c.before.class-first-field.ensures, c.field-count.ensures, search declares_start)
+loop-holds c = (omega arith, c.before.class-first-field.ensures, c.number_of_fields.ensures, search declares_start)
 
 returns : tie.Need-returns invariant-loop decreases-loop
 returns c =

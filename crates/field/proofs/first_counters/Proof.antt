@@ -16,7 +16,7 @@ returns-2 c =
     let at-runtime-words = at-if1.before in
     let at-parent-of = at-runtime-words.before in (
       first_child _ _ _ at-parent-of.parent-of.ensures at-runtime-words.runtime-words.ensures at-if1.if1.false
-          c.instance-words.ensures,
+          c.words_of_instance.ensures,
       (
         refl,
         first-room _ _ _ at-parent-of.parent-of.ensures at-runtime-words.runtime-words.ensures,

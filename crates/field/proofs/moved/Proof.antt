@@ -3,7 +3,7 @@
 use Rattle.std.proofs.Common.{◌≡◌, ◌-◌, ◌≤◌, length, drop, replicate, refl, ◌∙◌, arith, rules}
 use Rattle.field.specs.Numbers.{own_count, Movable}
 use Rattle.linking.specs.Fields.{indices_plus}
-use Rattle.field.proofs.FrontLaws.{rest-stays}
+use Rattle.field.proofs.FrontLaws.{rest_stays}
 use Rattle.field.proofs.MovedLaws.{moved_at, moved-start, moved-turn, moved-done}
 use Rattle.class_sheet.specs.ClassSheet.{class_first_field, field_limit}
 use Rattle.linking.specs.Chain.{own_fields}
@@ -20,7 +20,7 @@ decreases-loop ws c base first n indices₀ i₀ indices i = n - i
 
 loop-holds : tie.Need-loop-init invariant-loop decreases-loop
 loop-holds c =
-    (omega arith, c.before.class-first-field.ensures, c.field-count.ensures, search rules, search, search moved-start, refl)
+    (omega arith, c.before.class-first-field.ensures, c.number_of_fields.ensures, search rules, search, search moved-start, refl)
 
 -- what `Movable` says at turn i
 moved-index-requires : tie.Need-moved-index-requires invariant-loop decreases-loop
@@ -39,7 +39,7 @@ loop-again c =
       l.inv.4,
       moved-turn _ _ _ _ _ l.indices _ index.before.loop-test.taken (omega arith) index.moved-index.ensures put.put_word.ensures
           put.before.wide.ensures ∙ l.inv.5,
-      rest-stays l.i index.moved-index.result l.indices _ l.inv.6 put.put_word.ensures put.before.wide.ensures,
+      rest_stays l.i index.moved-index.result l.indices _ l.inv.6 put.put_word.ensures put.before.wide.ensures,
     )
 
 returns : tie.Need-returns invariant-loop decreases-loop

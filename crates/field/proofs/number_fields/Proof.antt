@@ -2,7 +2,7 @@
 -- indices in front and after them what it held at the start; and the counters stay small. The measure is the fields to come. Assumes nothing.
 use Rattle.linking.specs.Fields.{number_fields}
 use Rattle.field.specs.Numbers.{own_count}
-use Rattle.field.proofs.FrontLaws.{rest-stays}
+use Rattle.field.proofs.FrontLaws.{rest_stays}
 use Rattle.field.proofs.NumberLaws.{number_at, number-start, number-turn, number-done}
 use Rattle.class_sheet.specs.ClassSheet.{class_first_field, field_limit}
 use Rattle.std.proofs.Common.{◌≡◌, ◌+◌, ◌-◌, ◌*◌, ◌≤◌, length, drop, refl, ◌∙◌, arith, rules}
@@ -23,7 +23,7 @@ loop-holds c =
     let counted : tie.After-field-count invariant-loop decreases-loop = search in
     let start : tie.Start invariant-loop decreases-loop = search in (
       omega arith,
-      number-start _ _ _ _ _ _ start.args.indices.now _ counted.before.class-first-field.ensures counted.field-count.ensures
+      number-start _ _ _ _ _ _ start.args.indices.now _ counted.before.class-first-field.ensures counted.number_of_fields.ensures
           c.first-counters.ensures.0,
       refl,
     )
@@ -40,7 +40,7 @@ loop-again c =
       omega arith,
       number-turn _ _ _ _ _ _ _ _ l.indices _ l.k _ numbered.before.loop-test.taken (omega arith) numbered.number-field.ensures.0
           put.put_word.ensures put.before.wide.ensures ∙ l.inv.1,
-      rest-stays l.i numbered.number-field.result.index l.indices _ l.inv.2 put.put_word.ensures put.before.wide.ensures,
+      rest_stays l.i numbered.number-field.result.index l.indices _ l.inv.2 put.put_word.ensures put.before.wide.ensures,
     )
 
 returns : tie.Need-returns invariant-loop decreases-loop

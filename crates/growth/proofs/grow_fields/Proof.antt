@@ -1,6 +1,6 @@
 -- The code writes the fields' tail, the new indices and the counts, which is what `fields_grown` says, where the set has room; else nothing.
 -- Assumes nothing.
-use Rattle.growth.proofs.GrowthLaws.{room-is, code-grows, members-fit, fields-room, fields-none, fields-done}
+use Rattle.growth.proofs.GrowthLaws.{room-is, code-grows, members-fit, fields_room, fields-none, fields-done}
 use mathlib.Core.Path.{◌∙◌}
 use native.Mathlib.Omega.{arith}
 use borrow.Author.Rules.{rules}
@@ -13,7 +13,7 @@ returns c =
     let own : tie.After-class-field-count = search in
     let first : tie.After-class-first-field = search in
     let count : tie.After-field-count = search in
-    fields-none _ _ _ _ _ _ _ _ _ _ _ c.before.can_grow_lem.ensures _ count.field-count.ensures
+    fields-none _ _ _ _ _ _ _ _ _ _ _ c.before.can_grow_lem.ensures _ count.number_of_fields.ensures
     first.class-first-field.ensures own.class-field-count.ensures c.if1.true
 
 add-members : tie.Need-overflow-add-members
@@ -27,7 +27,7 @@ insert-requires c κs =
     let end : tie.After-interfaces-at = search in
     let room : tie.Else1 = search in
     let count : tie.After-field-count = search in
-    fields-room _ _ count.field-count.ensures end.interfaces-at.ensures.0 from.before.fields-at.ensures.0
+    fields_room _ _ count.number_of_fields.ensures end.interfaces-at.ensures.0 from.before.fields-at.ensures.0
     from.wide2.ensures
     (code-grows _ _ _ _ _ room.before.can_grow_lem.ensures room.if1.left)
 
@@ -67,9 +67,9 @@ returns-2 c =
     let test = room.before in
     let own = test.before.before in
     let first = own.before.before in
-    fields-done _ _ _ _ _ _ _ _ _ _ _ test.can_grow_lem.ensures _ first.before.before.field-count.ensures
+    fields-done _ _ _ _ _ _ _ _ _ _ _ test.can_grow_lem.ensures _ first.before.before.number_of_fields.ensures
     first.class-first-field.ensures own.class-field-count.ensures room.if1.left members.new-count.ensures.0
-    (old.wide.ensures ∙ old.before.text-length.ensures) bytes.new-text-length.ensures.0 end.interfaces-at.ensures.0
+    (old.wide.ensures ∙ old.before.length_of_text.ensures) bytes.new-text-length.ensures.0 end.interfaces-at.ensures.0
     from.before.fields-at.ensures.0 from.wide2.ensures copied.wide3.ensures inserted.insert.ensures
     indices.put-indices.ensures counts.put-field-counts.ensures
 

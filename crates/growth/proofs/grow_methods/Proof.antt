@@ -1,5 +1,5 @@
 -- The code writes the methods' tail and the counts, which is what `methods_grown` says, where the set has room; else nothing. Assumes nothing.
-use Rattle.growth.proofs.GrowthLaws.{code-grows, members-fit, methods-room, methods-none, methods-done}
+use Rattle.growth.proofs.GrowthLaws.{code-grows, members-fit, methods_room, methods-none, methods-done}
 use mathlib.Core.Path.{◌∙◌}
 use native.Mathlib.Omega.{arith}
 use borrow.Author.Rules.{rules}
@@ -12,7 +12,7 @@ returns c =
     let own : tie.After-class-method-count = search in
     let first : tie.After-class-first-method = search in
     let count : tie.After-method-count = search in
-    methods-none _ _ _ _ _ _ _ _ _ _ _ c.before.can_grow_lem.ensures count.method-count.ensures
+    methods-none _ _ _ _ _ _ _ _ _ _ _ c.before.can_grow_lem.ensures count.number_of_methods.ensures
     first.class-first-method.ensures own.class-method-count.ensures c.if1.true
 
 add-members : tie.Need-overflow-add-members
@@ -26,7 +26,7 @@ insert-requires c κs =
     let end : tie.After-fields-at = search in
     let room : tie.Else1 = search in
     let count : tie.After-method-count = search in
-    methods-room _ _ count.method-count.ensures end.fields-at.ensures.0 from.before.methods-at.ensures.0
+    methods_room _ _ count.number_of_methods.ensures end.fields-at.ensures.0 from.before.methods-at.ensures.0
     from.wide2.ensures
     (code-grows _ _ _ _ _ room.before.can_grow_lem.ensures room.if1.left)
 
@@ -58,9 +58,9 @@ returns-2 c =
     let test = room.before in
     let own = test.before.before in
     let first = own.before.before in
-    methods-done _ _ _ _ _ _ _ _ _ _ _ test.can_grow_lem.ensures first.before.before.method-count.ensures
+    methods-done _ _ _ _ _ _ _ _ _ _ _ test.can_grow_lem.ensures first.before.before.number_of_methods.ensures
     first.class-first-method.ensures own.class-method-count.ensures room.if1.left members.new-count.ensures.0
-    (old.wide.ensures ∙ old.before.text-length.ensures) bytes.new-text-length.ensures.0 end.fields-at.ensures.0
+    (old.wide.ensures ∙ old.before.length_of_text.ensures) bytes.new-text-length.ensures.0 end.fields-at.ensures.0
     from.before.methods-at.ensures.0 from.wide2.ensures inserted.insert.ensures counts.put-method-counts.ensures
 
 pub grow-methods-spec : {M : Type 1} → statement M

@@ -2,7 +2,7 @@
 use Rattle.class_sheet.specs.ClassSheet.{member_width}
 use Rattle.linking.specs.Set.{write_at}
 use Rattle.growth.specs.News.{news}
-use Rattle.growth.proofs.GrowthLaws.{room-is, front_of, front_length, front-is, text-room, tail-is}
+use Rattle.growth.proofs.GrowthLaws.{room-is, front_of, front_length, front-is, text_room, tail-is}
 use mathlib.Core.List.{List}
 use mathlib.Core.Path.{◌≡◌}
 use lib.ListN.{length}
@@ -45,7 +45,7 @@ written c =
     let from = measured c in
     front-is _ _ _ _ _ _ _ _ (start from).pre.0 _ _ _ (start from).pre.1 from.before.before.before.wide.ensures
     from.before.wide2.ensures from.before.before.new-count.ensures.0 from.text_at.ensures.0
-    records.before.text-length.ensures copied.copy-words.ensures records.put-records.ensures c.copy-words2.ensures
+    records.before.length_of_text.ensures copied.copy-words.ensures records.put-records.ensures c.copy-words2.ensures
 
 -- the new records fit behind the copied ones, and their names into the text
 put-records-requires : tie.Need-put-records-requires
@@ -71,7 +71,7 @@ put-packed-requires c κs =
     let sections : tie.After-copy-words2 = search in
     let bytes = c.before.before.before in
     let entry = start (measured sections) in
-    text-room _ _ _ _ _ _ _ _ entry.pre.0 _ _ _ _ entry.pre.1 (written sections) (place (measured sections))
+    text_room _ _ _ _ _ _ _ _ entry.pre.0 _ _ _ _ entry.pre.1 (written sections) (place (measured sections))
     bytes.before.wide3.ensures bytes.before.before.text-length2.ensures bytes.new-text-length.ensures.0
     bytes.before.before.before.before.put-text.ensures c.part.ensures
 

@@ -2,7 +2,7 @@
 use native.Mathlib.Omega.{arith}
 use native.Mathlib.Nat.{pos_of_ne-zero}
 use mathlib.Core.Path.{sym, ◌∙◌}
-use Rattle.linking.proofs.ChainLaws.{parent-below}
+use Rattle.linking.proofs.ChainLaws.{parent_below}
 use Rattle.lines.proofs.NameLaws.{slot-none, slot-hit, slot-up}
 use borrow.Author.Rules.{rules}
 use Prim.Native.Nat.{ℕ, ◌<◌}
@@ -38,7 +38,7 @@ fixed-slot-requires : (t : ℕ) → lts.Need-fixed-slot-requires (says t) (here 
 fixed-slot-requires t c κs =
     let s = c.before.before.before.before in
     let a = s.before.before.before.before.before.args in
-    (omega (arith, parent-below a.ws.now a.c (pos_of_ne-zero s.if1.false)), tt)
+    (omega (arith, parent_below a.ws.now a.c (pos_of_ne-zero s.if1.false)), tt)
 
 -- the class's own record
 returns-2 : (t : ℕ) → lts.Need-returns-2 (says t) (here t) own.Post

@@ -15,7 +15,7 @@ returns c =
     let start : tie.Start = bytes.before.before.before.before.before.before in
     let a = start.args in
     lines_unpacked a.ws.now a.abi.now a.area.now _ _
-    (text-handed _ _ _ start.pre.0 refl bytes.unpack-text.ensures text.before.text-length.ensures text.name-at.ensures)
+    (text-handed _ _ _ start.pre.0 refl bytes.unpack-text.ensures text.before.length_of_text.ensures text.name-at.ensures)
     (text-handed _ _ _ start.pre.1 refl abi-bytes.unpack-text2.ensures labels.before.text-length2.ensures
     labels.name-at2.ensures)
     c.before.before.list-with.ensures

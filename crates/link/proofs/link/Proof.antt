@@ -22,7 +22,7 @@ link-fitting-requires c κs =
     let h = at-if1.if1.left in
     record {
       fits = sym f ∙ not-false _ h;
-      text-is = text-handed _ _ _ (set-text _ _ f h) refl at-unpack-text.unpack-text.ensures at-text-length.text-length.ensures
+      text_is = text-handed _ _ _ (set-text _ _ f h) refl at-unpack-text.unpack-text.ensures at-text-length.length_of_text.ensures
           at-text-length2.before.before.name-at.ensures;
       labels_are = text-handed _ _ _ (set-abi-text _ _ f h) refl at-unpack-text2.unpack-text2.ensures
           at-text-length2.text-length2.ensures at-name-at2.name-at2.ensures;

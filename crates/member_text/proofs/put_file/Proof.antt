@@ -10,7 +10,7 @@ add-put-members-2 c =
     let flags : tie.After-put-flags = search in
     let parent : tie.After-parent-bytes = search in
     let entry : tie.Start = search in
-    search (rules, entry.pre.fields-count)
+    search (rules, entry.pre.fields_count)
 
 put-members-requires : tie.Need-put-members-requires
 put-members-requires c κs =
@@ -32,18 +32,18 @@ returns c =
     let flags : tie.After-put-flags = search in
     let flag : tie.After-u23 = search in
     let class : tie.After-put-class = search in
-    let method-count : tie.After-u22 = search in
-    let field-count : tie.After-u2 = search in
+    let number_of_methods : tie.After-u22 = search in
+    let number_of_fields : tie.After-u2 = search in
     let parent : tie.After-parent-bytes = search in
     let parent-index : tie.After-u2-after2 = search in
     let name : tie.After-class-bytes = search in
     let index : tie.After-u2-after = search in
     let entry : tie.Start = search in
     let at = entry.pre in
-    file-put _ _ _ _ (name-at _ at.head-is index.u2-after.ensures.0 name.class-bytes.ensures)
-    (parent-at _ at.head-is parent-index.u2-after2.ensures.0 parent.parent-bytes.ensures)
-    (flags-read _ _ _ at flag.u23.ensures.0) (methods-here _ _ _ at _ _ method-count.u22.ensures.0)
-    (fields-here _ _ _ at field-count.u2.ensures.0) class.put-class.ensures flags.put-flags.ensures methods.put-members.ensures
+    file-put _ _ _ _ (name-at _ at.head_is index.u2-after.ensures.0 name.class-bytes.ensures)
+    (parent-at _ at.head_is parent-index.u2-after2.ensures.0 parent.parent-bytes.ensures)
+    (flags-read _ _ _ at flag.u23.ensures.0) (methods-here _ _ _ at _ _ number_of_methods.u22.ensures.0)
+    (fields-here _ _ _ at number_of_fields.u2.ensures.0) class.put-class.ensures flags.put-flags.ensures methods.put-members.ensures
     fields.put-members2.ensures
 
 pub put-file-spec : {M : Type 1} → statement M

@@ -32,8 +32,8 @@ loop-holds c =
     let start : tie.Start invariant-loop decreases-loop = search in
     let a = start.args in
     let e = overridden-left a.ws.now a.text.now (take a.n a.reached.now) a.m a.a _ _ first.class-first-method.ensures
-    count.method-count.ensures in (
-      omega (arith, count.method-count.ensures),
+    count.number_of_methods.ensures in (
+      omega (arith, count.number_of_methods.ensures),
       ap (fold mark a.marks.now) e,
       ap (some (λ k. not (is_private (method_flags a.ws.now k)))) e,
     )
@@ -50,9 +50,9 @@ loop-again c =
     let a = start.args in
     let p = is_overridden (same_methods a.ws.now a.text.now) a.ws.now a.text.now a.m (take a.n a.reached.now) a.a in (
       omega arith,
-      left-fold-turn p first.class-first-method.result count.method-count.result mark turn.loop.i turn.loop.marks test.is-overridden.result
+      left-fold-turn p first.class-first-method.result count.number_of_methods.result mark turn.loop.i turn.loop.marks test.is-overridden.result
           (omega arith) test.is-overridden.ensures (omega arith) put.mark-if.ensures turn.loop.inv.1,
-      left-some-turn p first.class-first-method.result count.method-count.result (λ k. not (is_private (method_flags a.ws.now k)))
+      left-some-turn p first.class-first-method.result count.number_of_methods.result (λ k. not (is_private (method_flags a.ws.now k)))
           turn.loop.i turn.loop.«open» test.is-overridden.result (omega arith) test.is-overridden.ensures
           (ap (λ f. not (is_private f)) flags.method-flags.ensures) turn.loop.inv.2,
     )
@@ -65,8 +65,8 @@ returns c =
     let start : tie.Start invariant-loop decreases-loop = search in
     let a = start.args in
     let p = is_overridden (same_methods a.ws.now a.text.now) a.ws.now a.text.now a.m (take a.n a.reached.now) a.a in (
-      left-fold-end p first.class-first-method.result count.method-count.result mark turn.loop.i turn.loop.marks (omega arith) turn.loop.inv.1,
-      left-some-end p first.class-first-method.result count.method-count.result (λ k. not (is_private (method_flags a.ws.now k)))
+      left-fold-end p first.class-first-method.result count.number_of_methods.result mark turn.loop.i turn.loop.marks (omega arith) turn.loop.inv.1,
+      left-some-end p first.class-first-method.result count.number_of_methods.result (λ k. not (is_private (method_flags a.ws.now k)))
           turn.loop.i turn.loop.«open» (omega arith) turn.loop.inv.2,
     )
 

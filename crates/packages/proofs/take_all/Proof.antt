@@ -32,8 +32,8 @@ loop-holds c =
     let count : tie.After-method-count invariant-loop decreases-loop = search in
     let start : tie.Start invariant-loop decreases-loop = search in
     let a = start.args in (
-      omega (arith, count.method-count.ensures, first.class-first-method.ensures),
-      takes-start a.ws.now a.text.now a.c _ _ _ _ first.class-first-method.ensures count.method-count.ensures,
+      omega (arith, count.number_of_methods.ensures, first.class-first-method.ensures),
+      takes-start a.ws.now a.text.now a.c _ _ _ _ first.class-first-method.ensures count.number_of_methods.ensures,
     )
 
 loop-again : tie.Need-loop-preserved invariant-loop decreases-loop

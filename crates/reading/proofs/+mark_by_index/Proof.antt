@@ -2,7 +2,7 @@
 -- class's number falls. Assumes nothing.
 use native.Mathlib.Omega.{arith}
 use native.Mathlib.Nat.{pos_of_ne-zero}
-use Rattle.linking.proofs.ChainLaws.{parent-below}
+use Rattle.linking.proofs.ChainLaws.{parent_below}
 use Rattle.reading.proofs.MarkLaws.{indices-none, indices-all}
 use Rattle.reading.proofs.ClassLaws.{indices-nobody, indices_paired, indices-declared}
 use borrow.Author.Rules.{rules}
@@ -48,7 +48,7 @@ mark-by-index-requires t c κs =
     let more = marked.before.before in
     let start = more.before.before.before.before.before.before.before in
     let a = start.args in (
-      omega (arith, parent-below a.ws.now a.c (pos_of_ne-zero more.if1.left)),
+      omega (arith, parent_below a.ws.now a.c (pos_of_ne-zero more.if1.left)),
       (
         omega arith,
         omega arith,

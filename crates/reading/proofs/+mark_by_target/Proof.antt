@@ -2,7 +2,7 @@
 -- the class's number falls. Assumes nothing.
 use native.Mathlib.Omega.{arith}
 use native.Mathlib.Nat.{pos_of_ne-zero}
-use Rattle.linking.proofs.ChainLaws.{parent-below}
+use Rattle.linking.proofs.ChainLaws.{parent_below}
 use Rattle.reading.proofs.MarkLaws.{targets-none, targets-all}
 use Rattle.reading.proofs.ClassLaws.{targets-nobody, targets_paired, targets-declared}
 use borrow.Author.Rules.{rules}
@@ -63,7 +63,7 @@ mark-by-target-requires : (t : ℕ) → lts.Need-mark-by-target-requires (says t
 mark-by-target-requires t c κs = (
   let more : lts.Else1 (says t) (here t) own.Post = search in
       let a = more.before.before.before.before.before.args in
-      omega (arith, parent-below a.ws.now a.c (pos_of_ne-zero more.if1.left)),
+      omega (arith, parent_below a.ws.now a.c (pos_of_ne-zero more.if1.left)),
   (
     omega arith,
     omega arith,

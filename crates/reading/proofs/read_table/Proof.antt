@@ -3,7 +3,7 @@
 use native.Mathlib.Omega.{arith}
 use Rattle.reading.proofs.ReadLaws.{table_is}
 use Rattle.reading.proofs.MarkLaws.{all_read}
-use Rattle.reading.proofs.ClassLaws.{paired_start, read_paired, read-classes}
+use Rattle.reading.proofs.ClassLaws.{paired_start, read_paired, read_classes}
 use borrow.Author.Rules.{rules}
 use Rattle.reading.proofs.read_table.Statement.{statement}
 use Rattle.reading.proofs.read_table.Tie as tie
@@ -32,7 +32,7 @@ mark-by-index-requires c κs = (
       let a = start.args in
       let t = copied.copy-slots.ensures in
       let m = targeted.mark-by-target.ensures in
-      read_paired a.ws.now a.area.now placed.class-table-place.result a.c placed.before.slot-count.result _ _ _ t.0
+      read_paired a.ws.now a.area.now placed.class-table-place.result a.c placed.before.slot_count.result _ _ _ t.0
       t.1.0 t.1.1 m.0 m.1 (omega (arith, start.pre)) (omega (arith, start.pre)) (omega arith),
 )
 
@@ -41,7 +41,7 @@ give-sources-requires c κs =
     let targeted : tie.After-mark-by-target = search in
     let copied : tie.After-copy-slots = before-target targeted in
     let placed : tie.After-class-table-place = copied.before.before.before.before in
-    omega (arith, placed.before.slot-count.ensures)
+    omega (arith, placed.before.slot_count.ensures)
 
 returns : tie.Need-returns
 returns c =
@@ -57,13 +57,13 @@ returns c =
     let sourced : tie.After-give-sources = search in
     let o = sourced.give-sources.ensures in
     let r = all_read a.ws.now a.text.now a.abi.now a.labels.now a.area.now placed.class-table-place.result a.c
-    placed.before.slot-count.result _ _ t.0 t.1.0 m.0 i.0 o (omega (arith, start.pre))
+    placed.before.slot_count.result _ _ t.0 t.1.0 m.0 i.0 o (omega (arith, start.pre))
     (omega (arith, start.pre)) in
-    let d = read-classes a.ws.now a.area.now placed.class-table-place.result a.c placed.before.slot-count.result _ _ _ t.0
+    let d = read_classes a.ws.now a.area.now placed.class-table-place.result a.c placed.before.slot_count.result _ _ _ t.0
     t.1.0 t.1.1 m.0 m.1 (omega (arith, start.pre)) (omega (arith, start.pre))
     (omega (arith, copied.before.copy-slots-arg3.given)) a.text.now a.abi.now a.labels.now i.1
     placed.class-table-place.ensures in (
-      table_is _ _ _ _ _ _ placed.class-table-place.ensures placed.before.slot-count.ensures r.0,
+      table_is _ _ _ _ _ _ placed.class-table-place.ensures placed.before.slot_count.ensures r.0,
       (omega arith, (r.1, (d.0, d.1))),
     )
 

@@ -19,7 +19,7 @@ decreases-loop ws list n i₀ i = n - i
 
 loop-holds : tie.Need-loop-init invariant-loop decreases-loop
 unfolding next_class
-loop-holds c = let counted : tie.After-class-count invariant-loop decreases-loop = search in (omega arith, rw counted.class-count.ensures (find-start _ _ _))
+loop-holds c = let counted : tie.After-class-count invariant-loop decreases-loop = search in (omega arith, rw counted.number_of_classes.ensures (find-start _ _ _))
 
 returns : tie.Need-returns invariant-loop decreases-loop
 returns c =

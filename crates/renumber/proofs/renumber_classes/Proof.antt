@@ -18,7 +18,7 @@ put-renumbered-requires c κs =
     let counted : tie.After-class-count = search in
     let part : tie.After-word-part = search in
     let z = left.if1.left in
-    part-complete _ start.args.order.now asked.refusal.ensures.0 z _ (asked.refusal.ensures.1 z) counted.class-count.ensures
+    part-complete _ start.args.order.now asked.refusal.ensures.0 z _ (asked.refusal.ensures.1 z) counted.number_of_classes.ensures
     part.before.wide.ensures part.word-part.ensures
 
 returns-2 : tie.Need-returns-2
@@ -31,7 +31,7 @@ returns-2 c =
     let put : tie.After-put-renumbered = search in
     let z = left.if1.left in
     let made =
-    call-made _ start.args.order.now asked.refusal.ensures.0 z _ (asked.refusal.ensures.1 z) counted.class-count.ensures
+    call-made _ start.args.order.now asked.refusal.ensures.0 z _ (asked.refusal.ensures.1 z) counted.number_of_classes.ensures
     part.before.wide.ensures part.word-part.ensures put.put-renumbered.ensures.0 put.put-renumbered.ensures.1 in
     (made, tt)
 

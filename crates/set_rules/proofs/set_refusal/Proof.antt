@@ -17,7 +17,7 @@ returns-2 c =
     let f = at-set-fits.set-fits.ensures in
     let h = at-unpack-text.before.before.if1.left in
     set_rest _ _ f h
-    (text-handed _ _ _ (set-text _ _ f h) refl at-unpack-text.unpack-text.ensures at-name-at.before.text-length.ensures
+    (text-handed _ _ _ (set-text _ _ f h) refl at-unpack-text.unpack-text.ensures at-name-at.before.length_of_text.ensures
     at-name-at.name-at.ensures)
     (text-handed _ _ _ (set-abi-text _ _ f h) refl at-unpack-text2.unpack-text2.ensures c.before.before.text-length2.ensures
     c.before.name-at2.ensures)

@@ -19,7 +19,7 @@ returns-2 c =
     sheet-rest _ _ _ _ first at-if1.if1.left
     (words-handed _ _ _ first at-if1.if1.left (omega arith) _ (omega arith) at-unpack.before.before.block-count.ensures
     at-unpack.unpack.ensures c.before.before.wide.ensures c.before.word-part.ensures)
-    c.abi-rows.ensures
+    c.rows_of_abi.ensures
 
 pub abi-sheet-refusal-spec : {M : Type 1} → statement M
 abi-sheet-refusal-spec =

@@ -19,7 +19,7 @@ returns-2 c =
     let h = at-unpack-text.before.before.if1.left in
     let l = formed _ (sym f ∙ not-false _ h) in
     class-rest _ f h
-    (text-handed _ _ _ l.text refl at-unpack-text.unpack-text.ensures c.before.before.text-length.ensures
+    (text-handed _ _ _ l.text refl at-unpack-text.unpack-text.ensures c.before.before.length_of_text.ensures
     c.before.name-at.ensures)
     c.class-refusal.ensures
 

@@ -19,7 +19,7 @@ returns-2 c =
     sheet-rest _ _ _ _ first at-if1.if1.left
     (words-handed _ _ _ first at-if1.if1.left (omega arith) _ (omega arith) at-unpack.before.before.block-count.ensures
     at-unpack.unpack.ensures c.before.before.wide.ensures c.before.word-part.ensures)
-    c.class-rows.ensures
+    c.rows_of_classes.ensures
 
 pub class-sheet-refusal-spec : {M : Type 1} → statement M
 class-sheet-refusal-spec =

@@ -21,7 +21,7 @@ returns-2 c =
     let h = unpacked.before.before.if1.left in
     let l = fits _ (sym f ∙ not-false _ h) in
     link-rest _ f h
-    (text-handed _ _ _ l.0.text refl unpacked.unpack-text.ensures c.before.before.text-length.ensures c.before.name-at.ensures)
+    (text-handed _ _ _ l.0.text refl unpacked.unpack-text.ensures c.before.before.length_of_text.ensures c.before.name-at.ensures)
     c.class-refusal.ensures
 
 pub link-rows-spec : {M : Type 1} → statement M

@@ -1,0 +1,411 @@
+#!/usr/bin/env python3
+"""Makes Invariants.antt and Answers.antt of the Proof.antt files of a crate, by the names that `rt check --generated DIR --old-names` lists.
+
+usage: python3 tools/port/convert.py CRATE [FUNCTION ..]     at the top
+"""
+
+import json
+import os
+import re
+import subprocess
+import sys
+
+TOKEN = re.compile(r"[^\s(){}\[\].,;:=`\"«»]+")
+
+
+def norm(n):
+    n = re.sub(r"_lem\b", "", n).replace("_", "-")
+    n = re.sub(r"^(overflow|fits|slice)-(add|sub|mul|cast|aggregate|bounds|write)", r"\2", n)
+    return n
+
+
+def norms(n):
+    """What a name may have been, the likeliest first."""
+    yield norm(n)
+    yield norm(n).replace("bounds-", "part-")
+
+
+class Function:
+    def __init__(self, crate, name, d):
+        self.crate, self.name, self.d = crate, name, d
+        self.places = {}
+        self.byname = {}
+        for (old, parent, field, callee, _), new in zip(d["places"], d["places_by_name"]):
+            self.places[norm(old)] = dict(old=old, parent=None if parent is None else norm(parent), field=field, callee=callee, new=new)
+        self.goals = {}
+        for (old, new), (at_old, at_new) in zip(d["needs"], d["asked_at"]):
+            self.goals[norm(old)] = (new, norm(at_old))
+        self.params = d["params"]
+        self.loops = {}
+        for (names, vs), ch in zip(d["loops"], d["changed"]):
+            self.loops[norm(names[0])] = (names[1], vs, ch)
+        self.warn = []
+
+    def goal(self, old):
+        for n in norms(old):
+            if n in self.goals:
+                return self.goals[n]
+        return None
+
+    def chain(self, place):
+        while place is not None:
+            yield place
+            place = self.places[place]["parent"]
+
+
+def path(fn, place, segs):
+    """The new segments after the context variable, for old ones read at a place; or a place, where they end at one."""
+    i = 0
+    while i < len(segs) and segs[i] == "before":
+        up = fn.places[place]["parent"]
+        if up is None:
+            break
+        place = up
+        i += 1
+    if i == len(segs):
+        return place, None
+    s, rest = segs[i], segs[i + 1:]
+    if s in ("args", "lifetimes", "ranges"):
+        return None, [s] + rest
+    if s in ("pre", "requires"):
+        return None, ["requires"] + rest
+    found = None
+    for p in fn.chain(place):
+        f = fn.places[p]["field"]
+        if norm(f[0]) == norm(s) or f[1] == s:
+            found = (f[1], fn.places[p]["callee"])
+            break
+    if not found:
+        # a name counted otherwise: by its callee
+        fn.warn.append(f"no field {s} at {place}")
+        return None, segs[i:]
+    field, callee = found
+    rest = list(rest)
+    if rest:
+        rest[0] = {"inv": "invariant", "taken": "true", "left": "false"}.get(rest[0], rest[0])
+        if rest[0] == "new" and callee in fn.params and len(rest) > 1 and rest[1] in ("0", "1"):
+            k, j = 0, 1
+            while j < len(rest) and rest[j] == "1":
+                k += 1
+                j += 1
+            if j < len(rest) and rest[j] == "0":
+                j += 1
+            if k < len(fn.params[callee]):
+                rest = ["new", fn.params[callee][k]] + rest[j:]
+    return None, [field] + rest
+
+
+PSEUDO = re.compile(r"⟪([^@]*)@([^⟫]*)⟫((?:\.[^\s(){},.;]+)*)")
+
+
+def strip_args(text, invs):
+    """Drops the invariants and measures that follow tie.X."""
+    names = "|".join(re.escape(n) for n in sorted(invs, key=len, reverse=True))
+    if not names:
+        return text
+    return re.sub(r"(tie\.[^\s(){},;]+)((?:(?:[ \t]+|\n[ \t]+)(?:" + names + r"))+)(?=[\s(){},;]|$)", r"\1", text)
+
+
+def subst_var(text, var, to):
+    return re.sub(r"(?<![^\s(){},;\[\]])" + re.escape(var) + r"(?=[\s(){},;.\]]|$)", to, text)
+
+
+def navigate(text, navs):
+    for n, p in navs.items():
+        again = True
+        while again:
+            new = re.sub(r"\(" + re.escape(n) + r" ⟪([^@]*)@[^⟫]*⟫\)", lambda m: f"⟪{m.group(1)}@{p}⟫", text)
+            new = re.sub(r"(?<![^\s(])" + re.escape(n) + r" ⟪([^@]*)@[^⟫]*⟫", lambda m: f"⟪{m.group(1)}@{p}⟫", new)
+            again = new != text
+            text = new
+    return text
+
+
+def resolve_place(fn, expr):
+    """The place of an expression that is a path to one, or None."""
+    m = re.fullmatch(r"⟪([^@]*)@([^⟫]*)⟫((?:\.[^\s(){},.;]+)*)", expr.strip())
+    if not m:
+        return None
+    segs = [s for s in m.group(3).split(".") if s]
+    if any(s != "before" for s in segs):
+        return None
+    place, rest = path(fn, m.group(2), segs)
+    return (m.group(1), place) if rest is None else None
+
+
+LET = re.compile(r"\blet ([^\s:=]+)(?: : tie\.([^\s(){},;=]+))? =\s+((?:(?!\blet\b|\bin\b).)*?)\s+in\b", re.S)
+
+
+def flow(fn, text, navs, goal):
+    """A body's text with its contexts made flat. Context variables stand in it as ⟪root@place⟫."""
+    while True:
+        text = navigate(text, navs)
+        done = True
+        for m in LET.finditer(text):
+            name, typed, expr = m.groups()
+            target = None
+            if typed is not None and expr.strip() in ("search", "search rules"):
+                p = norm(typed)
+                if p in fn.places:
+                    root = re.search(r"⟪([^@]*)@", text)
+                    target = (fn.root, p)
+                else:
+                    fn.warn.append(f"no place {typed}")
+                    continue
+            else:
+                target = resolve_place(fn, expr)
+            if target is None:
+                continue
+            head, tail = text[:m.start()], text[m.end():]
+            tail = subst_var(tail, name, f"⟪{target[0]}@{target[1]}⟫")
+            text = head + tail.lstrip(" ") if not tail.startswith("\n") else head + tail
+            done = False
+            break
+        if done:
+            break
+
+    def out(m):
+        root, place, segs = m.group(1), m.group(2), [s for s in m.group(3).split(".") if s]
+        p, rest = path(fn, place, segs)
+        if rest is None:
+            new = fn.places[p]["new"]
+            if p == fn.root_place:
+                return root
+            if goal:
+                return f"(goal.at.{goal} {root}).{new}"
+            fn.warn.append(f"whole {new} in a lemma")
+            return root
+        return ".".join([root] + rest)
+
+    text = PSEUDO.sub(out, text)
+    text = re.sub(r"tie\.([^\s(){},;]+)", lambda m: "goal." + (fn.places[norm(m.group(1))]["new"] if norm(m.group(1)) in fn.places else m.group(1)), text)
+    return text
+
+
+def declarations(lines):
+    """Groups of (comments, lines)."""
+    groups, comments, cur, name = [], [], [], None
+    for line in lines:
+        if line.startswith("--"):
+            if cur:
+                groups.append((comments_of, cur))
+                cur = []
+            comments.append(line)
+            continue
+        if not line.strip():
+            if cur:
+                cur.append(line)
+            elif comments:
+                comments.append(line)
+            continue
+        if not line[0].isspace():
+            m = re.match(r"(?:(?:unfoldable|abbrev|pub|pattern|axiom)\s+)*([^\s({:]+)(?:\s*\{[^}]*\})?\s*:(?:\s|$)", line)
+            start = bool(m) or re.match(r"(pub )?(data|record|module|open)\b", line) is not None or re.match(r"(abbrev |unfoldable )?(pub )?(data|record)\b", line) is not None
+            if start and not line.startswith("unfolding"):
+                if cur:
+                    groups.append((comments_of, cur))
+                cur, comments_of, comments = [], comments, []
+            cur.append(line)
+        else:
+            cur.append(line)
+    if cur:
+        groups.append((comments_of, cur))
+    return groups
+
+
+def convert(fn, source, folder):
+    lines = source.split("\n")
+    header = []
+    while lines and lines[0].startswith("--"):
+        header.append(lines.pop(0))
+    uses, rest = [], []
+    for line in lines:
+        (uses if line.startswith("use ") else rest).append(line)
+    decls = []
+    invs, goals, navs = {}, {}, {}
+    for comments, body in declarations(rest):
+        text = "\n".join(body).rstrip()
+        m = re.match(r"(?:(?:unfoldable|abbrev|pub)\s+)*([^\s({:]+)(?:\s*\{[^}]*\})?\s*:\s*", text)
+        name = m.group(1) if m else None
+        if name and (name.endswith("-spec") or name.endswith("_spec")) and "statement" in text.split("\n")[0]:
+            continue
+        decls.append([comments, name, text])
+    for c, name, text in decls:
+        m = re.match(r"[^\n]*?:\s*tie\.(invariant|decreases)-(\S+)", text)
+        if m:
+            invs[name] = (m.group(1), norm(m.group(2)))
+    out_inv, out_ans, helper = [], [], []
+    for c, name, text in decls:
+        text = strip_args(text, invs)
+        if name in invs:
+            kind, loop = invs[name]
+            if loop not in fn.loops:
+                fn.warn.append(f"no loop {loop}")
+                out_inv.append((c, text, name))
+                continue
+            new, vs, ch = fn.loops[loop]
+            m = re.search(r"\n" + re.escape(name) + r" ((?:[^\s=]+\s+)*)=\s*", text)
+            ps = m.group(1).split()
+            want = [(f"l.initial.{v}" if k else f"l.{v}") for v, k in zip(vs, ch)] + [f"l.{v}" for v, k in zip(vs, ch) if k]
+            if len(ps) != len(want):
+                fn.warn.append(f"{kind}-{new}: {len(ps)} parameters, {len(want)} wanted: {ps} {want}")
+            body = text[m.end():]
+            mid = text[:m.start()].split("\n")[1:]
+            table = dict(zip(ps, want))
+            body = re.sub(r"(?<![^\s(){},;\[\]])([^\s(){},;.\[\]]+)(?=[\s(){},;.\]]|$)", lambda q: table.get(q.group(1), q.group(1)) if q.group(1) != "_" else "_", body)
+            sep = "\n    " if "\n" in text[m.start() + 1:m.end()] else " "
+            out_inv.append((c, f"abbrev pub {kind}-{new} : goal.{kind}-{new}\n" + "".join(x + "\n" for x in mid) + f"{kind}-{new} l ={sep}{body}", f"{kind}-{new}"))
+            continue
+        m = re.match(r"((?:unfoldable|abbrev|pub)\s+)*[^\s({:]+\s*:\s*tie\.(\S+)\s*→\s*tie\.(\S+)\s*\n", text)
+        if m and norm(m.group(2)) in fn.places and norm(m.group(3)) in fn.places:
+            navs[name] = norm(m.group(3))
+            continue
+        m = re.match(r"[^\n]*?:\s*tie\.Need-(\S+)", text)
+        if m:
+            g = fn.goal(m.group(1))
+            if not g:
+                fn.warn.append(f"no goal {m.group(1)}: dropped")
+                continue
+            goals[name] = g
+            new, at = g
+            k = re.search(r"\n" + re.escape(name) + r" (\S+)((?: \S+)*?) =", text)
+            mid = text[:k.start()].split("\n")[1:] if k else []
+            var = k.group(1)
+            body = text[k.end():]
+            fn.root, fn.root_place = var, at
+            body = subst_var(body, var, f"⟪{var}@{at}⟫")
+            body = flow(fn, body, navs, new)
+            out_ans.append((c, f"pub {new} : goal.{new}\n" + "".join(x + "\n" for x in mid) + f"{new} {var} ={body}", new))
+            continue
+        # a lemma of the file's own: over a context, or plain
+        m = re.match(r"((?:unfoldable|abbrev|pub)\s+)*[^\s({:]+\s*:\s*\(([^\s:()]+) : tie\.([^\s()]+)\)", text)
+        m2 = re.match(r"((?:unfoldable|abbrev|pub)\s+)*[^\s({:]+\s*:\s*tie\.([^\s()]+)\s*→", text)
+        if m and norm(m.group(3)) in fn.places:
+            var, at = m.group(2), norm(m.group(3))
+            head, tail = text[:m.end()], text[m.end():]
+            fn.root, fn.root_place = var, at
+            tail = subst_var(tail, var, f"⟪{var}@{at}⟫")
+            tail = flow(fn, tail, navs, None)
+            head = re.sub(r"tie\.[^\s()]+", "goal." + fn.places[at]["new"], head)
+            out_ans.append((c, head + tail, name))
+        elif m2 and norm(m2.group(2)) in fn.places:
+            at = norm(m2.group(2))
+            k = re.search(r"\n" + re.escape(name) + r" (\S+)", text)
+            var = k.group(1)
+            head, tail = text[:k.end()], text[k.end():]
+            fn.root, fn.root_place = var, at
+            tail = flow(fn, subst_var(tail, var, f"⟪{var}@{at}⟫"), navs, None)
+            head = re.sub(r"tie\.[^\s()]+", "goal." + fn.places[at]["new"], head)
+            out_ans.append((c, head + tail, name))
+        else:
+            helper.append((c, text, name))
+    # helpers that the invariants use go with them
+    inv_text = "\n".join(t for _, t, _ in out_inv)
+    in_inv, in_ans = [], []
+    need = True
+    while need:
+        need = False
+        for h in list(helper):
+            if h[2] and re.search(r"(?<![\w'-])" + re.escape(h[2]) + r"(?![\w'-])", inv_text) or not h[2] and re.match(r"(abbrev |unfoldable )?(pub )?(record|data) (\S+)", h[1]) and re.search(r"(?<![\w'-])" + re.escape(re.match(r"(?:abbrev |unfoldable )?(?:pub )?(?:record|data) (\S+)", h[1]).group(1)) + r"(?![\w'-])", inv_text):
+                in_inv.append(h)
+                helper.remove(h)
+                inv_text += h[1]
+                need = True
+    in_ans = helper
+    rename_goals = {old: new for old, (new, _) in goals.items()}
+
+    def imports(body, given):
+        keep = []
+        words = set(re.findall(r"[^\s(){}\[\].,;:`\"«»]+", body)) | set(re.findall(r"[^\s(){}\[\],;:`\"«».]+(?:\.[^\s(){}\[\],;:`\"«».]+)*", body))
+        dotted = {w.split(".")[0] for w in words}
+        for u in uses:
+            if re.search(r"\.(Tie|Statement|Reads|Kinds|Lts(-\S+)?)(\.\{[^}]*\})?( as \S+)?$", u.strip()) or "borrow.Fn." in u or re.search(r"proofs\.\+?\w+\.\{statement\}", u):
+                continue
+            m = re.match(r"use (\S+)\.\{([^}]*)\}$", u.strip())
+            if not m:
+                keep.append(u)
+                continue
+            names = []
+            for n in [x.strip() for x in m.group(2).split(",") if x.strip()]:
+                local = n.split(" as ")[-1].strip()
+                hit = local in words or local in dotted
+                if "◌" in local:
+                    parts = [x for x in local.replace("◌", " ").split() if x]
+                    hit = hit or all(x in body for x in parts)
+                if hit:
+                    names.append(n)
+            if names:
+                keep.append(f"use {m.group(1)}.{{{', '.join(names)}}}")
+        return keep
+
+    def pub(t):
+        return t if re.match(r"((abbrev|unfoldable)\s+)?pub\b", t) else re.sub(r"^((abbrev|unfoldable)\s+)?", lambda q: (q.group(0) or "") + "pub ", t, count=1)
+
+    def render(groups):
+        return "\n\n".join("\n".join([x for x in c if x.strip()] + [t]) for c, t, _ in groups) + "\n"
+
+    F = f"Rattle.{fn.crate}.proofs.{fn.name}"
+    made = []
+    for old in ("Proof.antt",):
+        pass
+    inv_groups = [(c, pub(t), n) for c, t, n in in_inv] + out_inv
+    ans_groups = []
+    order = {id(x): i for i, x in enumerate(in_ans + out_ans)}
+    ans_groups = in_ans + out_ans
+    if inv_groups:
+        body = render(inv_groups)
+        text = "\n".join(header + imports(body, True) + [f"use {F}.Given as goal", "", body])
+        with open(os.path.join(folder, "Invariants.antt"), "w") as f:
+            f.write(text)
+        made.append("Invariants")
+    if ans_groups:
+        body = render(ans_groups)
+        shared = [n for _, _, n in inv_groups if n and n not in [x[2] for x in out_inv] and re.search(r"(?<![\w'-])" + re.escape(n) + r"(?![\w'-])", body)]
+        head = [] if inv_groups else header
+        extra = [f"use {F}.Invariants.{{{', '.join(shared)}}}"] if shared else []
+        text = "\n".join(head + imports(body, False) + extra + [f"use {F}.Goals as goal", "", body])
+        with open(os.path.join(folder, "Answers.antt"), "w") as f:
+            f.write(text)
+        made.append("Answers")
+    os.remove(os.path.join(folder, "Proof.antt"))
+    return made
+
+
+def main(argv):
+    crate, only = argv[0], argv[1:]
+    where = os.path.join("crates", crate)
+    gen = f"/tmp/gen/{crate}"
+    if not only or not os.path.exists(os.path.join(gen, "names.json")):
+        r = subprocess.run(["rt", "check", "--generated", gen, "--old-names"], cwd=where, stdout=subprocess.PIPE, stderr=subprocess.STDOUT, text=True)
+        if not os.path.exists(os.path.join(gen, "names.json")):
+            print(r.stdout[-3000:])
+            raise SystemExit(1)
+    d = json.load(open(os.path.join(gen, "names.json")))
+    proofs = os.path.join(where, "proofs")
+    n = 0
+    for f in sorted(os.listdir(proofs)):
+        p = os.path.join(proofs, f, "Proof.antt")
+        if not os.path.exists(p) or only and f not in only:
+            continue
+        if f.startswith("+"):
+            print(f"{crate}/{f}: by hand")
+            continue
+        key = f"Rattle-{crate}-proofs.{f}.Lts"
+        if key not in d:
+            print(f"{crate}/{f}: no names")
+            continue
+        fn = Function(crate, f, d[key])
+        source = open(p).read()
+        try:
+            convert(fn, source, os.path.join(proofs, f))
+            n += 1
+        except Exception as e:
+            print(f"{crate}/{f}: {type(e).__name__}: {e}")
+            if "-v" in os.environ.get("CONVERT", ""):
+                raise
+        for w in fn.warn:
+            print(f"{crate}/{f}: {w}")
+    print(f"{crate}: {n} converted")
+
+
+main(sys.argv[1:])
