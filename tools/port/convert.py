@@ -178,6 +178,8 @@ def flow(fn, text, navs, goal):
         return ".".join([root] + rest)
 
     text = PSEUDO.sub(out, text)
+    text = re.sub(r"\n[ \t]+(?=\n)", "", text)
+    text = re.sub(r"\n[ \t]+\Z", "", text)
     text = re.sub(r"tie\.([^\s(){},;]+)", lambda m: "goal." + (fn.places[norm(m.group(1))]["new"] if norm(m.group(1)) in fn.places else m.group(1)), text)
     return text
 

@@ -16,7 +16,7 @@ WORD = re.compile(r"[^\s(){}\[\].,;:=`\"«»⌜⌝]+")
 DECLARED = re.compile(r"^\s*(?:(?:unfoldable|abbrev|pub|pattern|axiom|private)\s+)*([^\s(){}\[\].,;:=`\"]+)(?:\s*\{[^}]*\})?\s*:(?:\s|$)")
 USE = re.compile(r"^\s*(?:pub )?(?:ghost )?use ([^;{]+?)(?:\.\{([^}]*)\})?(?: as \S+)?;?\s*$")
 MADE = re.compile(r"^(returns|loop|invariant|decreases|ensures|requires|Need|overflow|bounds|shape|close|exit)(-|_|$)")
-KEEP = {"search-hits", "_"}
+KEEP = {"_"}
 
 
 def files():

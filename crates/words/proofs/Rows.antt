@@ -28,12 +28,12 @@ rows_drop zero p = p
 rows_drop (suc n) no_rows = no_rows
 rows_drop (suc n) (a_row e p) = rows_drop n p
 
-pub rows-set : (i : ℕ) {w : ℕ} {a : List (List ℕ)} (r : List ℕ) → length r ≡ w → Rows w a → Rows w (set a i r)
+pub rows-set : {w : ℕ} (i : ℕ) {a : List (List ℕ)} (r : List ℕ) → length r ≡ w → Rows w a → Rows w (set a i r)
 rows-set i r e no_rows = no_rows
 rows-set zero r e (a_row f p) = a_row e p
 rows-set (suc i) r e (a_row f p) = a_row f (rows-set i r e p)
 
-pub row-length : (i : ℕ) {w : ℕ} {a : List (List ℕ)} → Rows w a → i < length a → length (get_or a i []) ≡ w
+pub row-length : {w : ℕ} (i : ℕ) {a : List (List ℕ)} → Rows w a → i < length a → length (get_or a i []) ≡ w
 row-length i no_rows h = absurd (omega arith)
 row-length zero (a_row e p) h = e
 row-length (suc i) (a_row e p) h = row-length i p (omega arith)
@@ -108,14 +108,14 @@ drop-joined (suc n) {w} (a_row {r = r} {rs = rs} e p) l h =
     rw (append_assoc r (joined rs) l, k, drop-append-add r (joined rs ++ l) (w * n)) (drop-joined n p l (omega arith))
 
 -- word k of row i
-pub joined_word : (i k : ℕ) {w : ℕ} {a : List (List ℕ)} → Rows w a → (l : List ℕ) → i < length a → k < w
+pub joined_word : {w : ℕ} (i k : ℕ) {a : List (List ℕ)} → Rows w a → (l : List ℕ) → i < length a → k < w
     → get_or (joined a ++ l) (w * i + k) 0 ≡ row_word a i k
 unfolding joined
 joined_word i k no_rows l h g = absurd (omega arith)
-joined_word zero k {w} (a_row {r = r} {rs = rs} e p) l h g =
+joined_word {w} zero k (a_row {r = r} {rs = rs} e p) l h g =
     let z : w * 0 + k ≡ k = omega arith in
     rw (append_assoc r (joined rs) l, z) (get_or-append r (joined rs ++ l) 0 k (omega arith))
-joined_word (suc i) k {w} (a_row {r = r} {rs = rs} e p) l h g =
+joined_word {w} (suc i) k (a_row {r = r} {rs = rs} e p) l h g =
     let z : w * suc i + k ≡ length r + (w * i + k) = omega (arith, mul-suc w i) in
     rw (append_assoc r (joined rs) l, z, get_or-append-add r (joined rs ++ l) (w * i + k) 0) (joined_word i k p l (omega arith) g)
 
@@ -128,14 +128,14 @@ set_append_right (x ∷ xs) ys i v =
 pub set-skip : (xs ys : List ℕ) (n i v : ℕ) → n ≡ length xs + i → set (xs ++ ys) n v ≡ xs ++ set ys i v
 set-skip xs ys n i v e = rw e (set_append_right xs ys i v)
 
-pub joined-set : (i k v : ℕ) {w : ℕ} {a : List (List ℕ)} → Rows w a → (l : List ℕ) → i < length a → k < w
+pub joined-set : {w : ℕ} (i k v : ℕ) {a : List (List ℕ)} → Rows w a → (l : List ℕ) → i < length a → k < w
     → set (joined a ++ l) (w * i + k) v ≡ joined (set_word a i k v) ++ l
 unfolding joined
 joined-set i k v no_rows l h g = absurd (omega arith)
-joined-set zero k v {w} (a_row {r = r} {rs = rs} e p) l h g =
+joined-set {w} zero k v (a_row {r = r} {rs = rs} e p) l h g =
     let z : w * 0 + k ≡ k = omega arith in
     rw (append_assoc r (joined rs) l, z, append_assoc (set r k v) (joined rs) l) (set-append_left r (joined rs ++ l) k v (omega arith))
-joined-set (suc i) k v {w} (a_row {r = r} {rs = rs} e p) l h g =
+joined-set {w} (suc i) k v (a_row {r = r} {rs = rs} e p) l h g =
     let z : w * suc i + k ≡ length r + (w * i + k) = omega (arith, mul-suc w i) in
     rw (append_assoc r (joined rs) l, z, set_append_right r (joined rs ++ l) (w * i + k) v, append_assoc r (joined (set_word rs i k v)) l)
     (ap (λ (x : List ℕ). r ++ x) (joined-set i k v p l (omega arith) g))

@@ -1,5 +1,7 @@
 // Total access to lent words and bytes: the leaves that every other crate stands on. A read outside a slice answers 0, a store
 // outside it changes nothing, and a part holds as much as is there, so no caller owes that an index is in range.
+#![tactic(auto)]
+
 ghost use Rattle.std.specs.Prelude.{◌≡◌, ◌-◌, ◌%◌, get_or, set, take, drop};
 ghost use Rattle.words.specs.Words.{le_word, byte_of, inside, copy_words};
 

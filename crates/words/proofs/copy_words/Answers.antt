@@ -3,23 +3,23 @@ use native.Mathlib.Omega.{arith}
 use Rattle.words.proofs.Laws.{no_source, no_room_lem, pasted-none, pasted-turn, pasted-all}
 use Rattle.words.proofs.copy_words.Goals as goal
 
-pub returns-then_src_n : goal.returns-then_src_n
-returns-then_src_n c = no_source _ _ _ _ _ (omega arith)
+pub returns-then-src-n : goal.returns-then-src-n
+returns-then-src-n c = no_source _ _ _ _ _ (omega arith)
 
-pub returns-then_src_n_2 : goal.returns-then_src_n_2
-returns-then_src_n_2 c = no_source _ _ _ _ _ (omega arith)
+pub returns-then-src-n-2 : goal.returns-then-src-n-2
+returns-then-src-n-2 c = no_source _ _ _ _ _ (omega arith)
 
-pub returns-then_dst_n : goal.returns-then_dst_n
-returns-then_dst_n c = no_room_lem _ _ _ _ _ (omega arith)
+pub returns-then-dst-n : goal.returns-then-dst-n
+returns-then-dst-n c = no_room_lem _ _ _ _ _ (omega arith)
 
-pub returns-then_dst_n_2 : goal.returns-then_dst_n_2
-returns-then_dst_n_2 c = no_room_lem _ _ _ _ _ (omega arith)
+pub returns-then-dst-n-2 : goal.returns-then-dst-n-2
+returns-then-dst-n-2 c = no_room_lem _ _ _ _ _ (omega arith)
 
-pub loop_j_init : goal.loop_j_init
-loop_j_init c = (omega arith, omega arith, omega arith, pasted-none _ _ _ _, omega arith)
+pub loop-j-init : goal.loop-j-init
+loop-j-init c = (omega arith, omega arith, omega arith, pasted-none _ _ _ _, omega arith)
 
-pub loop_j_preserved : goal.loop_j_preserved
-loop_j_preserved c = (
+pub loop-j-preserved : goal.loop-j-preserved
+loop-j-preserved c = (
   omega arith,
   omega arith,
   omega arith,

@@ -6,9 +6,9 @@ use lib.ListN.{length}
 use Rattle.words.specs.Words.{pasted}
 use Rattle.words.proofs.copy_words.Given as goal
 
-abbrev pub invariant_loop_j : goal.invariant_loop_j
-invariant_loop_j l =
+abbrev pub invariant-loop-j : goal.invariant-loop-j
+invariant-loop-j l =
     (l.j ≤ l.n) × (l.from + l.n ≤ length l.src) × (l.at + l.n ≤ length l.initial.dst) × (l.dst ≡ pasted l.src l.from l.j l.initial.dst l.at) × (length l.dst ≡ length l.initial.dst)
 
-abbrev pub decreases_loop_j : goal.decreases_loop_j
-decreases_loop_j l = l.n - l.j
+abbrev pub decreases-loop-j : goal.decreases-loop-j
+decreases-loop-j l = l.n - l.j

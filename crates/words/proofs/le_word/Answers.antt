@@ -4,8 +4,8 @@ use Rattle.words.specs.Words.{le_word}
 use Rattle.words.proofs.Laws.{le_word-past}
 use Rattle.words.proofs.le_word.Goals as goal
 
-pub returns-then_bs_b : goal.returns-then_bs_b
-returns-then_bs_b c = le_word-past _ _ c.if-bs-b.true
+pub returns-then-bs-b : goal.returns-then-bs-b
+returns-then-bs-b c = le_word-past _ _ c.if-bs-b.true
 
 pub returns : goal.returns
 unfolding le_word

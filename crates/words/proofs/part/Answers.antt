@@ -6,8 +6,8 @@ use Rattle.words.proofs.part.Goals as goal
 pub returns-then-n-start : goal.returns-then-n-start
 returns-then-n-start c = search part_none
 
-pub returns-then-n-start_2 : goal.returns-then-n-start_2
-returns-then-n-start_2 c = let a = c.args in part-short a.s.now a.start a.len (omega arith)
+pub returns-then-n-start-2 : goal.returns-then-n-start-2
+returns-then-n-start-2 c = let a = c.args in part-short a.s.now a.start a.len (omega arith)
 
 pub returns : goal.returns
 returns c = search part-whole

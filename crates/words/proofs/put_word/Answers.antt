@@ -2,5 +2,5 @@
 use Rattle.words.proofs.Laws.{set_past}
 use Rattle.words.proofs.put_word.Goals as goal
 
-pub returns_else_i_ws : goal.returns_else_i_ws
-returns_else_i_ws c = search set_past
+pub returns-else-i-ws : goal.returns-else-i-ws
+returns-else-i-ws c = search set_past
