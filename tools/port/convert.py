@@ -25,13 +25,47 @@ def norms(n):
     yield norm(n).replace("bounds-", "part-")
 
 
+def clauses():
+    """The names of the ensures of each function that has two or more, in order."""
+    out = {}
+    import glob
+    for p in glob.glob("crates/*/src/*.rt"):
+        crate = p.split("/")[1]
+        current = None
+        for line in open(p, encoding="utf-8"):
+            m = re.match(r"\s*(?:pub )?(?:extern \"C\" )?fn (\w+)", line)
+            if m:
+                current = f"{crate}::{m.group(1)}"
+            m = re.match(r"\s+ensures (\w+) \{", line)
+            if m and current:
+                out.setdefault(current, []).append(m.group(1))
+    return out
+
+
+CLAUSES = {}
+
+
+def clause(names, segs):
+    """.1.0.x of a right nest of clauses as .NAME.x; None where the path stops short of one."""
+    k, j = 0, 0
+    while j < len(segs) and segs[j] == "1" and k < len(names) - 1:
+        k += 1
+        j += 1
+    if k == len(names) - 1:
+        return [names[k]] + segs[j:]
+    if j < len(segs) and segs[j] == "0":
+        return [names[k]] + segs[j + 1:]
+    return None
+
+
 class Function:
     def __init__(self, crate, name, d):
         self.crate, self.name, self.d = crate, name, d
         self.places = {}
         self.byname = {}
         for (old, parent, field, callee, _), new in zip(d["places"], d["places_by_name"]):
-            self.places[norm(old)] = dict(old=old, parent=None if parent is None else norm(parent), field=field, callee=callee, new=new)
+            i = len(self.places)
+            self.places[norm(old)] = dict(arms=d["arms"][i], typed=d["typed"][i], old=old, parent=None if parent is None else norm(parent), field=field, callee=callee, new=new)
         self.goals = {}
         for (old, new), (at_old, at_new) in zip(d["needs"], d["asked_at"]):
             self.goals[norm(old)] = (new, norm(at_old))
@@ -40,6 +74,7 @@ class Function:
         for (names, vs), ch in zip(d["loops"], d["changed"]):
             self.loops[norm(names[0])] = (names[1], vs, ch)
         self.warn = []
+        self.root = self.root_place = None
 
     def goal(self, old):
         for n in norms(old):
@@ -70,7 +105,18 @@ def path(fn, place, segs):
     if s in ("pre", "requires"):
         return None, ["requires"] + rest
     found = None
+    if rest[:1] == ["given"] and fn.root_place:
+        for var, old in fn.places[fn.root_place]["typed"]:
+            if norm(old) == norm(s):
+                return None, ["type_inv", var] + rest[1:]
     for p in fn.chain(place):
+        arms = fn.places[p]["arms"]
+        best = None
+        for sub, old, suffix in (arms[2] if arms else []):
+            if norm(old) == norm(s) and rest[:len(suffix)] == suffix and (best is None or len(suffix) > len(best[1])):
+                best = (sub, suffix)
+        if best and best[1]:
+            return None, [arms[0], best[0]] + rest[len(best[1]):]
         f = fn.places[p]["field"]
         if norm(f[0]) == norm(s) or f[1] == s:
             found = (f[1], fn.places[p]["callee"])
@@ -83,7 +129,15 @@ def path(fn, place, segs):
     rest = list(rest)
     if rest:
         rest[0] = {"inv": "invariant", "taken": "true", "left": "false"}.get(rest[0], rest[0])
-        if rest[0] == "new" and callee in fn.params and len(rest) > 1 and rest[1] in ("0", "1"):
+        if rest[0] == "kept":
+            rest[0] = "auto"
+        if rest[0] == "ensures" and len(CLAUSES.get(callee, ())) > 1:
+            named = clause(CLAUSES[callee], rest[1:])
+            if named is None:
+                fn.warn.append(f"clauses of {callee}: {'.'.join([s] + rest)}")
+            else:
+                rest = ["ensures"] + named
+        if rest[0] in ("new", "auto") and callee in fn.params and len(rest) > 1 and rest[1] in ("0", "1"):
             k, j = 0, 1
             while j < len(rest) and rest[j] == "1":
                 k += 1
@@ -91,7 +145,7 @@ def path(fn, place, segs):
             if j < len(rest) and rest[j] == "0":
                 j += 1
             if k < len(fn.params[callee]):
-                rest = ["new", fn.params[callee][k]] + rest[j:]
+                rest = [rest[0], fn.params[callee][k]] + rest[j:]
     return None, [field] + rest
 
 
@@ -155,6 +209,12 @@ def flow(fn, text, navs, goal):
             else:
                 target = resolve_place(fn, expr)
             if target is None:
+                e = re.fullmatch(r"⟪[^@]*@[^⟫]*⟫(?:\.[^\s(){},.;]+)*\.(?:ensures|new|kept|auto)", expr.strip())
+                if e and re.search(r"(?<![^\s(){},;\[\]])" + re.escape(name) + r"\.[01]", text[m.end():]) and not re.search(r"(?<![^\s(){},;\[\]])" + re.escape(name) + r"(?=[\s(){},;\]]|$)", text[m.end():]):
+                    tail = subst_var(text[m.end():], name, expr.strip())
+                    text = text[:m.start()] + (tail.lstrip(" ") if not tail.startswith("\n") else tail)
+                    done = False
+                    break
                 continue
             head, tail = text[:m.start()], text[m.end():]
             tail = subst_var(tail, name, f"⟪{target[0]}@{target[1]}⟫")
@@ -182,6 +242,78 @@ def flow(fn, text, navs, goal):
     text = re.sub(r"\n[ \t]+\Z", "", text)
     text = re.sub(r"tie\.([^\s(){},;]+)", lambda m: "goal." + (fn.places[norm(m.group(1))]["new"] if norm(m.group(1)) in fn.places else m.group(1)), text)
     return text
+
+
+def split(text):
+    """The parts of a tuple's text, or None."""
+    t = text.strip()
+    if not t.startswith("("):
+        return None
+    parts, depth, cur = [], 0, ""
+    for i, ch in enumerate(t):
+        if ch in "([{":
+            depth += 1
+            if depth == 1:
+                continue
+        if ch in ")]}":
+            depth -= 1
+            if depth == 0:
+                if t[i + 1:].strip():
+                    return None
+                break
+        if ch == "," and depth == 1:
+            parts.append(cur)
+            cur = ""
+        else:
+            cur += ch
+    if cur.strip():
+        parts.append(cur)
+    return parts if len(parts) > 1 else None
+
+
+def tail_at(text):
+    """Where the value begins, behind the lets."""
+    at, depth = 0, 0
+    for m in re.finditer(r"[(\[{]|[)\]}]|(?<![^\s(){}])in(?=\s)", text):
+        if m.group(0) in "([{":
+            depth += 1
+        elif m.group(0) in ")]}":
+            depth -= 1
+        elif depth == 0 and "let" in text[:m.start()]:
+            at = m.end()
+    return at
+
+
+def clausewise(fn, body):
+    names = CLAUSES.get(f"{fn.crate}::{fn.name}", ())
+    if len(names) < 2:
+        return body
+    at = tail_at(body)
+    head, tail = body[:at], body[at:]
+    parts, rest = [], tail
+    while len(parts) < len(names) - 1:
+        two = split(rest)
+        if two is None:
+            break
+        if len(two) > 2 and len(parts) + len(two) == len(names):
+            parts += two[:-1]
+            rest = two[-1]
+            continue
+        if len(two) > 2:
+            parts.append(two[0])
+            rest = "(" + ",".join(two[1:]) + ")"
+            continue
+        parts.append(two[0])
+        rest = two[1]
+    if len(parts) == len(names) - 1:
+        parts.append(rest)
+        return head + " record { " + "; ".join(f"{n} = {' '.join(x.split())}" for n, x in zip(names, parts)) + " }"
+    if not parts and not re.match(r"\s*(search|omega|grind|cc)\b", tail):
+        path = lambda k: ".1" * k + (".0" if k < len(names) - 1 else "")
+        return head + f" let both = {' '.join(tail.split())} in record {{ " + "; ".join(f"{n} = both{path(k)}" for k, n in enumerate(names)) + " }"
+    if parts:
+        fn.warn.append("a record by hand")
+    return body
 
 
 def declarations(lines):
@@ -277,6 +409,8 @@ def convert(fn, source, folder):
             fn.root, fn.root_place = var, at
             body = subst_var(body, var, f"⟪{var}@{at}⟫")
             body = flow(fn, body, navs, new)
+            if new.startswith("returns"):
+                body = clausewise(fn, body)
             out_ans.append((c, f"pub {new} : goal.{new}\n" + "".join(x + "\n" for x in mid) + f"{new} {var} ={body}", new))
             continue
         # a lemma of the file's own: over a context, or plain
@@ -383,6 +517,7 @@ def main(argv):
             print(r.stdout[-3000:])
             raise SystemExit(1)
     d = json.load(open(os.path.join(gen, "names.json")))
+    CLAUSES.update(clauses())
     proofs = os.path.join(where, "proofs")
     n = 0
     for f in sorted(os.listdir(proofs)):

@@ -468,7 +468,7 @@ fn count_call(counts: &mut [u32], kind: u32, row: u32) {
 }
 
 // Where reading goes on, and how many calls differ.
-#[derive(Drop)]
+#[derive(Clone, Copy)]
 struct Sum {
     at: u32,
     differ: u32,

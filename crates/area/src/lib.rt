@@ -7,14 +7,14 @@ ghost use Rattle.linking.specs.Ask.{walk};
 ghost use Rattle.area.specs.Area.{walk_of, nodes_to, Counted, slots_of, table_words, node_words, may_not_write, table_written, node_written};
 
 // What a link or an ask answers: its two values, or the row that refuses it.
-#[derive(Drop)]
+#[derive(Clone, Copy)]
 pub enum Answer {
     Done(u32, u32),
     Refused(u32),
 }
 
 // What a walk ends with: at a node, having read so many; at the list's end, likewise; or at a link that row 7 refuses.
-#[derive(Drop)]
+#[derive(Clone, Copy)]
 pub enum Walked {
     Hit(u32, u32),
     Missed(u32),

@@ -57,7 +57,7 @@ fn implementation(ws: &[u32], text: &[u8], c: u32, m: u32) -> Declared
 }
 
 // A slot's word and its method's mark, or that its method has no implementation.
-#[derive(Drop)]
+#[derive(Clone, Copy)]
 struct Slot {
     word: u32,
     mark: u32,
@@ -118,7 +118,7 @@ fn dispatch_slots(
 }
 
 // How many slots a class's table for an interface has, or the row that refuses it.
-#[derive(Drop)]
+#[derive(Clone, Copy)]
 struct Dispatch {
     n: u32,
     row: u32,

@@ -69,7 +69,7 @@ fn string_ok(s: &[u8]) -> bool
 // ---- rows 4 and 5 along a list of members, and how many bytes their strings have
 
 // What is told of a list of members: whether row 4 refuses none, and then whether row 5 refuses none, and how many bytes their strings have.
-#[derive(Drop)]
+#[derive(Clone, Copy)]
 struct Tally {
     named: bool,
     typed: bool,
@@ -129,7 +129,7 @@ fn tally_members(bytes: &[u8], marks: &[usize; MARKS], method: bool, n: u32, p: 
 // ---- rows 4, 5 and 14 of the whole
 
 // Where the access flags, the fields' count and the methods' count stand.
-#[derive(Drop)]
+#[derive(Clone, Copy)]
 pub struct Places {
     pub head: usize,
     pub fields: usize,

@@ -5,14 +5,14 @@ ghost use Rattle.class_form.specs.Marks.{marked, marks_from, pool_marks, constan
 ghost use Rattle.class_form.specs.Parts.{rest_of, body_of, class_of, file_of, form_of, ended, member_at};
 
 // Where the next item begins, or the row that refuses.
-#[derive(Drop)]
+#[derive(Clone, Copy)]
 pub enum Step {
     To(usize),
     Stop(u32),
 }
 
 // The places of the access flags, of the fields' count and of the methods' count, or the row that refuses the form.
-#[derive(Drop)]
+#[derive(Clone, Copy)]
 pub enum Judged {
     Parts {
         head: usize,
@@ -23,7 +23,7 @@ pub enum Judged {
 }
 
 // A field or a method: its flags, its references to name and descriptor, and the place after its attributes.
-#[derive(Drop)]
+#[derive(Clone, Copy)]
 pub struct Member {
     pub flags: u32,
     pub name: u32,

@@ -3,7 +3,7 @@
 
 // Of an accepted file: the lengths of the class's and the parent's name (0 for none), the class's flags, how many fields and methods it has, and
 // how many text bytes.
-#[derive(Drop)]
+#[derive(Clone, Copy)]
 pub struct FileHead {
     pub name: u32,
     pub parent: u32,
@@ -14,7 +14,7 @@ pub struct FileHead {
 }
 
 // What a reading answers: the file's head, or the row that refuses.
-#[derive(Drop)]
+#[derive(Clone, Copy)]
 pub enum FileRead {
     Members(FileHead),
     Refused(u32),

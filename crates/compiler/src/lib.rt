@@ -16,7 +16,7 @@ ghost use Rattle.compiler.specs.Added.{appending, copying, targeted, methods};
 use words::Found;
 
 // How many slots the table has, and how many methods are added to the class.
-#[derive(Drop)]
+#[derive(Clone, Copy)]
 pub struct Prepared {
     pub n: u32,
     pub added: u32,

@@ -142,7 +142,7 @@ const AREA: u32 = 3;
 const MISSING: u32 = 4;
 
 // Where reading goes on, how many calls there were, and the first that differs, with what it differs in.
-#[derive(Drop)]
+#[derive(Clone, Copy)]
 struct Seen {
     at: u32,
     calls: u32,
@@ -272,7 +272,7 @@ fn room(f: &[u32], at: u32, most: usize) -> usize
 }
 
 // Where the parts of a case are: its class words, area and list of missing slots, the stub lists and the calls.
-#[derive(Drop)]
+#[derive(Clone, Copy)]
 struct Places {
     set: u32,
     area: u32,
@@ -520,7 +520,7 @@ fn replay_item(f: &[u32], at: u32, kind: u32) -> Seen {
 }
 
 // Where reading goes on, how many calls there were, and how many items differ.
-#[derive(Drop)]
+#[derive(Clone, Copy)]
 struct Sum {
     at: u32,
     calls: u32,

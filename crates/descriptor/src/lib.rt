@@ -27,7 +27,7 @@ ghost use Rattle.descriptor.specs.Words.{
 
 // Where a reader of a field type stands: at a type, at the first byte of an identifier of a class name, after one, at the type's
 // end, or past a fault.
-#[derive(Drop)]
+#[derive(Clone, Copy)]
 enum FieldState {
     Open,
     Start,
@@ -38,7 +38,7 @@ enum FieldState {
 
 // Where a reader of a method descriptor stands: at its first byte, among the parameters (`Done` before and after each), at the
 // return descriptor, or in it.
-#[derive(Drop)]
+#[derive(Clone, Copy)]
 enum MethodState {
     Begin,
     Parameters(FieldState),
@@ -50,7 +50,7 @@ enum MethodState {
 const ARGUMENT_LIMIT: u64 = 255;
 
 // The words of a method's arguments, or that the bytes are no descriptor of one, which is refusal 5.
-#[derive(Drop)]
+#[derive(Clone, Copy)]
 pub enum DescriptorWords {
     Count(u64),
     Refused,

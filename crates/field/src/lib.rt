@@ -15,14 +15,14 @@ ghost use Rattle.field.specs.Numbers.{numbered, refused, numbered_of, fields_by,
 use words::Found;
 
 // A u32 read as signed: a number from zero on, or the magnitude of one below zero.
-#[derive(Drop)]
+#[derive(Clone, Copy)]
 enum Signed {
     Nonnegative(u32),
     Negative(u32),
 }
 
 // The index given last, and what the next ones count from: static words, runtime words and the running word.
-#[derive(Drop)]
+#[derive(Clone, Copy)]
 struct Counters {
     index: u32,
     statics: u32,

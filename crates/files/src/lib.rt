@@ -6,7 +6,7 @@ ghost use Rattle.files.specs.Files.{word_of, Left, same_word};
 use words::{le_word, put_word, word_at};
 
 // What reading a file answers: how many bytes were read, or nothing.
-#[derive(Drop)]
+#[derive(Clone, Copy)]
 pub enum File {
     Bytes(usize),
     Unread,

@@ -196,7 +196,7 @@ fn slot_descriptor<'a>(
 }
 
 // A slot of a table: its index, its word, its method's mark, and the class that declares the method.
-#[derive(Drop)]
+#[derive(Clone, Copy)]
 struct Slot {
     index: u32,
     word: u32,

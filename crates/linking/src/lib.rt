@@ -2,7 +2,7 @@
 // their answer.
 
 // What a search along a class's chain answers: the number of the class that declares the method and the method's, or nobody.
-#[derive(Drop)]
+#[derive(Clone, Copy)]
 pub enum Declared {
     By(u32, u32),
     Nobody,

@@ -9,7 +9,7 @@ use libc::{STDERR_FILENO, STDOUT_FILENO};
 use words::part;
 
 // What a word spells: a number from 0 to 4294967295, or none.
-#[derive(Drop)]
+#[derive(Clone, Copy)]
 enum Number {
     Is(u32),
     Not,

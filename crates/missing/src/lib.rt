@@ -13,7 +13,7 @@ use words::Found;
 const WIDTH: usize = 33;
 
 // What asking answers: the number of missing slots, or the row that refuses it.
-#[derive(Drop)]
+#[derive(Clone, Copy)]
 pub enum Missing {
     Count(u32),
     Refused(u32),

@@ -16,7 +16,7 @@ ghost use Rattle.native_view.specs.Native.{below, SheetMark, SmallMarks, marks_i
 use words::Found;
 
 // How many slots the native view has, and how many methods the compiler table adds.
-#[derive(Drop)]
+#[derive(Clone, Copy)]
 pub struct Native {
     pub n: u32,
     pub added: u32,

@@ -14,7 +14,7 @@ use vtable::Step;
 pub const MARKS: usize = 1024;
 
 // How many slots a table has and how many methods it adds to its class; or the row that refuses it.
-#[derive(Drop)]
+#[derive(Clone, Copy)]
 struct Table {
     n: u32,
     added: u32,

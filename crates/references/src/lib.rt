@@ -4,7 +4,7 @@ ghost use Rattle.std.specs.Int.Count.{ones};
 ghost use Rattle.references.specs.References.{is_marked, marked_words, written_over, bytes_for, kept_bits, masked, masked_byte, masked_ones, too_few, outcome, Told, counted, read_references, count_references};
 
 // How many words of a bitmap's object are marked, or the row that refuses.
-#[derive(Drop)]
+#[derive(Clone, Copy)]
 pub enum References {
     Count(u32),
     Refused(u32),

@@ -11,7 +11,7 @@ use words::Found;
 
 // What the step answers: the number of classes, which is how many words of the list were written (this is the program's choice: the papers
 // name no answer), or the number that refuses.
-#[derive(Drop)]
+#[derive(Clone, Copy)]
 pub enum Renumbered {
     Classes(u32),
     Refused(u32),

@@ -12,7 +12,7 @@ ghost use Rattle.set_rules.specs.SetRules.{class_descriptors, abi_descriptors, c
 const STARTS: usize = class_sheet::TEXT_LIMIT as usize;
 
 // The kinds of records with descriptors: methods of a class sheet, slots of an ABI sheet, and fields of either.
-#[derive(Drop)]
+#[derive(Clone, Copy)]
 enum Members {
     Methods,
     Slots,

@@ -5,7 +5,7 @@ ghost use Rattle.sheet.specs.Sheet.{outcome, block_refusal, class_rows, class_sh
 ghost use Rattle.sheet.specs.Steps.{written_blocks, finished};
 
 // What a reading answers: the number of words written, or the row that refuses.
-#[derive(Drop)]
+#[derive(Clone, Copy)]
 pub enum Read {
     Words(u32),
     Refused(u32),

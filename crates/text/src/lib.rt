@@ -1,4 +1,6 @@
 // The text section of a sheet: its words unpacked to bytes, names compared, and the rule for a name or descriptor.
+#![tactic(auto)]
+
 ghost use Rattle.std.specs.Prelude.{◌≡◌, ◌*◌, ◌-◌, ◌≤◌, length};
 ghost use Rattle.words.specs.Folds.{all_of, stores};
 ghost use Rattle.text.specs.Text.{text_byte, text_stores, unpacked_text, zero_rest, name_at, same_bytes, pairs_read, printable, part_clean, signature_clean, member_clean};
@@ -87,7 +89,7 @@ pub fn name_at(text: &[u8], start: u32, len: u32) -> &[u8]
 }
 
 // Whether two names are the same bytes, and how many pairs of bytes were read to see it.
-#[derive(Drop)]
+#[derive(Clone, Copy)]
 pub struct Compared {
     pub same: bool,
     pub pairs: usize,

@@ -17,7 +17,7 @@ use words::Found;
 
 // What adding a method comes to: so many slots, or row 11 (its fixed index differs from the inherited one), or row 12 (its fixed slot
 // holds another signature).
-#[derive(Drop)]
+#[derive(Clone, Copy)]
 pub enum Step {
     Next(u32),
     Moved,

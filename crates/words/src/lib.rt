@@ -6,7 +6,7 @@ ghost use Rattle.std.specs.Prelude.{◌≡◌, ◌-◌, ◌%◌, get_or, set, ta
 ghost use Rattle.words.specs.Words.{le_word, byte_of, inside, copy_words};
 
 // What a search answers: a number, or nothing.
-#[derive(Drop)]
+#[derive(Clone, Copy)]
 pub enum Found {
     At(u32),
     Nothing,

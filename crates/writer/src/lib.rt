@@ -3,7 +3,7 @@ ghost use Rattle.std.specs.Prelude.{◌≡◌};
 ghost use Rattle.writer.specs.Writer.{outcome, link_rows, storable, write_refusal, write_class_sheet};
 
 // What a writing answers: the number of blocks written, or the row that refuses.
-#[derive(Drop)]
+#[derive(Clone, Copy)]
 pub enum Written {
     Blocks(u32),
     Refused(u32),
