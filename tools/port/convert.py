@@ -19,6 +19,10 @@ def norm(n):
     return n
 
 
+def loose(n):
+    return re.sub(r"[^a-z0-9]", "", norm(n).lower()).replace("isis", "is")
+
+
 def norms(n):
     """What a name may have been, the likeliest first."""
     yield norm(n)
@@ -119,6 +123,11 @@ def path(fn, place, segs):
             return None, [arms[0], best[0]] + rest[len(best[1]):]
         f = fn.places[p]["field"]
         if norm(f[0]) == norm(s) or f[1] == s:
+            found = (f[1], fn.places[p]["callee"])
+            break
+    for p in () if found else fn.chain(place):
+        f = fn.places[p]["field"]
+        if f[0] and loose(f[0]) == loose(s):
             found = (f[1], fn.places[p]["callee"])
             break
     if not found:
