@@ -1,4 +1,6 @@
 // The block form of a sheet, rows 1 and 2: blocks of 512 bytes, 128 little-endian words, the last of which checks the other 127.
+#![tactic(auto)]
+
 ghost use Rattle.std.specs.Prelude.{◌≡◌, ◌%◌, ◌^◌, ◌<◌, length};
 ghost use Rattle.words.specs.Folds.{sum_of, all_of, stores};
 ghost use Rattle.block.specs.Block.{word_of, block_count, check_ok, unpacked, shape_ok, blocks_for, word_in, check_word, packed_word, block_byte, packed_blocks};
