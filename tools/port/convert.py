@@ -92,8 +92,13 @@ class Function:
             place = self.places[place]["parent"]
 
 
+# functions whose names the respelling took for fields
+BACK = {"number_of_classes": "class-count", "number_of_compilers": "compiler-count", "number_of_fields": "field-count", "number_of_interfaces": "interface-count", "number_of_methods": "method-count", "words_of_instance": "instance-words", "it_is_eligible": "is-eligible", "entry_found": "entry-is", "methods_added": "new-methods", "fields_own": "own-fields", "methods_own": "own-methods", "words_of_statics": "static-words", "length_of_text": "text-length", "class_is": "of-class"}
+
+
 def path(fn, place, segs):
     """The new segments after the context variable, for old ones read at a place; or a place, where they end at one."""
+    segs = [BACK.get(x, x) for x in segs]
     i = 0
     while i < len(segs) and segs[i] == "before":
         up = fn.places[place]["parent"]
@@ -247,6 +252,8 @@ def flow(fn, text, navs, goal):
         return ".".join([root] + rest)
 
     text = PSEUDO.sub(out, text)
+    text = re.sub(r"\((?:not[-_](?:true|false) _|ap not) (\w+\.if-not-[^\s()]+)\)", r"\1", text)
+    text = re.sub(r"(?:not[-_](?:true|false) _|ap not) (\w+\.if-not-[^\s()]+)", r"\1", text)
     text = re.sub(r"\n[ \t]+(?=\n)", "", text)
     text = re.sub(r"\n[ \t]+\Z", "", text)
     text = re.sub(r"tie\.([^\s(){},;]+)", lambda m: "goal." + (fn.places[norm(m.group(1))]["new"] if norm(m.group(1)) in fn.places else m.group(1)), text)

@@ -1,4 +1,6 @@
 // The part of row 4 that holds classes against each other: no two share a name, a method or a field.
+#![tactic(auto)]
+
 ghost use Rattle.std.specs.Prelude.{◌≡◌, true, ◌+◌, length};
 ghost use Rattle.words.specs.Folds.{all_of};
 ghost use Rattle.class_sheet.specs.ClassSheet.{class_count};
