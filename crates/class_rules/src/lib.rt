@@ -1,4 +1,6 @@
 // Rows 3 and 4 of the table of refusals, for the words of a class sheet.
+#![tactic(auto)]
+
 ghost use Rattle.std.specs.Prelude.{◌≡◌, ◌+◌, ◌<◌, ◌^◌};
 ghost use Rattle.words.specs.Folds.{all_of};
 ghost use Rattle.text.specs.Text.{printable};

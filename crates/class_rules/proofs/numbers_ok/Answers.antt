@@ -7,9 +7,7 @@ use lib.Dec.{eqb, leb, ltb}
 use Rattle.class_sheet.specs.ClassSheet.{class_parent, class_flags, class_kind, class_link_state, class_instance_words, class_compiler_slots}
 use Rattle.class_sheet.specs.ClassSheet.{class_table_place, class_slot_count}
 use Rattle.class_rules.specs.ClassRules.{own_numbers, class_numbers}
-use borrow.Author.Rules.{rules}
-use Rattle.class_rules.proofs.numbers_ok.Statement.{statement}
-use Rattle.class_rules.proofs.numbers_ok.Tie as tie
+use Rattle.class_rules.proofs.numbers_ok.Goals as goal
 
 tests : (ws : List ℕ) (c : ℕ) {parent flags kind state words compiler place slots : ℕ} → parent ≡ class_parent ws c → flags ≡ class_flags ws c
     → kind ≡ class_kind ws c → state ≡ class_link_state ws c → words ≡ class_instance_words ws c → compiler ≡ class_compiler_slots ws c
@@ -19,26 +17,8 @@ tests : (ws : List ℕ) (c : ℕ) {parent flags kind state words compiler place 
 unfolding class_numbers own_numbers
 tests ws c p f k s w n t l = rw (p, f, k, s, w, n, t, l)
 
-returns : tie.Need-returns
+pub returns : goal.returns
 returns c =
-    let flags : tie.After-class-flags = search in
-    let kind : tie.After-class-kind = search in
-    let state : tie.After-class-link-state = search in
-    let words : tie.After-class-instance-words = search in
-    tests _ _ c.class-parent.ensures flags.class-flags.ensures kind.class-kind.ensures state.class-link-state.ensures
-    words.class-instance-words.ensures c.before.before.before.class-compiler-slots.ensures c.before.before.class-table-place.ensures
-    c.before.class-slot-count.ensures
-
-pub numbers-ok-spec : {M : Type 1} → statement M
-numbers-ok-spec =
-    tie.close
-    (tie.spec
-    (λ c κs. search rules)
-    (λ c κs. search rules)
-    (λ c κs. search rules)
-    (λ c κs. search rules)
-    (λ c κs. search rules)
-    (λ c κs. search rules)
-    (λ c κs. search rules)
-    (λ c κs. search rules)
-    returns)
+    tests _ _ c.class_parent.ensures c.class_flags.ensures c.class_kind.ensures c.class_link_state.ensures
+    c.class_instance_words.ensures c.class_compiler_slots.ensures c.class_table_place.ensures
+    c.class_slot_count.ensures
