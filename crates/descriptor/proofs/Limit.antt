@@ -1,7 +1,7 @@
 -- Method descriptors with the limit of 4.3.3: by the grammar's laws the words that begin in the bytes are the derivation's, so a bound on
 -- the one is a bound on the other; and the count that stops above the limit tells the same. Assumes nothing.
-use mathlib.Core.Path.{◌≡◌, refl, sym, ap, ◌∙◌}
-use mathlib.Core.Bool.{Bool, true, false, not, ◌&&◌}
+use mathlib.Core.Path.{◌≡◌, sym, ap, ◌∙◌}
+use mathlib.Core.Bool.{true, not, ◌&&◌}
 use mathlib.Core.List.{List, [], ◌∷◌}
 use Prim.Native.Nat.{ℕ, ◌+◌, ◌≤◌, ◌<◌}
 use native.Mathlib.Nat.{zero-add}
@@ -10,7 +10,6 @@ use lib.Dec.{eqb, leb, ltb}
 use lib.ListN.{length}
 use borrow.Author.Tests.{leb-true, leb-false, ltb-true, ltb-false, le-leb, lt-leb}
 use Rattle.words.proofs.Bools.{by, and_both}
-use Rattle.descriptor.specs.Grammar.{method_spelling}
 use Rattle.descriptor.specs.Machine.{method_next, is_method_descriptor}
 use Rattle.descriptor.specs.Words.{receiver_words, argument_words, argument_limit, ValidDescriptor, between_parameters, begun_words, begun_from}
 use Rattle.descriptor.specs.Words.{is_method, capped, capped_from}

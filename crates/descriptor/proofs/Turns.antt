@@ -1,6 +1,6 @@
 -- The definitions a step at a time, in the shapes in which the functions meet them. Assumes nothing.
-use mathlib.Core.Path.{◌≡◌, refl, sym, ap, ◌∙◌}
-use mathlib.Core.Bool.{Bool, true, false, not, ◌&&◌}
+use mathlib.Core.Path.{◌≡◌, refl, sym, ◌∙◌}
+use mathlib.Core.Bool.{Bool, true, false, not}
 use mathlib.Core.List.{List}
 use Prim.Native.Nat.{ℕ, ◌+◌, ◌≤◌, ◌<◌}
 use native.Mathlib.Numerals.{add-one}
@@ -13,7 +13,7 @@ use Rattle.descriptor.specs.declared.FieldState.{FieldState}
 use Rattle.descriptor.specs.declared.MethodState.{MethodState}
 use Rattle.descriptor.specs.declared.MethodState.TheVariants.{Begin, Returned}
 use Rattle.descriptor.specs.Machine.{field_next, method_next, is_method_descriptor}
-use Rattle.descriptor.specs.Words.{receiver_words, argument_limit, begun_words, begun_from, is_method, capped, capped_from, counted, refused}
+use Rattle.descriptor.specs.Words.{receiver_words, argument_limit, begun_words, is_method, capped, capped_from, counted, refused}
 use Rattle.descriptor.specs.Words.{argument_answer}
 use Rattle.descriptor.proofs.Limit.{parts, short_within, capped-exact, capped-within}
 

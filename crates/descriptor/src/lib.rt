@@ -1,5 +1,7 @@
 // Descriptors of fields and methods, JVMS 4.2, 4.3.2 and 4.3.3: whether bytes are one, and the words that it stands for. Every
 // function takes any bytes. specs/Grammar.antt has the grammar, and specs/Meaning.antt says what the definitions cited here mean.
+#![tactic(auto)]
+
 ghost use Rattle.std.specs.Prelude.{◌≡◌, eqb};
 ghost use Rattle.words.specs.Lists.{some};
 ghost use Rattle.descriptor.specs.Bytes.{is_base_byte, is_name_byte};
