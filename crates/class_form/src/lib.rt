@@ -1,4 +1,6 @@
 // The form of a class file (JVMS chapter 4), judged front to back: where each item ends, or the row that refuses it.
+#![tactic(auto)]
+
 ghost use Rattle.std.specs.Prelude.{◌≡◌, ◌+◌, ◌<◌, get_or};
 ghost use Rattle.class_form.specs.Form.{u2, u4, taken, is_tag, is_wide, places, body_size, tag_ok, after_constant, after_constants, pool_count, constant_from, after_name, after_class, after_parent, after_interfaces, after_attribute, after_each, after_attributes, after_member, after_members, after_head, version_ok};
 ghost use Rattle.class_form.specs.Marks.{marked, marks_from, pool_marks, constant_near, tagged_near, utf8_near, class_near, Near};

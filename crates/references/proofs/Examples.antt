@@ -1,9 +1,8 @@
 -- The request's bitmap, read by computation through both entries: the list with its count, and the count alone. `judge` runs this and more.
 -- Assumes nothing.
-use Prim.Native.Nat.{ℕ, min}
+use Prim.Native.Nat.{ℕ}
 use mathlib.Core.Path.{◌≡◌, refl}
-use mathlib.Core.Bool.{cond}
-use mathlib.Core.List.{List, [], ◌∷◌, ◌++◌}
+use mathlib.Core.List.{List, [], ◌∷◌}
 use lib.Count.{ones}
 use Rattle.words.specs.Folds.{sum_of}
 use Rattle.words.specs.Lists.{list_from, keep}

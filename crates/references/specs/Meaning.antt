@@ -1,5 +1,5 @@
 -- What the list of marked words is, and what the count has to do with it. Assumes nothing.
-use Rattle.std.specs.Prelude.{ℕ, ◌+◌, ◌<◌, ◌≤◌, Bool, true, false, ◌≡◌, length, get_or}
+use Rattle.std.specs.Prelude.{ℕ, ◌+◌, ◌<◌, ◌≤◌, true, false, ◌≡◌, length, get_or}
 use mathlib.Core.List.{List, ◌++◌, Memᴰ}
 use Rattle.words.specs.Words.{AreBytes}
 use Rattle.references.specs.References.{is_marked, marked_words, masked_ones, too_few, read_references, count_references}

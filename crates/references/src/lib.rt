@@ -1,4 +1,6 @@
 // The instance reference bitmap: which of an object's words hold references (`JavaReferenceField` of class_definition.rs).
+#![tactic(auto)]
+
 ghost use Rattle.std.specs.Prelude.{◌≡◌, cond, ◌≤◌, ◌<◌, ◌+◌, ◌^◌, length, set};
 ghost use Rattle.std.specs.Int.Count.{ones};
 ghost use Rattle.references.specs.References.{is_marked, marked_words, written_over, bytes_for, kept_bits, masked, masked_byte, masked_ones, too_few, outcome, Told, counted, read_references, count_references};
