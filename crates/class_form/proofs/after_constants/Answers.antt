@@ -1,6 +1,5 @@
 use borrow.Author.Rules.{rules}
 use mathlib.Core.Path.{refl}
-use Prim.Native.Nat.{◌-◌}
 use native.Mathlib.Omega.{arith}
 use Rattle.class_form.proofs.Laws.{places-few}
 use Rattle.class_form.proofs.WalkLaws.{pool-turn, pool-stop, pool-end, mark-turn, mark-stop, mark-end}

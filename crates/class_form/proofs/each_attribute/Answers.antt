@@ -1,6 +1,4 @@
-use Prim.Native.Nat.{◌-◌}
 use native.Mathlib.Omega.{arith}
-use Rattle.class_form.specs.Form.{after_attribute}
 use Rattle.class_form.proofs.Laws.{each_start, each_turn, each-stop, each-end}
 use Rattle.class_form.proofs.each_attribute.Goals as goal
 
