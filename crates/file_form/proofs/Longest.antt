@@ -1,6 +1,6 @@
 -- No class file is longer than some number of bytes, as every count and every length has two or four: a walk that ends early has fewer bytes
 -- before it than that. Assumes nothing.
-use mathlib.Core.Path.{◌≡◌, refl, sym, ◌∙◌}
+use mathlib.Core.Path.{◌≡◌, refl, sym}
 use mathlib.Core.Bool.{Bool, true, false, cond, ◌||◌}
 use mathlib.Core.List.{List}
 use Prim.Native.Nat.{ℕ, zero, suc, ◌+◌, ◌*◌, ◌≤◌, ◌<◌}
@@ -8,7 +8,7 @@ use native.Mathlib.Nat.{mul-le-mul_right, suc-mul}
 use native.Mathlib.Omega.{arith}
 use lib.ListN.{length, get_or}
 use lib.Dec.{eqb, leb, ltb}
-use borrow.Author.Tests.{leb-true, leb-false}
+use borrow.Author.Tests.{leb-false}
 use Rattle.words.specs.Words.{AreBytes}
 use Rattle.words.proofs.Bools.{by}
 use Rattle.class_form.specs.declared.Step.{Step}
@@ -16,7 +16,7 @@ use Rattle.class_form.specs.declared.Step.TheVariants.{To, Stop}
 use Rattle.class_form.specs.Form.{u2, u4, on_step, taken, is_wide, places, body_size, tag_ok, after_constant, after_constants, pool_count, after_pool, utf8_at, class_at}
 use Rattle.class_form.specs.Form.{after_name, after_class, after_parent, after_interfaces, after_attribute, after_each, after_counted, after_attributes, after_member}
 use Rattle.class_form.specs.Form.{after_members, after_head, after_body, after_file}
-use Rattle.file_form.proofs.Outcome.{to_same, stop-same, stop_to, on_to, taken_to}
+use Rattle.file_form.proofs.Outcome.{to_same, stop-same, stop_to}
 use Rattle.file_form.proofs.Lookup.{Settled, found_at, refused, utf8_settled, class_settled}
 
 -- a step from p goes on within `most` bytes, and where it ends early there are fewer bytes than that

@@ -156,11 +156,11 @@ walk-stands : {bs : List ℕ} {i p q r : ℕ} (cs : List Constant) (n j : ℕ) �
 unfolding constant_from pool_entries
 walk-stands cs zero j a h e = stood-here cs a h e
 walk-stands {i = i} [] (suc n) j a h e = stood-here [] a h (rw (le-ltb j i (omega (arith, a.last))) at e)
-walk-stands {bs} {i} (c ∷ cs) (suc n) j a h e =
+walk-stands {bs} {i} {p} (c ∷ cs) (suc n) j a h e =
     by (ltb j i)
     (λ t.
     let m = next c cs a in
-    let w = walk-stands cs n (j + entries_of c) m.others h (rw (t, m.taken, m.index) at e) in
+    let w = walk-stands {p = m.place} cs n (j + entries_of c) m.others h (rw (t, m.taken, m.index) at e) in
     record { constant = w.constant; end = w.end; stands = there w.stands; spelled = w.spelled })
     (λ t. stood-here (c ∷ cs) a h (rw t at e))
 
