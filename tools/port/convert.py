@@ -252,8 +252,10 @@ def flow(fn, text, navs, goal):
         return ".".join([root] + rest)
 
     text = PSEUDO.sub(out, text)
-    text = re.sub(r"\((?:not[-_](?:true|false) _|ap not) (\w+\.if-not-[^\s()]+)\)", r"\1", text)
-    text = re.sub(r"(?:not[-_](?:true|false) _|ap not) (\w+\.if-not-[^\s()]+)", r"\1", text)
+    text = re.sub(r"\((?:not[-_](?:true|false) _|ap not) (\w+\.if-not-[^\s()]+)\)", r"⟦\1⟧", text)
+    text = re.sub(r"(?:not[-_](?:true|false) _|ap not) (\w+\.if-not-[^\s()]+)", r"⟦\1⟧", text)
+    text = re.sub(r"(?<!⟦)\b(c\.if-not-[^\s(),;]+\.(?:true|false))(?![\w.-])", r"(ap not \1)", text)
+    text = text.replace("⟦", "").replace("⟧", "")
     text = re.sub(r"\n[ \t]+(?=\n)", "", text)
     text = re.sub(r"\n[ \t]+\Z", "", text)
     text = re.sub(r"tie\.([^\s(){},;]+)", lambda m: "goal." + (fn.places[norm(m.group(1))]["new"] if norm(m.group(1)) in fn.places else m.group(1)), text)
@@ -468,6 +470,12 @@ def convert(fn, source, folder):
 
     def imports(body, given):
         keep = []
+        said = " ".join(uses)
+        if "(ap not " in body:
+            if not re.search(r"Path\.\{[^}]*\bap\b", said):
+                keep.append("use mathlib.Core.Path.{ap}")
+            if not re.search(r"Bool\.\{[^}]*\bnot\b", said):
+                keep.append("use mathlib.Core.Bool.{not}")
         words = set(re.findall(r"[^\s(){}\[\].,;:`\"«»]+", body)) | set(re.findall(r"[^\s(){}\[\],;:`\"«».]+(?:\.[^\s(){}\[\],;:`\"«».]+)*", body))
         dotted = {w.split(".")[0] for w in words}
         for u in uses:

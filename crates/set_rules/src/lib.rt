@@ -1,4 +1,6 @@
 // Row 5 of the table of refusals for both sheets, and rows 3 to 5 as a link or an ask applies them to words already read.
+#![tactic(auto)]
+
 ghost use Rattle.std.specs.Prelude.{◌≡◌, ◌^◌, ◌≤◌, ◌<◌};
 ghost use Rattle.words.specs.Folds.{all_of};
 ghost use Rattle.text.specs.Text.{name_at};
