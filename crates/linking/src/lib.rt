@@ -2,6 +2,8 @@
 // their answer.
 
 // What a search along a class's chain answers: the number of the class that declares the method and the method's, or nobody.
+#![tactic(auto)]
+
 #[derive(Clone, Copy)]
 pub enum Declared {
     By(u32, u32),
