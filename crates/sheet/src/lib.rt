@@ -1,5 +1,7 @@
 // Reading a class sheet and an ABI sheet: bytes are judged by rows 1 to 5, or by rows 1 to 3 where a class sheet's classes may come in any
 // order, before the first word is written.
+#![tactic(auto)]
+
 ghost use Rattle.std.specs.Prelude.{◌≡◌};
 ghost use Rattle.sheet.specs.Sheet.{outcome, block_refusal, class_rows, class_sheet_refusal, read_class_sheet, loose_rows, unordered_sheet_refusal, read_unordered_sheet, abi_rows, abi_sheet_refusal, read_abi_sheet};
 ghost use Rattle.sheet.specs.Steps.{written_blocks, finished};

@@ -1,0 +1,10 @@
+-- The refusal is row by row the definition's, and `finish` writes what it says. Assumes nothing.
+use native.Mathlib.Omega.{arith}
+use Rattle.sheet.specs.Sheet.{read_class_sheet, class_sheet_refusal}
+use Rattle.sheet.proofs.Laws.{read_is}
+use Rattle.sheet.proofs.read_class_sheet.Goals as goal
+
+pub returns : goal.returns
+unfolding read_class_sheet class_sheet_refusal
+returns c =
+    read_is _ _ (omega arith) _ _ c.class_sheet_refusal-row.ensures c.finish.ensures
