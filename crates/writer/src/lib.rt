@@ -1,4 +1,6 @@
 // Writing a class sheet back: an unlinked set is judged by rows 3, 4, 5, 17 and 18 before the first byte is written.
+#![tactic(auto)]
+
 ghost use Rattle.std.specs.Prelude.{◌≡◌};
 ghost use Rattle.writer.specs.Writer.{outcome, link_rows, storable, write_refusal, write_class_sheet};
 
