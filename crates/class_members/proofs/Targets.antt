@@ -1,7 +1,7 @@
 -- The targets play no part in what refuses a file: of a member the rows ask for its name, descriptor and flags alone. So the six words are the
 -- same with the lists and without. Assumes nothing.
 use mathlib.Core.Path.{◌≡◌, refl}
-use mathlib.Core.Bool.{Bool, not}
+use mathlib.Core.Bool.{Bool}
 use mathlib.Core.List.{List, [], ◌∷◌}
 use Prim.Native.Nat.{ℕ, ◌+◌}
 use lib.ListN.{length, get_or}

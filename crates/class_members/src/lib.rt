@@ -3,6 +3,8 @@
 
 // Of an accepted file: the lengths of the class's and the parent's name (0 for none), the class's flags, how many fields and methods it has, and
 // how many text bytes.
+#![tactic(auto)]
+
 #[derive(Clone, Copy)]
 pub struct FileHead {
     pub name: u32,
