@@ -1,4 +1,6 @@
 // Renumbering the classes of a class sheet's words, so that parents come first.
+#![tactic(auto)]
+
 ghost use Rattle.std.specs.Prelude.{◌≡◌, not, ◌++◌, map, ◌+◌, ◌*◌, ◌≤◌, ◌<◌, length, take, drop};
 ghost use Rattle.words.specs.Folds.{all_of};
 ghost use Rattle.words.specs.Rows.{joined};
