@@ -1,9 +1,15 @@
-// What programs share: a file as a program takes it, words stored in bytes, and words compared.
+// What programs share: a file and an argument as a program takes them, what it says on standard error, words stored in bytes, and words compared.
+#![tactic(auto)]
+
 ghost use Rattle.std.specs.Prelude.{◌≡◌, ◌/◌, length};
 ghost use Rattle.words.specs.Folds.{stores, all_of};
-ghost use Rattle.files.specs.Files.{word_of, Left, same_word};
+ghost use Rattle.files.specs.Files.{word_of, Left, Held, same_word};
 
-use words::{le_word, put_word, word_at};
+use std::env::FillError;
+use std::io::{Cursor, Read, Write};
+use std::rt::{Env, Files};
+use std::{fmt, fs, io, str};
+use words::{le_word, part, put_word, word_at};
 
 // What reading a file answers: how many bytes were read, or nothing.
 #[derive(Clone, Copy)]
@@ -12,42 +18,104 @@ pub enum File {
     Unread,
 }
 
-// Whether the n bytes that were read are all of the input, or all that there is room for.
-fn is_whole(fd: i32, n: usize, room: usize) -> bool {
-    if n == room {
-        return true;
+// What taking an argument answers: how many bytes it has, that there is none, or that it has more than there is room for.
+#[derive(Clone, Copy)]
+pub enum Argument {
+    Bytes(usize),
+    Missing,
+    TooLong,
+}
+
+// Bytes as standard error shows them: text as it is, other bytes as \xHH.
+#[derive(Clone, Copy)]
+struct Shown<'a>(&'a [u8]);
+
+impl fmt::Display for Shown<'_> {
+    fn fmt<W: fmt::Write>(&self, f: &mut fmt::Formatter<W>) -> fmt::Result {
+        match str::from_utf8(self.0) {
+            Ok(text) => write!(f, "{text}"),
+            Err(_) => write!(f, "{}", self.0.escape_ascii()),
+        }
     }
-    let mut one = [0u8; 1];
-    libc::read(fd, &mut one) == 0
+}
+
+// The words of an error before the system's number for it.
+fn before_number(text: &str) -> &str {
+    match text.split_once(" (os error ") {
+        Some((words, _)) => words,
+        None => text,
+    }
+}
+
+// Says on standard error what failed, as the caller names it, a colon and why. Where it cannot be said, nothing else happens.
+pub fn fail(rt: &impl Eprint, what: &[u8], why: &str) {
+    let _ = rt.eprintln(format_args!("{}: {why}", Shown(what)));
+}
+
+// Says why a file was not read.
+fn fail_read(rt: &impl Eprint, path: &[u8], error: io::Error) {
+    let mut text = Cursor::new([0u8; 320]);
+    let _ = write!(text, "{error}");
+    let n = text.position() as usize;
+    match str::from_utf8(part(text.get_ref(), 0, n)) {
+        Ok(words) => fail(rt, path, before_number(words)),
+        Err(_) => fail(rt, path, "it cannot be read"),
+    }
 }
 
 // Reads an open file to its end, or as much of it as there is room for.
-fn read_open(fd: i32, bytes: &mut [u8]) -> File
+fn read_open<F: Read>(rt: &impl Eprint, path: &[u8], file: &mut F, bytes: &mut [u8]) -> File
     ensures { Left result bytes.old bytes.new }
 {
-    let n = io::read_full(fd, bytes);
-    if is_whole(fd, n, bytes.len()) {
-        return File::Bytes(n);
+    let mut n: usize = 0;
+    while n < bytes.len() {
+        match file.read(&mut bytes[n..]) {
+            Ok(0) => break,
+            Ok(got) => n += got,
+            Err(error) => {
+                fail_read(rt, path, error);
+                return File::Unread;
+            }
+        }
     }
-    File::Unread
+    File::Bytes(n)
+}
+
+// Opens the file at a path, which is text.
+fn open<R: Files>(rt: &R, path: &[u8]) -> io::Result<R::File> {
+    match str::from_utf8(path) {
+        Ok(name) => fs::open(rt, name),
+        Err(_) => Err(io::Error::new(io::ErrorKind::InvalidInput, "the path is no text")),
+    }
 }
 
 // Reads the file at a path, as `read_open` does, or says on standard error why it cannot. What is read is the world's choice, and no contract can say it: `Left`
 // has what holds of every choice.
-pub fn read_path(path: &[u8], bytes: &mut [u8]) -> File
+pub fn read_path<R: Files + Eprint>(rt: &R, path: &[u8], bytes: &mut [u8]) -> File
     ensures { Left result bytes.old bytes.new }
 {
-    let fd = os::open_read(path);
-    if fd < 0 {
-        os::fail(path);
-        return File::Unread;
+    match open(rt, path) {
+        Ok(mut file) => read_open(rt, path, &mut file, bytes),
+        Err(error) => {
+            fail_read(rt, path, error);
+            File::Unread
+        }
     }
-    let file = read_open(fd, bytes);
-    if let File::Unread = file {
-        os::fail(path);
+}
+
+// Puts argument i at the start of the bytes lent for it. Where it has more than there is room for, that is said on standard error, as of `what`.
+pub fn take_argument<R: Env + Eprint>(rt: &R, what: &[u8], i: usize, bytes: &mut [u8]) -> Argument
+    ensures held { Held result (length bytes.new) }
+    ensures as_many { length bytes.new ≡ length bytes.old }
+{
+    match rt.arg(i, bytes) {
+        Ok(n) => Argument::Bytes(n),
+        Err(FillError::NotPresent) => Argument::Missing,
+        Err(FillError::TooLong) => {
+            fail(rt, what, "File name too long");
+            Argument::TooLong
+        }
     }
-    libc::close(fd);
-    file
 }
 
 // Stores the whole words of the bytes from the front on, as many as there is room for.
