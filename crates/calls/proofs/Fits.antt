@@ -19,6 +19,7 @@ use Rattle.calls.specs.Demand.{BuiltOrArray}
 
 some-none : {A : Type 0} (p : A → Bool) (xs : List A) (x : A) → some p xs ≡ false → Memᴰ x xs → p x ≡ false
 unfolding some
+some-none p [] x h i = elim i [ ]
 some-none p (y ∷ xs) x h (Memᴰ.head e) = rw e (or-neither (p y) (some p xs) h).0
 some-none p (y ∷ xs) x h (Memᴰ.tail i) = some-none p xs x (or-neither (p y) (some p xs) h).1 i
 
