@@ -79,6 +79,7 @@ class Function:
             self.loops[norm(names[0])] = (names[1], vs, ch)
         self.warn = []
         self.root = self.root_place = None
+        self.used, self.lemmas, self.other = set(), {}, {}
 
     def goal(self, old):
         for n in norms(old):
@@ -130,7 +131,12 @@ def path(fn, place, segs):
         if norm(f[0]) == norm(s) or f[1] == s:
             found = (f[1], fn.places[p]["callee"])
             break
-    for p in () if found else fn.chain(place):
+    for p in () if found or not fn.root_place else fn.chain(fn.root_place):
+        f = fn.places[p]["field"]
+        if norm(f[0]) == norm(s):
+            found = (f[1], fn.places[p]["callee"])
+            break
+    for p in () if found else list(fn.chain(place)) + (list(fn.chain(fn.root_place)) if fn.root_place else []):
         f = fn.places[p]["field"]
         if f[0] and loose(f[0]) == loose(s):
             found = (f[1], fn.places[p]["callee"])
@@ -206,6 +212,13 @@ LET = re.compile(r"\blet ([^\s:=]+)(?: : tie\.([^\s(){},;=]+))? =\s+((?:(?!\blet
 
 def flow(fn, text, navs, goal):
     """A body's text with its contexts made flat. Context variables stand in it as ⟪root@place⟫."""
+    for n, (new, p) in fn.other.items():
+        before = r"(?<![^\s(){},])" + re.escape(n)
+        text = re.sub(before + r" \(search(?: rules)?\)(?: κs)?(?=[\s(){},;]|$)", lambda m: f"{new} ⟪{fn.root}@{p}⟫", text)
+        text = re.sub(before + r" ([^\s(){},;]+|\((?:[^()]|\([^()]*\))*\)) κs(?=[\s(){},;]|$)", lambda m: f"{new} {m.group(1)}", text)
+        text = re.sub(before + r"(?= [\w⟪(])", lambda m: new, text)
+    for n, p in fn.lemmas.items():
+        text = re.sub(r"(?<![^\s(])" + re.escape(n) + r" \(search(?: rules)?\)", lambda m: f"{n} ⟪{fn.root}@{p}⟫", text)
     while True:
         text = navigate(text, navs)
         done = True
@@ -246,7 +259,14 @@ def flow(fn, text, navs, goal):
             if p == fn.root_place:
                 return root
             if goal:
+                fn.used.add(new)
                 return f"(goal.at.{goal} {root}).{new}"
+            if new == "Start":
+                hops, at = 1, fn.root_place
+                while fn.places[at]["parent"] is not None:
+                    at = fn.places[at]["parent"]
+                    hops += 1
+                return root + ".before" * hops
             fn.warn.append(f"whole {new} in a lemma")
             return root
         return ".".join([root] + rest)
@@ -258,7 +278,13 @@ def flow(fn, text, navs, goal):
     text = text.replace("⟦", "").replace("⟧", "")
     text = re.sub(r"\n[ \t]+(?=\n)", "", text)
     text = re.sub(r"\n[ \t]+\Z", "", text)
-    text = re.sub(r"tie\.([^\s(){},;]+)", lambda m: "goal." + (fn.places[norm(m.group(1))]["new"] if norm(m.group(1)) in fn.places else m.group(1)), text)
+    def place_type(m):
+        if norm(m.group(1)) not in fn.places:
+            return "goal." + m.group(1)
+        fn.used.add(fn.places[norm(m.group(1))]["new"])
+        return fn.places[norm(m.group(1))]["new"]
+
+    text = re.sub(r"tie\.([^\s(){},;]+)", place_type, text)
     return text
 
 
@@ -352,7 +378,7 @@ def declarations(lines):
             continue
         if not line[0].isspace():
             m = re.match(r"(?:(?:unfoldable|abbrev|pub|pattern|axiom)\s+)*([^\s({:]+)(?:\s*\{[^}]*\})?\s*:(?:\s|$)", line)
-            start = bool(m) or re.match(r"(pub )?(data|record|module|open)\b", line) is not None or re.match(r"(abbrev |unfoldable )?(pub )?(data|record)\b", line) is not None
+            start = bool(m) or re.match(r"(pub )?(data|record|module|open)\s", line) is not None or re.match(r"(abbrev |unfoldable )?(pub )?(data|record)\s", line) is not None
             if start and not line.startswith("unfolding"):
                 if cur:
                     groups.append((comments_of, cur))
@@ -386,6 +412,15 @@ def convert(fn, source, folder):
         m = re.match(r"[^\n]*?:\s*tie\.(invariant|decreases)-(\S+)", text)
         if m:
             invs[name] = (m.group(1), norm(m.group(2)))
+    for c, name, text in decls:
+        m = re.match(r"(?:(?:unfoldable|abbrev|pub)\s+)*[^\s({:]+\s*:\s*(?:\([^\s:()]+ : )?tie\.([^\s()]+)", text)
+        if m and name and name not in invs and not m.group(1).startswith("Need-") and norm(m.group(1)) in fn.places:
+            fn.lemmas[name] = norm(m.group(1))
+    for c, name, text in decls:
+        m = re.match(r"[^\n]*?:\s*tie\.Need-([^\s(){},;]+)", text)
+        g = fn.goal(m.group(1)) if m else None
+        if g:
+            fn.other[name] = g
     out_inv, out_ans, helper = [], [], []
     for c, name, text in decls:
         text = strip_args(text, invs)
@@ -440,7 +475,8 @@ def convert(fn, source, folder):
             fn.root, fn.root_place = var, at
             tail = subst_var(tail, var, f"⟪{var}@{at}⟫")
             tail = flow(fn, tail, navs, None)
-            head = re.sub(r"tie\.[^\s()]+", "goal." + fn.places[at]["new"], head)
+            fn.used.add(fn.places[at]["new"])
+            head = re.sub(r"tie\.[^\s()]+", fn.places[at]["new"], head)
             out_ans.append((c, head + tail, name))
         elif m2 and norm(m2.group(2)) in fn.places:
             at = norm(m2.group(2))
@@ -449,7 +485,8 @@ def convert(fn, source, folder):
             head, tail = text[:k.end()], text[k.end():]
             fn.root, fn.root_place = var, at
             tail = flow(fn, subst_var(tail, var, f"⟪{var}@{at}⟫"), navs, None)
-            head = re.sub(r"tie\.[^\s()]+", "goal." + fn.places[at]["new"], head)
+            fn.used.add(fn.places[at]["new"])
+            head = re.sub(r"tie\.[^\s()]+", fn.places[at]["new"], head)
             out_ans.append((c, head + tail, name))
         else:
             helper.append((c, text, name))
@@ -523,7 +560,7 @@ def convert(fn, source, folder):
         shared = [n for _, _, n in inv_groups if n and n not in [x[2] for x in out_inv] and re.search(r"(?<![\w'-])" + re.escape(n) + r"(?![\w'-])", body)]
         head = [] if inv_groups else header
         extra = [f"use {F}.Invariants.{{{', '.join(shared)}}}"] if shared else []
-        text = "\n".join(head + imports(body, False) + extra + [f"use {F}.Goals as goal", "", body])
+        text = "\n".join(head + imports(body, False) + extra + [f"use {F}.Goals as goal"] + ([f"use {F}.Goals.{{{', '.join(sorted(fn.used))}}}"] if fn.used else []) + ["", body])
         with open(os.path.join(folder, "Answers.antt"), "w") as f:
             f.write(text)
         made.append("Answers")
