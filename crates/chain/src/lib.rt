@@ -1,5 +1,7 @@
 // A class's own members, its parents, and searches among its methods. Every function is total: a list that runs past its section's limit is
 // cut there, and a parent that is not below its child counts as none.
+#![tactic(auto)]
+
 ghost use Rattle.std.specs.Prelude.{◌≡◌};
 ghost use Rattle.class_sheet.specs.ClassSheet.{member_width, method_limit, field_limit, interface_limit, target_word, class_first_method, class_method_count, class_first_field, class_field_count, class_first_interface, class_interface_count};
 ghost use Rattle.linking.specs.Chain.{list_count, parent_of, is_virtual, is_eligible, eligible, method_is, own_method};
