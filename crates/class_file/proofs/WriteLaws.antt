@@ -2,13 +2,13 @@
 -- the first to the second. Assumes nothing.
 use mathlib.Core.Path.{◌≡◌, refl, sym, ap, ◌∙◌}
 use mathlib.Core.List.{List, ◌∷◌, ◌++◌, append_assoc}
-use Prim.Native.Nat.{ℕ, ◌+◌, ◌*◌, ◌-◌, ◌≤◌, ◌<◌}
+use Prim.Native.Nat.{ℕ, ◌+◌, ◌*◌, ◌≤◌, ◌<◌}
 use native.Mathlib.Omega.{arith}
 use lib.ListN.{length, get_or, set, length-append}
 use Rattle.words.specs.Words.{le_word}
 use Rattle.class_sheet.specs.ClassSheet.{member_width, member_words}
 use Rattle.linking.specs.Compiler.{New}
-use Rattle.linking.specs.Set.{write_at, new_records, new_text, packed, overlaid}
+use Rattle.linking.specs.Set.{write_at, new_records, new_text, overlaid}
 use Rattle.linking.proofs.Writes.{packed_to, write-none, write-more, write-overlaid}
 use Rattle.linking.proofs.Writes as writes
 use Rattle.class_form.specs.declared.Member.{Member}

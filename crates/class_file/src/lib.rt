@@ -1,5 +1,7 @@
 // Members taken straight from a class file (JVMS chapter 4): after its form (rows 20 to 22) its names, descriptors, flags and sizes are judged by
 // rows 4, 5 and 14, and only then the three lent lists are written, in the sheet's form.
+#![tactic(auto)]
+
 ghost use Rattle.std.specs.Prelude.{◌≡◌, ◌+◌, ◌<◌, ◌≤◌, ◌*◌, ◌^◌, [], ◌++◌, length, ◌&&◌, ◌||◌, eqb};
 ghost use Rattle.linking.specs.Set.{write_at, new_records, new_text, packed, overlaid};
 ghost use Rattle.class_form.specs.Marks.{Near};
