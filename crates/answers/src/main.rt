@@ -2,10 +2,13 @@
 // Rust's side answered. Every answer word and all lent memory are compared. Written for each file: a line for each call that differs; how the file
 // was made, how many calls there were and how many differ; then for each function how many were accepted, and how many a row refused.
 // Of a file its first 655,360 bytes count. Places in a file are words, and a word past its end is 0.
+#![tactic(auto)]
+
 ghost use Rattle.std.specs.Prelude.{◌≡◌, ◌≤◌, length};
 
 use class_members::FileRead;
-use libc::STDOUT_FILENO;
+use std::io;
+use std::rt::{Env, Files};
 use words::{byte_at, le_word, part, put_byte, put_word, wide, word_at, word_part};
 
 // `LGTA`, and the version of the form.
@@ -28,7 +31,7 @@ fn word(f: &[u8], at: u32) -> u32 {
 
 // The place n words on.
 fn on(at: u32, n: u32) -> u32 {
-    std::num::wrapping_add_u32(at, n)
+    at.wrapping_add(n)
 }
 
 // ---- slices: how many bytes or words are lent, how many of them are stored as they are before the call, and how many as they are after it, always
@@ -404,53 +407,54 @@ fn replay_call(f: &[u8], at: u32) -> u32 {
 // ---- a file
 
 // Writes a number, and what it is of.
-fn print_count(n: u32, what: &[u8]) {
-    io::print_decimal(STDOUT_FILENO, n as u64);
-    io::write_all(STDOUT_FILENO, what);
+fn print_count(rt: &impl Print, n: u32, what: &[u8]) -> io::Result<()> {
+    rt.print(n)?;
+    rt.write_all(what)
 }
 
 // Writes the name of the function of a kind.
-fn print_kind(kind: u32) {
+fn print_kind(rt: &impl Print, kind: u32) -> io::Result<()> {
     if kind == WRITE {
-        io::write_all(STDOUT_FILENO, b"write_class_sheet");
+        rt.write_all(b"write_class_sheet")?;
     } else if kind == COMPARE {
-        io::write_all(STDOUT_FILENO, b"compare_names");
+        rt.write_all(b"compare_names")?;
     } else if kind == READ {
-        io::write_all(STDOUT_FILENO, b"read_unordered_sheet");
+        rt.write_all(b"read_unordered_sheet")?;
     } else if kind == RENUMBER {
-        io::write_all(STDOUT_FILENO, b"renumber_classes");
+        rt.write_all(b"renumber_classes")?;
     } else if kind == LIST {
-        io::write_all(STDOUT_FILENO, b"reference_words");
+        rt.write_all(b"reference_words")?;
     } else if kind == COUNT {
-        io::write_all(STDOUT_FILENO, b"reference_count");
+        rt.write_all(b"reference_count")?;
     } else if kind == WIDEN {
-        io::write_all(STDOUT_FILENO, b"widen_class_sheet");
+        rt.write_all(b"widen_class_sheet")?;
     } else if kind == NARROW {
-        io::write_all(STDOUT_FILENO, b"narrow_class_sheet");
+        rt.write_all(b"narrow_class_sheet")?;
     } else if kind == READ_FILE {
-        io::write_all(STDOUT_FILENO, b"read_class_file");
+        rt.write_all(b"read_class_file")?;
     } else if kind == FILE_HEAD {
-        io::write_all(STDOUT_FILENO, b"class_file_head");
+        rt.write_all(b"class_file_head")?;
     } else {
-        io::write_all(STDOUT_FILENO, b"no such function");
+        rt.write_all(b"no such function")?;
     }
+    Ok(())
 }
 
 // Writes the line of call i, if it differs, and answers how many lines that is.
-fn print_seen(path: &[u8], i: u32, kind: u32, what: u32) -> u32 {
+fn print_seen(rt: &impl Print, path: &[u8], i: u32, kind: u32, what: u32) -> io::Result<u32> {
     if what == 0 {
-        return 0;
+        return Ok(0);
     }
-    io::write_all(STDOUT_FILENO, path);
-    io::write_all(STDOUT_FILENO, b": call ");
-    print_count(i, b", ");
-    print_kind(kind);
+    rt.write_all(path)?;
+    rt.write_all(b": call ")?;
+    print_count(rt, i, b", ")?;
+    print_kind(rt, kind)?;
     if what == ANSWER {
-        io::write_all(STDOUT_FILENO, b": the answer differs\n");
+        rt.write_all(b": the answer differs\n")?;
     } else {
-        io::write_all(STDOUT_FILENO, b": the memory differs\n");
+        rt.write_all(b": the memory differs\n")?;
     }
-    1
+    Ok(1)
 }
 
 // The rows that are counted of a function; 0 is a call accepted.
@@ -475,7 +479,14 @@ struct Sum {
 }
 
 // Replays the n calls at a place, and counts them.
-fn replay_calls(path: &[u8], f: &[u8], at: u32, n: u32, counts: &mut [u32]) -> Sum {
+fn replay_calls(
+    rt: &impl Print,
+    path: &[u8],
+    f: &[u8],
+    at: u32,
+    n: u32,
+    counts: &mut [u32],
+) -> io::Result<Sum> {
     let mut place: u32 = at;
     let mut differ: u32 = 0;
     let mut i: u32 = 0;
@@ -484,77 +495,94 @@ fn replay_calls(path: &[u8], f: &[u8], at: u32, n: u32, counts: &mut [u32]) -> S
         count_call(counts, kind, word(f, on(place, 2)));
         let what = replay_call(f, place);
         place = next_place(f, place);
-        differ = on(differ, print_seen(path, i, kind, what));
+        differ = on(differ, print_seen(rt, path, i, kind, what)?);
         i += 1;
     }
-    Sum { at: place, differ }
+    Ok(Sum { at: place, differ })
 }
 
 // Writes how many calls a row refuses, if any, or with row 0 how many are accepted.
-fn print_row(n: u32, row: u32) {
+fn print_row(rt: &impl Print, n: u32, row: u32) -> io::Result<()> {
     if row == 0 {
-        print_count(n, b" accepted");
+        print_count(rt, n, b" accepted")?;
     } else if n > 0 {
-        io::write_all(STDOUT_FILENO, b", ");
-        print_count(n, b" refused by ");
-        io::print_decimal(STDOUT_FILENO, row as u64);
+        rt.write_all(b", ")?;
+        print_count(rt, n, b" refused by ")?;
+        rt.print(row)?;
     }
+    Ok(())
 }
 
 // Writes how many calls of a function were accepted, and how many a row refuses, for each that does.
-fn print_rows(counts: &[u32], kind: u32) {
+fn print_rows(rt: &impl Print, counts: &[u32], kind: u32) -> io::Result<()> {
     let mut row: u32 = 0;
     while row < ROWS {
-        print_row(word_at(counts, count_place(kind, row)), row);
+        print_row(rt, word_at(counts, count_place(kind, row)), row)?;
         row += 1;
     }
+    Ok(())
 }
 
 // Writes the line of a function.
-fn print_function(counts: &[u32], kind: u32) {
-    io::write_all(STDOUT_FILENO, b"  ");
-    print_kind(kind);
-    io::write_all(STDOUT_FILENO, b": ");
-    print_rows(counts, kind);
-    io::write_all(STDOUT_FILENO, b"\n");
+fn print_function(rt: &impl Print, counts: &[u32], kind: u32) -> io::Result<()> {
+    rt.write_all(b"  ")?;
+    print_kind(rt, kind)?;
+    rt.write_all(b": ")?;
+    print_rows(rt, counts, kind)?;
+    rt.write_all(b"\n")
 }
 
 // Writes the line of each function.
-fn print_functions(counts: &[u32]) {
+fn print_functions(rt: &impl Print, counts: &[u32]) -> io::Result<()> {
     let mut kind: u32 = 0;
     while kind < KINDS {
-        print_function(counts, kind);
+        print_function(rt, counts, kind)?;
         kind += 1;
     }
+    Ok(())
 }
 
 // Says so where the last call does not end at the file's end.
-fn print_end(path: &[u8], f: &[u8], at: u32) {
+fn print_end(rt: &impl Print, path: &[u8], f: &[u8], at: u32) -> io::Result<()> {
     if 4 * wide(at) != f.len() {
-        io::write_all(STDOUT_FILENO, path);
-        io::write_all(STDOUT_FILENO, b": the calls do not end at its end\n");
+        rt.write_all(path)?;
+        rt.write_all(b": the calls do not end at its end\n")?;
     }
+    Ok(())
 }
 
 // Writes how the file was made, how many calls there are and how many differ.
-fn print_sums(path: &[u8], made: &[u8], calls: u32, differ: u32) {
-    io::write_all(STDOUT_FILENO, path);
-    io::write_all(STDOUT_FILENO, b" (");
-    io::write_all(STDOUT_FILENO, made);
-    io::write_all(STDOUT_FILENO, b"): ");
-    print_count(calls, b" calls, ");
-    print_count(differ, b" differ\n");
+fn print_sums(
+    rt: &impl Print,
+    path: &[u8],
+    made: &[u8],
+    calls: u32,
+    differ: u32,
+) -> io::Result<()> {
+    rt.write_all(path)?;
+    rt.write_all(b" (")?;
+    rt.write_all(made)?;
+    rt.write_all(b"): ")?;
+    print_count(rt, calls, b" calls, ")?;
+    print_count(rt, differ, b" differ\n")
 }
 
 // Replays the calls of a file, and writes its lines.
-fn print_calls(path: &[u8], f: &[u8]) {
+fn print_calls(rt: &impl Print, path: &[u8], f: &[u8]) -> io::Result<()> {
     let n = word(f, 2);
     let made = word(f, BODY);
     let mut counts = [0u32; (KINDS * ROWS) as usize];
-    let s = replay_calls(path, f, on(on(BODY, 1), words_for(made)), n, &mut counts);
-    print_end(path, f, s.at);
-    print_sums(path, stored(f, on(BODY, 1), wide(made)), n, s.differ);
-    print_functions(&counts);
+    let s = replay_calls(
+        rt,
+        path,
+        f,
+        on(on(BODY, 1), words_for(made)),
+        n,
+        &mut counts,
+    )?;
+    print_end(rt, path, f, s.at)?;
+    print_sums(rt, path, stored(f, on(BODY, 1), wide(made)), n, s.differ)?;
+    print_functions(rt, &counts)
 }
 
 // Whether a file is of this form, and lends no more than there is room for.
@@ -573,39 +601,41 @@ fn file_bytes() -> [u8; 655360]
 }
 
 // Replays the calls in the bytes of a file.
-fn replay_file(path: &[u8], f: &[u8]) {
+fn replay_file(rt: &impl Print, path: &[u8], f: &[u8]) -> io::Result<()> {
     if is_answers(f) {
-        print_calls(path, f);
+        print_calls(rt, path, f)?;
     } else {
-        io::write_all(STDOUT_FILENO, path);
-        io::write_all(STDOUT_FILENO, b": no stored answers\n");
+        rt.write_all(path)?;
+        rt.write_all(b": no stored answers\n")?;
     }
+    Ok(())
 }
 
 // Replays the calls in the file at a path.
-fn replay_path(path: &[u8]) {
+fn replay_path(rt: &(impl Print + Eprint + Files), path: &[u8]) -> io::Result<()> {
     let mut bytes = file_bytes();
-    if let files::File::Bytes(n) = files::read_path(path, &mut bytes) {
-        replay_file(path, part(&bytes, 0, n));
+    if let files::File::Bytes(n) = files::read_path(rt, path, &mut bytes) {
+        replay_file(rt, path, part(&bytes, 0, n))?;
     }
+    Ok(())
 }
 
-// Replays the calls in the file that argument i names.
-fn replay_argument(i: usize) {
-    let mut path = io::buffer();
-    let n = os::arg(i, &mut path);
-    if os::errno() != 0 {
-        os::fail(b"answers: argument");
-        return;
+// Replays the calls in the file that argument i names, and answers whether there is one. One that is too long is said so on standard error.
+fn replay_argument(rt: &(impl Print + Eprint + Files + Env), i: usize) -> io::Result<bool> {
+    let mut path = [0u8; 4096];
+    match files::take_argument(rt, b"answers: argument", i, &mut path) {
+        files::Argument::Bytes(n) => replay_path(rt, part(&path, 0, n))?,
+        files::Argument::TooLong => {}
+        files::Argument::Missing => return Ok(false),
     }
-    replay_path(&path[..n]);
+    Ok(true)
 }
 
-fn main() {
-    let count = os::arg_count();
-    let mut i: usize = 1;
-    while i < count {
-        replay_argument(i);
-        i += 1;
+fn main(rt: HostRuntime) -> io::Result<()> {
+    for i in 1..usize::MAX {
+        if !replay_argument(&rt, i)? {
+            break;
+        }
     }
+    Ok(())
 }

@@ -5,9 +5,12 @@
 // first call was refused, none, and one. What is accepted is converted back at last, and `same` written where the lent bytes are then the
 // file's own and after them 7, else `other`.
 // Of a file its first 131,072 bytes count, more than any sheet has.
+#![tactic(auto)]
+
 ghost use Rattle.std.specs.Prelude.{◌≡◌, length};
 
-use libc::STDOUT_FILENO;
+use std::io;
+use std::rt::{Env, Files};
 use words::{byte_at, part, wide};
 use writer::Written;
 
@@ -36,7 +39,7 @@ fn weighed_sum(bytes: &[u8]) -> u32 {
     let mut total: u32 = 0;
     let mut i: usize = 0;
     while i < bytes.len() {
-        total = std::num::wrapping_add_u32(total, product(i + 1, byte_at(bytes, i) as u32));
+        total = total.wrapping_add(product(i + 1, byte_at(bytes, i) as u32));
         i += 1;
     }
     total
@@ -70,84 +73,86 @@ fn convert_lent(old: bool, bytes: &[u8], out: &mut [u8], n: usize) -> Written {
 }
 
 // Writes which way a sheet was converted.
-fn print_way(old: bool) {
+fn print_way(rt: &impl Print, old: bool) -> io::Result<()> {
     if old {
-        io::write_all(STDOUT_FILENO, b" widened ");
+        rt.write_all(b" widened ")?;
     } else {
-        io::write_all(STDOUT_FILENO, b" narrowed ");
+        rt.write_all(b" narrowed ")?;
     }
+    Ok(())
 }
 
 // Writes ` widened N` or ` not widened R`, or the same of `narrowed`; answers the blocks, 0 where it is refused.
-fn print_answer(old: bool, answer: Written) -> u32 {
+fn print_answer(rt: &impl Print, old: bool, answer: Written) -> io::Result<u32> {
     match answer {
         Written::Blocks(n) => {
-            print_way(old);
-            io::print_decimal(STDOUT_FILENO, n as u64);
-            n
+            print_way(rt, old)?;
+            rt.print(n)?;
+            Ok(n)
         }
         Written::Refused(row) => {
-            io::write_all(STDOUT_FILENO, b" not");
-            print_way(old);
-            io::print_decimal(STDOUT_FILENO, row as u64);
-            0
+            rt.write_all(b" not")?;
+            print_way(rt, old)?;
+            rt.print(row)?;
+            Ok(0)
         }
     }
 }
 
 // Writes the weighed sum of lent bytes.
-fn print_sum(bytes: &[u8]) {
-    io::write_all(STDOUT_FILENO, b" ");
-    io::print_decimal(STDOUT_FILENO, weighed_sum(bytes) as u64);
+fn print_sum(rt: &impl Print, bytes: &[u8]) -> io::Result<()> {
+    rt.write_all(b" ")?;
+    rt.print(weighed_sum(bytes))
 }
 
 // Converts a sheet with n bytes lent, and writes what came of it.
-fn print_room(old: bool, bytes: &[u8], n: usize) {
+fn print_room(rt: &impl Print, old: bool, bytes: &[u8], n: usize) -> io::Result<()> {
     let mut out = fresh_bytes();
     let answer = convert_lent(old, bytes, &mut out, n);
-    io::write_all(STDOUT_FILENO, b", lent ");
-    io::print_decimal(STDOUT_FILENO, n as u64);
-    print_answer(old, answer);
-    print_sum(part(&out, 0, n));
+    rt.write_all(b", lent ")?;
+    rt.print(n)?;
+    print_answer(rt, old, answer)?;
+    print_sum(rt, part(&out, 0, n))
 }
 
 // Does so with about as many bytes as n blocks take.
-fn print_rooms(old: bool, bytes: &[u8], n: u32) {
+fn print_rooms(rt: &impl Print, old: bool, bytes: &[u8], n: u32) -> io::Result<()> {
     let room = BLOCK_BYTES * wide(n);
     if room > 0 {
-        print_room(old, bytes, room - 1);
+        print_room(rt, old, bytes, room - 1)?;
     }
-    print_room(old, bytes, room);
-    print_room(old, bytes, room + 1);
+    print_room(rt, old, bytes, room)?;
+    print_room(rt, old, bytes, room + 1)
 }
 
 // Converts the blocks made of a sheet back, and writes whether its bytes came back.
-fn print_back(old: bool, bytes: &[u8], made: &[u8]) {
+fn print_back(rt: &impl Print, old: bool, bytes: &[u8], made: &[u8]) -> io::Result<()> {
     let mut out = fresh_bytes();
     let n = bytes.len();
     let answer = convert_sheet(!old, made, &mut out);
-    io::write_all(STDOUT_FILENO, b", back");
-    print_answer(!old, answer);
+    rt.write_all(b", back")?;
+    print_answer(rt, !old, answer)?;
     if text::same(part(&out, 0, n), bytes) & is_fresh(part(&out, n, out.len())) {
-        io::write_all(STDOUT_FILENO, b" same");
+        rt.write_all(b" same")?;
     } else {
-        io::write_all(STDOUT_FILENO, b" other");
+        rt.write_all(b" other")?;
     }
+    Ok(())
 }
 
 // Converts the sheet in bytes, and writes its line.
-fn print_line(path: &[u8], bytes: &[u8]) {
+fn print_line(rt: &impl Print, path: &[u8], bytes: &[u8]) -> io::Result<()> {
     let old = is_old(path);
     let mut out = fresh_bytes();
     let answer = convert_sheet(old, bytes, &mut out);
-    io::write_all(STDOUT_FILENO, path);
-    let n = print_answer(old, answer);
-    print_sum(&out);
-    print_rooms(old, bytes, n);
+    rt.write_all(path)?;
+    let n = print_answer(rt, old, answer)?;
+    print_sum(rt, &out)?;
+    print_rooms(rt, old, bytes, n)?;
     if n > 0 {
-        print_back(old, bytes, part(&out, 0, BLOCK_BYTES * wide(n)));
+        print_back(rt, old, bytes, part(&out, 0, BLOCK_BYTES * wide(n)))?;
     }
-    io::write_all(STDOUT_FILENO, b"\n");
+    rt.write_all(b"\n")
 }
 
 // Room for the bytes of a file that count.
@@ -158,29 +163,30 @@ fn file_bytes() -> [u8; 131072]
 }
 
 // Converts the sheet in the file at a path.
-fn convert_path(path: &[u8]) {
+fn convert_path(rt: &(impl Print + Eprint + Files), path: &[u8]) -> io::Result<()> {
     let mut bytes = file_bytes();
-    if let files::File::Bytes(n) = files::read_path(path, &mut bytes) {
-        print_line(path, part(&bytes, 0, n));
+    if let files::File::Bytes(n) = files::read_path(rt, path, &mut bytes) {
+        print_line(rt, path, part(&bytes, 0, n))?;
     }
+    Ok(())
 }
 
-// Converts the sheet in the file that argument i names.
-fn convert_argument(i: usize) {
-    let mut path = io::buffer();
-    let n = os::arg(i, &mut path);
-    if os::errno() != 0 {
-        os::fail(b"convert_judge: argument");
-        return;
+// Converts the sheet in the file that argument i names, and answers whether there is one. One that is too long is said so on standard error.
+fn convert_argument(rt: &(impl Print + Eprint + Files + Env), i: usize) -> io::Result<bool> {
+    let mut path = [0u8; 4096];
+    match files::take_argument(rt, b"convert_judge: argument", i, &mut path) {
+        files::Argument::Bytes(n) => convert_path(rt, part(&path, 0, n))?,
+        files::Argument::TooLong => {}
+        files::Argument::Missing => return Ok(false),
     }
-    convert_path(&path[..n]);
+    Ok(true)
 }
 
-fn main() {
-    let count = os::arg_count();
-    let mut i: usize = 1;
-    while i < count {
-        convert_argument(i);
-        i += 1;
+fn main(rt: HostRuntime) -> io::Result<()> {
+    for i in 1..usize::MAX {
+        if !convert_argument(&rt, i)? {
+            break;
+        }
     }
+    Ok(())
 }

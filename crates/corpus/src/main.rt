@@ -2,9 +2,12 @@
 // the form). Every answer and every word of lent memory is compared. Written for each file: a line for each case, reading or descriptor
 // that differs, with the first call that does; then what the file says of how it was made, and how many there were and differ.
 // Of a file its first 524,288 bytes count. Places in a file are words, and a word past its end is 0.
+#![tactic(auto)]
+
 ghost use Rattle.std.specs.Prelude.{◌≡◌, ◌≤◌, length};
 
-use libc::STDOUT_FILENO;
+use std::io;
+use std::rt::{Env, Files};
 use words::{byte_of, part, put_byte, put_word, wide, word_at, word_part};
 
 // `LGTC`, and the version of the form.
@@ -24,7 +27,7 @@ fn word(f: &[u32], at: u32) -> u32 {
 
 // The place n words on.
 fn on(at: u32, n: u32) -> u32 {
-    std::num::wrapping_add_u32(at, n)
+    at.wrapping_add(n)
 }
 
 // Stores the n words from a place on, from the word `to` on.
@@ -42,7 +45,7 @@ fn fill_run(first: u32, step: u32, n: u32, out: &mut [u32], to: u32) {
     let mut k: u32 = 0;
     while k < n {
         put_word(out, wide(to) + wide(k), w);
-        w = std::num::wrapping_add_u32(w, step);
+        w = w.wrapping_add(step);
         k += 1;
     }
 }
@@ -124,7 +127,7 @@ fn is_summed(f: &[u32]) -> bool {
     let mut sum: u32 = 0;
     let mut i: usize = 1;
     while i < f.len() {
-        sum = std::num::wrapping_add_u32(sum, word_at(f, i - 1));
+        sum = sum.wrapping_add(word_at(f, i - 1));
         i += 1;
     }
     sum == word_at(f, i - 1)
@@ -469,43 +472,51 @@ fn replay_descriptor(f: &[u32], at: u32) -> Seen {
 // ---- a file
 
 // Writes a number, and what it is of.
-fn print_count(n: u32, what: &[u8]) {
-    io::print_decimal(STDOUT_FILENO, n as u64);
-    io::write_all(STDOUT_FILENO, what);
+fn print_count(rt: &impl Print, n: u32, what: &[u8]) -> io::Result<()> {
+    rt.print(n)?;
+    rt.write_all(what)
 }
 
 // Writes what a call differs in.
-fn print_what(call: u32, what: u32) {
-    print_count(call, b": ");
+fn print_what(rt: &impl Print, call: u32, what: u32) -> io::Result<()> {
+    print_count(rt, call, b": ")?;
     if what == ANSWER {
-        io::write_all(STDOUT_FILENO, b"the answer differs\n");
+        rt.write_all(b"the answer differs\n")?;
     } else if what == SET {
-        io::write_all(STDOUT_FILENO, b"the class words differ\n");
+        rt.write_all(b"the class words differ\n")?;
     } else if what == AREA {
-        io::write_all(STDOUT_FILENO, b"the area differs\n");
+        rt.write_all(b"the area differs\n")?;
     } else {
-        io::write_all(STDOUT_FILENO, b"the list of missing slots differs\n");
+        rt.write_all(b"the list of missing slots differs\n")?;
     }
+    Ok(())
 }
 
 // Writes the line of item i of a kind, if it differs, and answers how many lines that is.
-fn print_seen(path: &[u8], kind: u32, i: u32, call: u32, what: u32) -> u32 {
+fn print_seen(
+    rt: &impl Print,
+    path: &[u8],
+    kind: u32,
+    i: u32,
+    call: u32,
+    what: u32,
+) -> io::Result<u32> {
     if what == 0 {
-        return 0;
+        return Ok(0);
     }
-    io::write_all(STDOUT_FILENO, path);
+    rt.write_all(path)?;
     if kind == 0 {
-        io::write_all(STDOUT_FILENO, b": case ");
-        print_count(i, b" call ");
-        print_what(call, what);
+        rt.write_all(b": case ")?;
+        print_count(rt, i, b" call ")?;
+        print_what(rt, call, what)?;
     } else if kind == 1 {
-        io::write_all(STDOUT_FILENO, b": reading ");
-        print_count(i, b" differs\n");
+        rt.write_all(b": reading ")?;
+        print_count(rt, i, b" differs\n")?;
     } else {
-        io::write_all(STDOUT_FILENO, b": descriptor ");
-        print_count(i, b" differs\n");
+        rt.write_all(b": descriptor ")?;
+        print_count(rt, i, b" differs\n")?;
     }
-    1
+    Ok(1)
 }
 
 // Replays the item at a place: a case (kind 0), a reading (1) or a descriptor.
@@ -528,7 +539,14 @@ struct Sum {
 }
 
 // Replays the n items of a kind at a place.
-fn replay_items(path: &[u8], f: &[u32], at: u32, kind: u32, n: u32) -> Sum {
+fn replay_items(
+    rt: &impl Print,
+    path: &[u8],
+    f: &[u32],
+    at: u32,
+    kind: u32,
+    n: u32,
+) -> io::Result<Sum> {
     let mut place: u32 = at;
     let mut calls: u32 = 0;
     let mut differ: u32 = 0;
@@ -537,24 +555,24 @@ fn replay_items(path: &[u8], f: &[u32], at: u32, kind: u32, n: u32) -> Sum {
         let s = replay_item(f, place, kind);
         place = s.at;
         calls = on(calls, s.calls);
-        differ = on(differ, print_seen(path, kind, i, s.call, s.what));
+        differ = on(differ, print_seen(rt, path, kind, i, s.call, s.what)?);
         i += 1;
     }
-    Sum {
+    Ok(Sum {
         at: place,
         calls,
         differ,
-    }
+    })
 }
 
 // Writes what the file says of how it was made.
-fn print_made(f: &[u32]) {
+fn print_made(rt: &impl Print, f: &[u32]) -> io::Result<()> {
     let mut packed = [0u32; 64];
     read_list(f, on(BODY, 1), &mut packed);
     let mut bytes = [0u8; 256];
     let n = wide(word(f, BODY));
     unpack(&packed, n, &mut bytes);
-    io::write_all(STDOUT_FILENO, part(&bytes, 0, n));
+    rt.write_all(part(&bytes, 0, n))
 }
 
 // The place after what the file says of how it was made.
@@ -581,41 +599,45 @@ fn is_corpus(f: &[u32]) -> bool {
 }
 
 // Says so where the last item does not end before the file's last word, its sum.
-fn print_end(path: &[u8], f: &[u32], at: u32) {
+fn print_end(rt: &impl Print, path: &[u8], f: &[u32], at: u32) -> io::Result<()> {
     if wide(at) + 1 != f.len() {
-        io::write_all(STDOUT_FILENO, path);
-        io::write_all(STDOUT_FILENO, b": the items do not end at its end\n");
+        rt.write_all(path)?;
+        rt.write_all(b": the items do not end at its end\n")?;
     }
+    Ok(())
 }
 
 // Replays a corpus, and writes its lines.
-fn print_corpus(path: &[u8], f: &[u32]) {
-    let cases = replay_items(path, f, items_place(f), 0, word(f, 4));
-    let readings = replay_items(path, f, cases.at, 1, word(f, 5));
-    let descriptors = replay_items(path, f, readings.at, 2, word(f, 6));
-    print_end(path, f, descriptors.at);
-    io::write_all(STDOUT_FILENO, path);
-    io::write_all(STDOUT_FILENO, b" (");
-    print_made(f);
-    io::write_all(STDOUT_FILENO, b"): ");
-    print_count(word(f, 4), b" cases, ");
-    print_count(cases.calls, b" calls, ");
-    print_count(word(f, 5), b" readings, ");
-    print_count(word(f, 6), b" descriptors, ");
+fn print_corpus(rt: &impl Print, path: &[u8], f: &[u32]) -> io::Result<()> {
+    let cases = replay_items(rt, path, f, items_place(f), 0, word(f, 4))?;
+    let readings = replay_items(rt, path, f, cases.at, 1, word(f, 5))?;
+    let descriptors = replay_items(rt, path, f, readings.at, 2, word(f, 6))?;
+    print_end(rt, path, f, descriptors.at)?;
+    rt.write_all(path)?;
+    rt.write_all(b" (")?;
+    print_made(rt, f)?;
+    rt.write_all(b"): ")?;
+    print_count(rt, word(f, 4), b" cases, ")?;
+    print_count(rt, cases.calls, b" calls, ")?;
+    print_count(rt, word(f, 5), b" readings, ")?;
+    print_count(rt, word(f, 6), b" descriptors, ")?;
     print_count(
+        rt,
         on(cases.differ, on(readings.differ, descriptors.differ)),
         b" differ\n",
-    );
+    )?;
+    Ok(())
 }
 
 // Replays the corpus in the words of a file.
-fn replay_words(path: &[u8], f: &[u32]) {
+fn replay_words(rt: &impl Print, path: &[u8], f: &[u32]) -> io::Result<()> {
     if is_corpus(f) {
-        print_corpus(path, f);
+        print_corpus(rt, path, f)?;
     } else {
-        io::write_all(STDOUT_FILENO, path);
-        io::write_all(STDOUT_FILENO, b": no corpus\n");
+        rt.write_all(path)?;
+        rt.write_all(b": no corpus\n")?;
     }
+    Ok(())
 }
 
 // Room for the bytes of a file that count.
@@ -626,31 +648,32 @@ fn file_bytes() -> [u8; 524288]
 }
 
 // Replays the corpus in the file at a path.
-fn replay_path(path: &[u8]) {
+fn replay_path(rt: &(impl Print + Eprint + Files), path: &[u8]) -> io::Result<()> {
     let mut bytes = file_bytes();
-    if let files::File::Bytes(n) = files::read_path(path, &mut bytes) {
+    if let files::File::Bytes(n) = files::read_path(rt, path, &mut bytes) {
         let mut words = [0u32; 131072];
         files::load_words(part(&bytes, 0, n), &mut words);
-        replay_words(path, word_part(&words, 0, n / 4));
+        replay_words(rt, path, word_part(&words, 0, n / 4))?;
     }
+    Ok(())
 }
 
-// Replays the corpus that argument i names.
-fn replay_argument(i: usize) {
-    let mut path = io::buffer();
-    let n = os::arg(i, &mut path);
-    if os::errno() != 0 {
-        os::fail(b"corpus: argument");
-        return;
+// Replays the corpus that argument i names, and answers whether there is one. One that is too long is said so on standard error.
+fn replay_argument(rt: &(impl Print + Eprint + Files + Env), i: usize) -> io::Result<bool> {
+    let mut path = [0u8; 4096];
+    match files::take_argument(rt, b"corpus: argument", i, &mut path) {
+        files::Argument::Bytes(n) => replay_path(rt, part(&path, 0, n))?,
+        files::Argument::TooLong => {}
+        files::Argument::Missing => return Ok(false),
     }
-    replay_path(&path[..n]);
+    Ok(true)
 }
 
-fn main() {
-    let count = os::arg_count();
-    let mut i: usize = 1;
-    while i < count {
-        replay_argument(i);
-        i += 1;
+fn main(rt: HostRuntime) -> io::Result<()> {
+    for i in 1..usize::MAX {
+        if !replay_argument(&rt, i)? {
+            break;
+        }
     }
+    Ok(())
 }

@@ -4,38 +4,42 @@
 // Written for each case: the file's name, the label, `read` and the six answer words or `refused` and the row, the weighed sum of each lent list
 // after the call, fields, methods, text; then `head` and what is answered without lists.
 // A file has fewer than 131,072 bytes, and at most 4,096 words are lent for a list.
+#![tactic(auto)]
+
 ghost use Rattle.std.specs.Prelude.{◌≡◌, length};
 
 use class_members::FileRead;
-use libc::STDOUT_FILENO;
+use std::io;
+use std::rt::{Env, Files};
 use words::{le_word, part, put_word, wide, word_at, word_part};
 
 // The bytes of a case's words.
 const WORDS: usize = 24;
 
 // Writes a blank and the number.
-fn print_number(n: u32) {
-    io::write_all(STDOUT_FILENO, b" ");
-    io::print_decimal(STDOUT_FILENO, n as u64);
+fn print_number(rt: &impl Print, n: u32) -> io::Result<()> {
+    rt.write_all(b" ")?;
+    rt.print(n)
 }
 
 // Writes ` read ` and the six words, or ` refused ` and the row.
-fn print_answer(answer: FileRead) {
+fn print_answer(rt: &impl Print, answer: FileRead) -> io::Result<()> {
     match answer {
         FileRead::Members(head) => {
-            io::write_all(STDOUT_FILENO, b" read");
-            print_number(head.name);
-            print_number(head.parent);
-            print_number(head.flags);
-            print_number(head.fields);
-            print_number(head.methods);
-            print_number(head.text);
+            rt.write_all(b" read")?;
+            print_number(rt, head.name)?;
+            print_number(rt, head.parent)?;
+            print_number(rt, head.flags)?;
+            print_number(rt, head.fields)?;
+            print_number(rt, head.methods)?;
+            print_number(rt, head.text)?;
         }
         FileRead::Refused(row) => {
-            io::write_all(STDOUT_FILENO, b" refused");
-            print_number(row);
+            rt.write_all(b" refused")?;
+            print_number(rt, row)?;
         }
     }
+    Ok(())
 }
 
 // The product modulo 2^32.
@@ -48,7 +52,7 @@ fn weighed_sum(words: &[u32]) -> u32 {
     let mut total: u32 = 0;
     let mut i: usize = 0;
     while i < words.len() {
-        total = std::num::wrapping_add_u32(total, product(i + 1, word_at(words, i)));
+        total = total.wrapping_add(product(i + 1, word_at(words, i)));
         i += 1;
     }
     total
@@ -124,7 +128,7 @@ fn told(case: &[u8], i: usize) -> u32 {
 }
 
 // Reads the class file of a case, and writes what came of it.
-fn print_read(case: &[u8], file: &[u8]) {
+fn print_read(rt: &impl Print, case: &[u8], file: &[u8]) -> io::Result<()> {
     let mut targets = fresh_words();
     let mut fields = fresh_words();
     let mut methods = fresh_words();
@@ -135,31 +139,31 @@ fn print_read(case: &[u8], file: &[u8]) {
     let m = wide(told(case, 4));
     let n = wide(told(case, 5));
     let answer = lend_fields(file, lent, &mut fields, &mut methods, &mut text, k, m, n);
-    print_answer(answer);
-    print_number(weighed_sum(word_part(&fields, 0, k)));
-    print_number(weighed_sum(word_part(&methods, 0, m)));
-    print_number(weighed_sum(word_part(&text, 0, n)));
+    print_answer(rt, answer)?;
+    print_number(rt, weighed_sum(word_part(&fields, 0, k)))?;
+    print_number(rt, weighed_sum(word_part(&methods, 0, m)))?;
+    print_number(rt, weighed_sum(word_part(&text, 0, n)))
 }
 
 // Writes the line of the case that the bytes begin with.
-fn print_case(path: &[u8], case: &[u8]) {
+fn print_case(rt: &impl Print, path: &[u8], case: &[u8]) -> io::Result<()> {
     let label = wide(told(case, 0));
     let file = part(case, WORDS + label, wide(told(case, 1)));
-    io::write_all(STDOUT_FILENO, path);
-    io::write_all(STDOUT_FILENO, b" ");
-    io::write_all(STDOUT_FILENO, part(case, WORDS, label));
-    print_read(case, file);
-    io::write_all(STDOUT_FILENO, b" head");
-    print_answer(class_file::class_file_head(file));
-    io::write_all(STDOUT_FILENO, b"\n");
+    rt.write_all(path)?;
+    rt.write_all(b" ")?;
+    rt.write_all(part(case, WORDS, label))?;
+    print_read(rt, case, file)?;
+    rt.write_all(b" head")?;
+    print_answer(rt, class_file::class_file_head(file))?;
+    rt.write_all(b"\n")
 }
 
 // Writes the lines of all cases in the bytes.
-fn print_cases(path: &[u8], bytes: &[u8]) {
+fn print_cases(rt: &impl Print, path: &[u8], bytes: &[u8]) -> io::Result<()> {
     let mut p: usize = 0;
     while p < bytes.len() {
         let case = part(bytes, p, bytes.len());
-        print_case(path, case);
+        print_case(rt, path, case)?;
         let size = WORDS + wide(told(case, 0)) + wide(told(case, 1));
         p = if size < bytes.len() - p {
             p + size
@@ -167,6 +171,7 @@ fn print_cases(path: &[u8], bytes: &[u8]) {
             bytes.len()
         };
     }
+    Ok(())
 }
 
 // Room for the bytes of a file that count.
@@ -176,44 +181,35 @@ fn file_bytes() -> [u8; 131072]
     [0; 131072]
 }
 
-// Reads an open file and its cases, or says on standard error why it cannot be read.
-fn judge_open(path: &[u8], fd: i32) {
+// Reads the cases of the file at a path. One that has no room is named on standard error, and so is one that cannot be read.
+fn judge_path(rt: &(impl Print + Eprint + Files), path: &[u8]) -> io::Result<()> {
     let mut bytes = file_bytes();
-    let n = io::read_full(fd, &mut bytes);
-    if n == 131072 {
-        os::fail(path);
-        return;
+    if let files::File::Bytes(n) = files::read_path(rt, path, &mut bytes) {
+        if n == bytes.len() {
+            files::fail(rt, path, "131072 bytes or more");
+        } else {
+            print_cases(rt, path, part(&bytes, 0, n))?;
+        }
     }
-    print_cases(path, &bytes[..n]);
+    Ok(())
 }
 
-// Reads the cases of the file at a path.
-fn judge_path(path: &[u8]) {
-    let fd = os::open_read(path);
-    if fd < 0 {
-        os::fail(path);
-        return;
+// Reads the cases of the file that argument i names, and answers whether there is one. One that is too long is said so on standard error.
+fn judge_argument(rt: &(impl Print + Eprint + Files + Env), i: usize) -> io::Result<bool> {
+    let mut path = [0u8; 4096];
+    match files::take_argument(rt, b"file_judge: argument", i, &mut path) {
+        files::Argument::Bytes(n) => judge_path(rt, part(&path, 0, n))?,
+        files::Argument::TooLong => {}
+        files::Argument::Missing => return Ok(false),
     }
-    judge_open(path, fd);
-    libc::close(fd);
+    Ok(true)
 }
 
-// Reads the cases of the file that argument i names.
-fn judge_argument(i: usize) {
-    let mut path = io::buffer();
-    let n = os::arg(i, &mut path);
-    if os::errno() != 0 {
-        os::fail(b"file_judge: argument");
-        return;
+fn main(rt: HostRuntime) -> io::Result<()> {
+    for i in 1..usize::MAX {
+        if !judge_argument(&rt, i)? {
+            break;
+        }
     }
-    judge_path(&path[..n]);
-}
-
-fn main() {
-    let count = os::arg_count();
-    let mut i: usize = 1;
-    while i < count {
-        judge_argument(i);
-        i += 1;
-    }
+    Ok(())
 }

@@ -16,9 +16,12 @@
 //   blocks or `unwritten` and the row, and `same` where the lent bytes are then the sheet's own and after them 7, else `other`.
 //   Each class sheet is read by rows 1 to 3 alone, too: `loosely`, and the same words as of the first reading.
 // Of a file its first 131,072 bytes count, more than any sheet has.
+#![tactic(auto)]
+
 ghost use Rattle.std.specs.Prelude.{◌≡◌, length};
 
-use libc::STDOUT_FILENO;
+use std::io;
+use std::rt::{Env, Files};
 use words::{byte_at, le_word, part, wide, word_at, word_part};
 
 // Lent where the name says nothing: the words of the largest sheet.
@@ -135,7 +138,7 @@ fn weighed_sum(words: &[u32]) -> u32 {
     let mut total: u32 = 0;
     let mut i: usize = 0;
     while i < words.len() {
-        total = std::num::wrapping_add_u32(total, product(i + 1, word_at(words, i)));
+        total = total.wrapping_add(product(i + 1, word_at(words, i)));
         i += 1;
     }
     total
@@ -146,7 +149,7 @@ fn byte_sum(bytes: &[u8]) -> u32 {
     let mut total: u32 = 0;
     let mut i: usize = 0;
     while i < bytes.len() {
-        total = std::num::wrapping_add_u32(total, product(i + 1, byte_at(bytes, i) as u32));
+        total = total.wrapping_add(product(i + 1, byte_at(bytes, i) as u32));
         i += 1;
     }
     total
@@ -164,21 +167,21 @@ fn is_fresh(bytes: &[u8]) -> bool {
 }
 
 // Writes ` accepted W ` or ` refused R `; answers whether it is accepted.
-fn print_answer(answer: sheet::Read) -> bool {
+fn print_answer(rt: &impl Print, answer: sheet::Read) -> io::Result<bool> {
     let accepted = match answer {
         sheet::Read::Words(n) => {
-            io::write_all(STDOUT_FILENO, b" accepted ");
-            io::print_decimal(STDOUT_FILENO, n as u64);
+            rt.write_all(b" accepted ")?;
+            rt.print(n)?;
             true
         }
         sheet::Read::Refused(row) => {
-            io::write_all(STDOUT_FILENO, b" refused ");
-            io::print_decimal(STDOUT_FILENO, row as u64);
+            rt.write_all(b" refused ")?;
+            rt.print(row)?;
             false
         }
     };
-    io::write_all(STDOUT_FILENO, b" ");
-    accepted
+    rt.write_all(b" ")?;
+    Ok(accepted)
 }
 
 // Reads the sheet into the lent words, by the form that its name tells.
@@ -214,11 +217,11 @@ fn read_loosely(bytes: &[u8], words: &mut [u32], n: usize) -> sheet::Read {
 }
 
 // Reads a class sheet so, and says what came of it.
-fn print_loosely(bytes: &[u8], n: usize, words: &mut [u32]) {
+fn print_loosely(rt: &impl Print, bytes: &[u8], n: usize, words: &mut [u32]) -> io::Result<()> {
     let answer = read_loosely(bytes, words, n);
-    io::write_all(STDOUT_FILENO, b" loosely");
-    print_answer(answer);
-    io::print_decimal(STDOUT_FILENO, weighed_sum(word_part(words, 0, n)) as u64);
+    rt.write_all(b" loosely")?;
+    print_answer(rt, answer)?;
+    rt.print(weighed_sum(word_part(words, 0, n)))
 }
 
 // The bytes to lend, as they are before the call.
@@ -238,17 +241,18 @@ fn room_for(n: usize) -> usize {
 }
 
 // Writes ` written N` or ` unwritten R`.
-fn print_written(answer: writer::Written) {
+fn print_written(rt: &impl Print, answer: writer::Written) -> io::Result<()> {
     match answer {
         writer::Written::Blocks(n) => {
-            io::write_all(STDOUT_FILENO, b" written ");
-            io::print_decimal(STDOUT_FILENO, n as u64);
+            rt.write_all(b" written ")?;
+            rt.print(n)?;
         }
         writer::Written::Refused(row) => {
-            io::write_all(STDOUT_FILENO, b" unwritten ");
-            io::print_decimal(STDOUT_FILENO, row as u64);
+            rt.write_all(b" unwritten ")?;
+            rt.print(row)?;
         }
     }
+    Ok(())
 }
 
 // Writes the class words with the first n bytes lent, or all where there are fewer.
@@ -260,42 +264,49 @@ fn write_lent(set: &[u32], out: &mut [u8], n: usize) -> writer::Written {
 }
 
 // Writes the class words with n bytes lent, and says what they are then.
-fn print_writing(set: &[u32], n: usize, out: &mut [u8]) {
+fn print_writing(rt: &impl Print, set: &[u32], n: usize, out: &mut [u8]) -> io::Result<()> {
     let answer = write_lent(set, out, n);
-    print_written(answer);
-    io::write_all(STDOUT_FILENO, b" ");
-    io::print_decimal(STDOUT_FILENO, byte_sum(part(out, 0, n)) as u64);
+    print_written(rt, answer)?;
+    rt.write_all(b" ")?;
+    rt.print(byte_sum(part(out, 0, n)))
 }
 
 // Writes back the class words that were read from the bytes, and says whether all of them came back.
-fn print_back(bytes: &[u8], set: &[u32], out: &mut [u8]) {
+fn print_back(rt: &impl Print, bytes: &[u8], set: &[u32], out: &mut [u8]) -> io::Result<()> {
     let n = bytes.len();
     let answer = write_lent(set, out, room_for(n));
-    print_written(answer);
+    print_written(rt, answer)?;
     if text::same(part(out, 0, n), bytes) & is_fresh(part(out, n, 1024)) {
-        io::write_all(STDOUT_FILENO, b" same");
+        rt.write_all(b" same")?;
     } else {
-        io::write_all(STDOUT_FILENO, b" other");
+        rt.write_all(b" other")?;
     }
+    Ok(())
 }
 
 // Reads the sheet in bytes, and writes its line.
-fn print_sheet(path: &[u8], name: &[u8], bytes: &[u8], words: &mut [u32]) {
+fn print_sheet(
+    rt: &impl Print,
+    path: &[u8],
+    name: &[u8],
+    bytes: &[u8],
+    words: &mut [u32],
+) -> io::Result<()> {
     let n = lent_words(name);
     let answer = read_lent(name, bytes, words, n);
     let total = weighed_sum(word_part(words, 0, n));
-    io::write_all(STDOUT_FILENO, path);
-    let accepted = print_answer(answer);
-    io::print_decimal(STDOUT_FILENO, total as u64);
+    rt.write_all(path)?;
+    let accepted = print_answer(rt, answer)?;
+    rt.print(total)?;
     if accepted & !is_abi(name) {
         let mut out = fresh_bytes();
-        print_back(bytes, word_part(words, 0, n), &mut out);
+        print_back(rt, bytes, word_part(words, 0, n), &mut out)?;
     }
     if !is_abi(name) {
         let mut again = fresh_words();
-        print_loosely(bytes, n, &mut again);
+        print_loosely(rt, bytes, n, &mut again)?;
     }
-    io::write_all(STDOUT_FILENO, b"\n");
+    rt.write_all(b"\n")
 }
 
 // Room for the words of a file.
@@ -322,88 +333,117 @@ fn renumber_first(words: &mut [u32], k: usize, list: &mut [u32], n: usize) -> re
 }
 
 // Writes ` ordered N ` or ` unordered R `.
-fn print_renumbered(answer: renumber::Renumbered) {
+fn print_renumbered(rt: &impl Print, answer: renumber::Renumbered) -> io::Result<()> {
     match answer {
         renumber::Renumbered::Classes(n) => {
-            io::write_all(STDOUT_FILENO, b" ordered ");
-            io::print_decimal(STDOUT_FILENO, n as u64);
+            rt.write_all(b" ordered ")?;
+            rt.print(n)?;
         }
         renumber::Renumbered::Refused(row) => {
-            io::write_all(STDOUT_FILENO, b" unordered ");
-            io::print_decimal(STDOUT_FILENO, row as u64);
+            rt.write_all(b" unordered ")?;
+            rt.print(row)?;
         }
     }
-    io::write_all(STDOUT_FILENO, b" ");
+    rt.write_all(b" ")
 }
 
 // Renumbers a copy of the class words with n list words lent, and says what both are then.
-fn print_order(set: &[u32], n: usize, copy: &mut [u32], list: &mut [u32]) {
+fn print_order(
+    rt: &impl Print,
+    set: &[u32],
+    n: usize,
+    copy: &mut [u32],
+    list: &mut [u32],
+) -> io::Result<()> {
     let k = set.len();
     words::copy_words(set, 0, k, copy, 0);
     let answer = renumber_first(copy, k, list, n);
-    print_renumbered(answer);
-    io::print_decimal(STDOUT_FILENO, weighed_sum(word_part(copy, 0, k)) as u64);
-    io::write_all(STDOUT_FILENO, b" ");
-    io::print_decimal(STDOUT_FILENO, weighed_sum(word_part(list, 0, n)) as u64);
+    print_renumbered(rt, answer)?;
+    rt.print(weighed_sum(word_part(copy, 0, k)))?;
+    rt.write_all(b" ")?;
+    rt.print(weighed_sum(word_part(list, 0, n)))
 }
 
 // Judges a set, writes it, renumbers it, and writes its line.
-fn print_words_of_set(path: &[u8], name: &[u8], set: &[u32], abi: &[u32], room: usize) {
-    io::write_all(STDOUT_FILENO, path);
-    io::write_all(STDOUT_FILENO, b" set ");
-    io::print_decimal(STDOUT_FILENO, set_rules::set_refusal(set, abi) as u64);
+fn print_words_of_set(
+    rt: &impl Print,
+    path: &[u8],
+    name: &[u8],
+    set: &[u32],
+    abi: &[u32],
+    room: usize,
+) -> io::Result<()> {
+    rt.write_all(path)?;
+    rt.write_all(b" set ")?;
+    rt.print(set_rules::set_refusal(set, abi))?;
     let mut out = fresh_bytes();
-    print_writing(set, lent_number(name, room), &mut out);
+    print_writing(rt, set, lent_number(name, room), &mut out)?;
     let mut copy = file_words();
     let mut list = fresh_words();
-    print_order(set, lent_number(name, MOST_LISTED), &mut copy, &mut list);
-    io::write_all(STDOUT_FILENO, b"\n");
+    print_order(
+        rt,
+        set,
+        lent_number(name, MOST_LISTED),
+        &mut copy,
+        &mut list,
+    )?;
+    rt.write_all(b"\n")
 }
 
 // Judges the set in bytes: the class words and the ABI words that stand after the number of class words.
-fn print_set(path: &[u8], name: &[u8], bytes: &[u8], words: &mut [u32]) {
+fn print_set(
+    rt: &impl Print,
+    path: &[u8],
+    name: &[u8],
+    bytes: &[u8],
+    words: &mut [u32],
+) -> io::Result<()> {
     files::load_words(bytes, words);
     let all = word_part(words, 0, bytes.len() / 4);
     let n = wide(word_at(all, 0));
     print_words_of_set(
+        rt,
         path,
         name,
         word_part(all, 1, n),
         word_part(all, 1 + n, all.len()),
         room_for(bytes.len()),
-    );
+    )?;
+    Ok(())
 }
 
 // Writes ` words N` or ` refused 5`.
-fn print_words(answer: descriptor::DescriptorWords) {
+fn print_words(rt: &impl Print, answer: descriptor::DescriptorWords) -> io::Result<()> {
     if let descriptor::DescriptorWords::Count(n) = answer {
-        io::write_all(STDOUT_FILENO, b" words ");
-        io::print_decimal(STDOUT_FILENO, n);
+        rt.write_all(b" words ")?;
+        rt.print(n)?;
     } else {
-        io::write_all(STDOUT_FILENO, b" refused 5");
+        rt.write_all(b" refused 5")?;
     }
+    Ok(())
 }
 
 // Counts the argument words of the flags and the descriptor in bytes, and writes their line.
-fn print_arguments(path: &[u8], bytes: &[u8]) {
+fn print_arguments(rt: &impl Print, path: &[u8], bytes: &[u8]) -> io::Result<()> {
     let answer = descriptor::argument_words(part(bytes, 4, bytes.len()), le_word(bytes, 0));
-    io::write_all(STDOUT_FILENO, path);
-    print_words(answer);
-    io::write_all(STDOUT_FILENO, b"\n");
+    rt.write_all(path)?;
+    print_words(rt, answer)?;
+    rt.write_all(b"\n")
 }
 
 // Writes the word, then the count, or ` refused ` and the row.
-fn print_count(word: &[u8], answer: references::References) {
+fn print_count(rt: &impl Print, word: &[u8], answer: references::References) -> io::Result<()> {
     match answer {
         references::References::Count(n) => {
-            io::write_all(STDOUT_FILENO, word);
-            io::print_decimal(STDOUT_FILENO, n as u64);
+            rt.write_all(word)?;
+            rt.print(n)?;
         }
         references::References::Refused(row) => {
-            io::write_all(STDOUT_FILENO, b" refused ");
-            io::print_decimal(STDOUT_FILENO, row as u64);
+            rt.write_all(b" refused ")?;
+            rt.print(row)?;
         }
     }
+    Ok(())
 }
 
 // Lists the marked words with the first n words lent, or all where there are fewer.
@@ -415,34 +455,40 @@ fn list_lent(bitmap: &[u8], count: u32, list: &mut [u32], n: usize) -> reference
 }
 
 // Lists and counts the words that the bitmap in bytes marks, and writes their line.
-fn print_references(path: &[u8], bytes: &[u8], list: &mut [u32]) {
+fn print_references(
+    rt: &impl Print,
+    path: &[u8],
+    bytes: &[u8],
+    list: &mut [u32],
+) -> io::Result<()> {
     let count = le_word(bytes, 0);
     let n = wide(le_word(bytes, 4));
     let bitmap = part(bytes, 8, bytes.len());
     let answer = list_lent(bitmap, count, list, n);
-    io::write_all(STDOUT_FILENO, path);
-    print_count(b" marked ", answer);
-    io::write_all(STDOUT_FILENO, b" ");
-    io::print_decimal(STDOUT_FILENO, weighed_sum(word_part(list, 0, n)) as u64);
-    print_count(b" counted ", references::reference_count(bitmap, count));
-    io::write_all(STDOUT_FILENO, b"\n");
+    rt.write_all(path)?;
+    print_count(rt, b" marked ", answer)?;
+    rt.write_all(b" ")?;
+    rt.print(weighed_sum(word_part(list, 0, n)))?;
+    print_count(rt, b" counted ", references::reference_count(bitmap, count))?;
+    rt.write_all(b"\n")
 }
 
 // Judges the bytes of a file by what its name tells.
-fn print_line(path: &[u8], bytes: &[u8]) {
+fn print_line(rt: &impl Print, path: &[u8], bytes: &[u8]) -> io::Result<()> {
     let name = part(path, name_place(path), path.len());
     if is_set(name) {
         let mut words = file_words();
-        print_set(path, name, bytes, &mut words);
+        print_set(rt, path, name, bytes, &mut words)?;
     } else if is_arguments(name) {
-        print_arguments(path, bytes);
+        print_arguments(rt, path, bytes)?;
     } else if is_references(name) {
         let mut list = fresh_words();
-        print_references(path, bytes, &mut list);
+        print_references(rt, path, bytes, &mut list)?;
     } else {
         let mut words = fresh_words();
-        print_sheet(path, name, bytes, &mut words);
+        print_sheet(rt, path, name, bytes, &mut words)?;
     }
+    Ok(())
 }
 
 // Room for the bytes of a file that count.
@@ -453,29 +499,30 @@ fn file_bytes() -> [u8; 131072]
 }
 
 // Judges the file at a path.
-fn judge_path(path: &[u8]) {
+fn judge_path(rt: &(impl Print + Eprint + Files), path: &[u8]) -> io::Result<()> {
     let mut bytes = file_bytes();
-    if let files::File::Bytes(n) = files::read_path(path, &mut bytes) {
-        print_line(path, part(&bytes, 0, n));
+    if let files::File::Bytes(n) = files::read_path(rt, path, &mut bytes) {
+        print_line(rt, path, part(&bytes, 0, n))?;
     }
+    Ok(())
 }
 
-// Judges the file that argument i names.
-fn judge_argument(i: usize) {
-    let mut path = io::buffer();
-    let n = os::arg(i, &mut path);
-    if os::errno() != 0 {
-        os::fail(b"judge: argument");
-        return;
+// Judges the file that argument i names, and answers whether there is one. One that is too long is said so on standard error.
+fn judge_argument(rt: &(impl Print + Eprint + Files + Env), i: usize) -> io::Result<bool> {
+    let mut path = [0u8; 4096];
+    match files::take_argument(rt, b"judge: argument", i, &mut path) {
+        files::Argument::Bytes(n) => judge_path(rt, part(&path, 0, n))?,
+        files::Argument::TooLong => {}
+        files::Argument::Missing => return Ok(false),
     }
-    judge_path(&path[..n]);
+    Ok(true)
 }
 
-fn main() {
-    let count = os::arg_count();
-    let mut i: usize = 1;
-    while i < count {
-        judge_argument(i);
-        i += 1;
+fn main(rt: HostRuntime) -> io::Result<()> {
+    for i in 1..usize::MAX {
+        if !judge_argument(&rt, i)? {
+            break;
+        }
     }
+    Ok(())
 }

@@ -1,11 +1,14 @@
 // The program behind ./members. Its arguments are class files, each followed by a first target and a step in decimal. Written is each class in the
 // text form of tools/sheet, or `refused` and the row that refuses its file. A file that is missing, cannot be read or has more than 1,048,576 bytes
 // is named on standard error, and nothing is written for it; nor for one with a word that is no number.
+#![tactic(auto)]
+
 ghost use Rattle.std.specs.Prelude.{◌≡◌, length, take};
 ghost use Rattle.member_text.specs.MemberText.{members_text};
 ghost use Rattle.members.specs.Number.{is_digit, number_of};
 
-use libc::{STDERR_FILENO, STDOUT_FILENO};
+use std::io;
+use std::rt::{Env, Files};
 use words::part;
 
 // What a word spells: a number from 0 to 4294967295, or none.
@@ -46,10 +49,12 @@ fn spelled(word: &[u8]) -> Number
 }
 
 // The number that argument i is; one that is missing is none.
-fn number_argument(i: usize) -> Number {
-    let mut word = io::buffer();
-    let n = os::arg(i, &mut word);
-    spelled(part(&word, 0, n))
+fn number_argument(rt: &impl Env, i: usize) -> Number {
+    let mut word = [0u8; 4096];
+    match rt.arg(i, &mut word) {
+        Ok(n) => spelled(part(&word, 0, n)),
+        Err(_) => Number::Not,
+    }
 }
 
 // Room for the bytes of a file, and one more.
@@ -67,61 +72,70 @@ fn put_members(file: &[u8], first: u32, step: u32, out: &mut [u8; 65536]) -> usi
 }
 
 // Writes the members of a class file that was read, by way of these bytes.
-fn print_members(file: &[u8], first: u32, step: u32, text: &mut [u8; 65536]) {
+fn print_members(
+    rt: &impl Print,
+    file: &[u8],
+    first: u32,
+    step: u32,
+    text: &mut [u8; 65536],
+) -> io::Result<()> {
     let end = put_members(file, first, step, text);
-    io::write_all(STDOUT_FILENO, part(text, 0, end));
-}
-
-// Says a sentence about a file on standard error.
-fn say(path: &[u8], sentence: &[u8]) {
-    io::write_all(STDERR_FILENO, path);
-    io::write_all(STDERR_FILENO, sentence);
+    rt.write_all(part(text, 0, end))
 }
 
 // Reads a class file and writes its members.
-fn print_file(path: &[u8], first: u32, step: u32) {
+fn print_file(
+    rt: &(impl Print + Eprint + Files),
+    path: &[u8],
+    first: u32,
+    step: u32,
+) -> io::Result<()> {
     let mut bytes = file_bytes();
-    if let files::File::Bytes(n) = files::read_path(path, &mut bytes) {
+    if let files::File::Bytes(n) = files::read_path(rt, path, &mut bytes) {
         if n == bytes.len() {
-            say(path, b": more than 1048576 bytes\n");
+            files::fail(rt, path, "more than 1048576 bytes");
         } else {
-            let mut text = io::large_buffer();
-            print_members(part(&bytes, 0, n), first, step, &mut text);
+            let mut text = [0u8; 65536];
+            print_members(rt, part(&bytes, 0, n), first, step, &mut text)?;
         }
     }
+    Ok(())
 }
 
 // Writes the members of the class file that argument i names, by the first target and the step that two others are.
-fn print_argument(i: usize, first_at: usize, step_at: usize) {
-    let mut path = io::buffer();
-    let n = os::arg(i, &mut path);
-    if os::errno() != 0 {
-        os::fail(b"members: argument");
-        return;
-    }
-    let Number::Is(first) = number_argument(first_at) else {
-        say(part(&path, 0, n), b": the first target is no number\n");
-        return;
+fn print_argument(
+    rt: &(impl Print + Eprint + Files + Env),
+    i: usize,
+    first_at: usize,
+    step_at: usize,
+) -> io::Result<()> {
+    let mut path = [0u8; 4096];
+    let files::Argument::Bytes(n) = files::take_argument(rt, b"members: argument", i, &mut path)
+    else {
+        return Ok(());
     };
-    let Number::Is(step) = number_argument(step_at) else {
-        say(part(&path, 0, n), b": the step is no number\n");
-        return;
+    let Number::Is(first) = number_argument(rt, first_at) else {
+        files::fail(rt, part(&path, 0, n), "the first target is no number");
+        return Ok(());
     };
-    print_file(part(&path, 0, n), first, step);
+    let Number::Is(step) = number_argument(rt, step_at) else {
+        files::fail(rt, part(&path, 0, n), "the step is no number");
+        return Ok(());
+    };
+    print_file(rt, part(&path, 0, n), first, step)
 }
 
-fn main() {
-    let count = os::arg_count();
-    let mut i: usize = 1;
-    while i < count {
-        if count - i < 3 {
-            io::write_all(
-                STDERR_FILENO,
-                b"members: a file, a first target and a step\n",
-            );
-            return;
+fn main(rt: HostRuntime) -> io::Result<()> {
+    for k in 0..usize::MAX / 3 {
+        let i = 3 * k + 1;
+        if !files::has_argument(&rt, i) {
+            break;
         }
-        print_argument(i, i + 1, i + 2);
-        i += 3;
+        if !files::has_argument(&rt, i + 2) {
+            files::fail(&rt, b"members", "a file, a first target and a step");
+            break;
+        }
+        print_argument(&rt, i, i + 1, i + 2)?;
     }
+    Ok(())
 }
