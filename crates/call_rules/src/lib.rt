@@ -1,4 +1,6 @@
 // Rows 6 and 7 of the table of refusals: the class and the area of a link or an ask.
+#![tactic(auto)]
+
 ghost use Rattle.std.specs.Prelude.{◌≡◌, ◌+◌};
 ghost use Rattle.words.specs.Folds.{all_of};
 ghost use Rattle.class_sheet.specs.ClassSheet.{class_count};
