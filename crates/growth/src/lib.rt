@@ -1,5 +1,7 @@
 // Growth of a class sheet's lists: new members, what the sheet then needs (rows 14 and 15), and the words with the list copied to its
 // section's end and the new names in the text.
+#![tactic(auto)]
+
 ghost use Rattle.std.specs.Prelude.{◌≡◌, ◌+◌, ◌*◌, ◌<◌, ◌≤◌, ◌^◌, ◌++◌, length};
 ghost use Rattle.words.specs.Words.{words_for};
 ghost use Rattle.class_sheet.specs.ClassSheet.{member_width, text_limit, sheet_words, text_length, text_of, member_words};

@@ -1,0 +1,62 @@
+-- The copied records, the new ones and the sections after are written one behind the other, and the text behind them. Assumes nothing.
+use Rattle.class_sheet.specs.ClassSheet.{member_width}
+use Rattle.linking.specs.Set.{write_at}
+use Rattle.growth.specs.News.{news}
+use Rattle.growth.proofs.GrowthLaws.{room-is, front_of, front_length, front-is, text_room, tail-is}
+use mathlib.Core.List.{List}
+use mathlib.Core.Path.{◌≡◌}
+use lib.ListN.{length}
+use Prim.Native.Nat.{ℕ, ◌+◌, ◌*◌, ◌-◌}
+use native.Mathlib.Omega.{arith}
+use Rattle.growth.proofs.put_tail.Goals as goal
+use Rattle.growth.proofs.put_tail.Goals.{After-copy_words-2, After-text_at, Start}
+
+-- the three parts before the text
+abbrev front : Start → List ℕ
+front c =
+    let a = c.args in
+    front_of a.ws.now a.end a.from a.own
+    (news a.ws.now a.text.now a.abi.now a.labels.now a.refs.now a.flags.now a.lasts.now)
+
+-- how long they are, so where the text is put
+place : (c : After-text_at)
+    → member_width * c.wide-kept.result + member_width * c.wide.result + (c.text_at.result - c.args.end)
+    ≡ length (front c.before.before.before.before.before.before.before.before.before.before.before.before.before)
+place c = search front_length
+
+-- they are written: the second copy's last value of `out`, its fourth argument
+written : (c : After-copy_words-2)
+    → c.copy_words-2.new.dst ≡ write_at c.args.out.now 0 (front c.before.before.before.before.before.before.before.before.before.before.before.before.before.before.before.before.before.before.before.before.before.before.before.before)
+written c =
+    front-is _ _ _ _ _ _ _ _ c.requires.0 _ _ _ c.requires.1 c.wide-kept.ensures
+    c.wide.ensures c.new_count.ensures.is c.text_at.ensures.is
+    c.text_length.ensures c.copy_words.ensures c.put_records.ensures c.copy_words-2.ensures
+
+-- the new records fit behind the copied ones, and their names into the text
+pub put_records-requires : goal.put_records-requires
+put_records-requires c =
+    let room = c.requires.0 in
+    (omega (arith, room-is _ _ _ _ _ _ _ _ room, room.most, c.requires.1), omega (arith, room.bytes))
+
+pub put_text-requires : goal.put_text-requires
+put_text-requires c =
+    omega (arith, c.requires.0.bytes)
+
+pub overflow_add-grown-2 : goal.overflow_add-grown-2
+overflow_add-grown-2 c =
+    let room = c.requires.0 in
+    omega (arith, room-is _ _ _ _ _ _ _ _ room, room.most, c.text_at.ensures.is)
+
+-- the text fits behind the three parts
+pub put_packed-requires : goal.put_packed-requires
+put_packed-requires c =
+    text_room _ _ _ _ _ _ _ _ c.requires.0 _ _ _ _ c.requires.1 (written (goal.at.put_packed-requires c).After-copy_words-2) (place (goal.at.put_packed-requires c).After-text_at)
+    c.wide-2.ensures c.text_length-2.ensures c.new_text_length.ensures.is
+    c.put_text.ensures c.part.ensures
+
+-- and makes the tail whole
+pub returns : goal.returns
+returns c =
+    tail-is _ _ _ _ _ _ _ _ c.requires.0 _ _ _ _ c.requires.1 (written (goal.at.returns c).After-copy_words-2) (place (goal.at.returns c).After-text_at)
+    c.wide-2.ensures c.text_length-2.ensures c.new_text_length.ensures.is
+    c.put_text.ensures c.part.ensures c.put_packed.ensures
