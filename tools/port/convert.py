@@ -288,6 +288,30 @@ def flow(fn, text, navs, goal):
     return text
 
 
+def unhide(body, table):
+    """A λ's own variables that have the name of a parameter get a prime."""
+    at = 0
+    while True:
+        m = re.search(r"λ ([^.]*)\.", body[at:])
+        if not m:
+            return body
+        start, end, depth = at + m.start(), len(body), 0
+        for i in range(start, len(body)):
+            if body[i] in "([{":
+                depth += 1
+            elif body[i] in ")]}":
+                depth -= 1
+                if depth < 0:
+                    end = i
+                    break
+        scope = body[start:end]
+        for n in re.findall(r"[^\s(){}:]+", m.group(1)):
+            if n in table:
+                scope = re.sub(r"(?<![^\s(){},;\[\]])" + re.escape(n) + r"(?=[\s(){},;.\]]|$)", n + "'", scope)
+        body = body[:start] + scope + body[end:]
+        at = start + 1
+
+
 def split(text):
     """The parts of a tuple's text, or None."""
     t = text.strip()
@@ -439,6 +463,7 @@ def convert(fn, source, folder):
             body = text[m.end():]
             mid = text[:m.start()].split("\n")[1:]
             table = dict(zip(ps, want))
+            body = unhide(body, table)
             body = re.sub(r"(?<![^\s(){},;\[\]])([^\s(){},;.\[\]]+)(?=[\s(){},;.\]]|$)", lambda q: table.get(q.group(1), q.group(1)) if q.group(1) != "_" else "_", body)
             sep = "\n    " if "\n" in text[m.start() + 1:m.end()] else " "
             out_inv.append((c, f"abbrev pub {kind}-{new} : goal.{kind}-{new}\n" + "".join(x + "\n" for x in mid) + f"{kind}-{new} l ={sep}{body}", f"{kind}-{new}"))

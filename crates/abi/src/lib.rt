@@ -1,5 +1,7 @@
 // The ABI sheet's lookups: the first ABI class of a name, and in it the first match, counts. Every function is total: a list that runs
 // past its section's limit is cut there, and an index or a size above its limit counts as the limit.
+#![tactic(auto)]
+
 ghost use Rattle.std.specs.Prelude.{◌≡◌, ◌≤◌, min, max, [], ◌∷◌, ◌++◌, length, take, drop, eqb};
 ghost use Rattle.class_sheet.specs.ClassSheet.{class_limit};
 ghost use Rattle.words.specs.Lists.{find, all_found};
