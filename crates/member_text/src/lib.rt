@@ -1,5 +1,7 @@
 // The text of a class file's members, put into lent bytes. Each function takes the place to begin at and answers the place after what it put;
 // nothing is put past the end of the lent bytes.
+#![tactic(auto)]
+
 ghost use Rattle.std.specs.Prelude.{◌≡◌, ◌<◌, length};
 ghost use Rattle.lines.specs.Bytes.{put};
 ghost use Rattle.class_form.specs.Marks.{Near};
