@@ -1,5 +1,7 @@
 // Field words (field.rs, `new`, `patch_declared_instance_field_word_indices`): the word indices of a class's fields, its instance
 // words and static words, and the ABI fields that are added to it.
+#![tactic(auto)]
+
 ghost use Rattle.std.specs.Prelude.{◌≡◌, ◌+◌, ◌-◌, ◌^◌, ◌<◌, ◌≤◌, max, ◌||◌, [], ◌∷◌, ◌++◌, length, take, ◌==◌};
 ghost use Rattle.abi_sheet.specs.AbiSheet.{abi_field_limit};
 ghost use Rattle.words.specs.Lists.{fold};
