@@ -79,6 +79,7 @@ class Function:
             self.loops[norm(names[0])] = (names[1], vs, ch)
         self.warn = []
         self.root = self.root_place = None
+        self.recursive = name.startswith("+")
         self.used, self.lemmas, self.other = set(), {}, {}
 
     def goal(self, old):
@@ -103,9 +104,8 @@ def path(fn, place, segs):
     i = 0
     while i < len(segs) and segs[i] == "before":
         up = fn.places[place]["parent"]
-        if up is None:
-            break
-        place = up
+        if up is not None:
+            place = up
         i += 1
     if i == len(segs):
         return place, None
@@ -113,6 +113,10 @@ def path(fn, place, segs):
     if s in ("args", "lifetimes", "ranges"):
         return None, [s] + rest
     if s in ("pre", "requires"):
+        if fn.recursive and rest[:1] == ["1"]:
+            rest = rest[1:]
+        elif fn.recursive and rest[:1] == ["0"]:
+            return None, ["decreases"] + rest[1:]
         return None, ["requires"] + rest
     found = None
     if rest[:1] == ["given"] and fn.root_place:
@@ -236,8 +240,8 @@ def flow(fn, text, navs, goal):
             else:
                 target = resolve_place(fn, expr)
             if target is None:
-                e = re.fullmatch(r"⟪[^@]*@[^⟫]*⟫(?:\.[^\s(){},.;]+)*\.(?:ensures|new|kept|auto)", expr.strip())
-                if e and re.search(r"(?<![^\s(){},;\[\]])" + re.escape(name) + r"\.[01]", text[m.end():]) and not re.search(r"(?<![^\s(){},;\[\]])" + re.escape(name) + r"(?=[\s(){},;\]]|$)", text[m.end():]):
+                e = re.fullmatch(r"⟪[^@]*@[^⟫]*⟫(?:\.[^\s(){},.;]+)*\.(?:ensures|new|kept|auto|loop\d*)", expr.strip())
+                if e and re.search(r"(?<![^\s(){},;\[\]])" + re.escape(name) + r"\.\S", text[m.end():]) and not re.search(r"(?<![^\s(){},;\[\]])" + re.escape(name) + r"(?=[\s(){},;\]]|$)", text[m.end():]):
                     tail = subst_var(text[m.end():], name, expr.strip())
                     text = text[:m.start()] + (tail.lstrip(" ") if not tail.startswith("\n") else tail)
                     done = False
@@ -353,7 +357,7 @@ def tail_at(text):
 
 
 def clausewise(fn, body):
-    names = CLAUSES.get(f"{fn.crate}::{fn.name}", ())
+    names = CLAUSES.get(f"{fn.crate}::{fn.name.lstrip('+')}", ())
     if len(names) < 2:
         return body
     at = tail_at(body)
@@ -375,7 +379,10 @@ def clausewise(fn, body):
         rest = two[1]
     if len(parts) == len(names) - 1:
         parts.append(rest)
-        return head + " record { " + "; ".join(f"{n} = {' '.join(x.split())}" for n, x in zip(names, parts)) + " }"
+        fields = [f"{n} = {' '.join(x.split())}" for n, x in zip(names, parts)]
+        if sum(map(len, fields)) < 90:
+            return head + " record { " + "; ".join(fields) + " }"
+        return head + " record {\n" + "".join(f"      {f};\n" for f in fields) + "    }"
     if not parts and not re.match(r"\s*(search|omega|grind|cc)\b", tail):
         path = lambda k: ".1" * k + (".0" if k < len(names) - 1 else "")
         return head + f" let both = {' '.join(tail.split())} in record {{ " + "; ".join(f"{n} = both{path(k)}" for k, n in enumerate(names)) + " }"
@@ -415,7 +422,60 @@ def declarations(lines):
     return groups
 
 
+def parameters(crate, name):
+    """The names of a function's parameters."""
+    import glob
+    for p in glob.glob(f"crates/{crate}/src/*.rt"):
+        m = re.search(r"\bfn " + name + r"(?:<[^>]*>)?\(([^)]*)\)", open(p, encoding="utf-8").read())
+        if m:
+            return re.findall(r"(\w+)\s*:", m.group(1))
+    return []
+
+
+def recursive(fn, source):
+    """A proof by the measure as one over places: what it names of the measure goes, and its t."""
+    alias = {}
+    m = re.search(r"\nμ κs a = a((?:\.[01])+)\n", source)
+    measure = None
+    if m:
+        segs = m.group(1).split(".")[1:]
+        k = 0
+        while k < len(segs) and segs[k] == "1":
+            k += 1
+        ps = parameters(fn.crate, fn.name[1:])
+        measure = ps[k] if k < len(ps) else None
+    # whole groups: measure, here, below, says
+    out = []
+    for block in re.split(r"\n\n+", source):
+        b = block.split("\n")
+        code = [x for x in b if not x.startswith("--")]
+        first = code[0] if code else ""
+        if re.match(r"abbrev (μ|here|below|says|claims) :", first):
+            continue
+        a = re.match(r"abbrev ([^\s:]+) : ℕ → Type 0$", first)
+        if a and len(code) > 1:
+            q = re.match(re.escape(a.group(1)) + r" t =\s+lts\.(\S+)", " ".join(x.strip() for x in code[1:]))
+            if q:
+                alias[a.group(1)] = q.group(1)
+                continue
+        out.append(block)
+    text = "\n\n".join(out)
+    args = r"((?:\s+(?:\((?:[^()]|\([^()]*\))*\)|\w+\.Post|\w+\.Pre))*)"
+    text = re.sub(r"lts\.([^\s(){},;]+)" + args, r"tie.\1", text)
+    for n, q in alias.items():
+        text = re.sub(r"(?<![^\s(){},])" + re.escape(n) + r" t(?=[\s(){},;]|$)", "tie." + q, text)
+    text = re.sub(r": \(t : ℕ\) → ", ": ", text)
+    text = re.sub(r": \(t : ℕ\) \(", ": (", text)
+    names = re.findall(r"(?m)^(?:abbrev |unfoldable |pub )*([^\s:({]+) : ", text)
+    for n in names:
+        text = re.sub(r"(?<![^\s(){},])" + re.escape(n) + r" t(?=[\s(){},;]|$)", n, text)
+    return text, measure
+
+
 def convert(fn, source, folder):
+    measure = None
+    if fn.recursive:
+        source, measure = recursive(fn, source)
     lines = source.split("\n")
     header = []
     while lines and lines[0].startswith("--"):
@@ -489,7 +549,7 @@ def convert(fn, source, folder):
             body = flow(fn, body, navs, new)
             if new.startswith("returns"):
                 body = clausewise(fn, body)
-            out_ans.append((c, f"pub {new} : goal.{new}\n" + "".join(x + "\n" for x in mid) + f"{new} {var} ={body}", new))
+            out_ans.append((c, f"pub {new} : goal.{new}\n" + "".join(x + "\n" for x in mid) + f"{new} {'t ' if fn.recursive else ''}{var} ={body}", new))
             continue
         # a lemma of the file's own: over a context, or plain
         m = re.match(r"((?:unfoldable|abbrev|pub)\s+)*[^\s({:]+\s*:\s*\(([^\s:()]+) : tie\.([^\s()]+)\)", text)
@@ -528,6 +588,8 @@ def convert(fn, source, folder):
                 inv_text += h[1]
                 need = True
     in_ans = helper
+    if measure:
+        out_inv.append(([], f"abbrev pub decreases-{fn.name[1:]} : goal.decreases-{fn.name[1:]}\ndecreases-{fn.name[1:]} l = l.{measure}", f"decreases-{fn.name[1:]}"))
     rename_goals = {old: new for old, (new, _) in goals.items()}
 
     def imports(body, given):
@@ -610,10 +672,7 @@ def main(argv):
         p = os.path.join(proofs, f, "Proof.antt")
         if not os.path.exists(p) or only and f not in only:
             continue
-        if f.startswith("+"):
-            print(f"{crate}/{f}: by hand")
-            continue
-        key = f"Rattle-{crate}-proofs.{f}.Lts"
+        key = f"Rattle-{crate}-proofs.{f}.Lts" + (f"-{f[1:]}" if f.startswith("+") else "")
         if key not in d:
             print(f"{crate}/{f}: no names")
             continue

@@ -1,6 +1,8 @@
 // Reading: a table's slots, from their words in the area to their methods. A table lies in two arrays of the caller: its slots' words, 0
 // where empty, and their marks. A mark is a word that stands for a method's number or for none, and for the slot that it is a copy of or none: only
 // this crate knows how. Reading fills a third array beside them: the numbers of the classes that declare the methods, 0 where there is none.
+#![tactic(auto)]
+
 ghost use Rattle.std.specs.Prelude.{◌≡◌, ◌≤◌, ◌<◌, ◌+◌, min, length, get_or, set, take, drop, cond, eqb};
 ghost use Rattle.words.specs.Folds.{stores};
 ghost use Rattle.words.specs.Lists.{list_from};
