@@ -1,5 +1,7 @@
 // The lines of the listing, put into lent bytes. Each function takes the place to begin at and answers the place after what it put;
 // nothing is put past the end of the lent bytes.
+#![tactic(auto)]
+
 ghost use Rattle.std.specs.Prelude.{◌≡◌, ◌+◌, ◌<◌, ◌≤◌, ◌++◌};
 ghost use Rattle.class_sheet.specs.ClassSheet.{text_of, text_length, text_limit};
 ghost use Rattle.abi_sheet.specs.AbiSheet.{abi_text_of, abi_text_length, abi_text_limit};
