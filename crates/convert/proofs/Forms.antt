@@ -25,7 +25,7 @@ use Rattle.convert.proofs.Judging.{old-end}
 
 -- ---- records made wider, and narrower again
 
-pub rows-widen : (f : ℕ → ℕ) (c : ℕ) {w : ℕ} {rs : List (List ℕ)} → Rows w rs → Rows (w + 1) (widen f c rs)
+pub rows-widen : {w : ℕ} (f : ℕ → ℕ) (c : ℕ) {rs : List (List ℕ)} → Rows w rs → Rows (w + 1) (widen f c rs)
 unfolding widen
 rows-widen f c no_rows = no_rows
 rows-widen f c (a_row {r = r} e p) = a_row (length-append r (f c ∷ []) ∙ omega arith) (rows-widen f (c + 1) p)
@@ -41,17 +41,17 @@ narrow-widen f c no_rows = refl
 narrow-widen f c (a_row {r = r} {rs = rs} e p) =
     rw (take_at r (f c ∷ []) old_width e) (ap (λ (x : List (List ℕ)). r ∷ x) (narrow-widen f (c + 1) p))
 
-pub widen-word : (f : ℕ → ℕ) (c : ℕ) {w : ℕ} {rs : List (List ℕ)} → Rows w rs → (i k : ℕ) → k < w
+pub widen-word : {w : ℕ} (f : ℕ → ℕ) (c : ℕ) {rs : List (List ℕ)} → Rows w rs → (i k : ℕ) → k < w
     → row_word (widen f c rs) i k ≡ row_word rs i k
 unfolding widen
 widen-word f c no_rows i k h = refl
 widen-word f c (a_row {r = r} e p) zero k h = get_or-append r (f c ∷ []) 0 k (omega arith)
 widen-word f c (a_row e p) (suc i) k h = widen-word f (c + 1) p i k h
 
-pub widen-last : (f : ℕ → ℕ) (c : ℕ) {w : ℕ} {rs : List (List ℕ)} → Rows w rs → (i : ℕ) → i < length rs → row_word (widen f c rs) i w ≡ f (c + i)
+pub widen-last : {w : ℕ} (f : ℕ → ℕ) (c : ℕ) {rs : List (List ℕ)} → Rows w rs → (i : ℕ) → i < length rs → row_word (widen f c rs) i w ≡ f (c + i)
 unfolding widen
 widen-last f c no_rows i h = absurd (omega arith)
-widen-last f c {w} (a_row {r = r} e p) zero h = let z : c + 0 ≡ c = omega arith in rw z (get_or_at r (f c) [] 0 w e)
+widen-last {w} f c (a_row {r = r} e p) zero h = let z : c + 0 ≡ c = omega arith in rw z (get_or_at r (f c) [] 0 w e)
 widen-last f c (a_row e p) (suc i) h = let z : c + suc i ≡ c + 1 + i = omega arith in rw z (widen-last f (c + 1) p i (omega arith))
 
 pub rows-narrow : {rs : List (List ℕ)} → Rows class_width rs → Rows old_width (narrow rs)

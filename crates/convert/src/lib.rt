@@ -1,5 +1,7 @@
 // Class sheets of the old form, with 17 words a class record, made ones of the new, with 18, and back: from blocks to blocks, and all rows are
 // judged before the first byte is written. The form cannot be seen from the bytes: the caller says it by the entry that it calls.
+#![tactic(auto)]
+
 ghost use Rattle.std.specs.Prelude.{◌≡◌, ◌+◌, ◌^◌, ◌≤◌, ◌<◌, length, true};
 ghost use Rattle.words.specs.Folds.{all_of, stores};
 ghost use Rattle.class_sheet.specs.ClassSheet.{text_length, class_count, content_end, text_of};
