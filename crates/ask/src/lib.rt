@@ -1,6 +1,5 @@
 // `interface_dispatch_table` (class_definition.rs): a class's table for an interface, found in the class's list or built in front of it.
 ghost use Rattle.std.specs.Prelude.{◌≡◌, ◌&&◌, false, List, ℕ, ◌≤◌, length};
-ghost use Rattle.words.specs.Lent.{was, after};
 ghost use Rattle.class_sheet.specs.ClassSheet.{method_flags, text_length, text_of, text_limit};
 ghost use Rattle.abi_sheet.specs.AbiSheet.{abi_text_length, abi_text_of, abi_text_limit};
 ghost use Rattle.set_rules.specs.SetRules.{set_refusal};
@@ -19,7 +18,7 @@ use words::Found;
 
 // Whether method m is neither static nor private and has this name and descriptor.
 fn implements(ws: &[u32], text: &[u8], m: u32, name: &[u8], descriptor: &[u8]) -> bool
-    ensures { result ≡ (is_virtual (method_flags (was ws) m) && method_is (was ws) (was text) m (was name) (was descriptor)) }
+    ensures { result ≡ (is_virtual (method_flags ws.now m) && method_is ws.now text.now m name.now descriptor.now) }
 {
     chain::is_virtual(class_sheet::method_flags(ws, m))
         & chain::method_is(ws, text, m, name, descriptor)
@@ -27,7 +26,7 @@ fn implements(ws: &[u32], text: &[u8], m: u32, name: &[u8], descriptor: &[u8]) -
 
 // Class c's first such method.
 fn own_implementation(ws: &[u32], text: &[u8], name: &[u8], descriptor: &[u8], c: u32) -> Found
-    ensures { result ≡ own_implementation (was ws) (was text) (was name) (was descriptor) c }
+    ensures { result ≡ own_implementation ws.now text.now name.now descriptor.now c }
 {
     let first = class_sheet::class_first_method(ws, c);
     let n = chain::method_count(ws, c);
@@ -43,7 +42,7 @@ fn own_implementation(ws: &[u32], text: &[u8], name: &[u8], descriptor: &[u8], c
 
 // The first such method of method m's signature, with its class: class c's, then its ancestors'.
 fn implementation(ws: &[u32], text: &[u8], c: u32, m: u32) -> Declared
-    ensures { result ≡ declared_implementation (was ws) (was text) c m }
+    ensures { result ≡ declared_implementation ws.now text.now c m }
 {
     if c == 0 {
         return Declared::Nobody;
@@ -66,7 +65,7 @@ struct Slot {
 
 // Class c's slot for an interface's, whose word is w and whose method's mark is k.
 fn dispatch_slot(ws: &[u32], text: &[u8], c: u32, w: u32, k: u32) -> Slot
-    ensures { slot_built result ≡ dispatched (was ws) (was text) c (record { word = w; method = method_of k; source = source_of k }) }
+    ensures { slot_built result ≡ dispatched ws.now text.now c (record { word = w; method = method_of k; source = source_of k }) }
 {
     let Found::At(j) = reading::method_of(k) else {
         return Slot {
@@ -101,7 +100,7 @@ fn dispatch_slots(
     ns: &mut [u32],
 ) -> u32
     requires { (n ≤ length us.old) × (n ≤ length ns.old) }
-    ensures { table_built (after us) (after ns) n result ≡ dispatch_entries (was ws) (was text) c (entries_of (was ts) (was ms) n) }
+    ensures { table_built us.new ns.new n result ≡ dispatch_entries ws.now text.now c (entries_of ts.now ms.now n) }
 {
     let mut i: u32 = 0;
     while i < n {
@@ -135,8 +134,8 @@ fn dispatch_table(
     ns: &mut [u32],
 ) -> Dispatch
     requires { (text_length ws.now ≤ text_limit) × (abi_text_length abi.now ≤ abi_text_limit) × (1024 ≤ length us.old) × (1024 ≤ length ns.old) }
-    ensures { table_built (after us) (after ns) result.n result.row
-        ≡ dispatch_entries (was ws) (text_of (was ws)) c (table_entries (was ws) (text_of (was ws)) (was abi) (abi_text_of (was abi)) (was area) i) }
+    ensures { table_built us.new ns.new result.n result.row
+        ≡ dispatch_entries ws.now (text_of ws.now) c (table_entries ws.now (text_of ws.now) abi.now (abi_text_of abi.now) area.now i) }
 {
     let mut bytes = [0u8; class_sheet::TEXT_LIMIT as usize];
     class_sheet::unpack_text(ws, &mut bytes);
@@ -154,7 +153,7 @@ fn dispatch_table(
 
 // The place of class c's list head.
 fn head_place(ws: &[u32], c: u32) -> usize
-    ensures { result ≡ head_place (was ws) c }
+    ensures { result ≡ head_place ws.now c }
 {
     words::wide(class_sheet::class_table_place(ws, c))
         + words::wide(class_sheet::class_slot_count(ws, c))
@@ -174,7 +173,7 @@ fn finish_ask(
     row: u32,
 ) -> Answer
     requires { bad_area ws.now area.old ≡ false }
-    ensures { (ms : List ℕ) → outcome result (was ws) (after area) ≡ finish_ask (was ws) c i (was area) (was stubs) nodes (table_built (was ts) ms n row) }
+    ensures { (ms : List ℕ) → outcome result ws.now area.new ≡ finish_ask ws.now c i area.old stubs.now nodes (table_built ts.now ms n row) }
 {
     if row != 0 {
         return Answer::Refused(row);
@@ -198,7 +197,7 @@ fn build_node(
     nodes: u32,
 ) -> Answer
     requires { (set_refusal ws.now abi.now ≡ 0) × (bad_area ws.now area.old ≡ false) }
-    ensures { outcome result (was ws) (after area) ≡ build_node (was ws) (was abi) c i (was area) (was stubs) nodes }
+    ensures { outcome result ws.now area.new ≡ build_node ws.now abi.now c i area.old stubs.now nodes }
 {
     let mut us = [0u32; 1024];
     let mut ns = [0u32; 1024];
@@ -208,7 +207,7 @@ fn build_node(
 
 // Rows 3 to 7 of an ask, but for the walk: the number that refuses, or 0.
 fn ask_refusal(ws: &[u32], abi: &[u32], c: u32, i: u32, area: &[u32]) -> u32
-    ensures { result ≡ ask_refusal (was ws) (was abi) c i (was area) }
+    ensures { result ≡ ask_refusal ws.now abi.now c i area.now }
 {
     let row = set_rules::set_refusal(ws, abi);
     if row != 0 {
@@ -236,7 +235,7 @@ pub fn interface_dispatch_table(
     area: &mut [u32],
     stubs: &[u32],
 ) -> Answer
-    ensures { outcome result (was set) (after area) ≡ ask_def (was set) (was abi) class interface (was area) (was stubs) }
+    ensures { outcome result set.now area.new ≡ ask_def set.now abi.now class interface area.old stubs.now }
 {
     let row = ask_refusal(set, abi, class, interface, area);
     if row != 0 {

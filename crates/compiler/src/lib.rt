@@ -1,7 +1,6 @@
 // A generated class with a compiler table: its virtual table (`build_from_compiler_vtable`) and the methods that are added to it.
 // Methods are numbered on: below 512 those of the sheet, 512 + j the j-th that is added.
 ghost use Rattle.std.specs.Prelude.{◌≡◌, cond, ◌++◌, ◌+◌, ◌-◌, ◌≤◌, ◌<◌, min, length, eqb};
-ghost use Rattle.words.specs.Lent.{was, after};
 ghost use Rattle.words.specs.Lists.{numbers, find, fold};
 ghost use Rattle.class_sheet.specs.ClassSheet.{class_compiler_slots, method_limit};
 ghost use Rattle.words.specs.declared.Found.TheVariants.{Nothing};
@@ -32,7 +31,7 @@ fn name_of<'a>(
     n: u32,
     m: u32,
 ) -> &'a [u8]
-    ensures { result.now ≡ name_in (was ws) (was text) (was abi) (was labels) (was refs) n m }
+    ensures { result.now ≡ name_in ws.now text.now abi.now labels.now refs.now n m }
 {
     if m < class_sheet::METHOD_LIMIT {
         return class_sheet::method_name(ws, text, m);
@@ -54,7 +53,7 @@ fn descriptor_of<'a>(
     n: u32,
     m: u32,
 ) -> &'a [u8]
-    ensures { result.now ≡ descriptor_in (was ws) (was text) (was abi) (was labels) (was refs) n m }
+    ensures { result.now ≡ descriptor_in ws.now text.now abi.now labels.now refs.now n m }
 {
     if m < class_sheet::METHOD_LIMIT {
         return class_sheet::method_descriptor(ws, text, m);
@@ -68,7 +67,7 @@ fn descriptor_of<'a>(
 
 // The flags of method m.
 fn flags_of(ws: &[u32], flags: &[u32], n: u32, m: u32) -> u32
-    ensures { result ≡ flags_in (was ws) (was flags) n m }
+    ensures { result ≡ flags_in ws.now flags.now n m }
 {
     if m < class_sheet::METHOD_LIMIT {
         return class_sheet::method_flags(ws, m);
@@ -78,7 +77,7 @@ fn flags_of(ws: &[u32], flags: &[u32], n: u32, m: u32) -> u32
 
 // The target of method m.
 fn target_of(ws: &[u32], lasts: &[u32], n: u32, m: u32) -> u32
-    ensures { result ≡ target_in (was ws) (was lasts) n m }
+    ensures { result ≡ target_in ws.now lasts.now n m }
 {
     if m < class_sheet::METHOD_LIMIT {
         return class_sheet::method_target(ws, m);
@@ -88,7 +87,7 @@ fn target_of(ws: &[u32], lasts: &[u32], n: u32, m: u32) -> u32
 
 // Whether method m has target t.
 fn target_is(ws: &[u32], lasts: &[u32], n: u32, m: u32, t: u32) -> bool
-    ensures { result ≡ eqb (target_in (was ws) (was lasts) n m) t }
+    ensures { result ≡ eqb (target_in ws.now lasts.now n m) t }
 {
     target_of(ws, lasts, n, m) == t
 }
@@ -96,7 +95,7 @@ fn target_is(ws: &[u32], lasts: &[u32], n: u32, m: u32, t: u32) -> bool
 // The first of `count` methods from `first` on that has target t.
 fn target_in(ws: &[u32], lasts: &[u32], n: u32, first: u32, count: u32, t: u32) -> Found
     requires { first + count ≤ 4294967295 }
-    ensures { result ≡ find (λ m. eqb (target_in (was ws) (was lasts) n m) t) (numbers first count) }
+    ensures { result ≡ find (λ m. eqb (target_in ws.now lasts.now n m) t) (numbers first count) }
 {
     let mut i: u32 = 0;
     while i < count {
@@ -110,7 +109,7 @@ fn target_in(ws: &[u32], lasts: &[u32], n: u32, first: u32, count: u32, t: u32) 
 
 // Whether the method with mark k has target t.
 fn mark_has(ws: &[u32], lasts: &[u32], n: u32, k: u32, t: u32) -> bool
-    ensures { result ≡ mark_has (was ws) (was lasts) n t k }
+    ensures { result ≡ mark_has ws.now lasts.now n t k }
 {
     match reading::method_of(k) {
         Found::At(m) => target_is(ws, lasts, n, m, t),
@@ -120,7 +119,7 @@ fn mark_has(ws: &[u32], lasts: &[u32], n: u32, k: u32, t: u32) -> bool
 
 // The mark of the first of `size` slots whose method has target t.
 fn view_target(ws: &[u32], lasts: &[u32], n: u32, vm: &[u32], size: u32, t: u32) -> u32
-    ensures { method_of result ≡ view_target (was ws) (was lasts) n (was vm) size t }
+    ensures { method_of result ≡ view_target ws.now lasts.now n vm.now size t }
 {
     let mut i: u32 = 0;
     while i < size {
@@ -136,7 +135,7 @@ fn view_target(ws: &[u32], lasts: &[u32], n: u32, vm: &[u32], size: u32, t: u32)
 // The mark of the first method with target t: declared, added, or of the native view's slots.
 fn match_target(ws: &[u32], lasts: &[u32], n: u32, c: u32, vm: &[u32], size: u32, t: u32) -> u32
     requires { n ≤ 1024 }
-    ensures { method_of result ≡ match_in (was ws) (was lasts) n c (was vm) size t }
+    ensures { method_of result ≡ match_in ws.now lasts.now n c vm.now size t }
 {
     let first = class_sheet::class_first_method(ws, c);
     let count = chain::method_count(ws, c);
@@ -151,7 +150,7 @@ fn match_target(ws: &[u32], lasts: &[u32], n: u32, c: u32, vm: &[u32], size: u32
 
 // The word of slot i of the compiler table, whose target is t.
 fn entry_word(vs: &[u32], size: u32, i: u32, t: u32) -> u32
-    ensures { result ≡ cond (eqb t 0) (below (was vs) size i) t }
+    ensures { result ≡ cond (eqb t 0) (below vs.now size i) t }
 {
     if t == 0 {
         return native_view::word_below(vs, size, i);
@@ -171,7 +170,7 @@ fn entry_mark(
     t: u32,
 ) -> u32
     requires { n ≤ 1024 }
-    ensures { (method_of result ≡ method_at (was ws) (was lasts) n c (was vm) size i t) × (source_of result ≡ source_at (was vm) size i t) }
+    ensures { (method_of result ≡ method_at ws.now lasts.now n c vm.now size i t) × (source_of result ≡ source_at vm.now size i t) }
 {
     if t == 0 {
         return native_view::word_below(vm, size, i);
@@ -193,8 +192,8 @@ fn compiler_entries(
     ms: &mut [u32],
 ) -> u32
     requires { (n ≤ 1024) × (1024 ≤ length ts.old) × (1024 ≤ length ms.old) }
-    ensures is { entries_of (after ts) (after ms) result ≡ slots_in (was ws) (was lasts) n c (was vs) (was vm) size result }
-    ensures count { result ≡ min (class_compiler_slots (was ws) c) 1024 }
+    ensures is { entries_of ts.new ms.new result ≡ slots_in ws.now lasts.now n c vs.now vm.now size result }
+    ensures count { result ≡ min (class_compiler_slots ws.now c) 1024 }
 {
     let count = native_view::compiler_count(ws, c);
     let mut i: u32 = 0;
@@ -219,7 +218,7 @@ fn mark_same<'a>(
     descriptor: &[u8],
     k: u32,
 ) -> bool
-    ensures { result ≡ mark_same (was ws) (was text) (was abi) (was labels) (was refs) n (was name) (was descriptor) k }
+    ensures { result ≡ mark_same ws.now text.now abi.now labels.now refs.now n name.now descriptor.now k }
 {
     match reading::method_of(k) {
         Found::At(m) => {
@@ -243,7 +242,7 @@ fn has_slot<'a>(
     ms: &[u32],
     size: u32,
 ) -> bool
-    ensures { result ≡ some_same (was ws) (was text) (was abi) (was labels) (was refs) n (was name) (was descriptor) (was ms) size }
+    ensures { result ≡ some_same ws.now text.now abi.now labels.now refs.now n name.now descriptor.now ms.now size }
 {
     let mut i: u32 = 0;
     while i < size {
@@ -269,7 +268,7 @@ fn takes_slot<'a>(
     end: u32,
     m: u32,
 ) -> bool
-    ensures { result ≡ takes_slot (was ws) (was text) (was abi) (was labels) (was refs) n (was flags) (was ms) end m }
+    ensures { result ≡ takes_slot ws.now text.now abi.now labels.now refs.now n flags.now ms.now end m }
 {
     let name = name_of(ws, text, abi, labels, refs, n, m);
     let descriptor = descriptor_of(ws, text, abi, labels, refs, n, m);
@@ -295,7 +294,7 @@ fn append_mark<'a>(
     end: u32,
 ) -> u32
     requires { (end < 4294967295) × (end < length ts.old) × (end < length ms.old) }
-    ensures is { entries_of (after ts) (after ms) result ≡ copying ws text abi labels refs flags lasts n (entries_of (was ts) (was ms) end) (mark_entry k) }
+    ensures is { entries_of ts.new ms.new result ≡ copying ws.now text.now abi.now labels.now refs.now flags.now lasts.now n (entries_of ts.old ms.old end) (mark_entry k) }
     ensures count { result ≤ end + 1 }
 {
     let Found::At(m) = reading::method_of(k) else {
@@ -336,8 +335,8 @@ fn append_methods<'a>(
     end: u32,
 ) -> u32
     requires { (n ≤ 1024) × (end ≤ 1024) × (3584 ≤ length ts.old) × (3584 ≤ length ms.old) }
-    ensures is { entries_of (after ts) (after ms) result
-        ≡ fold (appending ws text abi labels refs flags lasts n) (entries_of (was ts) (was ms) end) (own_methods (was ws) c ++ numbers method_limit n) }
+    ensures is { entries_of ts.new ms.new result
+        ≡ fold (appending ws.now text.now abi.now labels.now refs.now flags.now lasts.now n) (entries_of ts.old ms.old end) (own_methods ws.now c ++ numbers method_limit n) }
     ensures count { result ≤ 2560 }
 {
     let first = class_sheet::class_first_method(ws, c);
@@ -371,8 +370,8 @@ fn append_known<'a>(
     end: u32,
 ) -> u32
     requires { (end + count ≤ 3584) × (3584 ≤ length ts.old) × (3584 ≤ length ms.old) }
-    ensures is { entries_of (after ts) (after ms) result
-        ≡ fold (copying ws text abi labels refs flags lasts n) (entries_of (was ts) (was ms) end) (marks_in (was known) count) }
+    ensures is { entries_of ts.new ms.new result
+        ≡ fold (copying ws.now text.now abi.now labels.now refs.now flags.now lasts.now n) (entries_of ts.old ms.old end) (marks_in known.now count) }
     ensures count { result ≤ end + count }
 {
     let mut r: u32 = end;
@@ -403,9 +402,9 @@ fn append_all<'a>(
     end: u32,
 ) -> u32
     requires { (n ≤ 1024) × (count ≤ 1024) × (end ≤ 1024) × (3584 ≤ length ts.old) × (3584 ≤ length ms.old) }
-    ensures is { entries_of (after ts) (after ms) result ≡ fold (copying ws text abi labels refs flags lasts n)
-        (fold (appending ws text abi labels refs flags lasts n) (entries_of (was ts) (was ms) end) (own_methods (was ws) c ++ numbers method_limit n))
-        (marks_in (was known) count) }
+    ensures is { entries_of ts.new ms.new result ≡ fold (copying ws.now text.now abi.now labels.now refs.now flags.now lasts.now n)
+        (fold (appending ws.now text.now abi.now labels.now refs.now flags.now lasts.now n) (entries_of ts.old ms.old end) (own_methods ws.now c ++ numbers method_limit n))
+        (marks_in known.now count) }
     ensures count { result ≤ 3584 }
 {
     let r = append_methods(ws, text, abi, labels, refs, flags, lasts, n, c, ts, ms, end);
@@ -434,9 +433,9 @@ fn compiler_table<'a>(
     ms: &mut [u32],
 ) -> u32
     requires { (n ≤ 1024) × (count ≤ 1024) × (3584 ≤ length ts.old) × (3584 ≤ length ms.old) }
-    ensures is { entries_of (after ts) (after ms) result ≡ fold (copying ws text abi labels refs flags lasts n)
-        (fold (appending ws text abi labels refs flags lasts n) (targeted ws text abi labels refs flags lasts n c (entries_of (was vs) (was vm) count))
-        (methods ws text abi labels refs flags lasts n c)) (marks_in (was known) count) }
+    ensures is { entries_of ts.new ms.new result ≡ fold (copying ws.now text.now abi.now labels.now refs.now flags.now lasts.now n)
+        (fold (appending ws.now text.now abi.now labels.now refs.now flags.now lasts.now n) (targeted ws.now text.now abi.now labels.now refs.now flags.now lasts.now n c (entries_of vs.now vm.now count))
+        (methods ws.now text.now abi.now labels.now refs.now flags.now lasts.now n c)) (marks_in known.now count) }
     ensures count { result ≤ 3584 }
 {
     let size = compiler_entries(ws, lasts, n, c, vs, vm, count, ts, ms);
@@ -460,11 +459,11 @@ pub fn prepare_generated<'a>(
     flags: &mut [u32; 1024],
     lasts: &mut [u32; 1024],
 ) -> Prepared
-    ensures table { entries_of (after ts) (after ms) result.n ≡ compiler_table (was ws) (was text) (was abi) (was labels) (was area) c }
-    ensures members { first_news (was ws) (was text) (was abi) (was labels) (after refs) (after flags) (after lasts) result.added
-        ≡ added_methods (was ws) (was text) (was abi) (was labels) (was area) c }
+    ensures table { entries_of ts.new ms.new result.n ≡ compiler_table ws.now text.now abi.now labels.now area.now c }
+    ensures members { first_news ws.now text.now abi.now labels.now refs.new flags.new lasts.new result.added
+        ≡ added_methods ws.now text.now abi.now labels.now area.now c }
     ensures counts { (result.n ≤ 3584) × (result.added ≤ 1024) }
-    ensures arrays { (length (after ts) ≡ 3584) × (length (after ms) ≡ 3584) × (length (after refs) ≡ 1024) × (length (after flags) ≡ 1024) × (length (after lasts) ≡ 1024) }
+    ensures arrays { (length ts.new ≡ 3584) × (length ms.new ≡ 3584) × (length refs.new ≡ 1024) × (length flags.new ≡ 1024) × (length lasts.new ≡ 1024) }
 {
     let mut vs = [0u32; 1024];
     let mut vm = [0u32; 1024];

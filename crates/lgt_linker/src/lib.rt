@@ -6,7 +6,6 @@ ghost use Rattle.linking.specs.Link.{link_def};
 ghost use Rattle.linking.specs.Ask.{ask_def};
 ghost use Rattle.linking.specs.Missing.{missing_def};
 ghost use Rattle.missing.specs.Lists.{answered};
-ghost use Rattle.words.specs.Lent.{was, after};
 ghost use Rattle.area.specs.Area.{outcome};
 ghost use Rattle.sheet.specs.Sheet.{read_class_sheet, read_abi_sheet, read_unordered_sheet};
 ghost use Rattle.sheet.specs.Sheet as readings;
@@ -49,7 +48,7 @@ fn give_call(a: Answer, answer: &mut [u32; 2]) -> u32
 
 // Hands out the answer of a question for missing slots.
 fn give_missing(a: Missing, answer: &mut [u32; 1]) -> u32
-    ensures { counted_by result (after answer) ≡ answered a }
+    ensures { counted_by result answer.new ≡ answered a }
 {
     match a {
         Missing::Count(n) => {
@@ -222,8 +221,8 @@ pub extern "C" fn lgt_link(
     missing: &mut [u32],
     answer: &mut [u32; 2],
 ) -> u32
-    ensures { linked_by result (after answer) (after set) (after area) (after missing)
-        ≡ link_def (was set) (was abi) class (was area) (was stubs) (was missing) }
+    ensures { linked_by result answer.new set.new area.new missing.new
+        ≡ link_def set.old abi.now class area.old stubs.now missing.old }
 {
     give_call(link::link(set, abi, class, area, stubs, missing), answer)
 }
@@ -237,7 +236,7 @@ pub extern "C" fn lgt_missing_slots(
     class: u32,
     answer: &mut [u32; 1],
 ) -> u32
-    ensures { counted_by result (after answer) ≡ missing_def (was set) (was abi) (was missing) class }
+    ensures { counted_by result answer.new ≡ missing_def set.now abi.now missing.now class }
 {
     give_missing(missing::missing_slots(set, abi, missing, class), answer)
 }

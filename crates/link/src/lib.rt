@@ -1,6 +1,5 @@
 // `link`: rows 3 to 15 and 26 in the table's order, and what an accepted link leaves in the class words, the area and the list of counts.
 ghost use Rattle.std.specs.Prelude.{◌≡◌};
-ghost use Rattle.words.specs.Lent.{was, after};
 ghost use Rattle.linking.specs.Link.{new_statics, linked_record, lists_full, set_short, link_def};
 ghost use Rattle.linking.specs.Chain.{parent_of};
 ghost use Rattle.reading.specs.Arrays.{entries_of};
@@ -13,7 +12,7 @@ use area::Answer;
 
 // The static words that a link gives class c, unless it is generated.
 fn new_statics(set: &[u32], text: &[u8], c: u32) -> u32
-    ensures { result ≡ new_statics (was set) (was text) c }
+    ensures { result ≡ new_statics set.now text.now c }
 {
     if class_sheet::is_built_kind(class_sheet::class_kind(set, c)) {
         return field::static_words(set, text, c);
@@ -24,7 +23,7 @@ fn new_statics(set: &[u32], text: &[u8], c: u32) -> u32
 // Stores what a link answers in class c's record: its place and slot count and, unless the class is generated, its instance words and static
 // words.
 fn record_link(set: &mut [u32], c: u32, place: u32, slots: u32, words: u32, statics: u32)
-    ensures { after set ≡ linked_record (was set) c place slots words statics }
+    ensures { set.new ≡ linked_record set.old c place slots words statics }
 {
     let kind = class_sheet::class_kind(set, c);
     class_sheet::put_class_table_place(set, c, place);
@@ -45,7 +44,7 @@ fn store_indices(
     statics: u32,
     indices: &[u32],
 )
-    ensures { after set ≡ numbered (was set) c place slots words statics (was indices) }
+    ensures { set.new ≡ numbered set.old c place slots words statics indices.now }
 {
     let at = class_sheet::fields_at(set);
     let first = class_sheet::class_first_field(set, c);
@@ -64,7 +63,7 @@ fn store_methods<'a>(
     flags: &[u32],
     lasts: &[u32],
 )
-    ensures { after set ≡ with_methods (was set) c (news (was set) (was text) (was abi) (was labels) (was refs) (was flags) (was lasts)) }
+    ensures { set.new ≡ with_methods set.old c (news set.old text.now abi.now labels.now refs.now flags.now lasts.now) }
 {
     if refs.len() != 0 {
         growth::grow_methods(set, c, text, abi, labels, refs, flags, lasts);
@@ -87,8 +86,8 @@ fn store_link<'a>(
     flags: &[u32],
     lasts: &[u32],
 )
-    ensures { after set
-        ≡ stored_news (was set) c place slots words (new_statics (was set) (was text) c) (was indices) (news (was set) (was text) (was abi) (was labels) (was refs) (was flags) (was lasts)) }
+    ensures { set.new
+        ≡ stored_news set.old c place slots words (new_statics set.old text.now c) indices.now (news set.old text.now abi.now labels.now refs.now flags.now lasts.now) }
 {
     let statics = new_statics(set, text, c);
     if class_sheet::is_built_kind(class_sheet::class_kind(set, c)) & (refs.len() != 0) {
@@ -109,7 +108,7 @@ fn lists_full<'a>(
     labels: &'a [u8],
     refs: &[u32],
 ) -> bool
-    ensures { result ≡ lists_full (was ws) c (members_plan (was ws) c (named (was ws) (was text) (was abi) (was labels) (was refs))) }
+    ensures { result ≡ lists_full ws.now c (members_plan ws.now c (named ws.now text.now abi.now labels.now refs.now)) }
 {
     if refs.len() == 0 {
         return false;
@@ -133,7 +132,7 @@ fn set_short<'a>(
     labels: &'a [u8],
     refs: &[u32],
 ) -> bool
-    ensures { result ≡ set_short (was ws) c (members_plan (was ws) c (named (was ws) (was text) (was abi) (was labels) (was refs))) }
+    ensures { result ≡ set_short ws.now c (members_plan ws.now c (named ws.now text.now abi.now labels.now refs.now)) }
 {
     if refs.len() == 0 {
         return false;
@@ -159,8 +158,8 @@ fn room_row<'a>(
     missing: &[u32],
     n: u32,
 ) -> u32
-    ensures { result ≡ room_row (was ws) c (members_plan (was ws) c (named (was ws) (was text) (was abi) (was labels) (was refs)))
-        (was area) (was stubs) (was missing) n }
+    ensures { result ≡ room_row ws.now c (members_plan ws.now c (named ws.now text.now abi.now labels.now refs.now))
+        area.now stubs.now missing.now n }
 {
     if lists_full(ws, c, text, abi, labels, refs) {
         return 14;
@@ -174,7 +173,7 @@ fn room_row<'a>(
 
 // Counts the missing slots of class c, whose table of n slots is in the array, into the list.
 fn count_table(set: &[u32], c: u32, slots: &[u32; 3584], n: u32, missing: &mut [u32])
-    ensures { after missing ≡ counted (was missing) c (parent_of (was set) c) (entries_of (was slots) (marks_in (was slots)) n) }
+    ensures { missing.new ≡ counted missing.old c (parent_of set.now c) (entries_of slots.now (marks_in slots.now) n) }
 {
     let marks = words::word_part(slots, plan::MARKS, plan::MARKS);
     missing::count_class(missing, c, chain::parent_of(set, c), slots, marks, n);
@@ -193,7 +192,7 @@ fn link_planned<'a>(
     missing: &mut [u32],
 ) -> Answer
     requires { Accepted set.old abi.now c area.old text.now labels.now }
-    ensures { link_outcome result (after set) (after area) (after missing) ≡ link_def (was set) (was abi) c (was area) (was stubs) (was missing) }
+    ensures { link_outcome result set.new area.new missing.new ≡ link_def set.old abi.now c area.old stubs.now missing.old }
 {
     let mut slots = [0u32; 3584];
     let mut refs = [0u32; 1024];
@@ -236,7 +235,7 @@ fn link_read<'a>(
     missing: &mut [u32],
 ) -> Answer
     requires { Texts set.old abi.now text.now labels.now }
-    ensures { link_outcome result (after set) (after area) (after missing) ≡ link_def (was set) (was abi) c (was area) (was stubs) (was missing) }
+    ensures { link_outcome result set.new area.new missing.new ≡ link_def set.old abi.now c area.old stubs.now missing.old }
 {
     if call_rules::bad_class(set, text, c) {
         return Answer::Refused(6);
@@ -262,7 +261,7 @@ fn link_fitting<'a>(
     missing: &mut [u32],
 ) -> Answer
     requires { Fitting set.old abi.now text.now labels.now }
-    ensures { link_outcome result (after set) (after area) (after missing) ≡ link_def (was set) (was abi) c (was area) (was stubs) (was missing) }
+    ensures { link_outcome result set.new area.new missing.new ≡ link_def set.old abi.now c area.old stubs.now missing.old }
 {
     let row = set_rules::records_refusal(set, text, abi, labels);
     if row != 0 {
@@ -284,7 +283,7 @@ pub fn link(
     stubs: &[u32],
     missing: &mut [u32],
 ) -> Answer
-    ensures { link_outcome result (after set) (after area) (after missing) ≡ link_def (was set) (was abi) class (was area) (was stubs) (was missing) }
+    ensures { link_outcome result set.new area.new missing.new ≡ link_def set.old abi.now class area.old stubs.now missing.old }
 {
     if !set_rules::set_fits(set, abi) {
         return Answer::Refused(3);

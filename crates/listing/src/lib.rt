@@ -1,7 +1,6 @@
 // The listing of the specification: both sheets are read, all classes are linked in number order, and then the lines go into lent bytes. Its
 // answer is the number of bytes put; they are the whole text where that is below the number lent.
 ghost use Rattle.std.specs.Prelude.{◌≡◌, ◌≤◌, ◌<◌, length, take};
-ghost use Rattle.words.specs.Lent.{was, after};
 ghost use Rattle.set_rules.specs.SetRules.{set_refusal};
 ghost use Rattle.lines.specs.Bytes.{put};
 ghost use Rattle.listing.specs.Small.{Small, Accepts};
@@ -68,7 +67,7 @@ fn link_class(
     stubs: &[u32],
     missing: &mut [u32],
 ) -> u32
-    ensures { linked result (after set) (after area) (after missing) ≡ link_one (was abi) (was stubs) c (was set) (was area) (was missing) }
+    ensures { linked result set.new area.new missing.new ≡ link_one abi.now stubs.now c set.old area.old missing.old }
 {
     link_row(link::link(set, abi, c, area, stubs, missing))
 }
@@ -84,8 +83,8 @@ fn link_classes(
     rows: &mut [u32],
 )
     requires { n ≤ length rows.old }
-    ensures { links (take n (after rows)) (after set) (after area) (after missing)
-        ≡ link_all (was abi) (was stubs) n 1 (was set) (was area) (was missing) }
+    ensures { links (take n rows.new) set.new area.new missing.new
+        ≡ link_all abi.now stubs.now n 1 set.old area.old missing.old }
 {
     let mut i: u32 = 0;
     while i < n {

@@ -1,7 +1,6 @@
 // How many slots of a class are missing: what a link leaves of it in the lent list, and asking. The list has 33 words a class: the count, then a
 // bit for each slot.
 ghost use Rattle.std.specs.Prelude.{◌≡◌, ◌+◌, ◌*◌, ◌/◌, ◌%◌, ◌^◌, ◌≤◌, ◌<◌, false, length, get_or, eqb};
-ghost use Rattle.words.specs.Lent.{was, after};
 ghost use Rattle.reading.specs.Arrays.{entries_of};
 ghost use Rattle.linking.specs.Counts.{missing_at, is_counted, bit, bit_count, bits_from, pack_bits, parent_bit, missing_short};
 ghost use Rattle.linking.specs.Missing.{missing_def};
@@ -36,7 +35,7 @@ fn bit_of(w: u32, i: u32) -> bool
 
 // The bit of slot j of parent p: none without a parent, or past a table's 1,024 slots.
 fn parent_bit(missing: &[u32], p: u32, j: u32) -> bool
-    ensures { result ≡ parent_bit (was missing) p j }
+    ensures { result ≡ parent_bit missing.now p j }
 {
     if (p == 0) | (1023 < j) {
         return false;
@@ -47,7 +46,7 @@ fn parent_bit(missing: &[u32], p: u32, j: u32) -> bool
 
 // Whether a slot with word w and mark k is missing.
 fn is_counted(missing: &[u32], p: u32, w: u32, k: u32) -> bool
-    ensures { result ≡ is_counted (parent_bit (was missing) p) (slot w k) }
+    ensures { result ≡ is_counted (parent_bit missing.now p) (slot w k) }
 {
     if w == 0 {
         return true;
@@ -60,7 +59,7 @@ fn is_counted(missing: &[u32], p: u32, w: u32, k: u32) -> bool
 
 // 1 where slot i of n is missing, and else 0.
 fn bit_at(missing: &[u32], p: u32, ts: &[u32], ms: &[u32], n: u32, i: u32) -> u32
-    ensures is { result ≡ bit (get_or (bits_in (was missing) p (was ts) (was ms) n) i false) }
+    ensures is { result ≡ bit (get_or (bits_in missing.now p ts.now ms.now n) i false) }
     ensures small { result ≤ 1 }
 {
     if n <= i {
@@ -73,7 +72,7 @@ fn bit_at(missing: &[u32], p: u32, ts: &[u32], ms: &[u32], n: u32, i: u32) -> u3
 
 // How many of n slots are missing.
 fn count_slots(missing: &[u32], p: u32, ts: &[u32], ms: &[u32], n: u32) -> u32
-    ensures { result ≡ bit_count (bits_in (was missing) p (was ts) (was ms) n) }
+    ensures { result ≡ bit_count (bits_in missing.now p ts.now ms.now n) }
 {
     let mut count: u32 = 0;
     let mut i: u32 = 0;
@@ -95,7 +94,7 @@ fn push_bit(b: u32, w: u32) -> u32
 // Word k of their bits, the first slot's lowest.
 fn bit_word(missing: &[u32], p: u32, ts: &[u32], ms: &[u32], n: u32, k: u32) -> u32
     requires { k < 32 }
-    ensures { result ≡ bits_from (bits_in (was missing) p (was ts) (was ms) n) (32 * k) 32 }
+    ensures { result ≡ bits_from (bits_in missing.now p ts.now ms.now n) (32 * k) 32 }
 {
     let mut w: u32 = 0;
     let mut i: u32 = 32;
@@ -109,7 +108,7 @@ fn bit_word(missing: &[u32], p: u32, ts: &[u32], ms: &[u32], n: u32, k: u32) -> 
 // Word j of the class's 33: the count, and then the bits.
 fn packed_word(missing: &[u32], p: u32, ts: &[u32], ms: &[u32], n: u32, j: u32) -> u32
     requires { j < 33 }
-    ensures { result ≡ get_or (pack_bits (bits_in (was missing) p (was ts) (was ms) n)) j 0 }
+    ensures { result ≡ get_or (pack_bits (bits_in missing.now p ts.now ms.now n)) j 0 }
 {
     if j == 0 {
         return count_slots(missing, p, ts, ms, n);
@@ -120,7 +119,7 @@ fn packed_word(missing: &[u32], p: u32, ts: &[u32], ms: &[u32], n: u32, j: u32) 
 // Fills a list of 33 with the words.
 fn pack(missing: &[u32], p: u32, ts: &[u32], ms: &[u32], n: u32, out: &mut [u32])
     requires { length out.old ≡ 33 }
-    ensures { after out ≡ pack_bits (bits_in (was missing) p (was ts) (was ms) n) }
+    ensures { out.new ≡ pack_bits (bits_in missing.now p ts.now ms.now n) }
 {
     let mut j: u32 = 0;
     while j < 33 {
@@ -132,7 +131,7 @@ fn pack(missing: &[u32], p: u32, ts: &[u32], ms: &[u32], n: u32, out: &mut [u32]
 
 // Writes the words of class c, whose parent is p and whose table has n slots of these words and marks. Nothing is written into a list that has no room for them.
 pub fn count_class(missing: &mut [u32], c: u32, p: u32, ts: &[u32], ms: &[u32], n: u32)
-    ensures { after missing ≡ counted (was missing) c p (entries_of (was ts) (was ms) n) }
+    ensures { missing.new ≡ counted missing.old c p (entries_of ts.now ms.now n) }
 {
     let mut own = [0u32; 33];
     pack(missing, p, ts, ms, n, &mut own);
@@ -141,7 +140,7 @@ pub fn count_class(missing: &mut [u32], c: u32, p: u32, ts: &[u32], ms: &[u32], 
 
 // Row 15, of the list: whether it is shorter than 33 words for each class of the set.
 pub fn is_short(set: &[u32], missing: &[u32]) -> bool
-    ensures { result ≡ missing_short (was set) (was missing) }
+    ensures { result ≡ missing_short set.now missing.now }
 {
     missing.len() < WIDTH * words::wide(class_sheet::class_count(set))
 }
@@ -149,7 +148,7 @@ pub fn is_short(set: &[u32], missing: &[u32]) -> bool
 // How many slots of the linked class hold no real method, as its link left the number in the list; or the row that refuses the question. Rows 3 to 5 are
 // judged anew; nothing is written.
 pub fn missing_slots(set: &[u32], abi: &[u32], missing: &[u32], class: u32) -> Missing
-    ensures { answered result ≡ missing_def (was set) (was abi) (was missing) class }
+    ensures { answered result ≡ missing_def set.now abi.now missing.now class }
 {
     let row = set_rules::set_refusal(set, abi);
     if row != 0 {

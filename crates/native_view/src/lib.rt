@@ -1,7 +1,6 @@
 // What a generated class with a compiler table takes from its parent (`prepare_generated`): the native view of the parent's table, and
 // the methods that its compiler targets add.
 ghost use Rattle.std.specs.Prelude.{◌≡◌, false, cond, [], ◌++◌, ℕ, ◌+◌, ◌-◌, ◌≤◌, ◌<◌, min, length, set, drop, eqb};
-ghost use Rattle.words.specs.Lent.{was, after};
 ghost use Rattle.words.specs.Lists.{numbers, find, first_found, and_then, some};
 ghost use Rattle.words.specs.declared.Found.TheVariants.{Nothing};
 ghost use Rattle.class_sheet.specs.ClassSheet.{class_count, class_compiler_table, class_compiler_slots, compiler_word};
@@ -24,7 +23,7 @@ pub struct Native {
 
 // Whether class c's list holds method m.
 fn holds(ws: &[u32], m: u32, c: u32) -> bool
-    ensures { result ≡ holds (was ws) m c }
+    ensures { result ≡ holds ws.now m c }
 {
     let first = words::wide(class_sheet::class_first_method(ws, c));
     let n = words::wide(class_sheet::class_method_count(ws, c));
@@ -33,7 +32,7 @@ fn holds(ws: &[u32], m: u32, c: u32) -> bool
 
 // The class that method m belongs to: the first whose list holds it.
 fn owner(ws: &[u32], m: u32) -> Found
-    ensures { result ≡ find (holds (was ws) m) (numbers 1 (class_count (was ws))) }
+    ensures { result ≡ find (holds ws.now m) (numbers 1 (class_count ws.now)) }
 {
     let n = class_sheet::class_count(ws);
     let mut i: u32 = 0;
@@ -48,7 +47,7 @@ fn owner(ws: &[u32], m: u32) -> Found
 
 // The link state of the class that method m belongs to.
 fn owner_state(ws: &[u32], m: u32) -> u32
-    ensures { result ≡ owner_state (was ws) m }
+    ensures { result ≡ owner_state ws.now m }
 {
     match owner(ws, m) {
         Found::At(c) => class_sheet::class_link_state(ws, c),
@@ -66,7 +65,7 @@ fn fixed_here(
     i: u32,
     m: u32,
 ) -> bool
-    ensures { result ≡ on_found (fixed_of (was ws) (was text) (was abi) (was labels) (was abis) m) (eqb i) false }
+    ensures { result ≡ on_found (fixed_of ws.now text.now abi.now labels.now abis.now m) (eqb i) false }
 {
     match abi::fixed_of(ws, text, abi, labels, abis, m) {
         Found::At(j) => i == j,
@@ -84,7 +83,7 @@ fn is_emptied(
     i: u32,
     k: u32,
 ) -> bool
-    ensures { (w : ℕ) → result ≡ is_emptied (was ws) (was text) (was abi) (was labels) (was abis) i (record { word = w; method = method_of k; source = source_of k }) }
+    ensures { (w : ℕ) → result ≡ is_emptied ws.now text.now abi.now labels.now abis.now i (record { word = w; method = method_of k; source = source_of k }) }
 {
     match reading::method_of(k) {
         Found::At(m) => {
@@ -96,8 +95,8 @@ fn is_emptied(
 
 // Stores slot i of the view: word w and mark k, or an empty slot where it is gone.
 fn view_slot(vs: &mut [u32], vm: &mut [u32], i: u32, gone: bool, w: u32, k: u32)
-    ensures words { after vs ≡ set (was vs) i (cond gone 0 w) }
-    ensures marks { after vm ≡ set (was vm) i (cond gone (mark_of Nothing) k) }
+    ensures words { vs.new ≡ set vs.old i (cond gone 0 w) }
+    ensures marks { vm.new ≡ set vm.old i (cond gone (mark_of Nothing) k) }
 {
     if gone {
         reading::clear_slot(vs, vm, i);
@@ -120,7 +119,7 @@ fn view_entries(
     vm: &mut [u32],
 )
     requires { (n ≤ length vs.old) × (n ≤ length vm.old) }
-    ensures { entries_of (after vs) (after vm) n ≡ view_from (was ws) (was text) (was abi) (was labels) (was abis) 0 (entries_of (was ts) (was ms) n) }
+    ensures { entries_of vs.new vm.new n ≡ view_from ws.now text.now abi.now labels.now abis.now 0 (entries_of ts.now ms.now n) }
 {
     let mut i: u32 = 0;
     while i < n {
@@ -134,7 +133,7 @@ fn view_entries(
 
 // How many compiler targets class c has.
 pub fn compiler_count(ws: &[u32], c: u32) -> u32
-    ensures { result ≡ min (class_compiler_slots (was ws) c) 1024 }
+    ensures { result ≡ min (class_compiler_slots ws.now c) 1024 }
 {
     let n = class_sheet::class_compiler_slots(ws, c);
     if n < 1024 {
@@ -145,7 +144,7 @@ pub fn compiler_count(ws: &[u32], c: u32) -> u32
 
 // Class c's compiler target i.
 pub fn compiler_target(ws: &[u32], c: u32, i: u32) -> u32
-    ensures { result ≡ compiler_word (was ws) (class_compiler_table (was ws) c - 1 + i) }
+    ensures { result ≡ compiler_word ws.now (class_compiler_table ws.now c - 1 + i) }
 {
     let first = words::wide(words::before(class_sheet::class_compiler_table(ws, c)));
     words::word_at(ws, class_sheet::compilers_at(ws) + (first + words::wide(i)))
@@ -153,7 +152,7 @@ pub fn compiler_target(ws: &[u32], c: u32, i: u32) -> u32
 
 // Element i of the first n of an array, 0 past them.
 pub fn word_below(xs: &[u32], n: u32, i: u32) -> u32
-    ensures { result ≡ below (was xs) n i }
+    ensures { result ≡ below xs.now n i }
 {
     if i < n {
         return words::word_at(xs, words::wide(i));
@@ -163,7 +162,7 @@ pub fn word_below(xs: &[u32], n: u32, i: u32) -> u32
 
 // The slot that class c's ABI entry has at index i.
 fn class_slot(ws: &[u32], text: &[u8], abi: &[u32], labels: &[u8], i: u32, c: u32) -> Found
-    ensures { result ≡ and_then (class_abi (was ws) (was text) (was abi) (was labels) c) (slot_at (was abi) i) }
+    ensures { result ≡ and_then (class_abi ws.now text.now abi.now labels.now c) (slot_at abi.now i) }
 {
     match abi::class_abi(ws, text, abi, labels, c) {
         Found::At(a) => abi::slot_at(abi, i, a),
@@ -173,7 +172,7 @@ fn class_slot(ws: &[u32], text: &[u8], abi: &[u32], labels: &[u8], i: u32, c: u3
 
 // The slot that the first of class c's interfaces has at index i that has one there.
 fn interface_slot(ws: &[u32], text: &[u8], abi: &[u32], labels: &[u8], i: u32, c: u32) -> Found
-    ensures { result ≡ first_found (interface_slot (was ws) (was text) (was abi) (was labels) i) (own_interfaces (was ws) c) }
+    ensures { result ≡ first_found (interface_slot ws.now text.now abi.now labels.now i) (own_interfaces ws.now c) }
 {
     let first = class_sheet::class_first_interface(ws, c);
     let n = chain::interface_count(ws, c);
@@ -200,7 +199,7 @@ fn interface_slot(ws: &[u32], text: &[u8], abi: &[u32], labels: &[u8], i: u32, c
 
 // The slot at index i of class c's own ABI entry, else of its interfaces'.
 fn signature_slot(ws: &[u32], text: &[u8], abi: &[u32], labels: &[u8], i: u32, c: u32) -> Found
-    ensures { result ≡ first_found (slot_at (was abi) i) (signature_sources (was ws) (was text) (was abi) (was labels) c) }
+    ensures { result ≡ first_found (slot_at abi.now i) (signature_sources ws.now text.now abi.now labels.now c) }
 {
     match class_slot(ws, text, abi, labels, i, c) {
         Found::At(s) => Found::At(s),
@@ -210,7 +209,7 @@ fn signature_slot(ws: &[u32], text: &[u8], abi: &[u32], labels: &[u8], i: u32, c
 
 // What a target at index i takes its signature from, where the view's method has mark k.
 fn source_ref(ws: &[u32], text: &[u8], abi: &[u32], labels: &[u8], c: u32, i: u32, k: u32) -> Found
-    ensures { result ≡ source_ref (was ws) (was text) (was abi) (was labels) c i (method_of k) }
+    ensures { result ≡ source_ref ws.now text.now abi.now labels.now c i (method_of k) }
 {
     match reading::method_of(k) {
         Found::At(m) => Found::At(m),
@@ -223,7 +222,7 @@ fn source_ref(ws: &[u32], text: &[u8], abi: &[u32], labels: &[u8], c: u32, i: u3
 
 // The flags of a method that takes its signature from r: never 0x0400.
 fn ref_flags(ws: &[u32], r: u32) -> u32
-    ensures { result ≡ ref_flags (was ws) r }
+    ensures { result ≡ ref_flags ws.now r }
 {
     if class_sheet::METHOD_LIMIT <= r {
         return 1;
@@ -237,7 +236,7 @@ fn ref_flags(ws: &[u32], r: u32) -> u32
 
 // Whether class c declares a method of this name and descriptor.
 fn is_declared(ws: &[u32], text: &[u8], name: &[u8], descriptor: &[u8], c: u32) -> bool
-    ensures { result ≡ some (λ m. method_is (was ws) (was text) m (was name) (was descriptor)) (own_methods (was ws) c) }
+    ensures { result ≡ some (λ m. method_is ws.now text.now m name.now descriptor.now) (own_methods ws.now c) }
 {
     match chain::own_method(ws, text, name, descriptor, c) {
         Found::At(m) => true,
@@ -247,9 +246,9 @@ fn is_declared(ws: &[u32], text: &[u8], name: &[u8], descriptor: &[u8], c: u32) 
 
 // Stores one added method more, after n.
 fn push(refs: &mut [u32], flags: &mut [u32], lasts: &mut [u32], n: u32, r: u32, f: u32, t: u32)
-    ensures refs { after refs ≡ set (was refs) n r }
-    ensures flags { after flags ≡ set (was flags) n f }
-    ensures lasts { after lasts ≡ set (was lasts) n t }
+    ensures refs { refs.new ≡ set refs.old n r }
+    ensures flags { flags.new ≡ set flags.old n f }
+    ensures lasts { lasts.new ≡ set lasts.old n t }
 {
     words::put_word(refs, words::wide(n), r);
     words::put_word(flags, words::wide(n), f);
@@ -271,8 +270,8 @@ fn add_named<'a>(
     n: u32,
 ) -> u32
     requires { (n < 1024) × (1024 ≤ length refs.old) × (1024 ≤ length flags.old) × (1024 ≤ length lasts.old) }
-    ensures is { first_news (was ws) (was text) (was abi) (was labels) (after refs) (after flags) (after lasts) result
-        ≡ first_news (was ws) (was text) (was abi) (was labels) (was refs) (was flags) (was lasts) n ++ add_named (was ws) (was text) c (new_of (was ws) (was text) (was abi) (was labels) r t) [] }
+    ensures is { first_news ws.now text.now abi.now labels.now refs.new flags.new lasts.new result
+        ≡ first_news ws.now text.now abi.now labels.now refs.old flags.old lasts.old n ++ add_named ws.now text.now c (new_of ws.now text.now abi.now labels.now r t) [] }
     ensures count { result ≤ n + 1 }
 {
     let name = growth::ref_name(ws, text, abi, labels, r);
@@ -301,9 +300,9 @@ fn add<'a>(
     n: u32,
 ) -> u32
     requires { (n < 1024) × (SheetMark k) × (1024 ≤ length refs.old) × (1024 ≤ length flags.old) × (1024 ≤ length lasts.old) }
-    ensures is { first_news (was ws) (was text) (was abi) (was labels) (after refs) (after flags) (after lasts) result
-        ≡ first_news (was ws) (was text) (was abi) (was labels) (was refs) (was flags) (was lasts) n
-        ++ added_at (was ws) (was text) (was abi) (was labels) c i t (record { word = w; method = method_of k; source = source_of k }) }
+    ensures is { first_news ws.now text.now abi.now labels.now refs.new flags.new lasts.new result
+        ≡ first_news ws.now text.now abi.now labels.now refs.old flags.old lasts.old n
+        ++ added_at ws.now text.now abi.now labels.now c i t (record { word = w; method = method_of k; source = source_of k }) }
     ensures count { result ≤ n + 1 }
 {
     if (t == 0) | (t == w) {
@@ -330,8 +329,8 @@ fn add_methods<'a>(
     lasts: &mut [u32],
 ) -> u32
     requires { (SmallMarks vm.now n) × (1024 ≤ length refs.old) × (1024 ≤ length flags.old) × (1024 ≤ length lasts.old) }
-    ensures is { first_news (was ws) (was text) (was abi) (was labels) (after refs) (after flags) (after lasts) result
-        ≡ added_from (was ws) (was text) (was abi) (was labels) c (entries_of (was vs) (was vm) n) 0 (compiler_targets (was ws) c) }
+    ensures is { first_news ws.now text.now abi.now labels.now refs.new flags.new lasts.new result
+        ≡ added_from ws.now text.now abi.now labels.now c (entries_of vs.now vm.now n) 0 (compiler_targets ws.now c) }
     ensures count { result ≤ 1024 }
 {
     let count = compiler_count(ws, c);
@@ -368,8 +367,8 @@ fn view_parent<'a>(
 ) -> u32
     requires { (entries_of ts.now ms.now n ≡ parent_entries ws.now text.now abi.now labels.now area.now c)
         × (n ≤ length vs.old) × (n ≤ length vm.old) × (1024 ≤ length refs.old) × (1024 ≤ length flags.old) × (1024 ≤ length lasts.old) }
-    ensures view { entries_of (after vs) (after vm) n ≡ native_view (was ws) (was text) (was abi) (was labels) (was area) c }
-    ensures members { first_news (was ws) (was text) (was abi) (was labels) (after refs) (after flags) (after lasts) result ≡ added_methods (was ws) (was text) (was abi) (was labels) (was area) c }
+    ensures view { entries_of vs.new vm.new n ≡ native_view ws.now text.now abi.now labels.now area.now c }
+    ensures members { first_news ws.now text.now abi.now labels.now refs.new flags.new lasts.new result ≡ added_methods ws.now text.now abi.now labels.now area.now c }
     ensures count { result ≤ 1024 }
 {
     let mut at = [0u32; class_sheet::CLASS_LIMIT as usize];
@@ -396,14 +395,14 @@ pub fn native_view<'a>(
     flags: &mut [u32; 1024],
     lasts: &mut [u32; 1024],
 ) -> Native
-    ensures view { entries_of (after vs) (after vm) result.n ≡ native_view (was ws) (was text) (was abi) (was labels) (was area) c }
-    ensures parent { marks_in (after known) result.n ≡ methods_in (parent_entries (was ws) (was text) (was abi) (was labels) (was area) c) }
-    ensures members { first_news (was ws) (was text) (was abi) (was labels) (after refs) (after flags) (after lasts) result.added
-        ≡ added_methods (was ws) (was text) (was abi) (was labels) (was area) c }
+    ensures view { entries_of vs.new vm.new result.n ≡ native_view ws.now text.now abi.now labels.now area.now c }
+    ensures parent { marks_in known.new result.n ≡ methods_in (parent_entries ws.now text.now abi.now labels.now area.now c) }
+    ensures members { first_news ws.now text.now abi.now labels.now refs.new flags.new lasts.new result.added
+        ≡ added_methods ws.now text.now abi.now labels.now area.now c }
     ensures counts { (result.n ≤ 1024) × (result.added ≤ 1024) }
-    ensures arrays { (length (after vs)
-        ≡ 1024) × (length (after vm) ≡ 1024) × (length (after known) ≡ 1024) × (length (after refs) ≡ 1024) × (length (after flags) ≡ 1024) × (length (after lasts) ≡ 1024) }
-    ensures rest { drop result.n (after known) ≡ drop result.n (was known) }
+    ensures arrays { (length vs.new
+        ≡ 1024) × (length vm.new ≡ 1024) × (length known.new ≡ 1024) × (length refs.new ≡ 1024) × (length flags.new ≡ 1024) × (length lasts.new ≡ 1024) }
+    ensures rest { drop result.n known.new ≡ drop result.n known.old }
 {
     let mut ts = [0u32; 1024];
     let n = reading::parent_entries(ws, text, abi, labels, area, c, &mut ts, known);

@@ -5,7 +5,6 @@ ghost use Rattle.words.specs.Lists.{fold, some};
 ghost use Rattle.text.specs.Text.{same_bytes};
 ghost use Rattle.class_sheet.specs.ClassSheet.{class_limit, method_limit, method_flags, is_packaged};
 ghost use Rattle.linking.specs.Chain.{is_private, chain, own_methods, same_methods};
-ghost use Rattle.words.specs.Lent.{was, after};
 ghost use Rattle.linking.specs.Vtable.{read_slot, method_entry};
 ghost use Rattle.linking.specs.Packages.{package_of, package_at, open_to, is_overridden, overridden_in, overridden_along, overridden, table_has, put_taken, take_slots, build_packages, unfit_for_packages, bad_packages};
 ghost use Rattle.reading.specs.Arrays.{method_of, entries_of};
@@ -17,7 +16,7 @@ use words::Found;
 
 // The package of a class of this name: the bytes before the last slash.
 fn package_of(name: &[u8]) -> &[u8]
-    ensures { result.now ≡ package_of (was name) }
+    ensures { result.now ≡ package_of name.now }
 {
     let mut i: usize = name.len();
     while 0 < i {
@@ -31,7 +30,7 @@ fn package_of(name: &[u8]) -> &[u8]
 
 // Whether classes a and c are of one package.
 fn same_package(ws: &[u32], text: &[u8], a: u32, c: u32) -> bool
-    ensures { result ≡ same_bytes (package_at (was ws) (was text) a) (package_at (was ws) (was text) c) }
+    ensures { result ≡ same_bytes (package_at ws.now text.now a) (package_at ws.now text.now c) }
 {
     text::same(
         package_of(class_sheet::class_name(ws, text, a)),
@@ -41,7 +40,7 @@ fn same_package(ws: &[u32], text: &[u8], a: u32, c: u32) -> bool
 
 // Whether method k of class a is open to class c.
 fn open_to(ws: &[u32], text: &[u8], k: u32, a: u32, c: u32) -> bool
-    ensures { result ≡ open_to (was ws) (was text) k a c }
+    ensures { result ≡ open_to ws.now text.now k a c }
 {
     let flags = class_sheet::method_flags(ws, k);
     if (flags % 2 == 1) | (flags / 4 % 2 == 1) {
@@ -56,7 +55,7 @@ fn open_to(ws: &[u32], text: &[u8], k: u32, a: u32, c: u32) -> bool
 // Whether it is open to one of the first n classes of the list.
 fn open_to_some(ws: &[u32], text: &[u8], k: u32, a: u32, reached: &[u32], n: u32) -> bool
     requires { n ≤ length reached.now }
-    ensures { result ≡ some (open_to (was ws) (was text) k a) (take n (was reached)) }
+    ensures { result ≡ some (open_to ws.now text.now k a) (take n reached.now) }
 {
     let mut i: u32 = 0;
     while i < n {
@@ -73,7 +72,7 @@ fn open_to_some(ws: &[u32], text: &[u8], k: u32, a: u32, reached: &[u32], n: u32
 // Whether method k of class a is overridden by method m, which has reached the first n classes of the list.
 fn is_overridden(ws: &[u32], text: &[u8], m: u32, reached: &[u32], n: u32, a: u32, k: u32) -> bool
     requires { n ≤ length reached.now }
-    ensures { result ≡ is_overridden (same_methods (was ws) (was text)) (was ws) (was text) m (take n (was reached)) a k }
+    ensures { result ≡ is_overridden (same_methods ws.now text.now) ws.now text.now m (take n reached.now) a k }
 {
     if class_sheet::method_flags(ws, k) / 8 % 2 == 1 {
         return false;
@@ -92,7 +91,7 @@ fn is_overridden(ws: &[u32], text: &[u8], m: u32, reached: &[u32], n: u32, a: u3
 
 // Marks method k, if `yes`.
 fn mark_if(marks: &mut [u32; 512], k: u32, yes: bool)
-    ensures { after marks ≡ cond yes (mark (was marks) k) (was marks) }
+    ensures { marks.new ≡ cond yes (mark marks.old k) marks.old }
 {
     if yes {
         words::put_word(marks, words::wide(k), 1);
@@ -110,8 +109,8 @@ fn mark_class(
     marks: &mut [u32; 512],
 ) -> bool
     requires { n ≤ length reached.now }
-    ensures marked { after marks ≡ fold mark (was marks) (overridden_in (same_methods (was ws) (was text)) (was ws) (was text) m (take n (was reached)) a) }
-    ensures is { result ≡ some (λ k. not (is_private (method_flags (was ws) k))) (overridden_in (same_methods (was ws) (was text)) (was ws) (was text) m (take n (was reached)) a) }
+    ensures marked { marks.new ≡ fold mark marks.old (overridden_in (same_methods ws.now text.now) ws.now text.now m (take n reached.now) a) }
+    ensures is { result ≡ some (λ k. not (is_private (method_flags ws.now k))) (overridden_in (same_methods ws.now text.now) ws.now text.now m (take n reached.now) a) }
 {
     let first = class_sheet::class_first_method(ws, a);
     let count = chain::method_count(ws, a);
@@ -129,7 +128,7 @@ fn mark_class(
 // Puts class a after the first n of the list, if `yes`, and answers how many there are.
 fn push_if(reached: &mut [u32], n: u32, a: u32, yes: bool) -> u32
     requires { (n < length reached.old) × (n < 64) }
-    ensures is { take result (after reached) ≡ cond yes (take n (was reached) ++ (a ∷ [])) (take n (was reached)) }
+    ensures is { take result reached.new ≡ cond yes (take n reached.old ++ (a ∷ [])) (take n reached.old) }
     ensures count { (n ≤ result) × (result ≤ n + 1) }
 {
     if yes {
@@ -150,7 +149,7 @@ fn mark_above(
     marks: &mut [u32; 512],
 )
     requires { n + a ≤ class_limit }
-    ensures { after marks ≡ fold mark (was marks) (overridden_along (same_methods (was ws) (was text)) (was ws) (was text) m (take n (was reached)) (chain (was ws) a)) }
+    ensures { marks.new ≡ fold mark marks.old (overridden_along (same_methods ws.now text.now) ws.now text.now m (take n reached.old) (chain ws.now a)) }
 {
     if a == 0 {
         return;
@@ -163,7 +162,7 @@ fn mark_above(
 // Marks the methods that method m of class c overrides; what is marked before stays so.
 fn mark_overridden(ws: &[u32], text: &[u8], c: u32, m: u32, marks: &mut [u32; 512])
     requires { c ≤ class_limit }
-    ensures { after marks ≡ fold mark (was marks) (overridden (same_methods (was ws) (was text)) (was ws) (was text) c m) }
+    ensures { marks.new ≡ fold mark marks.old (overridden (same_methods ws.now text.now) ws.now text.now c m) }
 {
     if !chain::is_virtual(class_sheet::method_flags(ws, m)) {
         return;
@@ -189,8 +188,8 @@ fn lay_class(
     tops: &mut [u32],
 )
     requires { length tops.old ≡ 1024 }
-    ensures { (i : ℕ) → i < 1024 → method_of (get_or (after tops) i 0)
-        ≡ cond (table_has (was ws) i d) (read_slot (was ws) (was text) (was abi) (was labels) (was area) d i).method (method_of (get_or (was tops) i 0)) }
+    ensures { (i : ℕ) → i < 1024 → method_of (get_or tops.new i 0)
+        ≡ cond (table_has ws.now i d) (read_slot ws.now text.now abi.now labels.now area.now d i).method (method_of (get_or tops.old i 0)) }
 {
     if class_sheet::class_table_place(ws, d) == 0 {
         return;
@@ -216,7 +215,7 @@ fn lay_chain(
     cs: &mut [u32; 1024],
     tops: &mut [u32; 1024],
 )
-    ensures { LaidUp (was ws) (was text) (was abi) (was labels) (was area) d (was tops) (after tops) }
+    ensures { LaidUp ws.now text.now abi.now labels.now area.now d tops.old tops.new }
 {
     if d == 0 {
         return;
@@ -247,7 +246,7 @@ fn introducing_marks(
     tops: &mut [u32; 1024],
 )
     requires { tops.old ≡ replicate 1024 0 }
-    ensures { Tops (was ws) (was text) (was abi) (was labels) (was area) p (after tops) }
+    ensures { Tops ws.now text.now abi.now labels.now area.now p tops.new }
 {
     let mut ps = [0u32; 1024];
     let mut qs = [0u32; 1024];
@@ -261,7 +260,7 @@ fn introducing_marks(
 
 // Whether the slot whose introducing method has mark k is taken.
 fn is_taken(k: u32, marks: &[u32; 512]) -> bool
-    ensures { result ≡ taken_by (method_of k) (was marks) }
+    ensures { result ≡ taken_by (method_of k) marks.now }
 {
     match reading::method_of(k) {
         Found::At(m) => words::word_at(marks, words::wide(m)) == 1,
@@ -271,8 +270,8 @@ fn is_taken(k: u32, marks: &[u32; 512]) -> bool
 
 // Stores word w and mark k as slot i, if `yes`.
 fn store_if(ts: &mut [u32], ms: &mut [u32], i: u32, w: u32, k: u32, yes: bool)
-    ensures words { after ts ≡ cond yes (set (was ts) i w) (was ts) }
-    ensures marks { after ms ≡ cond yes (set (was ms) i k) (was ms) }
+    ensures words { ts.new ≡ cond yes (set ts.old i w) ts.old }
+    ensures marks { ms.new ≡ cond yes (set ms.old i k) ms.old }
 {
     if yes {
         reading::put_slot(ts, ms, i, w, k);
@@ -290,9 +289,9 @@ fn store_taken(
     k: u32,
 ) -> bool
     requires { (n ≤ 1024) × (n ≤ length ts.old) × (n ≤ length ms.old) }
-    ensures words { after ts ≡ fold (λ l j. set l j w) (was ts) (taken_in (was tops) (was marks) n) }
-    ensures marks { after ms ≡ fold (λ l j. set l j k) (was ms) (taken_in (was tops) (was marks) n) }
-    ensures is { result ≡ is_some (taken_in (was tops) (was marks) n) }
+    ensures words { ts.new ≡ fold (λ l j. set l j w) ts.old (taken_in tops.now marks.now n) }
+    ensures marks { ms.new ≡ fold (λ l j. set l j k) ms.old (taken_in tops.now marks.now n) }
+    ensures is { result ≡ is_some (taken_in tops.now marks.now n) }
 {
     let mut taken = false;
     let mut i: u32 = 0;
@@ -317,8 +316,8 @@ fn put_taken(
     size: u32,
 ) -> u32
     requires { (m < method_limit) × (n ≤ 1024) × (n ≤ size) × (size < 3584) × (size < length ts.old) × (size < length ms.old) }
-    ensures is { entries_of (after ts) (after ms) result
-        ≡ put_taken (method_entry (was ws) m) (entries_of (was ts) (was ms) size) (taken_in (was tops) (was marks) n) }
+    ensures is { entries_of ts.new ms.new result
+        ≡ put_taken (method_entry ws.now m) (entries_of ts.old ms.old size) (taken_in tops.now marks.now n) }
     ensures count { (size ≤ result) × (result ≤ size + 1) }
 {
     let w = class_sheet::method_target(ws, m);
@@ -343,8 +342,8 @@ fn take_slots(
     size: u32,
 ) -> u32
     requires { (c ≤ class_limit) × (m < method_limit) × (n ≤ 1024) × (n ≤ size) × (size < 3584) × (size < length ts.old) × (size < length ms.old) }
-    ensures is { entries_of (after ts) (after ms) result
-        ≡ take_slots (same_methods (was ws) (was text)) (was ws) (was text) (top_of (was tops)) n c (entries_of (was ts) (was ms) size) m }
+    ensures is { entries_of ts.new ms.new result
+        ≡ take_slots (same_methods ws.now text.now) ws.now text.now (top_of tops.now) n c (entries_of ts.old ms.old size) m }
     ensures count { (size ≤ result) × (result ≤ size + 1) }
 {
     if !chain::eligible(ws, text, m) {
@@ -366,8 +365,8 @@ fn take_all(
     ms: &mut [u32],
 ) -> u32
     requires { (c ≤ class_limit) × (n ≤ 1024) × (3584 ≤ length ts.old) × (3584 ≤ length ms.old) }
-    ensures is { entries_of (after ts) (after ms) result
-        ≡ fold (take_slots (same_methods (was ws) (was text)) (was ws) (was text) (top_of (was tops)) n c) (entries_of (was ts) (was ms) n) (own_methods (was ws) c) }
+    ensures is { entries_of ts.new ms.new result
+        ≡ fold (take_slots (same_methods ws.now text.now) ws.now text.now (top_of tops.now) n c) (entries_of ts.old ms.old n) (own_methods ws.now c) }
     ensures count { result ≤ 1536 }
 {
     let first = class_sheet::class_first_method(ws, c);
@@ -393,10 +392,10 @@ pub fn build_packages(
     ts: &mut [u32; 3584],
     ms: &mut [u32; 3584],
 ) -> u32
-    ensures is { entries_of (after ts) (after ms) result
-        ≡ build_packages (same_methods (was ws) (was text)) (was ws) (was text) (was abi) (was labels) (was area) c }
+    ensures is { entries_of ts.new ms.new result
+        ≡ build_packages (same_methods ws.now text.now) ws.now text.now abi.now labels.now area.now c }
     ensures count { result ≤ 1536 }
-    ensures arrays { (length (after ts) ≡ 3584) × (length (after ms) ≡ 3584) }
+    ensures arrays { (length ts.new ≡ 3584) × (length ms.new ≡ 3584) }
 {
     let n = reading::inherited_entries(ws, text, abi, labels, area, c, ts, ms);
     if class_sheet::CLASS_LIMIT < c {
@@ -419,7 +418,7 @@ pub fn build_packages(
 
 // Whether class d may not stand on the chain of a class of kind 3.
 fn is_unfit(ws: &[u32], text: &[u8], abi: &[u32], labels: &[u8], d: u32) -> bool
-    ensures { result ≡ unfit_for_packages (was ws) (was text) (was abi) (was labels) d }
+    ensures { result ≡ unfit_for_packages ws.now text.now abi.now labels.now d }
 {
     if class_sheet::class_kind(ws, d) != class_sheet::PACKAGED {
         return true;
@@ -435,7 +434,7 @@ fn is_unfit(ws: &[u32], text: &[u8], abi: &[u32], labels: &[u8], d: u32) -> bool
 
 // Whether a class of c's chain is so.
 fn has_unfit(ws: &[u32], text: &[u8], abi: &[u32], labels: &[u8], c: u32) -> bool
-    ensures { result ≡ some (unfit_for_packages (was ws) (was text) (was abi) (was labels)) (chain (was ws) c) }
+    ensures { result ≡ some (unfit_for_packages ws.now text.now abi.now labels.now) (chain ws.now c) }
 {
     if c == 0 {
         return false;
@@ -448,7 +447,7 @@ fn has_unfit(ws: &[u32], text: &[u8], abi: &[u32], labels: &[u8], c: u32) -> boo
 
 // Whether a class of c's chain is of kind 3.
 fn has_packaged(ws: &[u32], c: u32) -> bool
-    ensures { result ≡ some (is_packaged (was ws)) (chain (was ws) c) }
+    ensures { result ≡ some (is_packaged ws.now) (chain ws.now c) }
 {
     if c == 0 {
         return false;
@@ -461,7 +460,7 @@ fn has_packaged(ws: &[u32], c: u32) -> bool
 
 // Row 26.
 pub fn bad_packages(ws: &[u32], text: &[u8], abi: &[u32], labels: &[u8], c: u32) -> bool
-    ensures { result ≡ bad_packages (was ws) (was text) (was abi) (was labels) c }
+    ensures { result ≡ bad_packages ws.now text.now abi.now labels.now c }
 {
     if class_sheet::class_kind(ws, c) == class_sheet::PACKAGED {
         return has_unfit(ws, text, abi, labels, c);

@@ -3,7 +3,6 @@
 ghost use Rattle.std.specs.Prelude.{◌≡◌, true, false, List, [], ℕ, ◌≤◌, length};
 ghost use Rattle.class_sheet.specs.ClassSheet.{class_kind, is_built_kind};
 ghost use Rattle.linking.specs.Link.{built_table, generated_table, generated_methods, plan_built, plan_generated, plan_array, plan};
-ghost use Rattle.words.specs.Lent.{was, after};
 ghost use Rattle.vtable.specs.Arrays.{step_of, step_count};
 ghost use Rattle.growth.specs.News.{first_news};
 ghost use Rattle.plan.specs.Plans.{few_slots, step_row, table_row, table_of, no_plan, plan_from, Plans, Keeps, KeepAll};
@@ -100,9 +99,9 @@ fn table_row(row: u32, n: u32) -> u32
 
 // The table that building came to, with so many methods to add; its marks go behind the words.
 fn step_table(s: Step, added: u32, ms: &[u32; 3584], ts: &mut [u32; 3584]) -> Table
-    ensures is { table_of result (after ts) ≡ few_slots (step_of s (was ts) (was ms)) }
+    ensures is { table_of result ts.new ≡ few_slots (step_of s ts.old ms.now) }
     ensures members { result.added ≡ added }
-    ensures array { length (after ts) ≡ 3584 }
+    ensures array { length ts.new ≡ 3584 }
 {
     let n = step_count(s);
     words::copy_words(ms, 0, words::wide(n), ts, MARKS);
@@ -123,10 +122,10 @@ fn built_table<'a>(
     c: u32,
     ts: &mut [u32; 3584],
 ) -> Table
-    ensures is { table_of result (after ts)
-        ≡ few_slots (built_table (was ws) (was text) (was abi) (was labels) (was area) c) }
+    ensures is { table_of result ts.new
+        ≡ few_slots (built_table ws.now text.now abi.now labels.now area.now c) }
     ensures members { result.added ≡ 0 }
-    ensures array { length (after ts) ≡ 3584 }
+    ensures array { length ts.new ≡ 3584 }
 {
     let mut ms = [0u32; 3584];
     if class_sheet::class_kind(ws, c) == class_sheet::PACKAGED {
@@ -154,14 +153,14 @@ fn generated_table<'a>(
     flags: &mut [u32; 1024],
     lasts: &mut [u32; 1024],
 ) -> Table
-    ensures is { table_of result (after ts)
-        ≡ few_slots (generated_table (was ws) (was text) (was abi) (was labels) (was area) c) }
-    ensures members { first_news (was ws) (was text) (was abi) (was labels)
-        (after refs) (after flags) (after lasts) result.added
-        ≡ generated_methods (was ws) (was text) (was abi) (was labels) (was area) c }
+    ensures is { table_of result ts.new
+        ≡ few_slots (generated_table ws.now text.now abi.now labels.now area.now c) }
+    ensures members { first_news ws.now text.now abi.now labels.now
+        refs.new flags.new lasts.new result.added
+        ≡ generated_methods ws.now text.now abi.now labels.now area.now c }
     ensures count { result.added ≤ 1024 }
-    ensures arrays { KeepAll (was ts) (was refs) (was flags) (was lasts)
-        (after ts) (after refs) (after flags) (after lasts) }
+    ensures arrays { KeepAll ts.old refs.old flags.old lasts.old
+        ts.new refs.new flags.new lasts.new }
 {
     let mut ms = [0u32; 3584];
     if class_sheet::class_compiler_table(ws, c) == 0 {
@@ -188,10 +187,10 @@ fn plan_built<'a>(
     lasts: &mut [u32; 1024],
 ) -> Plan
     requires { is_built_kind (class_kind ws.now c) ≡ true }
-    ensures is { Plans plan_built (was ws) (was text) (was abi) (was labels) (was area) c
-        result (after ts) (after refs) (after flags) (after lasts) }
-    ensures arrays { KeepAll (was ts) (was refs) (was flags) (was lasts)
-        (after ts) (after refs) (after flags) (after lasts) }
+    ensures is { Plans plan_built ws.now text.now abi.now labels.now area.now c
+        result ts.new refs.new flags.new lasts.new }
+    ensures arrays { KeepAll ts.old refs.old flags.old lasts.old
+        ts.new refs.new flags.new lasts.new }
 {
     let f = field::built_fields(ws, text, abi, labels, c, refs, flags, lasts);
     if f.row != 0 {
@@ -215,10 +214,10 @@ fn plan_generated<'a>(
     lasts: &mut [u32; 1024],
 ) -> Plan
     requires { is_built_kind (class_kind ws.now c) ≡ false }
-    ensures is { Plans plan_generated (was ws) (was text) (was abi) (was labels) (was area) c
-        result (after ts) (after refs) (after flags) (after lasts) }
-    ensures arrays { KeepAll (was ts) (was refs) (was flags) (was lasts)
-        (after ts) (after refs) (after flags) (after lasts) }
+    ensures is { Plans plan_generated ws.now text.now abi.now labels.now area.now c
+        result ts.new refs.new flags.new lasts.new }
+    ensures arrays { KeepAll ts.old refs.old flags.old lasts.old
+        ts.new refs.new flags.new lasts.new }
 {
     let f = field::generated_fields(ws, text, c);
     if f.row != 0 {
@@ -239,9 +238,9 @@ fn plan_array(
     ts: &mut [u32; 3584],
 ) -> Plan
     requires { is_built_kind (class_kind ws.now c) ≡ false }
-    ensures is { (refs flags lasts : List ℕ) → Plans plan_array (was ws) (was text) (was abi) (was labels)
-        (was area) c result (after ts) refs flags lasts }
-    ensures array { Keeps 3584 (was ts) (after ts) }
+    ensures is { (refs flags lasts : List ℕ) → Plans plan_array ws.now text.now abi.now labels.now
+        area.now c result ts.new refs flags lasts }
+    ensures array { Keeps 3584 ts.old ts.new }
 {
     let mut ms = [0u32; 3584];
     let n = reading::inherited_entries(ws, text, abi, labels, area, c, ts, &mut ms);
@@ -271,10 +270,10 @@ pub fn plan_link<'a>(
     flags: &mut [u32; 1024],
     lasts: &mut [u32; 1024],
 ) -> Plan
-    ensures is { Plans plan (was ws) (was text) (was abi) (was labels) (was area) c
-        result (after ts) (after refs) (after flags) (after lasts) }
-    ensures arrays { KeepAll (was ts) (was refs) (was flags) (was lasts)
-        (after ts) (after refs) (after flags) (after lasts) }
+    ensures is { Plans plan ws.now text.now abi.now labels.now area.now c
+        result ts.new refs.new flags.new lasts.new }
+    ensures arrays { KeepAll ts.old refs.old flags.old lasts.old
+        ts.new refs.new flags.new lasts.new }
 {
     let kind = class_sheet::class_kind(ws, c);
     if class_sheet::is_built_kind(kind) {

@@ -1,6 +1,5 @@
 // A list of links and asks, made one after the other on the same lent memory: the program that demand 3 speaks of.
 ghost use Rattle.std.specs.Prelude.{◌≡◌, ◌+◌, ◌<◌, ◌^◌};
-ghost use Rattle.words.specs.Lent.{was, after};
 ghost use Rattle.calls.specs.Calls.{start};
 ghost use Rattle.replay.specs.Replay.{call_of, Called, answer_words, over_at};
 ghost use Rattle.replay.specs.Replayed.{Made};
@@ -16,7 +15,7 @@ fn one_call(
     call: &[u32],
     stubs: &[u32],
 ) -> Answer
-    ensures { Called (was abi) (start (was set) (was area) (was missing)) (call_of (was call) (was stubs)) result (after set) (after area) (after missing) }
+    ensures { Called abi.now (start set.old area.old missing.old) (call_of call.now stubs.now) result set.new area.new missing.new }
 {
     let class = words::word_at(call, 1);
     let interface = words::word_at(call, 2);
@@ -60,8 +59,8 @@ pub fn replay(
     stubs: &[u32],
     answers: &mut [u32],
 )
-    ensures { Made (was abi) (start (was set) (was area) (was missing)) (was answers) (was calls) (was stubs)
-        (start (after set) (after area) (after missing)) (after answers) }
+    ensures { Made abi.now (start set.old area.old missing.old) answers.old calls.now stubs.now
+        (start set.new area.new missing.new) answers.new }
 {
     let n = calls.len() / 5;
     let mut i: usize = 0;

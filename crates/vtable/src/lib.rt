@@ -1,6 +1,5 @@
 // Virtual tables that are built (vtable.rs): `build_methods`, `build_interface_methods`.
 ghost use Rattle.std.specs.Prelude.{◌≡◌, ◌≤◌, ◌<◌, ◌+◌, ◌-◌, length, get_or, replicate, [], ◌∷◌, ◌++◌, not, false, eqb};
-ghost use Rattle.words.specs.Lent.{was, after};
 ghost use Rattle.class_sheet.specs.ClassSheet.{method_limit};
 ghost use Rattle.words.specs.Lists.{fold, keep};
 ghost use Rattle.words.specs.declared.Found.TheVariants.{At, Nothing};
@@ -26,7 +25,7 @@ pub enum Step {
 
 // Whether the method with mark k has this name and descriptor.
 fn mark_is(ws: &[u32], text: &[u8], name: &[u8], descriptor: &[u8], k: u32) -> bool
-    ensures { result ≡ mark_is (was ws) (was text) (was name) (was descriptor) k }
+    ensures { result ≡ mark_is ws.now text.now name.now descriptor.now k }
 {
     match reading::method_of(k) {
         Found::At(m) => chain::method_is(ws, text, m, name, descriptor),
@@ -36,7 +35,7 @@ fn mark_is(ws: &[u32], text: &[u8], name: &[u8], descriptor: &[u8], k: u32) -> b
 
 // Whether slot i has this signature.
 fn slot_is(ws: &[u32], text: &[u8], name: &[u8], descriptor: &[u8], ms: &[u32], i: u32) -> bool
-    ensures { result ≡ mark_is (was ws) (was text) (was name) (was descriptor) (get_or (was ms) i 0) }
+    ensures { result ≡ mark_is ws.now text.now name.now descriptor.now (get_or ms.now i 0) }
 {
     mark_is(
         ws,
@@ -49,7 +48,7 @@ fn slot_is(ws: &[u32], text: &[u8], name: &[u8], descriptor: &[u8], ms: &[u32], 
 
 // The first of n slots that has this signature.
 fn find_slot(ws: &[u32], text: &[u8], name: &[u8], descriptor: &[u8], ms: &[u32], n: u32) -> Found
-    ensures { result ≡ slot_in (was ws) (was text) (was name) (was descriptor) (was ms) n }
+    ensures { result ≡ slot_in ws.now text.now name.now descriptor.now ms.now n }
 {
     let mut i: u32 = 0;
     while i < n {
@@ -64,7 +63,7 @@ fn find_slot(ws: &[u32], text: &[u8], name: &[u8], descriptor: &[u8], ms: &[u32]
 // Extends the n slots with empty ones to `size`, and answers how many there are.
 fn extend(ts: &mut [u32], ms: &mut [u32], n: u32, size: u32) -> u32
     requires { (n ≤ 1024) × (size ≤ 1024) × (1024 ≤ length ts.old) × (1024 ≤ length ms.old) }
-    ensures is { entries_of (after ts) (after ms) result ≡ entries_of (was ts) (was ms) n ++ replicate (size - n) empty }
+    ensures is { entries_of ts.new ms.new result ≡ entries_of ts.old ms.old n ++ replicate (size - n) empty }
     ensures count { result ≤ 1024 }
 {
     let mut j: u32 = n;
@@ -89,8 +88,8 @@ fn relay_entry(
     n: u32,
 ) -> u32
     requires { (n < length ts.old) × (n < length ms.old) × (n < 3584) }
-    ensures is { entries_of (after ts) (after ms) result
-        ≡ relay_step (was ws) (was text) (was abi) (was labels) (was abis) (entries_of (was ts) (was ms) n) (record { word = w; method = method_of k; source = source_of k }) }
+    ensures is { entries_of ts.new ms.new result
+        ≡ relay_step ws.now text.now abi.now labels.now abis.now (entries_of ts.old ms.old n) (record { word = w; method = method_of k; source = source_of k }) }
     ensures count { result ≤ n + 1 }
 {
     let Found::At(m) = reading::method_of(k) else {
@@ -123,7 +122,7 @@ fn relay(
     n: u32,
 ) -> u32
     requires { (m ≤ 1024) × (n ≤ 1024) × (3584 ≤ length ts.old) × (3584 ≤ length ms.old) }
-    ensures is { entries_of (after ts) (after ms) result ≡ fold (relay_step (was ws) (was text) (was abi) (was labels) (was abis)) (entries_of (was ts) (was ms) n) (entries_of (was ps) (was qs) m) }
+    ensures is { entries_of ts.new ms.new result ≡ fold (relay_step ws.now text.now abi.now labels.now abis.now) (entries_of ts.old ms.old n) (entries_of ps.now qs.now m) }
     ensures count { result ≤ 2048 }
 {
     let mut k: u32 = n;
@@ -150,7 +149,7 @@ fn relay_parent(
     ms: &mut [u32],
 ) -> u32
     requires { (3584 ≤ length ts.old) × (3584 ≤ length ms.old) }
-    ensures is { entries_of (after ts) (after ms) result ≡ relayed (was ws) (was text) (was abi) (was labels) (was abis) (parent_entries (was ws) (was text) (was abi) (was labels) (was area) c) }
+    ensures is { entries_of ts.new ms.new result ≡ relayed ws.now text.now abi.now labels.now abis.now (parent_entries ws.now text.now abi.now labels.now area.now c) }
     ensures count { result ≤ 2048 }
 {
     let mut ps = [0u32; 1024];
@@ -173,9 +172,9 @@ fn extend_parent(
     ts: &mut [u32; 3584],
     ms: &mut [u32; 3584],
 ) -> u32
-    ensures is { entries_of (after ts) (after ms) result ≡ extended (was abi) (was abis) (parent_entries (was ws) (was text) (was abi) (was labels) (was area) c) }
+    ensures is { entries_of ts.new ms.new result ≡ extended abi.now abis.now (parent_entries ws.now text.now abi.now labels.now area.now c) }
     ensures count { result ≤ 1024 }
-    ensures arrays { (length (after ts) ≡ 3584) × (length (after ms) ≡ 3584) }
+    ensures arrays { (length ts.new ≡ 3584) × (length ms.new ≡ 3584) }
 {
     let n = reading::inherited_entries(ws, text, abi, labels, area, c, ts, ms);
     extend(ts, ms, n, abi::largest_size(abi, abis))
@@ -194,9 +193,9 @@ fn inherited_table(
     ms: &mut [u32; 3584],
 ) -> u32
     requires { abis.now ≡ chain_abi ws.now text.now abi.now labels.now c }
-    ensures is { entries_of (after ts) (after ms) result ≡ inherited_table (was ws) (was text) (was abi) (was labels) (was area) c }
+    ensures is { entries_of ts.new ms.new result ≡ inherited_table ws.now text.now abi.now labels.now area.now c }
     ensures count { result ≤ 2048 }
-    ensures arrays { (length (after ts) ≡ 3584) × (length (after ms) ≡ 3584) }
+    ensures arrays { (length ts.new ≡ 3584) × (length ms.new ≡ 3584) }
 {
     match abi::class_abi(ws, text, abi, labels, c) {
         Found::At(a) => relay_parent(ws, text, abi, labels, area, abis, c, ts, ms),
@@ -216,7 +215,7 @@ fn is_elsewhere(slot: Found, i: u32) -> bool
 
 // Whether slot i of n holds a method of another signature than method m's.
 fn holds_other(ws: &[u32], text: &[u8], m: u32, ms: &[u32], n: u32, i: u32) -> bool
-    ensures { result ≡ other_in (was ws) (was text) m (was ms) n i }
+    ensures { result ≡ other_in ws.now text.now m ms.now n i }
 {
     if n <= i {
         return false;
@@ -246,7 +245,7 @@ fn put_fixed(
     n: u32,
 ) -> Step
     requires { (m < method_limit) × (n ≤ length ts.old) × (n ≤ length ms.old) }
-    ensures is { step_of result (after ts) (after ms) ≡ put_method (was ws) (was text) (At i) slot m (entries_of (was ts) (was ms) n) }
+    ensures is { step_of result ts.new ms.new ≡ put_method ws.now text.now (At i) slot m (entries_of ts.old ms.old n) }
     ensures count { step_count result ≤ n }
 {
     let moved = is_elsewhere(slot, i);
@@ -273,7 +272,7 @@ fn put_found(
     n: u32,
 ) -> Step
     requires { (m < method_limit) × (n < 3584) × (n < length ts.old) × (n < length ms.old) }
-    ensures is { step_of result (after ts) (after ms) ≡ put_method (was ws) (was text) Nothing slot m (entries_of (was ts) (was ms) n) }
+    ensures is { step_of result ts.new ms.new ≡ put_method ws.now text.now Nothing slot m (entries_of ts.old ms.old n) }
     ensures count { step_count result ≤ n + 1 }
 {
     let target = class_sheet::method_target(ws, m);
@@ -303,7 +302,7 @@ fn add_method(
     n: u32,
 ) -> Step
     requires { (m < method_limit) × (n < 3584) × (n < length ts.old) × (n < length ms.old) }
-    ensures is { step_of result (after ts) (after ms) ≡ add_method (was ws) (was text) (was abi) (was labels) (was abis) m (entries_of (was ts) (was ms) n) }
+    ensures is { step_of result ts.new ms.new ≡ add_method ws.now text.now abi.now labels.now abis.now m (entries_of ts.old ms.old n) }
     ensures count { step_count result ≤ n + 1 }
 {
     if !chain::eligible(ws, text, m) {
@@ -336,7 +335,7 @@ fn add_methods(
     n: u32,
 ) -> Step
     requires { (n ≤ 2048) × (3584 ≤ length ts.old) × (3584 ≤ length ms.old) }
-    ensures is { step_of result (after ts) (after ms) ≡ add_methods (was ws) (was text) (was abi) (was labels) (was abis) (own_methods (was ws) c) (entries_of (was ts) (was ms) n) }
+    ensures is { step_of result ts.new ms.new ≡ add_methods ws.now text.now abi.now labels.now abis.now (own_methods ws.now c) (entries_of ts.old ms.old n) }
     ensures count { step_count result ≤ 2560 }
 {
     let first = class_sheet::class_first_method(ws, c);
@@ -373,9 +372,9 @@ fn build_with(
     ms: &mut [u32; 3584],
 ) -> Step
     requires { abis.now ≡ chain_abi ws.now text.now abi.now labels.now c }
-    ensures is { step_of result (after ts) (after ms) ≡ build_methods (was ws) (was text) (was abi) (was labels) (was area) c }
+    ensures is { step_of result ts.new ms.new ≡ build_methods ws.now text.now abi.now labels.now area.now c }
     ensures count { step_count result ≤ 2560 }
-    ensures arrays { (length (after ts) ≡ 3584) × (length (after ms) ≡ 3584) }
+    ensures arrays { (length ts.new ≡ 3584) × (length ms.new ≡ 3584) }
 {
     let n = inherited_table(ws, text, abi, labels, area, abis, c, ts, ms);
     add_methods(ws, text, abi, labels, abis, c, ts, ms, n)
@@ -394,9 +393,9 @@ pub fn build_methods(
     ts: &mut [u32; 3584],
     ms: &mut [u32; 3584],
 ) -> Step
-    ensures is { step_of result (after ts) (after ms) ≡ build_methods (was ws) (was text) (was abi) (was labels) (was area) c }
+    ensures is { step_of result ts.new ms.new ≡ build_methods ws.now text.now abi.now labels.now area.now c }
     ensures count { step_count result ≤ 2560 }
-    ensures arrays { (length (after ts) ≡ 3584) × (length (after ms) ≡ 3584) }
+    ensures arrays { (length ts.new ≡ 3584) × (length ms.new ≡ 3584) }
 {
     let mut at = [0u32; class_sheet::CLASS_LIMIT as usize];
     let n = abi::chain_abi(ws, text, abi, labels, c, &mut at);
@@ -407,7 +406,7 @@ pub fn build_methods(
 // Puts method m after the n slots, if it is eligible.
 fn add_eligible(ws: &[u32], text: &[u8], m: u32, ts: &mut [u32], ms: &mut [u32], n: u32) -> u32
     requires { (m < method_limit) × (n < 3584) × (n < length ts.old) × (n < length ms.old) }
-    ensures is { entries_of (after ts) (after ms) result ≡ entries_of (was ts) (was ms) n ++ method_entries (was ws) (keep (eligible (was ws) (was text)) (m ∷ [])) }
+    ensures is { entries_of ts.new ms.new result ≡ entries_of ts.old ms.old n ++ method_entries ws.now (keep (eligible ws.now text.now) (m ∷ [])) }
     ensures count { result ≤ n + 1 }
 {
     if chain::eligible(ws, text, m) {
@@ -421,7 +420,7 @@ fn add_eligible(ws: &[u32], text: &[u8], m: u32, ts: &mut [u32], ms: &mut [u32],
 // Fills the arrays with class c's own eligible methods, and answers how many there are.
 fn eligible_methods(ws: &[u32], text: &[u8], c: u32, ts: &mut [u32], ms: &mut [u32]) -> u32
     requires { (method_limit ≤ length ts.old) × (method_limit ≤ length ms.old) }
-    ensures is { entries_of (after ts) (after ms) result ≡ build_interface_methods (was ws) (was text) c }
+    ensures is { entries_of ts.new ms.new result ≡ build_interface_methods ws.now text.now c }
     ensures count { result ≤ method_limit }
 {
     let first = class_sheet::class_first_method(ws, c);
@@ -444,9 +443,9 @@ pub fn build_interface_methods(
     ts: &mut [u32; 3584],
     ms: &mut [u32; 3584],
 ) -> u32
-    ensures is { entries_of (after ts) (after ms) result ≡ build_interface_methods (was ws) (was text) c }
+    ensures is { entries_of ts.new ms.new result ≡ build_interface_methods ws.now text.now c }
     ensures count { result ≤ method_limit }
-    ensures arrays { (length (after ts) ≡ 3584) × (length (after ms) ≡ 3584) }
+    ensures arrays { (length ts.new ≡ 3584) × (length ms.new ≡ 3584) }
 {
     eligible_methods(ws, text, c, ts, ms)
 }
