@@ -1,1 +1,3 @@
 // What holds of static words: this crate has no code, only specs/ and proofs/.
+
+#![tactic(auto)]
