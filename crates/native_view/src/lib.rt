@@ -1,5 +1,7 @@
 // What a generated class with a compiler table takes from its parent (`prepare_generated`): the native view of the parent's table, and
 // the methods that its compiler targets add.
+#![tactic(auto)]
+
 ghost use Rattle.std.specs.Prelude.{◌≡◌, false, cond, [], ◌++◌, ℕ, ◌+◌, ◌-◌, ◌≤◌, ◌<◌, min, length, set, drop, eqb};
 ghost use Rattle.words.specs.Lists.{numbers, find, first_found, and_then, some};
 ghost use Rattle.words.specs.declared.Found.TheVariants.{Nothing};
