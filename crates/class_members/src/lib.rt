@@ -1,10 +1,9 @@
 // What a class file yields: this crate has no functions, only specs/, which the reader's contract and the theorems cite, and the types of the
 // reader's answer.
+#![tactic(auto)]
 
 // Of an accepted file: the lengths of the class's and the parent's name (0 for none), the class's flags, how many fields and methods it has, and
 // how many text bytes.
-#![tactic(auto)]
-
 #[derive(Clone, Copy)]
 pub struct FileHead {
     pub name: u32,
