@@ -16,7 +16,7 @@ use Rattle.linking.specs.Chain.{on_found, list_count, own_methods, is_eligible}
 use Rattle.linking.specs.Vtable.{Entry}
 use Rattle.linking.specs.Compiler.{New, name_of, flags_of, same_signature, has_slot, append_from, append_entry}
 use Rattle.growth.specs.News.{first_news}
-use Rattle.reading.specs.Arrays.{mark_of, method_of, source_of, entry_at, entries_of}
+use Rattle.reading.specs.Arrays.{mark_of, method_of, entry_at, entries_of}
 use Rattle.reading.proofs.ArrayLaws.{method-back, no_source, push_slot}
 use Rattle.compiler.specs.Methods.{name_in, descriptor_in, mark_same, some_same, flags_in, takes_slot, target_in, append_method, method_number}
 use Rattle.native_view.specs.Native.{mark_entry, marks_in}

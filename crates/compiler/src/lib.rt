@@ -1,5 +1,7 @@
 // A generated class with a compiler table: its virtual table (`build_from_compiler_vtable`) and the methods that are added to it.
 // Methods are numbered on: below 512 those of the sheet, 512 + j the j-th that is added.
+#![tactic(auto)]
+
 ghost use Rattle.std.specs.Prelude.{◌≡◌, cond, ◌++◌, ◌+◌, ◌-◌, ◌≤◌, ◌<◌, min, length, eqb};
 ghost use Rattle.words.specs.Lists.{numbers, find, fold};
 ghost use Rattle.class_sheet.specs.ClassSheet.{class_compiler_slots, method_limit};
