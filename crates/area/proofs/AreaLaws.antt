@@ -14,7 +14,7 @@ use Rattle.words.proofs.ListLaws.{length-list-from}
 use Rattle.words.proofs.Ext.{list-more}
 use Rattle.linking.proofs.Writes.{write-none, write-more, write-set, write-next}
 use Rattle.linking.proofs.Rows.{Fits, fits}
-use Rattle.linking.specs.Vtable.{Entry, slot_word, slot_words}
+use Rattle.linking.specs.Vtable.{slot_word, slot_words}
 use Rattle.linking.specs.Link.{next_free, no_room, linked_area}
 use Rattle.linking.specs.Set.{write_at}
 use Rattle.linking.specs.Ask.{head_place, asked_area}

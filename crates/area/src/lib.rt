@@ -1,4 +1,6 @@
 // The table area: the walk over a class's interface tables, the room that is left, and the words of tables and nodes.
+#![tactic(auto)]
+
 ghost use Rattle.std.specs.Prelude.{◌≡◌, ◌+◌, ◌≤◌, length};
 ghost use Rattle.linking.specs.Vtable.{slot_word};
 ghost use Rattle.linking.specs.Set.{write_at};
