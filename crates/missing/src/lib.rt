@@ -1,5 +1,7 @@
 // How many slots of a class are missing: what a link leaves of it in the lent list, and asking. The list has 33 words a class: the count, then a
 // bit for each slot.
+#![tactic(auto)]
+
 ghost use Rattle.std.specs.Prelude.{◌≡◌, ◌+◌, ◌*◌, ◌/◌, ◌%◌, ◌^◌, ◌≤◌, ◌<◌, false, length, get_or, eqb};
 ghost use Rattle.reading.specs.Arrays.{entries_of};
 ghost use Rattle.linking.specs.Counts.{missing_at, is_counted, bit, bit_count, bits_from, pack_bits, parent_bit, missing_short};
