@@ -1,4 +1,6 @@
 // Virtual tables that are built (vtable.rs): `build_methods`, `build_interface_methods`.
+#![tactic(auto)]
+
 ghost use Rattle.std.specs.Prelude.{◌≡◌, ◌≤◌, ◌<◌, ◌+◌, ◌-◌, length, get_or, replicate, [], ◌∷◌, ◌++◌, not, false, eqb};
 ghost use Rattle.class_sheet.specs.ClassSheet.{method_limit};
 ghost use Rattle.words.specs.Lists.{fold, keep};

@@ -7,4 +7,4 @@ build_with-requires c =
     c.word_part-abis.ensures ∙ (rw c.wide.ensures c.chain_abi-n.ensures.is)
 
 pub returns : goal.returns
-returns c = let both = c.build_with.ensures in record { is = both.0; count = both.1.0; arrays = both.1.1 }
+returns c = c.build_with.ensures
