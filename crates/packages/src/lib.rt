@@ -1,5 +1,7 @@
 // The table of a class of kind 3, by the JVM Specification's 5.4.5: what a method overrides, which method introduced a slot, and the slots that a
 // method takes; and row 26. A table lies in two arrays of the caller, as `reading` has them.
+#![tactic(auto)]
+
 ghost use Rattle.std.specs.Prelude.{◌≡◌, cond, not, List, [], ◌∷◌, ◌++◌, ℕ, ◌≤◌, ◌<◌, ◌+◌, length, get_or, set, take, replicate};
 ghost use Rattle.words.specs.Lists.{fold, some};
 ghost use Rattle.text.specs.Text.{same_bytes};
