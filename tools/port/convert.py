@@ -152,7 +152,8 @@ def path(fn, place, segs):
     field, callee = found
     rest = list(rest)
     if rest:
-        rest[0] = {"inv": "invariant", "taken": "true", "left": "false"}.get(rest[0], rest[0])
+        at_loop = re.fullmatch(r"loop\d*", norm(s))
+        rest[0] = {"inv": "invariant"}.get(rest[0], rest[0]) if at_loop else {"taken": "true", "left": "false"}.get(rest[0], rest[0])
         if rest[0] == "kept":
             rest[0] = "auto"
         if rest[0] == "ensures" and len(CLAUSES.get(callee, ())) > 1:
@@ -225,6 +226,7 @@ def flow(fn, text, navs, goal):
         text = re.sub(r"(?<![^\s(])" + re.escape(n) + r" \(search(?: rules)?\)", lambda m: f"{n} ⟪{fn.root}@{p}⟫", text)
     while True:
         text = navigate(text, navs)
+        text = re.sub(r"\((⟪[^⟫]*⟫)\)", r"\1", text)
         done = True
         for m in LET.finditer(text):
             name, typed, expr = m.groups()
@@ -383,7 +385,7 @@ def clausewise(fn, body):
         if sum(map(len, fields)) < 90:
             return head + " record { " + "; ".join(fields) + " }"
         return head + " record {\n" + "".join(f"      {f};\n" for f in fields) + "    }"
-    if not parts and not re.match(r"\s*(search|omega|grind|cc)\b", tail):
+    if not parts and not re.match(r"\s*(search|omega|grind|cc)\b", tail) and not re.fullmatch(r"\s*\S+\.ensures\s*", tail):
         path = lambda k: ".1" * k + (".0" if k < len(names) - 1 else "")
         return head + f" let both = {' '.join(tail.split())} in record {{ " + "; ".join(f"{n} = both{path(k)}" for k, n in enumerate(names)) + " }"
     if parts:
