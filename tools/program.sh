@@ -1,5 +1,6 @@
 # Shell functions of ./list, ./judge, ./linked, ./members and tools/folder, which set `name` and `root` and source this. What rt built is used only where
-# it proved the very sources that stand here: target/proved/NAME holds the sums of these sources and of the file that it built.
+# it proved the very sources that stand here: a copy is kept below target/, where no run of rt removes it, and target/proved/NAME holds the sums of
+# these sources and of the copy.
 
 say() { printf '%s: %s\n' "$name" "$*" >&2; }
 
@@ -40,10 +41,15 @@ have_sheets() { # FOLDER
 
 # The sum of all that a check of any crate reads.
 sources() {
-    (cd "$root" && find crates.txt crates -type f ! -path '*/must-fail/*' | LC_ALL=C sort | xargs sha256sum | sha256sum | cut -d' ' -f1)
+    (cd "$root" && find crates.txt crates -type f ! -path '*/must-fail/*' ! -path 'crates/*/out/*' | LC_ALL=C sort | xargs sha256sum | sha256sum | cut -d' ' -f1)
 }
 
-# The file that rt makes of a crate.
+# The file that rt makes of a crate, in the crate's folder.
+out_of() { # NAME
+    case $1 in lgt_linker) echo crates/lgt_linker/out/liblgt_linker.a ;; *) echo "crates/$1/out/$1" ;; esac
+}
+
+# The copy of it that is kept.
 made_of() { # NAME
     case $1 in lgt_linker) echo target/staticlib/liblgt_linker.a ;; *) echo "target/bin/$1" ;; esac
 }
@@ -56,14 +62,26 @@ is_proved() { # NAME
     [ -r "$root/$(made_of "$1")" ] && [ -r "$root/target/proved/$1" ] && [ "$(cat "$root/target/proved/$1")" = "$(stamp "$1")" ]
 }
 
+# Keeps what rt has just made of a crate, which it proved from the sources whose sum is given.
+keep() { # NAME SUM
+    made=$root/$(made_of "$1")
+    [ -r "$root/$(out_of "$1")" ] || fail 2 "rt has proved $1 and left no $(out_of "$1"): remove crates/$1/out and run it again"
+    [ "$(sources)" = "$2" ] || fail 2 "the sources changed while rt proved them: run it again"
+    mkdir -p "$root/target/proved" "$(dirname -- "$made")" &&
+        cp "$root/$(out_of "$1")" "$made.new" && mv "$made.new" "$made" || fail 2 "$made cannot be written"
+    stamp "$1" >"$root/target/proved/$1"
+}
+
 prove() { # NAME
     command -v rt >/dev/null || fail 2 "no rt on the path: it is the Rattle kit's, so put the kit's folder bin on PATH (README.md, Needed)"
-    can_write "$root/target" || fail 2 "nothing can be written in $root, and rt writes target/ there: copy the checkout (cp -r) and prove the copy"
+    can_write "$root/target" && can_write "$root/crates/$1/out" ||
+        fail 2 "nothing can be written in $root, and rt writes crates/*/out there, and this target/: copy the checkout (cp -r) and prove the copy"
     before=$(sources)
     say "rt proves $1: 10 to 20 minutes on two cores, once, and seconds where it is proved already; a line a crate follows"
-    case $1 in lgt_linker) verb=staticlib ;; *) verb=check ;; esac
+    # rt builds a program only to run it: without arguments it has nothing to do, or no sheet in its folder.
+    case $1 in lgt_linker) verb=lib ;; *) verb=run ;; esac
     mkdir -p "$root/target/proved" && log=$root/target/proved/$1.log && : >"$log"
-    (cd "$root" && rt "$verb" "$1" 2>&1; echo $? >"$log.status") | while IFS= read -r line; do
+    (cd "$root/crates/$1" && rt "$verb" 2>&1 </dev/null; echo $? >"$log.status") | while IFS= read -r line; do
         printf '%s\n' "$line" >>"$log"
         case $line in 'rt: '*) printf '%s\n' "$line" >&2 ;; esac
     done
@@ -71,20 +89,18 @@ prove() { # NAME
         tail -n 30 "$log" | grep -v '^rt: ' >&2
         fail 2 "$1 is not proved, so it is not run; target/proved/$1.log has all that rt said"
     fi
-    [ -r "$root/$(made_of "$1")" ] || fail 2 "rt has proved $1 before, and $(made_of "$1") is gone: remove target/stamp/$1 and run it again"
-    [ "$(sources)" = "$before" ] || fail 2 "the sources changed while rt proved them: run it again"
-    stamp "$1" >"$root/target/proved/$1"
+    keep "$1" "$before"
 }
 
-# Programs are compiled for x86-64; on another processor the kit has an emulator.
+# Programs are compiled for x86-64; on another processor qemu runs them.
 run_program() { # NAME WORDS..
     program=$root/target/bin/$1
     shift
     if [ "$(uname -m)" = x86_64 ]; then
         "$program" "$@"
     else
-        tools=$(dirname "$(rt doc)")/../on/$(uname -m)/toolchain
-        "$tools/bin/qemu-x86_64" "$tools/lib/ld-linux-x86-64.so.2" --library-path "$tools/lib" "$program" "$@"
+        command -v qemu-x86_64 >/dev/null || fail 2 "$program is compiled for x86-64, and there is no qemu-x86_64 on the path to run it"
+        qemu-x86_64 "$program" "$@"
     fi
 }
 

@@ -212,13 +212,14 @@ def random_sheets(pick):
 # ---- what the scripts do around the programs, in a checkout of their own with a kit that proves nothing
 
 KIT = """#!/bin/sh
-case $1 in check) ;; *) exit 2 ;; esac
+case $1 in run) ;; *) exit 2 ;; esac
+crate=$(basename "$PWD")
 echo "fn words::one: proved"
 echo "rt: words proved (1 s)"
-echo "$2" >>asked
-[ ! -e broken ] || { echo "the fact that fails" >&2; echo "rt: list NOT PROVED"; exit 1; }
-mkdir -p target/bin
-cp program target/bin/$2
+echo "$crate" >>../../asked
+[ ! -e ../../broken ] || { echo "the fact that fails" >&2; echo "rt: $crate NOT PROVED"; exit 1; }
+mkdir -p out
+cp ../../program "out/$crate"
 """
 PROGRAM = """#!/bin/sh
 cat "$PWD/listed"
@@ -233,7 +234,7 @@ class Scripts(unittest.TestCase):
         self.root = os.path.join(self.top, "checkout")
         self.folder = os.path.join(self.top, "my sheets")
         self.bin = os.path.join(self.top, "bin")
-        for folder in (self.root, self.bin, os.path.join(self.root, "crates"), os.path.join(self.root, "tools")):
+        for folder in (self.root, self.bin, *(os.path.join(self.root, *path) for path in (("crates", "list"), ("crates", "judge"), ("tools",)))):
             os.makedirs(folder)
         for name in ("list", "judge", "why", "VERSION", "tools/program.sh", "tools/folder", "tools/sheet", "tools/abitoml.py", "tools/sheetlib.py",
                      "tools/sheetform.py", "tools/sheetorder.py"):

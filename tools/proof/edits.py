@@ -1,71 +1,69 @@
 #!/usr/bin/env python3
-"""Whether each must-fail edit was refused because a fact fails. Run it in the repository root after `rt ci` or `rt must-fail`.
+"""Whether each must-fail edit was refused because a fact fails. It reads what `rt ci` or `rt must-fail` printed.
 
-    python3 tools/proof/edits.py [--list] [CRATE..]
+    python3 tools/proof/edits.py [--list] LOG [CRATE..]
 
 `rt` counts an edit as refused where the prover says no for any reason. An edit that breaks the shape of the code only makes the proof file
-unfit for it, and shows nothing. This reads the logs that `rt` left, target/must-fail/CRATE/LABEL/.log, and takes the first error of each:
-  fact   what is to be proved does not follow (`omega`, `search`, or a proof that rattle made by itself)
-  term   a term of the proof has another type than the goal
-  shape  a name that is not there (as a `Need-..`), or a text that does not parse
-It fails where one is of the last kind, or was not tried. With --list it prints the first error of each.
+unfit for it, and shows nothing. This takes what `rt` says of each edit of the crates, which is the first error that speaks of a contract:
+  fact       what is to be proved does not follow (`omega`, `search`, or a proof that rattle made by itself)
+  term       a term of the proof has another type than the goal
+  limit      the prover gave up at a limit and has no verdict
+  shape      a name that is not there, or a text that does not parse
+  bad        the edit cannot be applied, or its text cannot be read
+  not tried  nothing was said of it
+It fails where one is of the last three kinds or was not refused. With --list it prints what was said of each.
 """
 import glob
-import itertools
 import os
 import re
 import sys
 
-ERROR = re.compile(r"^(\S+?):(\d+):\d+: error: (.*)$")
-UNPROVED = re.compile(r"^note: (\S+?):(\d+):\d+: (it is not proved that .*)$")
+LINE = re.compile(r"^rt: must-fail (\w+)/(\S+)\.edit: (.*)$")
+PLACE = re.compile(r"^(note: )?(\S+?:\d+):\d+: (error: )?(.*)$")
 SHAPE = re.compile("|".join([
     r"that can be named from here", r"not in scope", r"has no field", r"has no `", r"does not parse", r"unexpected (token|closing)",
     r"exports no such name", r"no such (name|child|piece)", r"is not a constructor", r"is not declared", r"arguments? (is|are) (missing|left over)",
 ]))
-FACT = re.compile(r"^(`[^`]*`: )?`(search|omega|cc)`|^it is not proved that")
-
-
-def first_error(log):
-    """Where the first error of a log is, and what it says; of a crate without one the first thing that rattle's own proof left open."""
-    open_note = None
-    with open(log, encoding="utf-8", errors="replace") as file:
-        for line in file:
-            match = ERROR.match(line)
-            if match:
-                return match[1], match[2], " ".join([match[3], *indented(file)])
-            open_note = open_note or UNPROVED.match(line)
-    return open_note.groups() if open_note else None
-
-
-def indented(lines):
-    """The lines that go on with what was said, as `has no field` after a record's long name."""
-    return [line.strip() for line in itertools.takewhile(lambda line: line.startswith(" "), lines)]
+FACT = re.compile(r"^(`[^`]*`: )*`(search|omega|cc|grind|simp)`|^it is not proved that")
+FAILS = ("shape", "bad", "not tried", "not refused")
 
 
 def kind(said):
-    if SHAPE.search(said.split(". ")[0]):
-        return "shape"
-    return "fact" if FACT.match(said) else "term"
+    """Of which kind an edit is by what is said of it, and where, and why."""
+    for start, name in (("BAD EDIT", "bad"), ("NOT TRIED", "not tried"), ("NOT REFUSED", "not refused")):
+        if said.startswith(start):
+            return name, said
+    how = said.removeprefix("refused, as it must be")
+    if how.startswith(" (only because"):
+        return "shape", said
+    if how.startswith(" (only by a limit"):
+        return "limit", said
+    found = PLACE.match(how.removeprefix(": "))
+    told = found[4] if found else how.removeprefix(": ")
+    place = f"{found[2].removeprefix('./')}: {told}" if found else told
+    if SHAPE.search(told.split(". ")[0]):
+        return "shape", place
+    return ("fact" if FACT.match(told) else "term"), place
 
 
 def main(words):
-    crates = [word for word in words if not word.startswith("--")]
-    found = {"fact": [], "term": [], "shape": [], "not tried": []}
-    for edit in sorted(path for crate in crates or ["*"] for path in glob.glob(f"crates/{crate}/must-fail/*.edit")):
+    names = [word for word in words if not word.startswith("--")]
+    if not names:
+        print(__doc__, file=sys.stderr)
+        return 2
+    with open(names[0], encoding="utf-8", errors="replace") as file:
+        told = {(match[1], match[2]): match[3] for match in map(LINE.match, file) if match}
+    found = {name: [] for name in ("fact", "term", "limit", *FAILS)}
+    for edit in sorted(path for crate in names[1:] or ["*"] for path in glob.glob(f"crates/{crate}/must-fail/*.edit")):
         crate, label = edit.split("/")[1], os.path.basename(edit).removesuffix(".edit")
-        folder = f"target/must-fail/{crate}/{label}"
-        error = first_error(f"{folder}/.log") if os.path.exists(f"{folder}/.log") else None
-        if error is None:
-            found["not tried"].append(f"{crate}/{label}")
-            continue
-        place = error[0].split(f"{folder}/")[-1]
-        found[kind(error[2])].append(f"{crate}/{label} at {place}:{error[1]}: {error[2][:150]}")
+        name, why = kind(told.get((crate, label), "NOT TRIED: there is no line of it"))
+        found[name].append(f"{crate}/{label} at {why[:150]}")
     for name, edits in found.items():
-        if "--list" in words or name in ("shape", "not tried"):
+        if "--list" in words or name in FAILS:
             for edit in edits:
                 print(f"{name}: {edit}")
     print("must-fail edits: " + ", ".join(f"{len(edits)} {name}" for name, edits in found.items()))
-    return 1 if found["shape"] or found["not tried"] else 0
+    return 1 if any(found[name] for name in FAILS) else 0
 
 
 if __name__ == "__main__":
