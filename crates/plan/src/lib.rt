@@ -1,5 +1,7 @@
 // What a link comes to before anything is written: rows 8 to 13, by the class's kind. The table and new members lie in arrays of the caller: the
 // slots' words in front, their marks in the same array from place 1,024 on, where no row refuses the table.
+#![tactic(auto)]
+
 ghost use Rattle.std.specs.Prelude.{◌≡◌, true, false, List, [], ℕ, ◌≤◌, length};
 ghost use Rattle.class_sheet.specs.ClassSheet.{class_kind, is_built_kind};
 ghost use Rattle.linking.specs.Link.{built_table, generated_table, generated_methods, plan_built, plan_generated, plan_array, plan};
