@@ -1,4 +1,6 @@
 // `interface_dispatch_table` (class_definition.rs): a class's table for an interface, found in the class's list or built in front of it.
+#![tactic(auto)]
+
 ghost use Rattle.std.specs.Prelude.{◌≡◌, ◌&&◌, false, List, ℕ, ◌≤◌, length};
 ghost use Rattle.class_sheet.specs.ClassSheet.{method_flags, text_length, text_of, text_limit};
 ghost use Rattle.abi_sheet.specs.AbiSheet.{abi_text_length, abi_text_of, abi_text_limit};

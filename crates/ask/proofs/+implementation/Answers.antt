@@ -1,0 +1,30 @@
+use Rattle.linking.proofs.ChainLaws.{parent_below}
+use native.Mathlib.Nat.{pos_of_ne-zero}
+use native.Mathlib.Omega.{arith}
+use Rattle.ask.proofs.DispatchLaws.{implementation-none, implementation-hit, implementation-up}
+use Rattle.ask.proofs.+implementation.Goals as goal
+
+-- the chain's end
+pub returns-then-c-eq0 : goal.returns-then-c-eq0
+returns-then-c-eq0 t c = implementation-none _ _ _ _ c.if-c-eq0.true
+
+-- the parent's number is smaller
+pub implementation-requires : goal.implementation-requires
+implementation-requires t c =
+    let a = c.args in
+    (omega (arith, parent_below a.ws.now a.c (pos_of_ne-zero c.if-c-eq0.false)), tt)
+
+-- the class's own method
+pub returns-in-At : goal.returns-in-At
+returns-in-At t c =
+    implementation-hit _ _ _ _ (pos_of_ne-zero c.if-c-eq0.false) c.method_name-name.ensures
+    c.method_descriptor-descriptor.ensures
+    c.own_implementation.ensures _ c.in-At.is
+
+-- its parent's
+pub returns-in-Nothing : goal.returns-in-Nothing
+returns-in-Nothing t c =
+    let a = c.args in
+    cc (implementation-up a.ws.now a.text.now a.c a.m (pos_of_ne-zero c.if-c-eq0.false)
+    c.method_name-name.ensures c.method_descriptor-descriptor.ensures
+    c.own_implementation.ensures c.in-Nothing.is)
