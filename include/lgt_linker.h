@@ -1,5 +1,5 @@
 /*
- * The LGT class linker, proved in Rattle (crates/lgt_linker). Link with liblgt_linker.a: `rt staticlib lgt_linker` makes it in
+ * The LGT class linker, proved in Rattle (crates/lgt_linker). Link with liblgt_linker.a: `tools/library` makes it in
  * target/staticlib, `make install PREFIX=..` installs it with this header and a pkg-config file.
  *
  * What it needs. x86-64 Linux; memcpy and memset, and nothing else: no allocation, no system call. Of the stack at most 157,304

@@ -1,4 +1,4 @@
-//! Links the archive that `rt staticlib lgt_linker` makes, or the file that `LGT_LINKER_ARCHIVE` names, whatever it is called.
+//! Links the archive that `tools/library` makes, or the file that `LGT_LINKER_ARCHIVE` names, whatever it is called.
 //! Where there is none it warns: documentation, `cargo check` and clippy do without; only what is linked fails.
 
 use std::path::{Path, PathBuf};

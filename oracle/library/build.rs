@@ -1,5 +1,5 @@
 //! Links the compiled Rattle library: liblgt_linker.a in the folder that LGT_LINKER_FOLDER names,
-//! else in target/staticlib, where `rt staticlib lgt_linker` writes it.
+//! else in target/staticlib, where `tools/library` puts it.
 
 use std::env;
 use std::path::{Path, PathBuf};
@@ -11,7 +11,7 @@ fn main() {
     println!("cargo:rerun-if-env-changed=LGT_LINKER_FOLDER");
     println!("cargo:rerun-if-changed={}", archive.display());
     if !archive.is_file() {
-        eprintln!("{} is missing: run `rt staticlib lgt_linker` at the repository's top first", archive.display());
+        eprintln!("{} is missing: run `tools/library` at the repository's top first", archive.display());
         std::process::exit(1);
     }
     println!("cargo:rustc-link-search=native={}", folder.display());
