@@ -1,4 +1,6 @@
 // `link`: rows 3 to 15 and 26 in the table's order, and what an accepted link leaves in the class words, the area and the list of counts.
+#![tactic(auto)]
+
 ghost use Rattle.std.specs.Prelude.{◌≡◌};
 ghost use Rattle.linking.specs.Link.{new_statics, linked_record, lists_full, set_short, link_def};
 ghost use Rattle.linking.specs.Chain.{parent_of};
