@@ -1,5 +1,7 @@
 // The listing of the specification: both sheets are read, all classes are linked in number order, and then the lines go into lent bytes. Its
 // answer is the number of bytes put; they are the whole text where that is below the number lent.
+#![tactic(auto)]
+
 ghost use Rattle.std.specs.Prelude.{◌≡◌, ◌≤◌, ◌<◌, length, take};
 ghost use Rattle.set_rules.specs.SetRules.{set_refusal};
 ghost use Rattle.lines.specs.Bytes.{put};
