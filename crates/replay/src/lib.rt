@@ -1,4 +1,6 @@
 // A list of links and asks, made one after the other on the same lent memory: the program that demand 3 speaks of.
+#![tactic(auto)]
+
 ghost use Rattle.std.specs.Prelude.{◌≡◌, ◌+◌, ◌<◌, ◌^◌};
 ghost use Rattle.calls.specs.Calls.{start};
 ghost use Rattle.replay.specs.Replay.{call_of, Called, answer_words, over_at};
