@@ -1,6 +1,8 @@
 // The linker for C and Rust programs (include/lgt_linker.h): each function is thin over the proved one that it exports, and leaves the
 // set, the area or the words as that one does. What it returns is the refusal's number, 0 if the call is accepted; the other answer words
 // go into a small lent array, which is always written: zeros if the call is refused.
+#![tactic(auto)]
+
 ghost use Rattle.std.specs.Prelude.{◌≡◌, List, [], ℕ};
 ghost use Rattle.linking.specs.Link.{link_def};
 ghost use Rattle.linking.specs.Ask.{ask_def};
