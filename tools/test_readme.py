@@ -134,7 +134,7 @@ class Pages(unittest.TestCase):
         for path in glob.glob(os.path.join(ROOT, "crates", "*", "specs", "*.antt")):
             defined |= set(re.findall(r"(?:pub|record|data) +(?:record +|data +)?([^ :]+)", contents(os.path.relpath(path, ROOT))))
         cells = re.findall(r"^\|.*\| ([^|]*)\|$", contents("docs/SENTENCES.md"), re.M)
-        names = {name for cell in cells for name in re.findall(r"`([a-z][A-Za-z]+)`", cell)}
+        names = {name for cell in cells for name in re.findall(r"`([a-z][A-Za-z0-9_]*)`", cell)}
         self.assertGreater(len(names), 80)
         self.assertEqual(names - defined, set())
 

@@ -2,8 +2,5 @@
 use Rattle.std.proofs.Common.{◌-◌}
 use Rattle.answers.proofs.print_functions.Given as goal
 
-abbrev pub invariant-loop-kind : goal.invariant-loop-kind
-invariant-loop-kind l = Unit {0}
-
 abbrev pub decreases-loop-kind : goal.decreases-loop-kind
-decreases-loop-kind l = 10 - l.initial.kind
+decreases-loop-kind g l = 10 - l.kind

@@ -2,8 +2,5 @@
 use Rattle.std.proofs.Common.{◌-◌}
 use Rattle.answers.proofs.print_rows.Given as goal
 
-abbrev pub invariant-loop-row : goal.invariant-loop-row
-invariant-loop-row l = Unit {0}
-
 abbrev pub decreases-loop-row : goal.decreases-loop-row
-decreases-loop-row l = 32 - l.initial.row
+decreases-loop-row g l = 32 - l.row
