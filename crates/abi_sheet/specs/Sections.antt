@@ -1,5 +1,5 @@
 -- An ABI sheet's words as data: the sections as lists, the words laid out from them, and the sections of words. Assumes nothing.
-use Rattle.std.specs.Prelude.{ℕ, ◌+◌, ◌*◌, ◌≡◌, List, ◌∷◌, ◌++◌, length, take, drop}
+use Rattle.std.specs.Prelude.{ℕ, ◌*◌, ◌≡◌, List, ◌∷◌, ◌++◌, length, take, drop}
 use Rattle.words.specs.Words.{words_for}
 use Rattle.words.specs.Rows.{Rows, joined, cut}
 use Rattle.abi_sheet.specs.AbiSheet.{abi_counts_width, abi_class_width, abi_member_width, abi_class_count, abi_slot_count, abi_field_count, abi_text_length}

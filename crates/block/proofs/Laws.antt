@@ -1,11 +1,10 @@
 -- Laws of the block form. Assumes nothing.
-use Rattle.std.proofs.Common.{◌≡◌, ℕ, zero, suc, ◌+◌, ◌-◌, ◌*◌, ◌/◌, ◌%◌, ◌^◌, ◌<◌, ◌≤◌, Bool, true, false, cond, not, ◌&&◌, eqb, ltb, leb, List, [], ◌∷◌, ◌++◌, length, get_or, take, drop, set, sym, refl, ap, ◌∙◌, append_assoc, append-nil, add-one, arith, length-append, length-drop, drop_of_length-le, length-take-le, drop-drop, take_at, drop_at, ltb-true, le-ltb, lt-ltb, ne_eqb, eqb-true, le-leb, leb-true}
-use mathlib.Core.Bool.{false≢true}
+use Rattle.std.proofs.Common.{◌≡◌, ℕ, zero, suc, ◌+◌, ◌-◌, ◌*◌, ◌/◌, ◌%◌, ◌^◌, ◌<◌, ◌≤◌, true, not, ◌&&◌, eqb, ltb, leb, List, [], ◌++◌, length, take, drop, refl, ◌∙◌, append_assoc, append-nil, add-one, arith, length-append, length-drop, drop_of_length-le, length-take-le, drop-drop, take_at, drop_at, ltb-true, le-ltb, lt-ltb, ne_eqb, eqb-true, le-leb, leb-true}
 use borrow.Author.Tests.{eqb-false, not-true}
 use Rattle.words.proofs.FoldLaws.{length-table, stores-is}
 use Rattle.words.proofs.Bools.{and_both, and_4}
 use Rattle.words.specs.Words.{le_word}
-use Rattle.words.specs.Folds.{sum_of, all_of, table, stores}
+use Rattle.words.specs.Folds.{sum_of, table, stores}
 use Rattle.block.specs.Block.{word_of, block, check_ok, content, unpacked, shape_ok, least_fit, blocks_for}
 
 -- the test of a block, as the code makes it

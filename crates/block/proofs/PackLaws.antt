@@ -1,8 +1,8 @@
 -- Laws of packing words into blocks. Assumes nothing.
-use Rattle.std.proofs.Common.{◌≡◌, ℕ, zero, suc, ◌+◌, ◌-◌, ◌*◌, ◌/◌, ◌%◌, ◌^◌, ◌<◌, ◌≤◌, Bool, true, false, cond, ltb, List, [], ◌∷◌, ◌++◌, length, get_or, take, drop, sym, refl, ap, ◌∙◌, append_assoc, append-nil, add-one, arith, length-append, length-drop, drop_of_length-le, length-take-le, drop-drop, take_at, drop_at, le-ltb, lt-ltb}
+use Rattle.std.proofs.Common.{◌≡◌, ℕ, zero, suc, ◌+◌, ◌-◌, ◌*◌, ◌/◌, ◌%◌, ◌^◌, ◌<◌, ◌≤◌, List, ◌++◌, length, get_or, take, drop, refl, ◌∙◌, add-one, arith, length-append, le-ltb, lt-ltb}
 use Rattle.words.specs.Words.{byte_of}
 use Rattle.words.specs.Folds.{sum_of, table, stores}
-use Rattle.words.proofs.FoldLaws.{sum-ext, length-table, table-ext, stores-is}
+use Rattle.words.proofs.FoldLaws.{sum-ext, length-table, table-ext}
 use Rattle.block.proofs.Laws.{part_filled}
 use Rattle.block.specs.Block.{word_in, check_word, packed_word, block_byte, sheet_bytes, packed_blocks}
 

@@ -1,8 +1,8 @@
 -- Words packed into blocks and read back are those words, and blocks read and packed again are those blocks. Assumes nothing.
-use Rattle.std.proofs.Common.{◌≡◌, ℕ, zero, suc, ◌+◌, ◌-◌, ◌*◌, ◌/◌, ◌%◌, ◌^◌, ◌<◌, ◌≤◌, Bool, true, false, cond, eqb, ltb, List, [], ◌∷◌, ◌++◌, length, get_or, take, drop, sym, refl, ap, ◌∙◌, ⊎_elim, append_assoc, append-nil, eq-or-lt_of_le, add-one, arith, length-append, length-take, take_all, take_at, take-add, drop_at, ltb-false, ltb-true, le-ltb, lt-ltb, eq-eqb, eqb-true}
+use Rattle.std.proofs.Common.{◌≡◌, ℕ, zero, suc, ◌+◌, ◌*◌, ◌/◌, ◌%◌, ◌^◌, ◌<◌, ◌≤◌, true, ltb, List, ◌++◌, length, get_or, take, drop, sym, refl, ◌∙◌, ⊎_elim, append_assoc, eq-or-lt_of_le, arith, length-take, take_all, take_at, take-add, drop_at, ltb-false, ltb-true, eq-eqb, eqb-true}
 use lib.ListN.{get_or-append, get_or-eq_default}
 use Rattle.words.specs.Words.{le_word, byte_of, AreWords, AreBytes}
-use Rattle.words.specs.Folds.{sum_of, all_of, table}
+use Rattle.words.specs.Folds.{sum_of, table}
 use Rattle.words.proofs.Bools.{by}
 use Rattle.words.proofs.Bytes.{word_byte, word-of-bytes}
 use Rattle.words.proofs.FoldLaws.{sum-ext, length-table, get_d_table, table-ext, table-append, table-list}

@@ -1,6 +1,6 @@
 -- Laws of the rows 3 to 5 of a link or an ask. Assumes nothing.
-use mathlib.Core.Path.{◌≡◌, refl, sym, ap, ◌∙◌}
-use mathlib.Core.Bool.{Bool, true, false, cond, not, ◌&&◌}
+use mathlib.Core.Path.{◌≡◌, sym, ◌∙◌}
+use mathlib.Core.Bool.{Bool, true, false, not}
 use mathlib.Core.List.{List}
 use Prim.Native.Nat.{ℕ, ◌≤◌}
 use native.Mathlib.Omega.{arith}
@@ -9,8 +9,8 @@ use borrow.Author.Tests.{not-false}
 use Rattle.words.proofs.Bools.{and_both}
 use Rattle.text.specs.Text.{unpacked_text, text_of_words, name_at}
 use Rattle.text.proofs.Laws.{text-part}
-use Rattle.class_sheet.specs.ClassSheet.{text_limit, text_length, text_words, text_of}
-use Rattle.abi_sheet.specs.AbiSheet.{abi_text_limit, abi_text_length, abi_text_words, abi_text_of}
+use Rattle.class_sheet.specs.ClassSheet.{text_limit, text_length, text_of}
+use Rattle.abi_sheet.specs.AbiSheet.{abi_text_limit, abi_text_length, abi_text_of}
 use Rattle.class_rules.specs.ClassRules.{class_fits}
 use Rattle.abi_rules.specs.AbiRules.{abi_fits}
 use Rattle.class_rules.proofs.Laws as class

@@ -1,14 +1,14 @@
 -- The facts of specs/Valid.antt and the tests of rows 3 to 5 say the same: each test is taken apart into its facts (`-is`), and passed by what
 -- has them (`-ok`); `valid_exactly` puts all of them together. Assumes nothing.
-use mathlib.Core.Path.{◌≡◌, refl, sym, ap, ◌∙◌}
+use mathlib.Core.Path.{◌≡◌, sym, ◌∙◌}
 use mathlib.Core.Logic.{◌↔◌}
-use mathlib.Core.Bool.{Bool, true, false, cond, not, ◌&&◌, ◌||◌, true≢false}
-use mathlib.Core.List.{List, [], ◌∷◌}
-use Prim.Native.Nat.{ℕ, zero, suc, ◌+◌, ◌*◌, ◌-◌, ◌/◌, ◌%◌, ◌≤◌, ◌<◌}
+use mathlib.Core.Bool.{Bool, true, false, not, ◌&&◌, ◌||◌, true≢false}
+use mathlib.Core.List.{List}
+use Prim.Native.Nat.{ℕ, ◌+◌, ◌-◌, ◌/◌, ◌%◌, ◌≤◌, ◌<◌}
 use native.Mathlib.Omega.{arith}
-use lib.ListN.{length, get_or, take, drop}
+use lib.ListN.{length}
 use lib.Dec.{eqb, leb, ltb}
-use borrow.Author.Tests.{leb-true, leb-false, ltb-true, eqb-true, eqb-false, le-leb, lt-ltb, eq-eqb, ne_eqb, not-true, not-false}
+use borrow.Author.Tests.{leb-true, ltb-true, eqb-true, eqb-false, le-leb, lt-ltb, eq-eqb, ne_eqb, not-true, not-false}
 use Rattle.words.specs.Folds.{all_of}
 use Rattle.words.specs.Words.{inside}
 use Rattle.words.proofs.Bools.{by, and_both, and_3, and_4, and_5, and_7, passed}
@@ -20,15 +20,15 @@ use Rattle.descriptor.specs.Grammar.{FieldDerivation}
 use Rattle.descriptor.specs.Machine.{is_field_descriptor}
 use Rattle.descriptor.specs.Words.{ValidDescriptor, is_method}
 use Rattle.descriptor.proofs.Meaning.{meaning}
-use Rattle.class_sheet.specs.ClassSheet.{class_limit, method_limit, field_limit, interface_limit, compiler_limit, text_limit, class_count, method_count, field_count, interface_count, compiler_count, text_length, content_end, text_of, interface_word, class_name_start, class_name_length, class_parent, class_flags, class_kind, class_first_method, class_method_count, class_first_field, class_field_count, class_first_interface, class_interface_count, class_link_state, class_instance_words, class_compiler_table, class_compiler_slots, class_table_place, class_slot_count, class_name, method_name_start, method_name_length, method_descriptor_start, method_descriptor_length, method_flags, method_descriptor, field_name_start, field_name_length, field_descriptor_start, field_descriptor_length, field_flags, field_descriptor}
-use Rattle.abi_sheet.specs.AbiSheet.{abi_class_limit, abi_slot_limit, abi_field_limit, abi_text_limit, abi_class_count, abi_slot_count, abi_field_count, abi_text_length, abi_content_end, abi_text_of, abi_class_name_start, abi_class_name_length, abi_class_table_size_plus_one, abi_class_instance_words_plus_one, abi_class_first_slot, abi_class_slot_count, abi_class_first_field, abi_class_field_count, abi_slot_name_start, abi_slot_name_length, abi_slot_descriptor_start, abi_slot_descriptor_length, abi_slot_index, abi_slot_descriptor, abi_field_name_start, abi_field_name_length, abi_field_descriptor_start, abi_field_descriptor_length, abi_field_index, abi_field_descriptor}
+use Rattle.class_sheet.specs.ClassSheet.{class_limit, method_limit, field_limit, interface_limit, compiler_limit, text_limit, class_count, method_count, field_count, interface_count, compiler_count, text_length, content_end, text_of, interface_word, class_name_start, class_name_length, class_parent, class_flags, class_kind, class_first_method, class_method_count, class_first_field, class_field_count, class_first_interface, class_interface_count, class_link_state, class_instance_words, class_compiler_table, class_compiler_slots, class_table_place, class_slot_count, class_name}
+use Rattle.abi_sheet.specs.AbiSheet.{abi_class_limit, abi_slot_limit, abi_field_limit, abi_text_limit, abi_class_count, abi_slot_count, abi_field_count, abi_text_length, abi_content_end, abi_text_of, abi_class_name_start, abi_class_name_length, abi_class_table_size_plus_one, abi_class_instance_words_plus_one, abi_class_first_slot, abi_class_slot_count, abi_class_first_field, abi_class_field_count}
 use Rattle.class_rules.specs.ClassRules.{class_limits, class_fits, compiler_ok, own_numbers, class_numbers, class_lists, class_record, method_flags_ok, method_record, field_record, interface_names, class_records}
 use Rattle.apart.specs.Apart.{methods_apart, fields_apart, classes_apart, apart_before}
 use Rattle.apart.proofs.Laws.{apart-is, apart_if}
 use Rattle.abi_rules.specs.AbiRules.{abi_limits, abi_fits, abi_class_record, abi_slot_record, abi_field_record, abi_records}
 use Rattle.class_rules.proofs.Laws as class
 use Rattle.abi_rules.proofs.Laws as abi
-use Rattle.set_rules.specs.SetRules.{method_typed, field_typed, class_descriptors, abi_slot_typed, abi_field_typed, abi_descriptors, class_refusal, abi_refusal, set_fits, records_refusal, set_refusal}
+use Rattle.set_rules.specs.SetRules.{method_typed, field_typed, class_descriptors, abi_slot_typed, abi_field_typed, abi_descriptors, set_fits, records_refusal, set_refusal}
 use Rattle.set_rules.specs.Valid.{Part, ValidMember, MethodFlags, IsClass, ValidClass, ValidMethod, ValidField, Valid, ValidAbiClass, ValidAbiSlot, ValidAbiField, ValidAbi}
 
 -- ---- parts and lists

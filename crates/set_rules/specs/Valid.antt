@@ -4,8 +4,8 @@ use Rattle.std.specs.Prelude.{◌≡◌, List, ℕ, ◌+◌, ◌-◌, ◌/◌, �
 use Rattle.text.specs.Text.{name_at}
 use Rattle.descriptor.specs.Grammar.{FieldDerivation}
 use Rattle.descriptor.specs.Words.{ValidDescriptor}
-use Rattle.class_sheet.specs.ClassSheet.{class_limit, method_limit, field_limit, interface_limit, compiler_limit, text_limit, class_count, method_count, field_count, interface_count, compiler_count, text_length, content_end, text_of, interface_word, class_name_start, class_name_length, class_parent, class_flags, class_kind, class_first_method, class_method_count, class_first_field, class_field_count, class_first_interface, class_interface_count, class_link_state, class_instance_words, class_compiler_table, class_compiler_slots, class_table_place, class_slot_count, class_name, method_name_start, method_name_length, method_descriptor_start, method_descriptor_length, method_flags, method_descriptor, field_name_start, field_name_length, field_descriptor_start, field_descriptor_length, field_flags, field_descriptor}
-use Rattle.abi_sheet.specs.AbiSheet.{abi_class_limit, abi_slot_limit, abi_field_limit, abi_text_limit, abi_class_count, abi_slot_count, abi_field_count, abi_text_length, abi_content_end, abi_text_of, abi_class_name_start, abi_class_name_length, abi_class_table_size_plus_one, abi_class_instance_words_plus_one, abi_class_first_slot, abi_class_slot_count, abi_class_first_field, abi_class_field_count, abi_slot_name_start, abi_slot_name_length, abi_slot_descriptor_start, abi_slot_descriptor_length, abi_slot_index, abi_slot_descriptor, abi_field_name_start, abi_field_name_length, abi_field_descriptor_start, abi_field_descriptor_length, abi_field_index, abi_field_descriptor}
+use Rattle.class_sheet.specs.ClassSheet.{class_limit, method_limit, field_limit, interface_limit, compiler_limit, text_limit, class_count, method_count, field_count, interface_count, compiler_count, text_length, content_end, text_of, interface_word, class_name_start, class_name_length, class_parent, class_flags, class_kind, class_first_method, class_method_count, class_first_field, class_field_count, class_first_interface, class_interface_count, class_link_state, class_instance_words, class_compiler_table, class_compiler_slots, class_table_place, class_slot_count, class_name, method_name_start, method_name_length, method_descriptor_start, method_descriptor_length, method_flags, field_name_start, field_name_length, field_descriptor_start, field_descriptor_length, field_flags}
+use Rattle.abi_sheet.specs.AbiSheet.{abi_class_limit, abi_slot_limit, abi_field_limit, abi_text_limit, abi_class_count, abi_slot_count, abi_field_count, abi_text_length, abi_content_end, abi_text_of, abi_class_name_start, abi_class_name_length, abi_class_table_size_plus_one, abi_class_instance_words_plus_one, abi_class_first_slot, abi_class_slot_count, abi_class_first_field, abi_class_field_count, abi_slot_name_start, abi_slot_name_length, abi_slot_descriptor_start, abi_slot_descriptor_length, abi_slot_index, abi_field_name_start, abi_field_name_length, abi_field_descriptor_start, abi_field_descriptor_length, abi_field_index}
 
 -- a part of the text that is a name or a descriptor
 pub record Part (text : List ℕ) (start len : ℕ) : Type 0 where

@@ -1,19 +1,18 @@
 -- An accepted and a refused reading never have one outcome, so the contracts determine what a reading answers: an accepted one has filled a
 -- word at least, and a refusal has a number. Assumes nothing.
-use mathlib.Core.Path.{◌≡◌, refl, sym, ap, ◌∙◌}
+use mathlib.Core.Path.{◌≡◌, sym, ap, ◌∙◌}
 use mathlib.Core.Logic.{◌≢◌}
-use mathlib.Core.Bool.{not, ◌&&◌}
+use mathlib.Core.Bool.{not}
 use mathlib.Core.List.{List}
 use Prim.Native.Nat.{ℕ, ◌*◌, ◌/◌, ◌%◌, ◌<◌}
 use native.Mathlib.Omega.{arith}
 use lib.ListN.{length}
 use lib.Dec.{eqb, leb}
 use borrow.Author.Tests.{not-true, not-false, eqb-true, eqb-false}
-use Rattle.words.specs.Folds.{all_of}
 use Rattle.words.proofs.Bools.{by, and_4, passed}
 use Rattle.class_sheet.specs.ClassSheet.{block_limit}
 use Rattle.abi_sheet.specs.AbiSheet.{abi_block_limit}
-use Rattle.block.specs.Block.{block_count, sheet_words, check_ok, shape_ok}
+use Rattle.block.specs.Block.{block_count, sheet_words, shape_ok}
 use Rattle.sheet.specs.Sheet.{Outcome, outcome, block_refusal, sheet_refusal, read_sheet, class_rows, class_sheet_refusal, read_class_sheet, loose_rows, unordered_sheet_refusal, read_unordered_sheet, abi_rows, abi_sheet_refusal, read_abi_sheet}
 use Rattle.sheet.specs.declared.Read.{Read}
 use Rattle.sheet.specs.declared.Read.TheVariants.{Words, Refused}

@@ -1,13 +1,12 @@
 -- A sheet that is read holds a valid set, none of whose classes is linked or has static words that a link would write. Assumes nothing.
-use mathlib.Core.Path.{◌≡◌, refl, sym, ◌∙◌}
-use mathlib.Core.Bool.{Bool, true, false, cond, not, ◌&&◌}
+use mathlib.Core.Path.{◌≡◌, ◌∙◌}
+use mathlib.Core.Bool.{Bool, true, not, ◌&&◌}
 use mathlib.Core.List.{List, ◌++◌}
 use Prim.Native.Nat.{ℕ, ◌+◌, ◌*◌, ◌-◌, ◌≤◌, ◌<◌}
 use native.Mathlib.Omega.{arith}
 use lib.ListN.{length, drop}
 use lib.Dec.{eqb, leb, ltb}
 use borrow.Author.Tests.{not-false, eqb-true, eqb-false}
-use Rattle.words.specs.Folds.{all_of}
 use Rattle.words.proofs.Bools.{by, and_both, and_3, and_4, passed}
 use Rattle.words.proofs.FoldLaws.{all-each}
 use Rattle.block.specs.Block.{block_count, sheet_words, least_fit}

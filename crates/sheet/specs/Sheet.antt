@@ -1,6 +1,6 @@
 -- Reading a class sheet and an ABI sheet: rows 1 to 5, in that order; a class sheet whose classes come in any order: rows 1 to 3. Assumes
 -- nothing.
-use Rattle.std.specs.Prelude.{ℕ, ◌*◌, ◌/◌, Bool, cond, not, List, ◌++◌, drop, length, eqb}
+use Rattle.std.specs.Prelude.{ℕ, ◌*◌, cond, not, List, ◌++◌, drop, length, eqb}
 use Rattle.words.specs.Folds.{all_of}
 use Rattle.block.specs.Block.{block_count, sheet_words, check_ok, shape_ok}
 use Rattle.class_sheet.specs.ClassSheet.{block_limit, text_of}

@@ -1,14 +1,14 @@
 -- Laws on lists of numbers that several proofs cite. Assumes nothing.
-use mathlib.Core.Path.{◌≡◌, refl, sym, ap, ◌∙◌}
-use mathlib.Core.List.{List, [], ◌∷◌, ◌++◌}
-use Prim.Native.Nat.{ℕ, zero, suc, ◌+◌, ◌*◌, ◌-◌, ◌/◌, ◌%◌, ◌^◌, ◌≤◌, ◌<◌}
+use mathlib.Core.Path.{◌≡◌, sym, ◌∙◌}
+use mathlib.Core.List.{List}
+use Prim.Native.Nat.{ℕ, ◌+◌, ◌-◌, ◌/◌, ◌%◌, ◌^◌, ◌≤◌, ◌<◌}
 use native.Mathlib.Omega.{arith}
 use lib.ListN.{length, get_or, set, take, drop, length-drop, drop_of_length-le, get_or-eq_default}
 use native.Mathlib.Nat.{le_of_lt}
 use lib.Seq.{take-nil, take_all, set_out, paste-zero, paste-suc, get_or-drop}
 use native.Mathlib.Numerals.{add-one}
 use Rattle.words.specs.Words.{le_word, byte_of, inside, pasted, copy_fits, copy_words}
-use mathlib.Core.Bool.{Bool, true, false, ◌&&◌, and-false}
+use mathlib.Core.Bool.{Bool, true, false, and-false}
 use borrow.Author.Tests.{le-leb, lt-leb, leb-true}
 
 -- past the end there are zeros

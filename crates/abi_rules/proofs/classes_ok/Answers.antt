@@ -1,7 +1,5 @@
 use native.Mathlib.Omega.{arith}
 use borrow.Author.Tests.{not-false}
-use mathlib.Core.Bool.{true}
-use Prim.Native.Nat.{◌-◌}
 use Rattle.words.proofs.FoldLaws.{all_none, all-turn, all-stop, all_done}
 use Rattle.abi_rules.proofs.classes_ok.Goals as goal
 

@@ -1,9 +1,7 @@
 use native.Mathlib.Omega.{arith}
 use borrow.Author.Tests.{not-false}
-use mathlib.Core.Bool.{true}
-use Prim.Native.Nat.{◌-◌}
 use Rattle.words.proofs.FoldLaws.{all_none, all-turn, all-stop, all_done}
-use Rattle.apart.specs.Apart.{classes_apart, apart_before}
+use Rattle.apart.specs.Apart.{apart_before}
 use Rattle.apart.proofs.apart_before.Goals as goal
 
 pub loop-i-init : goal.loop-i-init

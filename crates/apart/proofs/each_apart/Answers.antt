@@ -1,9 +1,6 @@
 use native.Mathlib.Omega.{arith}
 use borrow.Author.Tests.{not-false}
-use mathlib.Core.Bool.{true}
-use Prim.Native.Nat.{◌-◌}
 use Rattle.words.proofs.FoldLaws.{all_none, all-turn, all-stop, all_done}
-use Rattle.apart.specs.Apart.{apart_before}
 use Rattle.apart.proofs.each_apart.Goals as goal
 
 pub loop-i-init : goal.loop-i-init

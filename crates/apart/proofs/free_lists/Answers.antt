@@ -2,7 +2,6 @@ use native.Mathlib.Omega.{arith}
 use borrow.Author.Tests.{not-true}
 use mathlib.Core.Path.{◌≡◌, refl}
 use mathlib.Core.Bool.{true}
-use Prim.Native.Nat.{◌-◌}
 use Rattle.words.proofs.FoldLaws.{all_none, all-turn}
 use Rattle.words.proofs.Bools.{and_both}
 use Rattle.apart.proofs.Laws.{after_none, after_turn, free-class, free-class-stop, free-class-done}

@@ -1,5 +1,4 @@
 use native.Mathlib.Omega.{arith}
-use Prim.Native.Nat.{◌-◌}
 use Rattle.apart.proofs.Laws.{has-start, has-turn, has_end}
 use Rattle.apart.proofs.has_key.Goals as goal
 

@@ -1,7 +1,6 @@
 use native.Mathlib.Omega.{arith}
 use mathlib.Core.Path.{refl}
-use mathlib.Core.Bool.{true, false≢true}
-use Prim.Native.Nat.{◌-◌}
+use mathlib.Core.Bool.{false≢true}
 use Rattle.words.proofs.FoldLaws.{all_none}
 use Rattle.apart.proofs.Laws.{marked-none, marked_turn, free-turn, free-stop, free-past, free-done, marked-long, marked-done}
 use Rattle.apart.proofs.mark_list.Goals as goal

@@ -1,6 +1,5 @@
 use native.Mathlib.Omega.{arith}
 use mathlib.Core.Path.{refl, sym, ◌∙◌}
-use Prim.Native.Nat.{◌-◌}
 use Rattle.apart.specs.Seen.{key_step, name_key}
 use Rattle.words.proofs.ListLaws.{fold-at-start, fold-at-turn, fold-at-end}
 use Rattle.apart.proofs.name_key.Goals as goal

@@ -1,7 +1,6 @@
 use native.Mathlib.Omega.{arith}
 use mathlib.Core.Path.{refl, ap}
-use mathlib.Core.Bool.{true, not}
-use Prim.Native.Nat.{◌-◌}
+use mathlib.Core.Bool.{not}
 use Rattle.words.proofs.FoldLaws.{all_none, all-turn, stores-none, stores-turn}
 use Rattle.apart.proofs.Laws.{key_at_lem, new_key_lem, new-past, new-stop, new-done}
 use borrow.Author.Rules.{rules}

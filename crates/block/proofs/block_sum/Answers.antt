@@ -1,4 +1,4 @@
-use Rattle.std.proofs.Common.{◌≡◌, ◌-◌, arith}
+use Rattle.std.proofs.Common.{◌≡◌, arith}
 use Rattle.words.proofs.FoldLaws.{sum_none32, sum_turn32}
 use Rattle.block.specs.Block.{word_of}
 use Rattle.block.proofs.block_sum.Goals as goal

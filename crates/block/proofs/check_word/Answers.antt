@@ -1,4 +1,4 @@
-use Rattle.std.proofs.Common.{◌-◌, arith, rules}
+use Rattle.std.proofs.Common.{arith, rules}
 use Rattle.words.proofs.FoldLaws.{sum_none32, sum_turn32}
 use Rattle.block.proofs.PackLaws.{check-word-is}
 use Rattle.block.proofs.check_word.Goals as goal

@@ -1,5 +1,5 @@
 use Rattle.words.proofs.FoldLaws.{all_none, all-turn, all-stop, all_done}
-use Rattle.std.proofs.Common.{◌-◌, arith}
+use Rattle.std.proofs.Common.{arith}
 use borrow.Author.Tests.{not-true, not-false}
 use Rattle.block.proofs.checks_ok.Goals as goal
 

@@ -1,4 +1,4 @@
-use Rattle.std.proofs.Common.{◌-◌, arith, rules}
+use Rattle.std.proofs.Common.{arith, rules}
 use Rattle.block.proofs.PackLaws.{bytes-none, bytes-turn, packed_none, packed_all}
 use Rattle.block.proofs.pack.Goals as goal
 

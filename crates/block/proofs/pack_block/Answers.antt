@@ -1,4 +1,4 @@
-use Rattle.std.proofs.Common.{◌≡◌, ◌-◌, arith, rules}
+use Rattle.std.proofs.Common.{◌≡◌, arith, rules}
 use Rattle.words.proofs.FoldLaws.{stores-none, stores-turn}
 use Rattle.block.proofs.PackLaws.{block-byte-is}
 use Rattle.block.proofs.pack_block.Goals as goal

@@ -1,5 +1,5 @@
 use Rattle.block.proofs.Laws.{content-none, content-turn, unpacked-none, unpacked-all}
-use Rattle.std.proofs.Common.{◌-◌, arith, rules}
+use Rattle.std.proofs.Common.{arith, rules}
 use Rattle.block.proofs.unpack.Goals as goal
 
 pub returns-then-out-count : goal.returns-then-out-count

@@ -1,4 +1,4 @@
-use Rattle.std.proofs.Common.{◌≡◌, ◌-◌, arith}
+use Rattle.std.proofs.Common.{◌≡◌, arith}
 use Rattle.words.proofs.FoldLaws.{stores-none, stores-turn}
 use Rattle.block.specs.Block.{word_of}
 use Rattle.block.proofs.unpack_block.Goals as goal

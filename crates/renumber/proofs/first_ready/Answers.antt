@@ -1,6 +1,5 @@
 use native.Mathlib.Omega.{arith}
 use mathlib.Core.Path.{◌∙◌}
-use Prim.Native.Nat.{◌-◌}
 use Rattle.words.proofs.ListLaws.{find-start, find-hit, find-miss, find-end}
 use Rattle.renumber.specs.Renumber.{next_class}
 use Rattle.renumber.proofs.first_ready.Goals as goal

@@ -1,6 +1,4 @@
 use native.Mathlib.Omega.{arith}
-use Prim.Native.Nat.{◌-◌}
-use Rattle.renumber.specs.Renumber.{new_number}
 use Rattle.renumber.proofs.Writing.{map-start, map-turn, map-end}
 use Rattle.renumber.proofs.map_numbers.Goals as goal
 

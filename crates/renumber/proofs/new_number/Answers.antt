@@ -1,6 +1,5 @@
 use native.Mathlib.Omega.{arith}
 use mathlib.Core.Path.{◌∙◌}
-use Prim.Native.Nat.{◌-◌}
 use Rattle.renumber.proofs.Placing.{number-start, number-hit, number-miss, number-end}
 use Rattle.renumber.proofs.new_number.Goals as goal
 

@@ -1,6 +1,5 @@
 use native.Mathlib.Omega.{arith}
 use mathlib.Core.Path.{◌∙◌}
-use Prim.Native.Nat.{◌-◌}
 use Rattle.renumber.proofs.Placing.{order-start, order-turn, order-end}
 use Rattle.renumber.proofs.place_all.Goals as goal
 

@@ -1,6 +1,5 @@
 use native.Mathlib.Omega.{arith}
 use mathlib.Core.Path.{refl}
-use Prim.Native.Nat.{◌-◌}
 use Rattle.words.specs.Rows.{joined}
 use Rattle.renumber.proofs.Writing.{class-at, records-turn, records-end}
 use Rattle.renumber.proofs.put_records.Goals as goal

@@ -1,8 +1,6 @@
 use native.Mathlib.Omega.{arith}
 use borrow.Author.Tests.{not-true, not-false}
 use mathlib.Core.Path.{refl}
-use mathlib.Core.Bool.{true}
-use Prim.Native.Nat.{◌-◌}
 use Rattle.words.proofs.FoldLaws.{all_none, all-turn, all-stop, all_done}
 use Rattle.set_rules.proofs.KnownLaws.{known-none, record_typed_lem, past_typed, next_record}
 use Rattle.class_sheet.specs.ClassSheet.{text_limit}

@@ -1,7 +1,7 @@
 -- Names of unequal lengths are told apart by these. Of others the invariant: the bytes from i on are the same, and each of those pairs was
 -- counted; i falls.
 use mathlib.Core.Path.{◌≡◌}
-use Prim.Native.Nat.{◌+◌, ◌-◌, ◌≤◌}
+use Prim.Native.Nat.{◌+◌, ◌≤◌}
 use lib.ListN.{length, drop}
 use Rattle.text.proofs.compare.Given as goal
 

@@ -1,5 +1,4 @@
 use native.Mathlib.Omega.{arith}
-use Prim.Native.Nat.{◌-◌}
 use Rattle.text.proofs.Laws.{text-byte, bytes-start, bytes-turn, bytes-done}
 use Rattle.text.proofs.unpack_bytes.Goals as goal
 

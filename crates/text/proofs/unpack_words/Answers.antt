@@ -1,6 +1,5 @@
 use lib.ListN.{length-set}
 use native.Mathlib.Omega.{arith}
-use Prim.Native.Nat.{◌-◌}
 use Rattle.text.proofs.Laws.{word-turn, words-done}
 use Rattle.words.proofs.FoldLaws.{stores-none}
 use Rattle.text.proofs.unpack_words.Goals as goal

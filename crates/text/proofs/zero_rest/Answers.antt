@@ -1,5 +1,4 @@
 use native.Mathlib.Omega.{arith}
-use Prim.Native.Nat.{◌-◌}
 use Rattle.text.proofs.Laws.{zero-start, zero_turn, zero-stop, zero-done}
 use Rattle.text.proofs.zero_rest.Goals as goal
 

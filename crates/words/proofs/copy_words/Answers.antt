@@ -1,4 +1,3 @@
-use Prim.Native.Nat.{◌-◌}
 use native.Mathlib.Omega.{arith}
 use Rattle.words.proofs.Laws.{no_source, no_room_lem, pasted-none, pasted-turn, pasted-all}
 use Rattle.words.proofs.copy_words.Goals as goal
