@@ -4,7 +4,6 @@
 use mathlib.Core.Path.{◌≡◌, refl, sym}
 use mathlib.Core.List.{List, Memᴰ}
 use Prim.Native.Nat.{ℕ, ◌+◌, ◌≤◌, ◌<◌}
-use native.Mathlib.Omega.{arith}
 use lib.ListN.{length, get_or}
 use Rattle.words.specs.declared.Found.{Found}
 use Rattle.words.proofs.ListLaws.{by-found}

@@ -2,37 +2,36 @@
 -- the methods of this one; and the two rules make the same of them (`same_tables`, crate slots). Assumes nothing.
 use mathlib.Core.Path.{◌≡◌, refl, sym, ap, ◌∙◌}
 use mathlib.Core.Logic.{◌⊎◌, inl, inr, ◌≢◌}
-use mathlib.Core.Bool.{Bool, true, false, not, ◌||◌, true≢false}
-use mathlib.Core.List.{List, [], ◌∷◌, ◌++◌, append-nil, Memᴰ}
+use mathlib.Core.Bool.{false}
+use mathlib.Core.List.{List, [], ◌∷◌, append-nil, Memᴰ}
 use Prim.Native.Nat.{ℕ, zero, suc, ◌+◌, ◌*◌, ◌-◌, ◌≤◌, ◌<◌}
 use native.Mathlib.Omega.{arith}
-use lib.ListN.{length, get_or, set, take, drop, replicate}
+use lib.ListN.{length, get_or, drop}
 use lib.Seq.{get_or-set_same, get_or-set_other, drop-set-lt}
 use lib.Dec.{eqb}
 use borrow.Author.Tests.{eqb-true, eqb-false, eq-eqb}
-use Rattle.words.specs.Lists.{list_from, numbers, fold, some, all_found}
+use Rattle.words.specs.Lists.{list_from, numbers, fold, all_found}
 use Rattle.words.specs.declared.Found.{Found}
-use Rattle.words.specs.declared.Found.TheVariants.{At, Nothing}
-use Rattle.words.proofs.Bools.{by, or-neither}
-use Rattle.words.proofs.ListLaws.{by-found}
-use Rattle.class_sheet.specs.ClassSheet.{counts_width, class_width, member_width, kind_word, flags_word, first_field_word, class_limit, count_at, class_count, methods_at, fields_at, interfaces_at, compilers_at, text_at, text_of, class_word, class_kind, is_packaged, class_flags, class_table_place, method_word}
+use Rattle.words.specs.declared.Found.TheVariants.{Nothing}
+use Rattle.words.proofs.Bools.{by}
+use Rattle.class_sheet.specs.ClassSheet.{counts_width, class_width, member_width, kind_word, count_at, class_count, methods_at, fields_at, interfaces_at, compilers_at, text_at, text_of, class_word, class_kind, is_packaged, method_word}
 use Rattle.abi_sheet.specs.AbiSheet.{abi_text_of}
 use Rattle.set_rules.specs.Valid.{Valid}
-use Rattle.linking.specs.Chain.{on_found, own_methods, chain, is_interface}
+use Rattle.linking.specs.Chain.{own_methods, chain, is_interface}
 use Rattle.linking.specs.Abi.{class_abi, chain_abi, minimum_size}
-use Rattle.linking.specs.Vtable.{Entry, empty, built, extended, add_methods}
+use Rattle.linking.specs.Vtable.{Entry, built, extended, add_methods}
 use Rattle.linking.specs.Packages.{bad_packages}
 use Rattle.linking.proofs.Overriding.{chain-of-chain}
 use Rattle.linking.proofs.Rebuilt.{Unmoved}
-use Rattle.slots.specs.Slots.{PackageRule, ChainMethod}
-use Rattle.slots.specs.Made.{read_words, start_from, table_from, inherited_from, made_from, Made}
-use Rattle.slots.proofs.ListFacts.{not_found, inside}
+use Rattle.slots.specs.Slots.{ChainMethod}
+use Rattle.slots.specs.Made.{start_from, table_from, inherited_from, made_from, Made}
+use Rattle.slots.proofs.ListFacts.{inside}
 use Rattle.slots.proofs.ChainFacts.{chain-here}
-use Rattle.slots.proofs.FixedFacts.{method_signature, signature-same}
+use Rattle.slots.proofs.FixedFacts.{signature-same}
 use Rattle.slots.proofs.PackageZero.{MadeZero, Same, same_tables}
 use Rattle.calls.specs.Calls.{Call, start, Unlinked, LinkedIn, table_at}
 use Rattle.calls.specs.Demand.{table, Linked}
-use Rattle.calls.specs.KindZero.{as_built, unpackaged, Premises, SameSlots, AsKindZero, Throughout}
+use Rattle.calls.specs.KindZero.{as_built, unpackaged, Premises, AsKindZero, Throughout}
 use Rattle.calls.proofs.Like.{Alike, unmoved-kind}
 use Rattle.calls.proofs.View.{chain_same, chain-class}
 use Rattle.calls.proofs.Build.{built-same}

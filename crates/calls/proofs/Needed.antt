@@ -14,7 +14,6 @@ use Rattle.abi_sheet.specs.AbiSheet.{abi_text_of}
 use Rattle.linking.specs.Chain.{own_methods, parent_of}
 use Rattle.linking.specs.Abi.{class_abi}
 use Rattle.linking.specs.Vtable.{read_entry}
-use Rattle.linking.proofs.Assemble as assemble
 use Rattle.linking.proofs.Assemble.{Class, AbiClass, method, flagged, built, compiled, having, linked_at, slot, abi, sized, class_sheet, abi_sheet, fresh, sevens}
 use Rattle.linking.proofs.Packaged.{packaged, foo}
 use Rattle.linking.proofs.Opened.{opened}

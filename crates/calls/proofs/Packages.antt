@@ -1,18 +1,16 @@
 -- The table of a class of kind 3 is the same by the words that calls left as by the sheet at the list's start, along a chain whose classes list their own
 -- methods as before (`linking/proofs/RenumberedPackages`). Assumes nothing.
-use mathlib.Core.Path.{◌≡◌, sym, ◌∙◌}
+use mathlib.Core.Path.{◌≡◌, sym}
 use mathlib.Core.List.{List, Memᴰ}
-use Prim.Native.Nat.{ℕ, ◌+◌, ◌≤◌}
+use Prim.Native.Nat.{ℕ, ◌≤◌}
 use native.Mathlib.Omega.{arith}
 use lib.ListN.{length, get_or}
 use lib.Dec.{eqb, ltb}
-use Rattle.words.specs.Lists.{and_then}
 use Rattle.words.proofs.Bools.{by}
 use Rattle.words.proofs.ListLaws.{by-found}
 use Rattle.class_sheet.specs.ClassSheet.{class_count, method_count, text_of}
 use Rattle.set_rules.specs.Valid.{Valid}
 use Rattle.linking.specs.Chain.{parent_of, chain}
-use Rattle.linking.specs.Vtable.{read_entry}
 use Rattle.linking.specs.Packages.{topmost}
 use Rattle.linking.proofs.ChainLaws.{parent-within, chain-within}
 use Rattle.linking.proofs.Overriding.{chain-of-chain}
@@ -20,7 +18,7 @@ use Rattle.linking.proofs.Pairs.{Both, neither, none}
 use Rattle.linking.proofs.Renumbered.{Tables, read_same}
 use Rattle.linking.proofs.RenumberedPackages.{last_of, over-same}
 use Rattle.linking.proofs.Rebuilt.{Unmoved}
-use Rattle.slots.specs.Made.{read_words, inherited_from, introduced_from, packages_from}
+use Rattle.slots.specs.Made.{inherited_from, introduced_from, packages_from}
 use Rattle.slots.proofs.ChainFacts.{chain-here, chain-up}
 use Rattle.calls.proofs.Like.{Alike}
 use Rattle.calls.proofs.View.{parent-same, chain_same}

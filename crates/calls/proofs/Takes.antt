@@ -2,12 +2,12 @@
 -- walk gives a method are those whose introducing method it overrides. Assumes nothing.
 use mathlib.Core.Path.{◌≡◌, refl, sym, ap, ◌∙◌}
 use mathlib.Core.Logic.{◌⊎◌, inl, inr, ⊎_elim}
-use mathlib.Core.Bool.{Bool, true, false, true≢false}
+use mathlib.Core.Bool.{true, false, true≢false}
 use mathlib.Core.List.Memᴰ
 use mathlib.Core.List.{List, [], ◌∷◌, ◌++◌, append_assoc, append-nil, Memᴰ}
 use Prim.Native.Nat.{ℕ, zero, suc, ◌+◌, ◌≤◌, ◌<◌}
 use native.Mathlib.Omega.{arith}
-use lib.ListN.{length, get_or, set, drop, length-append}
+use lib.ListN.{length, set, drop, length-append}
 use lib.Seq.{drop-set-lt}
 use Rattle.words.specs.Lists.{list_from, numbers, fold}
 use Rattle.words.specs.declared.Found.{Found}
@@ -17,7 +17,7 @@ use Rattle.class_sheet.specs.ClassSheet.{class_limit, text_of, class_kind, class
 use Rattle.abi_sheet.specs.AbiSheet.{abi_text_of}
 use Rattle.set_rules.proofs.Valid.{valid}
 use Rattle.linking.specs.Chain.{list_count, own_methods, parent_of, eligible, same_methods}
-use Rattle.linking.specs.Vtable.{Entry, empty, method_entry, method_entries}
+use Rattle.linking.specs.Vtable.{Entry, method_entry, method_entries}
 use Rattle.linking.specs.Packages.{overridden, introducing, taken_slots, put_taken, take_slots, packages_over, build_packages}
 use Rattle.linking.specs.Link.{link_def}
 use Rattle.linking.proofs.Overriding.{overridden-overrides, overrides-overridden}

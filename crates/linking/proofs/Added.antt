@@ -3,9 +3,9 @@
 -- (`generated-each`). Of any number they are held by a class of the set, as the view is emptied of others, or have the signature of an ABI
 -- slot: so each added method is within the limit of argument words (`added-within`). Assumes nothing.
 use mathlib.Core.Path.{◌≡◌, refl, sym, ◌∙◌}
-use mathlib.Core.Bool.{true, false, cond, not, ◌&&◌, ◌||◌, false≢true, true≢false}
+use mathlib.Core.Bool.{true, false, not, ◌&&◌, ◌||◌, false≢true, true≢false}
 use mathlib.Core.List.{List, [], ◌∷◌, Memᴰ}
-use Prim.Native.Nat.{ℕ, zero, suc, ◌+◌, ◌-◌, ◌/◌, ◌%◌, ◌≤◌, ◌<◌}
+use Prim.Native.Nat.{ℕ, zero, suc, ◌+◌, ◌/◌, ◌%◌, ◌≤◌, ◌<◌}
 use native.Mathlib.Omega.{arith}
 use lib.ListN.{length, get_or, take}
 use lib.Dec.{eqb, leb, ltb}

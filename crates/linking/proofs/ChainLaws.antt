@@ -14,7 +14,7 @@ use Rattle.words.specs.Lists.{numbers, first_found, all_found}
 use Rattle.words.specs.declared.Found.{Found}
 use Rattle.words.specs.declared.Found.TheVariants.{At, Nothing}
 use Rattle.words.proofs.Bools.{by}
-use Rattle.class_sheet.specs.ClassSheet.{method_limit, field_limit, interface_limit, class_parent, class_first_method, class_method_count, class_first_field, class_field_count, class_first_interface, class_interface_count, method_target}
+use Rattle.class_sheet.specs.ClassSheet.{method_limit, field_limit, interface_limit, class_parent, class_first_field, class_field_count, class_first_interface, class_interface_count, method_target}
 use Rattle.linking.specs.Chain.{list_count, own_methods, own_fields, own_interfaces, parent_of, chain_of, chain, method_is, own_target, find_by_target, own_method}
 use Rattle.words.proofs.ListLaws.{length-list-from, get_d_list_from, numbers-within, find-member, find-passes, found-by}
 

@@ -1,12 +1,12 @@
 -- The examples that the user marked M, "The desk's examples", computed on the definitions: whole links and asks on assembled sets, rows of
 -- one theorem. Assumes nothing.
 use mathlib.Core.Path.{◌≡◌, refl}
-use mathlib.Core.List.{List, [], ◌∷◌, ◌++◌}
+use mathlib.Core.List.{List, [], ◌∷◌}
 use Prim.Native.Nat.{ℕ}
 use lib.ListN.{replicate}
 use Rattle.descriptor.specs.Bytes.{text}
 use Rattle.descriptor.specs.Words.{argument_answer, counted, refused}
-use Rattle.linking.proofs.Assemble.{Class, Lent, Call, Member, method, field, built, interface, generated, compiled, implementing}
+use Rattle.linking.proofs.Assemble.{Lent, Call, Member, method, field, built, interface, generated, compiled, implementing}
 use Rattle.linking.proofs.Assemble.{slot, abi, worded, lent, link, ask, answers, after, indices_of, words_of, table_of}
 use Rattle.linking.proofs.Opened.{opened}
 

@@ -1,20 +1,20 @@
 -- JVMS 5.4.5 and the walk: a method overrides what is open to a class that it reaches, and the classes that the walk holds are those reached.
 -- Assumes nothing.
-use mathlib.Core.Path.{◌≡◌, refl, sym, ap, ◌∙◌}
+use mathlib.Core.Path.{◌≡◌, refl, sym, ◌∙◌}
 use mathlib.Core.Logic.{◌⊎◌, inl, inr, ⊎_elim}
-use mathlib.Core.Bool.{Bool, true, false, cond, not, ◌&&◌, ◌||◌, true≢false, false≢true}
+use mathlib.Core.Bool.{Bool, true, false, not, false≢true}
 use mathlib.Core.List.{List, [], ◌∷◌, ◌++◌, Memᴰ}
-use Prim.Native.Nat.{ℕ, zero, suc, ◌+◌, ◌/◌, ◌%◌, ◌≤◌, ◌<◌}
+use Prim.Native.Nat.{ℕ, zero, suc, ◌+◌, ◌≤◌, ◌<◌}
 use native.Mathlib.Omega.{arith}
 use lib.Dec.{eqb}
 use borrow.Author.Tests.{eqb-true, eqb-false}
 use Rattle.words.specs.Lists.{keep, some}
-use Rattle.words.proofs.Bools.{by, and_both, or-either, and_3}
+use Rattle.words.proofs.Bools.{by, and_both, and_3}
 use Rattle.words.proofs.ListLaws.{numbers-within}
 use Rattle.text.specs.Text.{same_bytes}
 use Rattle.text.proofs.Laws.{same-is, same_refl}
 use Rattle.class_sheet.specs.ClassSheet.{text_of, class_first_method, class_method_count, method_name, method_descriptor, method_flags, method_limit}
-use Rattle.set_rules.specs.Valid.{IsClass, Valid}
+use Rattle.set_rules.specs.Valid.{IsClass}
 use Rattle.linking.specs.Chain.{list_count, own_methods, parent_of, chain, is_private, is_static, is_virtual, method_is, same_methods, SameSignature}
 use Rattle.linking.specs.Packages.{is_public, is_protected, package_at, open_to, is_overridden, overridden_in, reached_with, overridden_along, overridden, Above, Instance, Virtual, Open, public, protected, in_package, Overrides, open_method, through, OverridesMeaning}
 use Rattle.linking.proofs.ChainLaws.{parent_below, parent-within, chain-none, chain_more, chain-within}

@@ -4,7 +4,7 @@ use mathlib.Core.Path.{◌≡◌, refl}
 use mathlib.Core.List.{List, [], ◌∷◌}
 use Prim.Native.Nat.{ℕ}
 use Prim.Native.String.{String}
-use Rattle.linking.proofs.Assemble.{Class, Lent, Call, Member, flagged, field, built, generated, array, of_kind, linked_at, having, abi, lent, link, on_area, answers, after, table_of}
+use Rattle.linking.proofs.Assemble.{Class, Call, Member, flagged, field, built, generated, array, of_kind, linked_at, having, abi, lent, link, on_area, answers, after, table_of}
 use Rattle.linking.proofs.Opened.{opened}
 
 -- a class of kind 3: name, parent, methods

@@ -4,13 +4,13 @@ use mathlib.Core.Path.{◌≡◌, refl, sym, ap, ◌∙◌}
 use mathlib.Core.Logic.{⊎_elim, ◌↔◌}
 use mathlib.Core.Bool.{Bool, true, false, ◌&&◌}
 use mathlib.Core.List.Memᴰ
-use mathlib.Core.List.{List, [], ◌∷◌, ◌++◌, Memᴰ}
+use mathlib.Core.List.{List, [], ◌∷◌, Memᴰ}
 use Prim.Native.Nat.{ℕ, zero, suc, ◌+◌, ◌≤◌, ◌<◌}
 use native.Mathlib.Omega.{arith}
 use lib.ListN.{get_or}
 use lib.Dec.{eqb, leb, ltb}
 use borrow.Author.Tests.{eqb-true, eqb-false, leb-true, ltb-true, le-leb, lt-ltb}
-use Rattle.words.specs.Lists.{list_from, numbers, find, or_else, and_then, first_found}
+use Rattle.words.specs.Lists.{list_from, numbers, find, or_else, first_found}
 use Rattle.words.specs.declared.Found.{Found}
 use Rattle.words.specs.declared.Found.TheVariants.{At, Nothing}
 use Rattle.words.proofs.Bools.{by, and_both}
@@ -25,7 +25,7 @@ use Rattle.linking.specs.Abi.{class_abi, slot_at}
 use Rattle.linking.specs.Vtable.{own_fixed, find_by_index, read_entry, read_slot}
 use Rattle.linking.specs.Compiler.{holds, owner_state}
 use Rattle.linking.specs.Ask.{own_implementation, implementation}
-use Rattle.linking.specs.Whose.{method_of, declaring_class, or_declared, declared_in, first_declared, declared_by_target, declared_implementation, declared_by_index, read_declared, slot_class, Nearest, Declares, MethodsApart, FixedThere, Column, unknown_slot, known_slot, Whose}
+use Rattle.linking.specs.Whose.{method_of, declaring_class, or_declared, first_declared, declared_by_target, declared_implementation, declared_by_index, read_declared, slot_class, Nearest, Declares, MethodsApart, FixedThere, Column, unknown_slot, known_slot, Whose}
 use Rattle.linking.proofs.ChainLaws.{chain-within, own-target-member, own-method-member, own-method-is}
 
 -- ---- every answer remains

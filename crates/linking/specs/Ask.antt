@@ -1,5 +1,5 @@
 -- `interface_dispatch_table` (the ask): the walk over a class's interface tables, and the node built where there is none. Assumes nothing.
-use Rattle.std.specs.Prelude.{ℕ, zero, suc, ◌+◌, Bool, true, false, cond, not, ◌&&◌, ◌||◌, List, [], ◌∷◌, ◌++◌, length, get_or, set, eqb, leb, ltb}
+use Rattle.std.specs.Prelude.{ℕ, zero, suc, ◌+◌, Bool, cond, not, ◌&&◌, ◌||◌, List, [], ◌∷◌, ◌++◌, length, get_or, set, eqb, leb}
 use Rattle.words.specs.Lists.{find, first_found}
 use Rattle.words.specs.declared.Found.{Found}
 use Rattle.words.specs.declared.Found.TheVariants.{At, Nothing}

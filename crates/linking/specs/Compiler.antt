@@ -1,6 +1,6 @@
 -- A generated class with a compiler table (`prepare_generated`, `build_from_compiler_vtable`). Methods are numbered on: below 512 those of
 -- the sheet, 512 + j the j-th that is added. Assumes nothing.
-use Rattle.std.specs.Prelude.{ℕ, zero, suc, ◌+◌, ◌-◌, min, Bool, true, false, cond, not, ◌&&◌, ◌||◌, List, [], ◌∷◌, ◌++◌, length, get_or, eqb, leb, ltb}
+use Rattle.std.specs.Prelude.{ℕ, ◌+◌, ◌-◌, min, Bool, false, cond, not, ◌&&◌, ◌||◌, List, [], ◌∷◌, ◌++◌, length, get_or, eqb, leb, ltb}
 use Rattle.words.specs.Lists.{list_from, numbers, or_else, find, first_found, cons_found, all_found, fold, some}
 use Rattle.words.specs.declared.Found.{Found}
 use Rattle.words.specs.declared.Found.TheVariants.{At, Nothing}

@@ -1,12 +1,11 @@
 -- Field words (field.rs, `new`, `patch_declared_instance_field_word_indices`). Instance words above row 4's limit, which it refuses,
 -- count as the limit. Assumes nothing.
-use Rattle.std.specs.Prelude.{ℕ, ◌+◌, ◌-◌, max, min, Bool, true, false, cond, not, ◌&&◌, ◌||◌, List, [], ◌∷◌, ◌++◌, eqb, leb, ltb}
+use Rattle.std.specs.Prelude.{ℕ, ◌+◌, ◌-◌, max, min, Bool, true, cond, not, ◌&&◌, ◌||◌, List, [], ◌∷◌, ◌++◌, eqb, leb, ltb}
 use Rattle.words.specs.Lists.{and_then, fold, keep, some}
 use Rattle.words.specs.declared.Found.{Found}
-use Rattle.words.specs.declared.Found.TheVariants.{At, Nothing}
 use Rattle.descriptor.specs.Words.{width}
 use Rattle.class_sheet.specs.ClassSheet.{class_instance_words, field_name, field_descriptor, field_flags, field_index}
-use Rattle.abi_sheet.specs.AbiSheet.{abi_field_name, abi_field_descriptor}
+use Rattle.abi_sheet.specs.AbiSheet.{abi_field_descriptor}
 use Rattle.linking.specs.Chain.{on_found, own_fields, parent_of, chain, is_static}
 use Rattle.linking.specs.Abi.{abi_fields, fixed_field_index, field_is, fixed_field, given_words}
 

@@ -1,9 +1,9 @@
 -- `link`: rows 3 to 15 and 26 in the table's order, and what an accepted link leaves. Assumes nothing.
-use Rattle.std.specs.Prelude.{ℕ, ◌+◌, ◌-◌, Bool, true, false, cond, not, ◌&&◌, ◌||◌, List, [], ◌∷◌, ◌++◌, length, get_or, set, take, drop, eqb, leb, ltb}
+use Rattle.std.specs.Prelude.{ℕ, ◌+◌, ◌-◌, Bool, true, false, cond, not, ◌&&◌, ◌||◌, List, [], ◌∷◌, ◌++◌, length, get_or, set, eqb, leb, ltb}
 use Rattle.words.specs.Folds.{all_of}
 use Rattle.words.specs.declared.Found.{Found}
 use Rattle.text.specs.Text.{same_bytes}
-use Rattle.class_sheet.specs.ClassSheet.{class_count, method_count, field_count, text_of, class_parent, class_flags, class_kind, class_first_field, class_method_count, class_field_count, class_compiler_table, class_table_place, class_slot_count, is_built_kind, is_generated, is_array, is_packaged, class_name, fields_at, put_class_instance_words, put_class_table_place, put_class_slot_count, put_class_static_words}
+use Rattle.class_sheet.specs.ClassSheet.{class_count, method_count, field_count, text_of, class_flags, class_kind, class_first_field, class_method_count, class_field_count, class_compiler_table, class_table_place, class_slot_count, is_built_kind, is_generated, is_array, is_packaged, class_name, fields_at, put_class_instance_words, put_class_table_place, put_class_slot_count, put_class_static_words}
 use Rattle.abi_sheet.specs.AbiSheet.{abi_text_of, abi_field_name, abi_field_descriptor}
 use Rattle.set_rules.specs.SetRules.{set_refusal}
 use Rattle.linking.specs.Chain.{parent_of, is_interface, same_methods}
@@ -13,7 +13,7 @@ use Rattle.linking.specs.Packages.{build_packages, bad_packages}
 use Rattle.linking.specs.Fields.{number_fields, added_fields, built_words, too_many_words, generated_refusal, generated_indices, static_words}
 use Rattle.linking.specs.Compiler.{New, added_methods, compiler_table}
 use Rattle.linking.specs.Counts.{counted_after, missing_short}
-use Rattle.linking.specs.Set.{write_at, put_indices, new_text, grown_methods, grown_fields, section_full, grown_end}
+use Rattle.linking.specs.Set.{write_at, put_indices, grown_methods, grown_fields, section_full, grown_end}
 
 -- ---- row 6
 

@@ -1,5 +1,5 @@
 -- What a link leaves in the class words: the class record, field indices, and sections that grow. Assumes nothing.
-use Rattle.std.specs.Prelude.{ℕ, ◌+◌, ◌*◌, ◌-◌, Bool, cond, ◌&&◌, ◌||◌, List, [], ◌∷◌, ◌++◌, length, take, drop, eqb, leb, ltb}
+use Rattle.std.specs.Prelude.{ℕ, ◌+◌, ◌*◌, ◌-◌, Bool, ◌||◌, List, [], ◌∷◌, ◌++◌, length, take, drop, ltb}
 use Rattle.words.specs.Lists.{list_from}
 use Rattle.words.specs.Words.{le_word, words_for}
 use Rattle.class_sheet.specs.ClassSheet.{member_width, member_limit, text_limit, method_count, field_count, text_length, methods_at, fields_at, interfaces_at, text_at, text_of, class_first_method, class_method_count, class_first_field, class_field_count, put_method_count, put_field_count, put_text_length, put_class_first_method, put_class_method_count, put_class_first_field, put_class_field_count, put_index_at, member_words}

@@ -1,6 +1,6 @@
 -- Virtual tables (vtable.rs): Reading, `build_methods`, `build_interface_methods`, and the words written. A known entry's method is a
 -- number of the class sheet's method section. Assumes nothing.
-use Rattle.std.specs.Prelude.{ℕ, zero, suc, ◌+◌, ◌-◌, max, min, Bool, true, false, cond, not, ◌&&◌, List, [], ◌∷◌, ◌++◌, length, get_or, set, replicate, eqb}
+use Rattle.std.specs.Prelude.{ℕ, ◌+◌, ◌-◌, min, Bool, false, cond, not, List, [], ◌∷◌, ◌++◌, length, get_or, set, replicate, eqb}
 use Rattle.words.specs.Lists.{list_from, or_else, and_then, first_found, position, fold, keep}
 use Rattle.words.specs.declared.Found.{Found}
 use Rattle.words.specs.declared.Found.TheVariants.{At, Nothing}

@@ -2,23 +2,19 @@
 -- `packages_from` makes of the chain's tables. Assumes nothing.
 use mathlib.Core.Path.{◌≡◌, refl, sym, ap, ◌∙◌, fun_ext}
 use mathlib.Core.Logic.{◌≢◌}
-use mathlib.Core.Bool.{false, cond}
 use mathlib.Core.List.{List, Memᴰ}
 use Prim.Native.Nat.{ℕ, ◌+◌, ◌≤◌, ◌<◌, min}
 use native.Mathlib.Omega.{arith}
 use lib.ListN.{length, get_or, take, drop}
 use lib.Dec.{eqb, ltb}
 use borrow.Author.Tests.{eqb-false, ne_eqb, ltb-true}
-use Rattle.words.specs.Lists.{or_else, and_then}
-use Rattle.words.specs.declared.Found.{Found}
-use Rattle.words.specs.declared.Found.TheVariants.{Nothing}
 use Rattle.words.proofs.Bools.{by}
 use Rattle.words.proofs.ListLaws.{by-found}
 use Rattle.words.proofs.Lists.{part_at, length_part}
 use Rattle.class_sheet.specs.ClassSheet.{class_limit, class_table_place, class_slot_count}
 use Rattle.linking.specs.Chain.{parent_of, chain, same_methods}
 use Rattle.linking.specs.Vtable.{Entry, read_entry, read_slot, parent_entries}
-use Rattle.linking.specs.Packages.{topmost, table_has, introducing, packages_over, build_packages}
+use Rattle.linking.specs.Packages.{topmost, table_has, introducing, build_packages}
 use Rattle.linking.proofs.ChainLaws.{chain_more}
 use Rattle.linking.proofs.Plans.{packages-within}
 use Rattle.linking.proofs.RenumberedPackages.{last-ext, last_of}

@@ -1,7 +1,7 @@
 -- The table half of demand 3 for a chain of kind 3, class by class from its root: every slot is known, by the target of a chain method; its introducing
 -- method has its signature; so a child keeps its parent's slots. Assumes nothing.
 use mathlib.Core.Path.{◌≡◌, refl, sym, ap, ◌∙◌}
-use mathlib.Core.Logic.{◌⊎◌, inl, inr, ⊎_elim, ◌≢◌}
+use mathlib.Core.Logic.{inl, inr, ⊎_elim, ◌≢◌}
 use mathlib.Core.Bool.{Bool, true, false}
 use mathlib.Core.List.Memᴰ
 use mathlib.Core.List.{List, [], ◌∷◌, Memᴰ}
@@ -15,7 +15,7 @@ use Rattle.words.specs.declared.Found.TheVariants.{At, Nothing}
 use Rattle.words.proofs.Bools.{by}
 use Rattle.words.proofs.ListLaws.{by-found}
 use Rattle.class_sheet.specs.ClassSheet.{class_kind, method_target}
-use Rattle.linking.specs.Chain.{own_methods, parent_of, chain, eligible}
+use Rattle.linking.specs.Chain.{own_methods, parent_of, chain}
 use Rattle.linking.specs.Vtable.{Entry, read_entry, slot_word, slot_words}
 use Rattle.linking.specs.Packages.{topmost}
 use Rattle.linking.proofs.ChainLaws.{parent_below, parent-within, chain-none, chain_more}

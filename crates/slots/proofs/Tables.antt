@@ -26,7 +26,7 @@ use Rattle.slots.proofs.FixedFacts.{method_signature, same_signature_lem, signat
 use Rattle.slots.proofs.EntryFacts.{at, Shows}
 use Rattle.slots.proofs.AddFacts.{adds, adds-good, adds-each, Declared, Stays, stays_same, adds-stays}
 use Rattle.slots.proofs.StartFacts.{extended-same, extended-room, extended-good, relayed-good, relayed-room, relayed-each}
-use Rattle.slots.proofs.ReadFacts.{read_at, known_read, read_word, read_no_class, Origin, Firm, ours, lent, blank, firm-any, read-firm, table-origin, table-good, table-known, table-word}
+use Rattle.slots.proofs.ReadFacts.{read_at, known_read, read_word, read_no_class, Origin, Firm, ours, blank, firm-any, read-firm, table-origin, table-good, table-known, table-word}
 
 module _ (ws text abi labels : List ℕ) (tables : ℕ → List ℕ) (P : ℕ → Type 0) where
   -- what a class's table has, for its children and for the claim

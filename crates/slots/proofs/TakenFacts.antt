@@ -1,18 +1,18 @@
 -- A class of kind 3 over its parent's entries: each eligible method stands at the slots that it takes, or in a new last one. So every entry is a
 -- method's of the chain, and one that was inherited keeps its signature. Assumes nothing.
 use mathlib.Core.Path.{◌≡◌, refl, sym, ap, ◌∙◌}
-use mathlib.Core.Logic.{◌⊎◌, inl, inr, ⊎_elim, ◌≢◌}
-use mathlib.Core.Bool.{Bool, true, false, false≢true}
+use mathlib.Core.Logic.{◌⊎◌, inl, inr, ⊎_elim}
+use mathlib.Core.Bool.{true, false, false≢true}
 use mathlib.Core.List.Memᴰ
 use mathlib.Core.List.{List, [], ◌∷◌, ◌++◌, Memᴰ}
 use Prim.Native.Nat.{ℕ, zero, suc, ◌+◌, ◌≤◌, ◌<◌}
 use native.Mathlib.Omega.{arith}
-use lib.ListN.{length, get_or, set, length-set, length-append}
+use lib.ListN.{length, set, length-set, length-append}
 use lib.Dec.{eqb}
 use borrow.Author.Tests.{eqb-true, eqb-false, eq-eqb}
-use Rattle.words.specs.Lists.{list_from, numbers, fold, keep, some}
+use Rattle.words.specs.Lists.{list_from, numbers, fold, some}
 use Rattle.words.specs.declared.Found.{Found}
-use Rattle.words.specs.declared.Found.TheVariants.{At, Nothing}
+use Rattle.words.specs.declared.Found.TheVariants.{At}
 use Rattle.words.proofs.Bools.{by}
 use Rattle.words.proofs.ListLaws.{by-found, numbers-within}
 use Rattle.class_sheet.specs.ClassSheet.{method_target}
@@ -21,7 +21,7 @@ use Rattle.linking.specs.Vtable.{Entry, empty, method_entry}
 use Rattle.linking.specs.Packages.{overridden, taken_slots, put_taken, take_slots, packages_over}
 use Rattle.linking.proofs.Overriding.{keep-of, keep_in, some_of, some_in, overridden-same}
 use Rattle.slots.specs.Slots.{ChainMethod}
-use Rattle.slots.proofs.ListFacts.{not_found, found-same, set_at}
+use Rattle.slots.proofs.ListFacts.{found-same, set_at}
 use Rattle.slots.proofs.ChainFacts.{method-here}
 use Rattle.slots.proofs.FixedFacts.{method_signature, same_signature_lem}
 use Rattle.slots.proofs.EntryFacts.{at}

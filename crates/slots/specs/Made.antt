@@ -1,6 +1,6 @@
 -- What a table that the linker made is made of: the local equation that the runs keep, and the conditions under which tables so made have
 -- demand 3's properties. Tables are lists of slot words, one for each class number. Assumes nothing.
-use Rattle.std.specs.Prelude.{ℕ, ◌<◌, ◌≤◌, ◌≡◌, ◌≢◌, false, cond, List, [], length, get_or, eqb, ltb}
+use Rattle.std.specs.Prelude.{ℕ, ◌<◌, ◌≤◌, ◌≡◌, ◌≢◌, cond, List, [], length, get_or, eqb, ltb}
 use Rattle.words.specs.Lists.{list_from, and_then}
 use Rattle.words.specs.declared.Found.{Found}
 use Rattle.class_sheet.specs.ClassSheet.{class_kind, is_array, is_packaged, method_target}

@@ -1,9 +1,9 @@
 -- Theorem 4: a class keeps its record until its link, and that link finds the fields of the list's start, as no link of another class changes a field's
 -- flags or descriptor; after its link no call changes the word. Assumes nothing.
-use mathlib.Core.Path.{◌≡◌, refl, sym, ap, ◌∙◌}
-use mathlib.Core.Logic.{◌≢◌, ◌⊎◌, inl, inr}
+use mathlib.Core.Path.{◌≡◌, refl, sym, ◌∙◌}
+use mathlib.Core.Logic.{◌≢◌, inl, inr}
 use mathlib.Core.List.{List, [], ◌∷◌, Memᴰ}
-use Prim.Native.Nat.{ℕ, ◌+◌, ◌≤◌, ◌<◌}
+use Prim.Native.Nat.{ℕ, ◌≤◌, ◌<◌}
 use native.Mathlib.Omega.{arith}
 use lib.Dec.{eqb}
 use borrow.Author.Tests.{eqb-true, eqb-false}
@@ -11,8 +11,8 @@ use Rattle.words.specs.Lists.{fold}
 use Rattle.words.proofs.Bools.{by}
 use Rattle.words.proofs.ListLaws.{numbers-within}
 use Rattle.text.specs.Text.{descriptor_start_word, descriptor_length_word}
-use Rattle.class_sheet.specs.ClassSheet.{class_width, kind_word, first_field_word, field_count_word, table_place_word, static_words_word, index_word, field_limit, field_count, text_of, class_word, class_kind, class_first_field, class_field_count, class_table_place, class_static_words, field_word}
-use Rattle.set_rules.specs.Valid.{IsClass, Valid}
+use Rattle.class_sheet.specs.ClassSheet.{class_width, kind_word, first_field_word, field_count_word, table_place_word, static_words_word, index_word, field_limit, field_count, text_of, class_word, class_kind, class_first_field, class_field_count, class_table_place, field_word}
+use Rattle.set_rules.specs.Valid.{IsClass}
 use Rattle.linking.specs.Chain.{list_count, own_fields}
 use Rattle.linking.specs.Fields.{add_static, static_words}
 use Rattle.linking.specs.Link.{link_def, LinkOutcome}

@@ -1,16 +1,15 @@
 -- Theorem 1, and what a link leaves of the field records that were there: flags and descriptors. By the sections that a link lays out. Assumes nothing.
-use mathlib.Core.Path.{◌≡◌, refl, sym, ap, ◌∙◌, subst}
+use mathlib.Core.Path.{◌≡◌, sym, ap, ◌∙◌, subst}
 use mathlib.Core.Logic.{◌≢◌, inl, inr}
-use mathlib.Core.Bool.{true, false≢true}
+use mathlib.Core.Bool.{false≢true}
 use mathlib.Core.List.{List, [], ◌++◌}
 use Prim.Native.Nat.{ℕ, ◌+◌, ◌-◌, ◌≤◌, ◌<◌}
 use native.Mathlib.Omega.{arith}
-use lib.ListN.{length, get_or, take, drop, length-append, get_or-append}
-use borrow.Author.Tests.{eq-eqb, ne_eqb}
+use lib.ListN.{length, get_or, length-append, get_or-append}
 use Rattle.words.specs.Rows.{row_word}
 use Rattle.words.proofs.Bools.{by}
 use Rattle.words.specs.Words.{AreBytes}
-use Rattle.class_sheet.specs.ClassSheet.{class_width, member_width, kind_word, first_method_word, method_count_word, first_field_word, field_count_word, static_words_word, index_word, class_count, method_count, field_count, content_end, text_length, text_words, text_of, class_word, class_kind, is_built_kind, class_first_method, class_method_count, class_first_field, class_field_count, class_static_words, field_word}
+use Rattle.class_sheet.specs.ClassSheet.{class_width, kind_word, first_method_word, method_count_word, first_field_word, field_count_word, static_words_word, index_word, class_count, method_count, field_count, text_length, text_words, text_of, class_word, class_kind, is_built_kind, class_first_method, class_method_count, class_first_field, class_field_count, class_static_words, field_word}
 use Rattle.class_sheet.specs.Sections.{Sections, Formed, laid_out, sections_of}
 use Rattle.class_sheet.proofs.Sections.{number_of_fields, class-word, field-word, formed-of, class_of, field_of}
 use Rattle.abi_sheet.specs.AbiSheet.{abi_text_length, abi_text_words, abi_text_of}
@@ -18,8 +17,8 @@ use Rattle.set_rules.specs.Valid.{Valid}
 use Rattle.set_rules.proofs.Valid.{valid}
 use Rattle.linking.specs.Fields.{static_words}
 use Rattle.linking.specs.Set.{new_text}
-use Rattle.linking.specs.Link.{Plan, is_none, next_free, new_words, new_statics, linked_words, LinkOutcome, link_def}
-use Rattle.linking.specs.Grown.{new_members, row_indices, methods_growing, fields_growing, record_rows, linked_sections}
+use Rattle.linking.specs.Link.{Plan, is_none, next_free, new_words, new_statics, LinkOutcome, link_def}
+use Rattle.linking.specs.Grown.{methods_growing, fields_growing, record_rows, linked_sections}
 use Rattle.linking.proofs.Grown.{length-row-indices, index-other}
 use Rattle.linking.proofs.Appended.{word_kept}
 use Rattle.linking.proofs.Plans.{Plans, plans}

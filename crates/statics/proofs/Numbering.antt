@@ -1,6 +1,6 @@
 -- Theorems 2 and 3: each turn of the numbering adds to the static count what the sum adds, and gives a static field the count before it. Assumes nothing.
 use mathlib.Core.Path.{◌≡◌, refl, sym, ap, ◌∙◌}
-use mathlib.Core.Bool.{true, false, cond, false≢true, ◌||◌}
+use mathlib.Core.Bool.{true, cond, false≢true, ◌||◌}
 use mathlib.Core.List.{List, [], ◌∷◌, ◌++◌, append-nil, append_assoc}
 use Prim.Native.Nat.{ℕ, zero, suc, ◌+◌, ◌*◌, ◌≤◌, ◌<◌}
 use native.Mathlib.Omega.{arith}

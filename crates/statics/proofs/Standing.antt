@@ -1,19 +1,19 @@
 -- Theorem 3 in the words that a link leaves: a built class's own fields stand in its list, each with the index that the numbering gave it, and fields that
 -- the ABI adds, flags 0x0002, are not static. Assumes nothing.
 use mathlib.Core.Path.{◌≡◌, refl, sym, ap, ◌∙◌, subst}
-use mathlib.Core.Logic.{◌≢◌, inl, inr}
+use mathlib.Core.Logic.{inl, inr}
 use mathlib.Core.Bool.{true, false, true≢false}
 use mathlib.Core.List.{List, [], ◌∷◌}
 use Prim.Native.Nat.{ℕ, zero, suc, ◌+◌, ◌-◌, ◌≤◌, ◌<◌}
 use native.Mathlib.Omega.{arith}
-use lib.ListN.{length, get_or, take}
-use lib.Dec.{eqb, ltb}
+use lib.ListN.{length, get_or}
+use lib.Dec.{ltb}
 use borrow.Author.Tests.{ltb-true, ltb-false}
 use Rattle.words.specs.Rows.{row_word}
 use Rattle.words.specs.declared.Found.{Found}
 use Rattle.words.proofs.Bools.{by}
 use Rattle.text.specs.Text.{descriptor_start_word, descriptor_length_word}
-use Rattle.class_sheet.specs.ClassSheet.{class_width, member_width, first_field_word, field_count_word, index_word, field_count, text_of, class_kind, class_first_field, class_field_count, class_static_words, field_word, field_flags, field_index}
+use Rattle.class_sheet.specs.ClassSheet.{class_width, first_field_word, field_count_word, index_word, field_count, text_of, class_first_field, class_field_count, class_static_words, field_word, field_flags, field_index}
 use Rattle.class_sheet.specs.Sections.{Sections, Formed, laid_out, sections_of, with_classes, with_fields}
 use Rattle.class_sheet.proofs.Sections.{class-word, field-word, field_of}
 use Rattle.descriptor.specs.Words.{width}
@@ -22,11 +22,10 @@ use Rattle.set_rules.specs.Valid.{Valid}
 use Rattle.linking.specs.Chain.{is_static, own_fields}
 use Rattle.linking.specs.Abi.{class_abi}
 use Rattle.linking.specs.Vtable.{Entry, Built, built, refused}
-use Rattle.linking.specs.Fields.{field_width, number_fields, added_fields, too_many_words, static_words}
-use Rattle.linking.specs.Compiler.{New, no_new}
-use Rattle.linking.specs.Set.{new_text}
-use Rattle.linking.specs.Link.{Plan, Planned, planned, unplanned, is_none, on_table, within_slots, new_fields_of, built_table, plan_built, plan, next_free, LinkOutcome, link_def}
-use Rattle.linking.specs.Grown.{row_indices, member_row, fields_growing, record_rows, linked_sections}
+use Rattle.linking.specs.Fields.{field_width, number_fields, added_fields, too_many_words}
+use Rattle.linking.specs.Compiler.{no_new}
+use Rattle.linking.specs.Link.{Plan, planned, is_none, on_table, within_slots, new_fields_of, built_table, plan_built, plan, next_free, LinkOutcome, link_def}
+use Rattle.linking.specs.Grown.{row_indices, fields_growing, record_rows, linked_sections}
 use Rattle.linking.proofs.ChainLaws.{own-fields-length, own-field-at}
 use Rattle.linking.proofs.Grown.{rows-indices, length-row-indices, index-other, index_at}
 use Rattle.linking.proofs.FieldsBack.{copied-field, copied-index, new-field, own_first, own-count}
