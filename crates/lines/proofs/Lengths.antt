@@ -1,11 +1,11 @@
 -- How long the lines are: 293 bytes at most of a class, and 531 of a slot. Assumes nothing.
 use mathlib.Core.Path.{◌≡◌, refl}
-use mathlib.Core.List.{List, [], ◌∷◌, ◌++◌}
+use mathlib.Core.List.{List, [], ◌∷◌}
 use Prim.Native.Nat.{ℕ, zero, suc, ◌+◌, ◌*◌, ◌/◌, ◌%◌, min, ◌≤◌, ◌<◌}
 use native.Mathlib.Omega.{arith}
-use lib.ListN.{length, get_or, take, drop, length-append, length-take}
+use lib.ListN.{length, get_or, drop, length-append, length-take}
 use lib.Dec.{ltb}
-use borrow.Author.Tests.{ltb-true, ltb-false}
+use borrow.Author.Tests.{ltb-false}
 use Rattle.words.specs.Lists.{list_from}
 use Rattle.words.specs.declared.Found.{Found}
 use Rattle.words.specs.declared.Found.TheVariants.{At, Nothing}
@@ -15,7 +15,7 @@ use Rattle.text.specs.Text.{name_at}
 use Rattle.descriptor.specs.Bytes.{text}
 use Rattle.class_sheet.specs.ClassSheet.{class_name, class_name_start, class_name_length, class_instance_words, class_slot_count, class_table_place, method_name_length, method_descriptor_length, text_of}
 use Rattle.abi_sheet.specs.AbiSheet.{abi_slot_name_length, abi_slot_descriptor_length, abi_text_of}
-use Rattle.linking.specs.Vtable.{Entry, read_entry, read_slot, table_entries}
+use Rattle.linking.specs.Vtable.{read_entry, read_slot, table_entries}
 use Rattle.linking.specs.Whose.{declaring_class, read_declared}
 use Rattle.linking.proofs.Whose.{by-declared, read-class}
 use Rattle.lines.specs.Bytes.{digits, decimal}

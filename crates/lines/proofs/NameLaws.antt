@@ -1,13 +1,12 @@
 -- Laws of a slot's name and descriptor, as the code looks them up. Assumes nothing.
-use mathlib.Core.Path.{◌≡◌, refl, sym, ◌∙◌}
+use mathlib.Core.Path.{◌≡◌, ◌∙◌}
 use mathlib.Core.List.{List, []}
 use Prim.Native.Nat.{ℕ, ◌<◌}
-use Rattle.words.specs.Lists.{and_then, first_found}
 use Rattle.words.specs.declared.Found.{Found}
 use Rattle.words.specs.declared.Found.TheVariants.{At, Nothing}
 use Rattle.class_sheet.specs.ClassSheet.{method_name, method_descriptor}
 use Rattle.abi_sheet.specs.AbiSheet.{abi_slot_name, abi_slot_descriptor}
-use Rattle.linking.specs.Chain.{parent_of, chain}
+use Rattle.linking.specs.Chain.{parent_of}
 use Rattle.linking.specs.Abi.{class_abi, slot_at}
 use Rattle.linking.proofs.ChainLaws.{along-none, along-hit, along-up}
 use Rattle.reading.specs.Arrays.{method_of}

@@ -1,20 +1,19 @@
 -- What the code stores and answers is what `finish_link` says, for an accepted set and a sound area. Assumes nothing.
-use mathlib.Core.Path.{◌≡◌, refl, sym, ap, ◌∙◌}
+use mathlib.Core.Path.{◌≡◌, refl, sym, ◌∙◌}
 use mathlib.Core.Logic.{◌≢◌}
-use mathlib.Core.Bool.{Bool, true, false, cond, not, ◌&&◌, ◌||◌}
-use mathlib.Core.List.{List, [], ◌∷◌}
-use Prim.Native.Nat.{ℕ, ◌+◌, ◌≤◌, ◌<◌}
-use native.Mathlib.Omega.{arith}
+use mathlib.Core.Bool.{Bool, true, false, not, ◌&&◌, ◌||◌}
+use mathlib.Core.List.{List}
+use Prim.Native.Nat.{ℕ, ◌+◌, ◌≤◌}
 use lib.ListN.{length}
 use Rattle.words.proofs.Bools.{by, or-neither}
-use Rattle.class_sheet.specs.ClassSheet.{class_count, class_kind, method_count, field_count, text_of, class_method_count, class_first_method, class_first_field, class_field_count}
+use Rattle.class_sheet.specs.ClassSheet.{class_count, method_count, field_count, text_of, class_method_count, class_first_method, class_first_field, class_field_count}
 use Rattle.abi_sheet.specs.AbiSheet.{abi_text_of}
 use Rattle.set_rules.specs.Valid.{Valid}
 use Rattle.linking.specs.Compiler.{New}
 use Rattle.linking.specs.Chain.{parent_of}
 use Rattle.linking.specs.Counts.{missing_short}
 use Rattle.linking.specs.Link.{Plan, is_none, next_free, lists_full, set_short, no_room, linked_words, new_words, new_statics, finish_link, LinkOutcome, refused_link}
-use Rattle.growth.specs.Growth.{can_grow, methods_grown, fields_grown}
+use Rattle.growth.specs.Growth.{can_grow}
 use Rattle.growth.proofs.Linked.{linked-methods, linked-fields, can_grow_lem, methods-end, fields-end}
 use Rattle.reading.specs.Arrays.{entries_of}
 use Rattle.area.specs.Area.{table_written}

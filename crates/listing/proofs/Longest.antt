@@ -2,38 +2,38 @@
 -- most; a slot's line has 531 bytes at most, and a class's 293. Assumes nothing.
 use mathlib.Core.Path.{◌≡◌, refl, sym, ap, ◌∙◌}
 use mathlib.Core.Logic.{◌≢◌, ◌⊎◌, inl, inr}
-use mathlib.Core.Bool.{true, false, cond}
+use mathlib.Core.Bool.{false, cond}
 use mathlib.Core.List.{List, [], ◌∷◌, ◌++◌}
-use Prim.Native.Nat.{ℕ, zero, suc, ◌+◌, ◌*◌, ◌-◌, ◌^◌, ◌≤◌, ◌<◌, min}
+use Prim.Native.Nat.{ℕ, zero, suc, ◌+◌, ◌*◌, ◌^◌, ◌≤◌, ◌<◌, min}
 use native.Mathlib.Omega.{arith}
-use lib.ListN.{length, get_or, set, take, replicate, length-append, length-set, length-take, length-replicate, get_or-eq_default}
+use lib.ListN.{length, get_or, take, replicate, length-append, length-set, length-take, length-replicate, get_or-eq_default}
 use lib.Seq.{get_or-set_same, get_or-take}
 use lib.Dec.{eqb, ltb}
 use borrow.Author.Tests.{eqb-true, eqb-false, ne_eqb, eq-eqb, ltb-true, ltb-false, le-ltb}
 use Rattle.words.proofs.Bools.{by}
-use Rattle.class_sheet.specs.ClassSheet.{class_count, field_count, class_kind, is_built_kind, class_first_field, class_field_count, class_word, class_instance_words, class_slot_count, text_of, sheet_words, class_limit}
+use Rattle.class_sheet.specs.ClassSheet.{class_count, class_kind, is_built_kind, class_word, class_instance_words, class_slot_count, text_of, sheet_words, class_limit}
 use Rattle.abi_sheet.specs.AbiSheet.{abi_text_of, abi_sheet_words}
 use Rattle.set_rules.specs.SetRules.{set_refusal}
-use Rattle.set_rules.specs.Valid.{IsClass, Valid, ValidAbi}
+use Rattle.set_rules.specs.Valid.{IsClass, ValidAbi}
 use Rattle.set_rules.proofs.Valid.{valid}
 use Rattle.linking.specs.Vtable.{Entry, Built, built, refused, slot_words, parent_entries}
 use Rattle.linking.specs.Compiler.{New}
 use Rattle.linking.specs.Abi.{class_abi}
 use Rattle.linking.specs.Fields.{number_fields, added_fields, too_many_words, generated_refusal, generated_indices}
-use Rattle.linking.specs.Link.{next_free, Plan, Planned, planned, unplanned, on_table, within_slots, new_fields_of, built_table, generated_table, plan_built, plan_generated, plan_array, plan, generated_methods, linked_area, new_words, new_statics, LinkOutcome, link_def}
+use Rattle.linking.specs.Link.{next_free, Plan, planned, unplanned, on_table, within_slots, new_fields_of, built_table, generated_table, plan_built, plan_generated, plan_array, plan, generated_methods, linked_area, new_words, new_statics, LinkOutcome, link_def}
 use Rattle.linking.specs.Set.{write_at}
 use Rattle.linking.specs.Counts.{missing_short}
 use Rattle.calls.proofs.Area.{linked-length}
 use Rattle.linking.proofs.Plans.{plans}
 use Rattle.calls.proofs.Rows.{Refused, Accepted, link-cases}
 use Rattle.lines.proofs.Lengths.{limit, decimal-few, class-refused-few, class_lines_few}
-use Rattle.lines.proofs.Bounded.{Bounded, valid-bounded, class-short, ShortNews, news-short, Leaves, link_leaves}
+use Rattle.lines.proofs.Bounded.{Bounded, valid-bounded, class-short, ShortNews, news-short, link_leaves}
 use Rattle.descriptor.specs.Bytes.{text}
 use Rattle.sheet.specs.Sheet.{read_class_sheet, read_abi_sheet}
 use Rattle.sheet.specs.Sheet as sheet
 use Rattle.sheet.specs.declared.Read.{Read}
 use Rattle.sheet.proofs.Valid.{read-accepted}
-use Rattle.lines.specs.Lines.{numbered, class_lines, class_refused, sheet_refused}
+use Rattle.lines.specs.Lines.{numbered, sheet_refused}
 use Rattle.listing.proofs.ListingLaws.{read-row, read-memory}
 use Rattle.listing.specs.Listing.{read_row, fresh_area, fresh_counts, stub_words, Linked, linked, link_one, Links, links, link_all, class_text, class_texts, set_text, abi_line, classes_text, listing}
 use Rattle.listing.specs.Small.{Small, Accepts}

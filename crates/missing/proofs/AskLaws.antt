@@ -1,11 +1,11 @@
 -- Laws of asking: its rows down the table, and the count. Assumes nothing.
-use mathlib.Core.Path.{◌≡◌, refl, sym, ap, ◌∙◌}
+use mathlib.Core.Path.{◌≡◌}
 use mathlib.Core.Logic.{◌≢◌}
 use mathlib.Core.Bool.{Bool, true, false, not, ◌||◌}
 use mathlib.Core.List.{List}
 use Prim.Native.Nat.{ℕ}
 use lib.ListN.{get_or}
-use borrow.Author.Tests.{eq-eqb, ne_eqb}
+use borrow.Author.Tests.{ne_eqb}
 use Rattle.set_rules.specs.SetRules.{set_refusal}
 use Rattle.linking.specs.Counts.{missing_at, missing_short}
 use Rattle.linking.specs.Link.{no_class, is_linked}

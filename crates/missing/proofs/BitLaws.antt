@@ -12,11 +12,10 @@ use lib.Seq.{drop-cons, drop-length}
 use lib.Pow.{pow_pos}
 use lib.Dec.{eqb, ltb}
 use borrow.Author.Tests.{eq-eqb, ne_eqb, le-ltb, lt-ltb, ltb-true, ltb-false}
-use Rattle.words.specs.Lists.{list_from}
 use Rattle.words.specs.declared.Found.{Found}
 use Rattle.words.specs.declared.Found.TheVariants.{At, Nothing}
 use Rattle.words.proofs.Bools.{by, or-neither}
-use Rattle.words.proofs.ListLaws.{length-list-from, get_d_list_from}
+use Rattle.words.proofs.ListLaws.{get_d_list_from}
 use Rattle.linking.specs.Vtable.{Entry, empty}
 use Rattle.linking.specs.Counts.{is_counted, bits_of, bit, bit_count, bits_from, missing_at, missing_bit, parent_bit}
 use Rattle.reading.specs.Arrays.{source_of, entry_at, entries_of}

@@ -3,7 +3,7 @@ use mathlib.Core.Path.{◌≡◌, refl, sym, ap, ◌∙◌}
 use mathlib.Core.Bool.{Bool, true, false, cond}
 use mathlib.Core.Logic.{◌≢◌}
 use mathlib.Core.List.{List, [], ◌∷◌}
-use Prim.Native.Nat.{ℕ, suc, ◌+◌, ◌/◌, ◌%◌, ◌≤◌, ◌<◌}
+use Prim.Native.Nat.{ℕ, suc, ◌+◌, ◌/◌, ◌%◌, ◌≤◌}
 use native.Mathlib.Omega.{arith}
 use lib.ListN.{length, take, drop, replicate}
 use lib.Dec.{eqb}
@@ -17,7 +17,7 @@ use Rattle.class_sheet.specs.ClassSheet.{class_kind, is_packaged, is_built_kind,
 use Rattle.linking.specs.Chain.{same_methods}
 use Rattle.linking.specs.Packages.{build_packages}
 use Rattle.linking.specs.Set.{write_at, overlaid}
-use Rattle.linking.specs.Vtable.{Entry, Built, built, parent_entries, build_interface_methods, build_methods}
+use Rattle.linking.specs.Vtable.{Built, built, parent_entries, build_interface_methods, build_methods}
 use Rattle.linking.specs.Abi.{class_abi}
 use Rattle.linking.specs.Compiler.{New, added_methods, compiler_table}
 use Rattle.linking.specs.Fields.{number_fields, built_words, generated_refusal, generated_indices}

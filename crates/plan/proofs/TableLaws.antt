@@ -1,5 +1,5 @@
 -- Laws of a plan's table: its marks behind its words, and the rows that refuse it. Assumes nothing.
-use mathlib.Core.Path.{◌≡◌, refl, sym, ap, ◌∙◌}
+use mathlib.Core.Path.{◌≡◌, refl, ap, ◌∙◌}
 use mathlib.Core.Logic.{◌≢◌}
 use mathlib.Core.Bool.{Bool, ◌&&◌}
 use mathlib.Core.List.{List}
@@ -23,7 +23,7 @@ use Rattle.vtable.specs.declared.Step.{Step}
 use Rattle.vtable.specs.declared.Step.TheVariants.{Next, Moved, Taken}
 use Rattle.reading.proofs.ArrayLaws.{length-entries}
 use Rattle.reading.proofs.MarkLaws.{list-from-ext}
-use Rattle.plan.specs.Plans.{marks_in, few_slots, step_row, table_row, table_from, table_of}
+use Rattle.plan.specs.Plans.{marks_in, few_slots, table_row, table_from, table_of}
 use Rattle.plan.specs.declared.Table.{Table}
 
 -- ---- marks behind the words

@@ -1,8 +1,8 @@
 -- A plan as the code has it: what a link comes to before anything is written, with the table in one array. Assumes nothing.
-use Rattle.std.specs.Prelude.{ℕ, ◌+◌, ◌≤◌, cond, List, [], ◌∷◌, ◌≡◌, ◌≢◌, length, take, drop, replicate, eqb, ltb}
+use Rattle.std.specs.Prelude.{ℕ, ◌+◌, ◌≤◌, cond, List, [], ◌≡◌, ◌≢◌, length, take, drop, replicate, eqb, ltb}
 use Rattle.class_sheet.specs.ClassSheet.{class_kind, is_built_kind, field_limit}
 use Rattle.linking.specs.Set.{overlaid}
-use Rattle.linking.specs.Vtable.{Entry, Built, built, refused}
+use Rattle.linking.specs.Vtable.{Built, built, refused}
 use Rattle.linking.specs.Compiler.{New}
 use Rattle.linking.specs.Link as L
 use Rattle.reading.specs.Arrays.{entries_of}

@@ -1,4 +1,3 @@
-use Prim.Native.Nat.{◌-◌}
 use mathlib.Core.Path.{◌∙◌}
 use native.Mathlib.Omega.{arith}
 use Rattle.ask.proofs.DispatchLaws.{dispatch_start, dispatch_stop, dispatch_turn, dispatch_end}

@@ -1,6 +1,5 @@
 use native.Mathlib.Omega.{arith}
 use mathlib.Core.Path.{◌∙◌}
-use Prim.Native.Nat.{◌-◌}
 use Rattle.words.proofs.ListLaws.{find-start, find-hit, find-miss, find-end}
 use Rattle.linking.specs.Ask.{own_implementation}
 use Rattle.linking.specs.Chain.{own_methods}

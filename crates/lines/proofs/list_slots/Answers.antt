@@ -1,5 +1,4 @@
 use native.Mathlib.Omega.{arith}
-use Prim.Native.Nat.{◌-◌}
 use mathlib.Core.Path.{◌∙◌, sym}
 use Rattle.lines.proofs.SlotLaws.{slots-start, slots-turned, slots_end}
 use Rattle.lines.proofs.list_slots.Goals as goal

@@ -1,5 +1,4 @@
 use native.Mathlib.Omega.{arith}
-use Prim.Native.Nat.{◌-◌}
 use mathlib.Core.Path.{◌∙◌, sym}
 use Rattle.lines.specs.Bytes.{put}
 use Rattle.words.proofs.ListLaws.{fold-at-start, fold-at-turn, fold-at-end}

@@ -1,5 +1,4 @@
 use native.Mathlib.Omega.{arith}
-use Prim.Native.Nat.{◌-◌}
 use Rattle.listing.proofs.ListingLaws.{links-start, links-turn, links_end}
 use Rattle.listing.proofs.link_classes.Goals as goal
 

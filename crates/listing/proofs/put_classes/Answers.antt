@@ -1,5 +1,4 @@
 use native.Mathlib.Omega.{arith}
-use Prim.Native.Nat.{◌-◌}
 use Rattle.listing.proofs.ListingLaws.{texts-start, texts-turn, texts-end}
 use Rattle.listing.proofs.put_classes.Goals as goal
 

@@ -1,6 +1,5 @@
 use Rattle.listing.proofs.ListingLaws.{stubs_are, stubs-turn}
 use native.Mathlib.Omega.{arith}
-use Prim.Native.Nat.{◌-◌}
 use Rattle.words.proofs.FoldLaws.{stores-none}
 use Rattle.listing.proofs.stub_words.Goals as goal
 

@@ -1,6 +1,5 @@
 use native.Mathlib.Omega.{arith}
 use mathlib.Core.Path.{◌∙◌}
-use Prim.Native.Nat.{◌-◌}
 use Rattle.missing.proofs.BitLaws.{word_room, word-start, word-turn, word_end}
 use Rattle.missing.proofs.bit_word.Goals as goal
 

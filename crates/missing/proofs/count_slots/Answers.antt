@@ -1,5 +1,4 @@
 use native.Mathlib.Omega.{arith}
-use Prim.Native.Nat.{◌-◌}
 use Rattle.missing.proofs.BitLaws.{bits-length, count-start, count_turn, count-end}
 use Rattle.missing.proofs.count_slots.Goals as goal
 

@@ -1,5 +1,4 @@
 use native.Mathlib.Omega.{arith}
-use Prim.Native.Nat.{◌-◌}
 use Rattle.missing.proofs.ListLaws.{pack_start, pack_turn, pack_end}
 use Rattle.missing.proofs.pack.Goals as goal
 

@@ -1,5 +1,4 @@
 use mathlib.Core.Path.{refl, ◌∙◌}
-use Prim.Native.Nat.{◌-◌}
 use native.Mathlib.Omega.{arith}
 use Rattle.replay.proofs.ReplayLaws.{run-start, answers-start, run-turn, answers-turn, run_end, answers-end}
 use borrow.Author.Rules.{rules}
