@@ -14,7 +14,7 @@ use Rattle.words.specs.declared.Found.{Found}
 use Rattle.words.specs.declared.Found.TheVariants.{At, Nothing}
 use Rattle.abi_sheet.specs.AbiSheet.{abi_class_table_size_plus_one, abi_class_first_slot, abi_class_slot_count, abi_slot_limit}
 use Rattle.linking.specs.Chain.{list_count, parent_of, chain}
-use Rattle.linking.specs.Abi.{abi_slots, slot_index, slot_at, class_size, class_abi, chain_abi, minimum_size}
+use Rattle.linking.specs.Abi.{abi_slots, slot_index, slot_at, class_size, minimum_size}
 use Rattle.words.proofs.ListLaws.{numbers-within, find-member, largest_room}
 use Rattle.linking.proofs.ChainLaws.{all_none, all-hit, all_up}
 

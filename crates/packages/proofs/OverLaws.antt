@@ -2,15 +2,13 @@
 use mathlib.Core.Path.{◌≡◌, refl, sym, ap, ◌∙◌}
 use mathlib.Core.Bool.{Bool, true, false, cond, not, ◌&&◌, ◌||◌}
 use mathlib.Core.List.{List, [], ◌∷◌, ◌++◌}
-use Prim.Native.Nat.{ℕ, zero, suc, ◌+◌, ◌-◌, ◌/◌, ◌%◌, ◌≤◌, ◌<◌}
+use Prim.Native.Nat.{ℕ, zero, suc, ◌+◌, ◌/◌, ◌%◌, ◌≤◌, ◌<◌}
 use native.Mathlib.Omega.{arith}
 use native.Mathlib.Numerals.{add-one}
-use lib.ListN.{length, get_or, take, drop, set, length-take}
+use lib.ListN.{length, get_or, take, set, length-take}
 use lib.Seq.{take-suc-set, get_or-take}
-use lib.Dec.{eqb}
 use borrow.Author.Tests.{eq-eqb, ne_eqb, not-true, not-false}
 use Rattle.words.specs.Lists.{numbers, fold, keep, some}
-use Rattle.words.proofs.Bools.{by}
 use Rattle.words.proofs.ListLaws.{rest_from, rest-start, rest-turn, rest_end, some_from, some-start, some_turn, some-found, some_end}
 use Rattle.class_sheet.specs.ClassSheet.{class_limit, class_first_method, class_method_count, method_flags, method_name, method_descriptor, method_limit}
 use Rattle.linking.specs.Chain.{list_count, own_methods, parent_of, chain, is_private, is_static, is_virtual, method_is, same_methods}

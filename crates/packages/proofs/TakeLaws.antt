@@ -1,20 +1,20 @@
 -- The slots that a method takes, as the code stores them in two arrays. Assumes nothing.
-use mathlib.Core.Path.{◌≡◌, refl, sym, ap, ◌∙◌, fun_ext}
-use mathlib.Core.Logic.{◌⊎◌, inl, inr, ⊎_elim}
+use mathlib.Core.Path.{◌≡◌, refl, sym, ap, ◌∙◌}
+use mathlib.Core.Logic.{inl, inr}
 use mathlib.Core.Bool.{Bool, true, false, cond, not, ◌||◌, true≢false, false≢true}
 use mathlib.Core.List.Memᴰ
 use mathlib.Core.List.{List, [], ◌∷◌, ◌++◌, Memᴰ}
-use Prim.Native.Nat.{ℕ, zero, suc, ◌+◌, ◌-◌, ◌≤◌, ◌<◌}
+use Prim.Native.Nat.{ℕ, zero, suc, ◌+◌, ◌≤◌, ◌<◌}
 use native.Mathlib.Omega.{arith}
 use lib.ListN.{length, get_or, set, replicate, length-set, length-replicate}
 use lib.Seq.{get_or-set_same, get_or-set_other}
 use lib.Dec.{eqb}
-use borrow.Author.Tests.{eqb-true, eqb-false, eq-eqb, not-true, not-false}
+use borrow.Author.Tests.{eqb-true, eqb-false, not-true, not-false}
 use Rattle.words.specs.Lists.{list_from, numbers, fold, keep, some}
 use Rattle.words.specs.declared.Found.{Found}
 use Rattle.words.specs.declared.Found.TheVariants.{At, Nothing}
 use Rattle.words.proofs.Bools.{by}
-use Rattle.words.proofs.ListLaws.{by-found, numbers-within, rest_from, rest-start, rest-turn, rest_end, fold_from, fold_start, fold-turn, fold_end}
+use Rattle.words.proofs.ListLaws.{numbers-within, fold_from, fold_start, fold-turn, fold_end}
 use Rattle.class_sheet.specs.ClassSheet.{class_limit, class_first_method, class_method_count, method_flags, method_target, method_limit}
 use Rattle.linking.specs.Chain.{list_count, on_found, own_methods, parent_of, chain, is_virtual, eligible, same_methods}
 use Rattle.linking.specs.Vtable.{Entry, method_entry, parent_entries}

@@ -1,21 +1,19 @@
 -- The introducing methods, as the code lays them: class by class up the chain, the topmost last. Assumes nothing.
 use mathlib.Core.Path.{◌≡◌, refl, sym, ap, ◌∙◌}
-use mathlib.Core.Bool.{Bool, true, false, cond, not, ◌&&◌}
-use mathlib.Core.List.{List, [], ◌∷◌}
-use Prim.Native.Nat.{ℕ, zero, suc, ◌+◌, ◌-◌, ◌≤◌, ◌<◌, min}
+use mathlib.Core.Bool.{false, cond}
+use mathlib.Core.List.{List}
+use Prim.Native.Nat.{ℕ, zero, suc, ◌+◌, ◌≤◌, ◌<◌, min}
 use native.Mathlib.Omega.{arith}
 use native.Mathlib.Numerals.{add-one}
-use lib.ListN.{length, get_or, set, replicate, get_or-eq_default}
+use lib.ListN.{length, get_or, set, replicate}
 use lib.Dec.{eqb, ltb}
-use borrow.Author.Tests.{eq-eqb, ne_eqb, lt-ltb, le-ltb, ltb-true, ltb-false}
+use borrow.Author.Tests.{eq-eqb, ne_eqb, ltb-true, ltb-false}
 use Rattle.words.specs.Folds.{stores}
-use Rattle.words.specs.Lists.{list_from, or_else, and_then}
-use Rattle.words.specs.declared.Found.{Found}
-use Rattle.words.specs.declared.Found.TheVariants.{At, Nothing}
+use Rattle.words.specs.declared.Found.TheVariants.{Nothing}
 use Rattle.words.proofs.Bools.{by}
 use Rattle.words.proofs.ListLaws.{by-found, length-list-from, get_d_list_from}
 use Rattle.class_sheet.specs.ClassSheet.{class_table_place, class_slot_count}
-use Rattle.linking.specs.Chain.{on_found, parent_of, chain}
+use Rattle.linking.specs.Chain.{parent_of, chain}
 use Rattle.linking.specs.Vtable.{Entry, empty, read_slot, table_entries}
 use Rattle.linking.specs.Packages.{topmost, table_has, introducing}
 use Rattle.linking.proofs.ChainLaws.{chain-none, chain_more}

@@ -4,7 +4,7 @@ use Rattle.std.specs.Prelude.{ℕ, ◌<◌, ◌≡◌, Bool, true, false, List, 
 use Rattle.words.specs.Lists.{numbers, keep}
 use Rattle.words.specs.declared.Found.{Found}
 use Rattle.linking.specs.Chain.{on_found, chain}
-use Rattle.linking.specs.Vtable.{Entry, read_slot}
+use Rattle.linking.specs.Vtable.{read_slot}
 use Rattle.linking.specs.Packages.{topmost, table_has, introducing}
 use Rattle.reading.specs.Arrays.{method_of}
 

@@ -1,17 +1,15 @@
 -- Laws of a table that is held in two arrays: a slot read, a slot stored, a slot more. Assumes nothing.
 use mathlib.Core.Path.{◌≡◌, refl, sym, ap, ◌∙◌}
-use mathlib.Core.Bool.{Bool, true, false, cond}
 use mathlib.Core.Logic.{◌≢◌}
-use mathlib.Core.List.{List, [], ◌∷◌, ◌++◌, append_assoc, append-nil}
-use Prim.Native.Nat.{ℕ, zero, suc, ◌+◌, ◌*◌, ◌-◌, ◌/◌, ◌%◌, ◌≤◌, ◌<◌, max}
+use mathlib.Core.List.{List, [], ◌∷◌, ◌++◌}
+use Prim.Native.Nat.{ℕ, ◌+◌, ◌*◌, ◌-◌, ◌/◌, ◌%◌, ◌≤◌, ◌<◌}
 use native.Mathlib.Omega.{arith}
 use native.Mathlib.Nat.{pos_of_ne-zero}
-use lib.ListN.{length, get_or, set, replicate, length-append, length-set, replicate-append-replicate, get_or-append}
+use lib.ListN.{length, get_or, set, length-append, length-set, get_or-append}
 use lib.Seq.{ext_get_or, get_or-set_same, get_or-set_other, get_or_at}
 use lib.Dec.{eqb, ltb}
 use borrow.Author.Tests.{ltb-true, ltb-false, lt-ltb, ne_eqb, eqb-true, eqb-false}
 use Rattle.class_sheet.specs.ClassSheet.{method_limit}
-use Rattle.words.specs.Lists.{list_from}
 use Rattle.words.proofs.Bools.{by}
 use Rattle.words.specs.declared.Found.{Found}
 use Rattle.words.specs.declared.Found.TheVariants.{At, Nothing}

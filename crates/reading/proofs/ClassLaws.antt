@@ -1,13 +1,13 @@
 -- Laws of the classes that Reading gives: a slot has a class exactly if it has a mark, so what a class marked in its turn is what it claims
 -- after it. Assumes nothing.
 use mathlib.Core.Path.{◌≡◌, refl, sym, ap, ◌∙◌}
-use mathlib.Core.Bool.{Bool, true, false, cond, not, ◌&&◌}
-use mathlib.Core.List.{List, ◌++◌}
-use Prim.Native.Nat.{ℕ, zero, suc, ◌+◌, ◌≤◌, ◌<◌}
+use mathlib.Core.Bool.{true, false, not, ◌&&◌}
+use mathlib.Core.List.{List}
+use Prim.Native.Nat.{ℕ, ◌+◌, ◌≤◌, ◌<◌}
 use native.Mathlib.Omega.{arith}
 use lib.ListN.{length, get_or, set, take, drop}
 use lib.Seq.{ext_get_or, take_at}
-use lib.Dec.{eqb, ltb}
+use lib.Dec.{eqb}
 use borrow.Author.Tests.{eqb-true, ne_eqb, lt-ltb}
 use Rattle.words.specs.Folds.{table, stores}
 use Rattle.words.specs.Lists.{list_from}
@@ -20,16 +20,16 @@ use Rattle.class_sheet.specs.ClassSheet.{class_first_method, class_method_count,
 use Rattle.linking.specs.declared.Declared.{Declared}
 use Rattle.linking.specs.declared.Declared.TheVariants.{By, Nobody}
 use Rattle.linking.specs.Chain.{parent_of, chain, own_target, find_by_target}
-use Rattle.linking.specs.Vtable.{own_fixed, find_by_index}
-use Rattle.linking.specs.Whose.{method_of, declaring_class, or_declared, declared_in, first_declared, declared_by_target, declared_by_index, read_declared, slot_class}
+use Rattle.linking.specs.Vtable.{own_fixed}
+use Rattle.linking.specs.Whose.{method_of, or_declared, declared_in, first_declared, declared_by_target, declared_by_index, read_declared, slot_class}
 use Rattle.linking.proofs.ChainLaws.{chain-none, chain_more, own-target-room}
-use Rattle.linking.proofs.Whose.{by-declared, nearest-counts, declared-class, target_found, index-found}
+use Rattle.linking.proofs.Whose.{nearest-counts, declared-class, target_found}
 use Rattle.chain.specs.Records.{method_records, first_target}
 use Rattle.chain.proofs.RecordLaws.{record_target}
 use Rattle.reading.specs.Arrays.{mark_of, or_mark, marks_with}
 use Rattle.reading.specs.Classes.{claimed, claims, or_class, classes_with, Paired}
 use Rattle.reading.proofs.ReadLaws.{own-fixed-room}
-use Rattle.reading.proofs.MarkLaws.{stores-rest, stores_at, stores-ext, stores-past, stores-twice, stores_same, length_marks, marks_at_lem, list-from-ext}
+use Rattle.reading.proofs.MarkLaws.{stores-rest, stores_at, stores-ext, stores-past, stores-twice, stores_same, marks_at_lem, list-from-ext}
 
 -- ---- one slot
 

@@ -17,7 +17,7 @@ use Rattle.words.proofs.ListLaws.{find-within}
 use Rattle.words.proofs.Bools.{by, and_both}
 use Rattle.class_sheet.specs.ClassSheet.{member_width, target_word, class_first_method, class_method_count, method_limit}
 use Rattle.linking.specs.Chain.{list_count, parent_of, chain, own_target, find_by_target}
-use Rattle.linking.specs.Vtable.{Entry, own_fixed, find_by_index, read_entry}
+use Rattle.linking.specs.Vtable.{own_fixed, find_by_index, read_entry}
 use Rattle.chain.specs.Records.{method_records, record_word, first_target}
 use Rattle.linking.proofs.ChainLaws.{chain_more, along-none, own-target-room, target_room}
 use Rattle.chain.proofs.RecordLaws.{record_target}

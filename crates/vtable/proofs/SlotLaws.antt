@@ -1,14 +1,13 @@
 -- Laws of signatures in a table that is held in two arrays. Assumes nothing.
-use mathlib.Core.Path.{◌≡◌, refl, sym, ap, ◌∙◌}
-use mathlib.Core.Bool.{Bool, true, false, cond}
-use mathlib.Core.List.{List, [], ◌∷◌, ◌++◌}
+use mathlib.Core.Path.{◌≡◌, refl, ◌∙◌}
+use mathlib.Core.Bool.{Bool, false}
+use mathlib.Core.List.{List}
 use Prim.Native.Nat.{ℕ, zero, suc, ◌+◌}
-use lib.ListN.{get_or}
 use Rattle.words.specs.Lists.{list_from, numbers, find, position}
 use Rattle.words.specs.declared.Found.{Found}
 use Rattle.words.specs.declared.Found.TheVariants.{At, Nothing}
 use Rattle.linking.specs.Chain.{method_is}
-use Rattle.linking.specs.Vtable.{Entry, entry_is, slot_of}
+use Rattle.linking.specs.Vtable.{entry_is, slot_of}
 use Rattle.reading.specs.Arrays.{method_of, entry_at, entries_of}
 use Rattle.vtable.specs.Arrays.{mark_is, slot_in}
 

@@ -1,11 +1,10 @@
 -- Laws of whole tables: `build_methods` and `build_interface_methods`. Assumes nothing.
-use mathlib.Core.Path.{◌≡◌, sym, ap, ◌∙◌}
+use mathlib.Core.Path.{◌≡◌, sym, ◌∙◌}
 use mathlib.Core.Bool.{Bool, true, false}
 use mathlib.Core.List.{List, [], ◌∷◌, ◌++◌, append_assoc, append-nil}
-use Prim.Native.Nat.{ℕ, zero, suc, ◌+◌, ◌-◌, ◌≤◌, ◌<◌}
-use native.Mathlib.Omega.{arith}
+use Prim.Native.Nat.{ℕ, ◌+◌, ◌≤◌, ◌<◌}
 use Rattle.words.proofs.Bools.{by}
-use Rattle.words.specs.Lists.{list_from, keep}
+use Rattle.words.specs.Lists.{keep}
 use Rattle.words.proofs.ListLaws.{rest_from, rest-start, rest-turn, rest_end}
 use Rattle.class_sheet.specs.ClassSheet.{class_first_method, class_method_count, method_limit}
 use Rattle.linking.specs.Chain.{list_count, own_methods, eligible}

@@ -1,7 +1,6 @@
 use Rattle.words.proofs.ListLaws.{find-start, seek_hit, seek_miss, find-end}
 use native.Mathlib.Omega.{arith}
 use mathlib.Core.Path.{◌∙◌}
-use Prim.Native.Nat.{◌-◌}
 use Rattle.linking.specs.Abi.{abi_named}
 use Rattle.abi.proofs.abi_named.Goals as goal
 

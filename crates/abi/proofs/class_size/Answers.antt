@@ -2,7 +2,6 @@ use Rattle.words.proofs.ListLaws.{fold_start, fold-turn, fold_end}
 use Rattle.linking.specs.Abi.{abi_slots, slot_index, class_size}
 use native.Mathlib.Omega.{arith}
 use mathlib.Core.Path.{refl, ◌∙◌}
-use Prim.Native.Nat.{◌-◌}
 use Rattle.abi.proofs.class_size.Goals as goal
 
 pub loop-i-init : goal.loop-i-init

@@ -1,8 +1,7 @@
 use Rattle.words.proofs.ListLaws.{found-start, found-hit, found-miss, found-end}
-use Rattle.linking.specs.Abi.{vtable_index, fixed_index}
+use Rattle.linking.specs.Abi.{fixed_index}
 use native.Mathlib.Omega.{arith}
 use mathlib.Core.Path.{◌∙◌}
-use Prim.Native.Nat.{◌-◌}
 use Rattle.abi.proofs.first_fixed.Goals as goal
 
 pub loop-i-init : goal.loop-i-init

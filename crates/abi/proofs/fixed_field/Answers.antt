@@ -1,8 +1,7 @@
 use native.Mathlib.Omega.{arith}
 use mathlib.Core.Path.{◌∙◌}
-use Prim.Native.Nat.{◌-◌}
 use Rattle.words.proofs.ListLaws.{find-start, find-hit, find-miss, find-end}
-use Rattle.linking.specs.Abi.{field_is, fixed_field, abi_fields}
+use Rattle.linking.specs.Abi.{fixed_field, abi_fields}
 use Rattle.abi.proofs.fixed_field.Goals as goal
 
 pub loop-i-init : goal.loop-i-init

@@ -2,7 +2,6 @@ use Rattle.words.proofs.ListLaws.{fold-at-start, fold-at-turn, fold-at-end}
 use Rattle.linking.specs.Abi.{minimum_size}
 use native.Mathlib.Omega.{arith}
 use mathlib.Core.Path.{◌∙◌, refl, sym}
-use Prim.Native.Nat.{◌-◌}
 use Rattle.abi.proofs.largest_size.Goals as goal
 
 pub loop-i-init : goal.loop-i-init

@@ -1,6 +1,5 @@
 use native.Mathlib.Omega.{arith}
 use mathlib.Core.Path.{◌∙◌}
-use Prim.Native.Nat.{◌-◌}
 use Rattle.words.proofs.ListLaws.{find-start, turn-hit, turn-miss, turn_end}
 use Rattle.linking.specs.Abi.{abi_slots}
 use Rattle.abi.proofs.RecordLaws.{record_slot}

@@ -1,9 +1,6 @@
 use native.Mathlib.Omega.{arith}
 use borrow.Author.Tests.{not-false}
-use mathlib.Core.Bool.{true}
-use Prim.Native.Nat.{◌-◌}
 use Rattle.words.proofs.FoldLaws.{all_none, all-turn, all-stop, all_done}
-use Rattle.linking.specs.Link.{ends_below}
 use Rattle.call_rules.proofs.all_below.Goals as goal
 
 pub loop-i-init : goal.loop-i-init

@@ -1,5 +1,4 @@
 use Rattle.growth.proofs.NewsLaws.{length_none, length-turn, length-done}
-use Prim.Native.Nat.{◌-◌}
 use native.Mathlib.Omega.{arith}
 use Rattle.growth.proofs.new_text_length.Goals as goal
 

@@ -1,6 +1,5 @@
 use Rattle.growth.proofs.Indices.{indices-past, from_start, from-turn, from_past, from_end}
 use mathlib.Core.Path.{sym}
-use Prim.Native.Nat.{◌-◌}
 use native.Mathlib.Omega.{arith}
 use borrow.Author.Rules.{rules}
 use Rattle.growth.proofs.put_indices.Goals as goal

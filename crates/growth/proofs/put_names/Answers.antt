@@ -1,5 +1,4 @@
 use Rattle.growth.proofs.NewsLaws.{names-none, names-turn, names-done, next-none, next-turn, next-within}
-use Prim.Native.Nat.{◌-◌}
 use native.Mathlib.Omega.{arith}
 use borrow.Author.Rules.{rules}
 use Rattle.growth.proofs.put_names.Goals as goal

@@ -1,5 +1,4 @@
 use Rattle.linking.proofs.Writes.{packed_none, packed-turn, packed-done}
-use Prim.Native.Nat.{◌-◌}
 use native.Mathlib.Omega.{arith}
 use borrow.Author.Rules.{rules}
 use Rattle.growth.proofs.put_packed.Goals as goal

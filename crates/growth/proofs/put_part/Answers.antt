@@ -1,5 +1,4 @@
 use Rattle.linking.proofs.Writes.{each_none, each_turn, each-done}
-use Prim.Native.Nat.{◌-◌}
 use native.Mathlib.Omega.{arith}
 use borrow.Author.Rules.{rules}
 use Rattle.growth.proofs.put_part.Goals as goal

@@ -1,7 +1,7 @@
 use Rattle.class_sheet.specs.ClassSheet.{text_limit}
 use Rattle.growth.proofs.NewsLaws.{records-none, records-turn, records-done, next-none, parts-turn, parts_within}
 use lib.ListN.{length}
-use Prim.Native.Nat.{◌+◌, ◌-◌, ◌≤◌}
+use Prim.Native.Nat.{◌+◌, ◌≤◌}
 use native.Mathlib.Omega.{arith}
 use borrow.Author.Rules.{rules}
 use Rattle.growth.proofs.put_records.Goals as goal

@@ -1,5 +1,4 @@
 use native.Mathlib.Omega.{arith}
-use Prim.Native.Nat.{◌-◌}
 use Rattle.packages.proofs.TopLaws.{lay-start, lay-turn, laid-unlinked, laid-linked}
 use Rattle.packages.proofs.lay_class.Goals as goal
 

@@ -1,6 +1,4 @@
 use native.Mathlib.Omega.{arith}
-use Prim.Native.Nat.{◌-◌}
-use Rattle.linking.specs.Packages.{open_to}
 use Rattle.packages.proofs.OverLaws.{reached-start, reached-found, reached-turn, reached-end}
 use Rattle.packages.proofs.open_to_some.Goals as goal
 

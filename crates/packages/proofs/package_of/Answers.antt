@@ -1,6 +1,5 @@
 use native.Mathlib.Omega.{arith}
 use mathlib.Core.Path.{◌∙◌}
-use mathlib.Core.Bool.{false}
 use Rattle.packages.proofs.NameLaws.{slash-end, slash-next, package_here, package_none}
 use Rattle.packages.proofs.package_of.Goals as goal
 

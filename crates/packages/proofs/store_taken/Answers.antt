@@ -1,5 +1,4 @@
 use native.Mathlib.Omega.{arith}
-use Prim.Native.Nat.{◌-◌}
 use Rattle.packages.proofs.TakeLaws.{stored-start, stored-turn, stored-end, some-start, some_turn, some_end}
 use Rattle.packages.proofs.store_taken.Goals as goal
 

@@ -1,5 +1,4 @@
 use native.Mathlib.Omega.{arith}
-use Prim.Native.Nat.{◌-◌}
 use Rattle.packages.proofs.TakeLaws.{takes-start, takes-turn, takes-end}
 use Rattle.packages.proofs.take_all.Goals as goal
 

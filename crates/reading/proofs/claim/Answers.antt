@@ -1,6 +1,5 @@
 use native.Mathlib.Omega.{arith}
 use mathlib.Core.Path.{◌≡◌, refl, ◌∙◌}
-use Prim.Native.Nat.{◌-◌}
 use lib.ListN.{length-set}
 use Rattle.reading.proofs.ClassLaws.{claims-start, claims-turn}
 use Rattle.reading.proofs.claim.Goals as goal

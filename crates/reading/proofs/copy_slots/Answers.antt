@@ -1,6 +1,5 @@
 use native.Mathlib.Omega.{arith}
 use mathlib.Core.Path.{◌≡◌, refl}
-use Prim.Native.Nat.{◌-◌}
 use Prim.Native.Nat.{ℕ}
 use Rattle.words.proofs.FoldLaws.{stores-none, stores-turn}
 use Rattle.reading.proofs.MarkLaws.{copied-word}

@@ -1,6 +1,5 @@
 use native.Mathlib.Omega.{arith}
 use mathlib.Core.Path.{◌≡◌}
-use Prim.Native.Nat.{◌-◌}
 use Rattle.reading.proofs.MarkLaws.{sources-start, sources-turn}
 use Rattle.reading.proofs.give_sources.Goals as goal
 

@@ -1,6 +1,5 @@
 use native.Mathlib.Omega.{arith}
 use mathlib.Core.Path.{◌≡◌}
-use Prim.Native.Nat.{◌-◌}
 use Rattle.reading.proofs.MarkLaws.{marks_start, marks_turn}
 use Rattle.reading.proofs.mark_fixed.Goals as goal
 

@@ -1,6 +1,5 @@
 use native.Mathlib.Omega.{arith}
 use mathlib.Core.Path.{◌≡◌, refl, ◌∙◌}
-use Prim.Native.Nat.{◌-◌}
 use lib.ListN.{length-set}
 use Rattle.reading.proofs.MarkLaws.{marks_start, marks_turn}
 use Rattle.reading.proofs.mark_target.Goals as goal

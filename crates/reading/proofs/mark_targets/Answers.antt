@@ -1,5 +1,4 @@
 use native.Mathlib.Omega.{arith}
-use Prim.Native.Nat.{◌-◌}
 use Rattle.reading.proofs.MarkLaws.{targets-start, targets-turn, targets-end}
 use Rattle.reading.proofs.mark_targets.Goals as goal
 

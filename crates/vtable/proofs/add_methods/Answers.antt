@@ -1,6 +1,5 @@
 use Rattle.vtable.proofs.AddLaws.{adds-start, adds-turn, adds-moved, adds-taken, adds-end, count_next}
 use native.Mathlib.Omega.{arith}
-use Prim.Native.Nat.{◌-◌}
 use mathlib.Core.Path.{◌∙◌}
 use Rattle.vtable.proofs.AddLaws.{adds-start}
 use Rattle.vtable.proofs.add_methods.Goals as goal

@@ -1,5 +1,4 @@
 use native.Mathlib.Omega.{arith}
-use Prim.Native.Nat.{◌-◌}
 use mathlib.Core.Path.{◌∙◌}
 use Rattle.reading.specs.Arrays.{entries_of}
 use Rattle.vtable.proofs.BuildLaws.{no_entries}

@@ -1,6 +1,6 @@
 -- The table so far, followed by the entries of the methods left, is that of all; the methods left grow fewer. Assumes nothing.
 use lib.ListN.{length}
-use Prim.Native.Nat.{◌+◌, ◌-◌, ◌≤◌}
+use Prim.Native.Nat.{◌-◌, ◌≤◌}
 use mathlib.Core.List.{◌++◌}
 use mathlib.Core.Path.{◌≡◌}
 use Rattle.class_sheet.specs.ClassSheet.{method_limit}

@@ -1,6 +1,5 @@
 use Rattle.vtable.proofs.BuildLaws.{extend_start, extend_turn, extend_end}
 use native.Mathlib.Omega.{arith}
-use Prim.Native.Nat.{◌-◌}
 use Rattle.reading.specs.Arrays.{entries_of}
 use Rattle.vtable.proofs.extend.Goals as goal
 

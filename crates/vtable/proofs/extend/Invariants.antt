@@ -2,7 +2,7 @@
 use lib.ListN.{length, replicate}
 use mathlib.Core.Path.{◌≡◌}
 use mathlib.Core.List.{◌++◌}
-use Prim.Native.Nat.{◌+◌, ◌-◌, ◌≤◌, max}
+use Prim.Native.Nat.{◌-◌, ◌≤◌, max}
 use Rattle.linking.specs.Vtable.{empty}
 use Rattle.reading.specs.Arrays.{entries_of}
 use Rattle.vtable.proofs.extend.Given as goal

@@ -1,6 +1,5 @@
 use native.Mathlib.Omega.{arith}
 use mathlib.Core.Path.{◌∙◌}
-use Prim.Native.Nat.{◌-◌}
 use Rattle.words.proofs.ListLaws.{find-start, seek_hit, seek_miss, find-end}
 use Rattle.vtable.specs.Arrays.{slot_in}
 use Rattle.vtable.proofs.find_slot.Goals as goal

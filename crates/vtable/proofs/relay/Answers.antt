@@ -1,5 +1,4 @@
 use native.Mathlib.Omega.{arith}
-use Prim.Native.Nat.{◌-◌}
 use Rattle.vtable.proofs.BuildLaws.{relay-start, relay-turn, relay-end}
 use Rattle.vtable.proofs.relay.Goals as goal
 
