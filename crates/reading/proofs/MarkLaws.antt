@@ -231,7 +231,7 @@ module _ (ws text abi labels : List ℕ) (c n : ℕ) (ms : List ℕ) where
       (λ i k. rw (q, index-step i h)
       (mark-then k (own_fixed ws text abi labels i c) (find_by_index ws text abi labels (parent_of ws c) i) (own-fixed-room ws text abi labels i c))))
 
--- ---- a table's words, methodOf by target and then by index, are its entries
+-- ---- a table's words, `method_of` by target and then by index, are its entries
 
 pub list-from-ext {ℓ} : {A : Type ℓ} (f g : ℕ → A) (m n : ℕ) → ((i : ℕ) → i < m + n → f i ≡ g i) → list_from f m n ≡ list_from g m n
 unfolding list_from

@@ -93,9 +93,9 @@ area-is (Refused n) ws ar = refl
 -- ---- one call
 
 module _ (ws abi ar missing call stubs : List ℕ) {kind c first n : ℕ} {lent : List ℕ} (kind-is : kind ≡ get_or call 0 0) (class-is : c ≡ get_or call 1 0)
-    (first-is : first ≡ get_or call 3 0) (count_is : n ≡ get_or call 4 0) (Lent-is : lent ≡ take n (drop first stubs)) where
+    (first-is : first ≡ get_or call 3 0) (count_is : n ≡ get_or call 4 0) (lent_is : lent ≡ take n (drop first stubs)) where
   list-is : lent ≡ stub_list call stubs
-  list-is = Lent-is ∙ rw (first-is, count_is)
+  list-is = lent_is ∙ rw (first-is, count_is)
 
   pub link-told : (a : Answer) (ws' ar' missing' : List ℕ) → kind ≡ 0 → link_outcome a ws' ar' missing' ≡ link_def ws abi c ar lent missing
       → Called abi (start ws ar missing) (call_of call stubs) a ws' ar' missing'

@@ -95,7 +95,7 @@ text-part ws n d {t = t} h p =
     let q : t ≡ table n (text_byte ws) ++ drop n d = p ∙ simp (le-ltb (length d) n h) in
     rw q (take_at (table n (text_byte ws)) (drop n d) n (length-table n (text_byte ws)))
 
--- ---- sameBytes
+-- ---- `same_bytes`
 
 pub same_lengths : (a b : List ℕ) → (length a ≡ length b → ⊥) → same_bytes a b ≡ false
 unfolding same_bytes

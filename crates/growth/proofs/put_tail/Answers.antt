@@ -3,30 +3,25 @@ use Rattle.class_sheet.specs.ClassSheet.{member_width}
 use Rattle.linking.specs.Set.{write_at}
 use Rattle.growth.specs.News.{news}
 use Rattle.growth.proofs.GrowthLaws.{room-is, front_of, front_length, front-is, text_room, tail-is}
-use mathlib.Core.List.{List}
 use mathlib.Core.Path.{◌≡◌}
 use lib.ListN.{length}
-use Prim.Native.Nat.{ℕ, ◌+◌, ◌*◌, ◌-◌}
+use Prim.Native.Nat.{◌+◌, ◌*◌, ◌-◌}
 use native.Mathlib.Omega.{arith}
 use Rattle.growth.proofs.put_tail.Goals as goal
-use Rattle.growth.proofs.put_tail.Goals.{After-copy_words-2, After-text_at, Start}
+use Rattle.growth.proofs.put_tail.Goals.{After-copy_words-2, After-text_at}
 
--- the three parts before the text
-abbrev front : Start → List ℕ
-front c =
-    let a = c.args in
-    front_of a.ws.now a.end a.from a.own
-    (news a.ws.now a.text.now a.abi.now a.labels.now a.refs.now a.flags.now a.lasts.now)
-
--- how long they are, so where the text is put
+-- how long the three parts before the text are, so where the text is put
 place : (c : After-text_at)
-    → member_width * c.wide-kept.result + member_width * c.wide.result + (c.text_at.result - c.args.end)
-    ≡ length (front c.before.before.before.before.before.before.before.before.before.before.before.before.before)
+    → let a = c.args in
+    member_width * c.wide-kept.result + member_width * c.wide.result + (c.text_at.result - a.end)
+    ≡ length (front_of a.ws.now a.end a.from a.own (news a.ws.now a.text.now a.abi.now a.labels.now a.refs.now a.flags.now a.lasts.now))
 place c = search front_length
 
--- they are written: the second copy's last value of `out`, its fourth argument
+-- they are written: what the second copy leaves
 written : (c : After-copy_words-2)
-    → c.copy_words-2.new.dst ≡ write_at c.args.out.now 0 (front c.before.before.before.before.before.before.before.before.before.before.before.before.before.before.before.before.before.before.before.before.before.before.before.before)
+    → let a = c.args in
+    c.copy_words-2.new.dst
+    ≡ write_at a.out.now 0 (front_of a.ws.now a.end a.from a.own (news a.ws.now a.text.now a.abi.now a.labels.now a.refs.now a.flags.now a.lasts.now))
 written c =
     front-is _ _ _ _ _ _ _ _ c.requires.0 _ _ _ c.requires.1 c.wide-kept.ensures
     c.wide.ensures c.new_count.ensures.is c.text_at.ensures.is
