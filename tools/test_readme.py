@@ -39,7 +39,7 @@ INSTEAD = {
 # Why they are not run here.
 NOT_HERE = {
     "bash .ci/run": "it is the gate, which runs this",
-    "oracle/library-mutants [SEED [CRATE...]]": "takes 12 minutes",
+    "oracle/library-mutants [SEED [CRATE...]]": "takes an hour or two",
     "oracle/model-mutants [SEED [COUNT]]": "takes 9 minutes",
 }
 
