@@ -181,17 +181,27 @@ fn file_bytes() -> [u8; 131072]
     [0; 131072]
 }
 
-// Reads the cases of the file at a path. One that has no room is named on standard error, and so is one that cannot be read.
+// Judges the cases in what was read of a file, or says on standard error that there is no room for all of it.
+fn judge_open(
+    rt: &(impl Print + Eprint),
+    path: &[u8],
+    bytes: &[u8; 131072],
+    n: usize,
+) -> io::Result<()> {
+    if n == 131072 {
+        files::fail(rt, path, "131072 bytes or more");
+        return Ok(());
+    }
+    print_cases(rt, path, part(bytes, 0, n))
+}
+
+// Reads the cases of the file at a path, or says on standard error why it cannot be read.
 fn judge_path(rt: &(impl Print + Eprint + Files), path: &[u8]) -> io::Result<()> {
     let mut bytes = file_bytes();
-    if let files::File::Bytes(n) = files::read_path(rt, path, &mut bytes) {
-        if n == bytes.len() {
-            files::fail(rt, path, "131072 bytes or more");
-        } else {
-            print_cases(rt, path, part(&bytes, 0, n))?;
-        }
+    match files::read_path(rt, path, &mut bytes) {
+        files::File::Bytes(n) => judge_open(rt, path, &bytes, n),
+        files::File::Unread => Ok(()),
     }
-    Ok(())
 }
 
 // Reads the cases of the file that argument i names, and answers whether there is one. One that is too long is said so on standard error.

@@ -83,6 +83,11 @@ fn print_members(
     rt.write_all(part(text, 0, end))
 }
 
+// Says a sentence about a file on standard error.
+fn say(rt: &impl Eprint, path: &[u8], sentence: &str) {
+    files::fail(rt, path, sentence);
+}
+
 // Reads a class file and writes its members.
 fn print_file(
     rt: &(impl Print + Eprint + Files),
@@ -93,7 +98,7 @@ fn print_file(
     let mut bytes = file_bytes();
     if let files::File::Bytes(n) = files::read_path(rt, path, &mut bytes) {
         if n == bytes.len() {
-            files::fail(rt, path, "more than 1048576 bytes");
+            say(rt, path, "more than 1048576 bytes");
         } else {
             let mut text = [0u8; 65536];
             print_members(rt, part(&bytes, 0, n), first, step, &mut text)?;
@@ -115,11 +120,11 @@ fn print_argument(
         return Ok(());
     };
     let Number::Is(first) = number_argument(rt, first_at) else {
-        files::fail(rt, part(&path, 0, n), "the first target is no number");
+        say(rt, part(&path, 0, n), "the first target is no number");
         return Ok(());
     };
     let Number::Is(step) = number_argument(rt, step_at) else {
-        files::fail(rt, part(&path, 0, n), "the step is no number");
+        say(rt, part(&path, 0, n), "the step is no number");
         return Ok(());
     };
     print_file(rt, part(&path, 0, n), first, step)
