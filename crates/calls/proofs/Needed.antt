@@ -321,7 +321,7 @@ pub record Needed : Type 0 where
   pub different_targets : Breaks same_targets 1 1 2 true (true ∷ true ∷ true ∷ true ∷ true ∷ false ∷ true ∷ [])
   pub no_stub : Breaks stub_target 1 1 3 true (true ∷ true ∷ true ∷ true ∷ true ∷ true ∷ false ∷ [])
   pub without-entry : WithEntry
-  pub old_rule_lem : SecondSlot
+  pub old_rule : SecondSlot
 
 pub needed : Needed
 needed = record {
@@ -334,5 +334,5 @@ needed = record {
   different_targets = targets-different-needed;
   no_stub = no_stub-needed;
   without-entry = without-entry-needed;
-  old_rule_lem = second-slot;
+  old_rule = second-slot;
 }
