@@ -118,12 +118,6 @@ pub fn take_argument<R: Env + Eprint>(rt: &R, what: &[u8], i: usize, bytes: &mut
     }
 }
 
-// Whether there is an argument i.
-pub fn has_argument(rt: &impl Env, i: usize) -> bool {
-    let mut first = [0u8; 1];
-    !matches!(rt.arg(i, &mut first), Err(FillError::NotPresent))
-}
-
 // Stores the whole words of the bytes from the front on, as many as there is room for.
 pub fn load_words(bytes: &[u8], words: &mut [u32])
     ensures { words.new ≡ stores (length bytes.now / 4) (word_of bytes.now) words.old }

@@ -7,6 +7,7 @@ ghost use Rattle.std.specs.Prelude.{◌≡◌, length, take};
 ghost use Rattle.member_text.specs.MemberText.{members_text};
 ghost use Rattle.members.specs.Number.{is_digit, number_of};
 
+use std::env::FillError;
 use std::io;
 use std::rt::{Env, Files};
 use words::part;
@@ -130,13 +131,19 @@ fn print_argument(
     print_file(rt, part(&path, 0, n), first, step)
 }
 
+// Whether there is an argument i.
+fn has_argument(rt: &impl Env, i: usize) -> bool {
+    let mut first = [0u8; 1];
+    !matches!(rt.arg(i, &mut first), Err(FillError::NotPresent))
+}
+
 fn main(rt: HostRuntime) -> io::Result<()> {
     for k in 0..usize::MAX / 3 {
         let i = 3 * k + 1;
-        if !files::has_argument(&rt, i) {
+        if !has_argument(&rt, i) {
             break;
         }
-        if !files::has_argument(&rt, i + 2) {
+        if !has_argument(&rt, i + 2) {
             files::fail(&rt, b"members", "a file, a first target and a step");
             break;
         }
