@@ -35,7 +35,7 @@
 //! # Needs
 //!
 //! - x86-64 Linux, and the archive `liblgt_linker.a` (see the README); `core` and `alloc`, not `std`.
-//! - Stack: a call takes at most 165,208 bytes as measured (`docs/PERFORMANCE.md`); give a thread 256 KiB. Threads of `std` have 2 MiB.
+//! - Stack: a call takes at most 165,272 bytes as measured (`docs/PERFORMANCE.md`); give a thread 256 KiB. Threads of `std` have 2 MiB.
 //!   A thread of musl's default size, 128 KiB, is too small for a link or a conversion back.
 
 #![no_std]

@@ -3,7 +3,7 @@ use mathlib.Core.Path.{◌≡◌, refl}
 use mathlib.Core.List.{List, [], ◌∷◌}
 use Prim.Native.Nat.{ℕ}
 use Rattle.words.specs.Lists.{list_from, find, first_found, fold}
-use Rattle.words.specs.declared.Found.TheVariants.{At}
+use Rattle.std.specs.Prelude.{Some}
 use Rattle.text.specs.Text.{name_at, same_bytes}
 use Rattle.abi_sheet.specs.AbiSheet.{abi_count_at, abi_slots_at, abi_class_word, abi_slot_word}
 use Rattle.linking.specs.Abi.{abi_slots, slot_index, slot_is, vtable_index, class_size}
@@ -17,7 +17,7 @@ abbrev abi : List ℕ
 abi = 1 ∷ 1 ∷ 0 ∷ 4 ∷ 0 ∷ 1 ∷ 0 ∷ 0 ∷ 0 ∷ 1 ∷ 0 ∷ 0 ∷ 0 ∷ 1 ∷ 1 ∷ 3 ∷ 2000 ∷ []
 
 pub record Rows : Type 0 where
-  pub cut-index : vtable_index abi labels (97 ∷ []) (40 ∷ 41 ∷ 86 ∷ []) 0 ≡ At 1023
+  pub cut-index : vtable_index abi labels (97 ∷ []) (40 ∷ 41 ∷ 86 ∷ []) 0 ≡ Some 1023
   pub cut-size : class_size abi 0 ≡ 1024
 
 pub rows : Rows

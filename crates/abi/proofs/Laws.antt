@@ -9,14 +9,14 @@ use lib.ListN.{length, take, drop, set, length-take, length-append}
 use lib.Seq.{take_all, take-append-le, take-suc-set, length-take-le, drop-drop}
 use lib.Dec.{eqb}
 use Rattle.class_sheet.specs.ClassSheet.{class_limit}
-use Rattle.words.specs.Lists.{all_found}
-use Rattle.words.specs.declared.Found.{Found}
-use Rattle.words.specs.declared.Found.TheVariants.{At, Nothing}
+use Rattle.words.specs.Lists.{cons_found, all_found}
+use Rattle.std.specs.Prelude.{Option}
+use Rattle.std.specs.Prelude.{Some, None}
 use Rattle.abi_sheet.specs.AbiSheet.{abi_class_table_size_plus_one, abi_class_first_slot, abi_class_slot_count, abi_slot_limit}
 use Rattle.linking.specs.Chain.{list_count, parent_of, chain}
 use Rattle.linking.specs.Abi.{abi_slots, slot_index, slot_at, class_size, minimum_size}
 use Rattle.words.proofs.ListLaws.{numbers-within, find-member, largest_room}
-use Rattle.linking.proofs.ChainLaws.{all_none, all-hit, all_up}
+use Rattle.linking.proofs.ChainLaws.{chain_more, all_none}
 
 -- ---- a list that is cut
 
@@ -51,23 +51,22 @@ drop-later k r xs ys zs h e f =
     let b : drop (r - k) (drop k ys) ≡ drop r ys = rw z at (drop-drop (r - k) k ys) in
     f ∙ sym b ∙ rw e a
 
--- the ABI classes of a chain after x: at its end, where a class has one, and where it has none
-module _ (f : ℕ → Found) (ws : List ℕ) (c : ℕ) (x : List ℕ) where
-  pub push_end : c ≡ 0 → x ≡ take class_limit (x ++ []) → x ≡ take class_limit (x ++ all_found f (chain ws c))
-  push_end e h = rw (all_none f ws c e) h
-
-  pub push_hit : {r p : List ℕ} {q : ℕ} {d : Found} (a : ℕ) → 0 < c → d ≡ f c → d ≡ At a → q ≡ parent_of ws c
-      → p ≡ take class_limit (x ++ (a ∷ [])) → r ≡ take class_limit (p ++ all_found f (chain ws q)) → r ≡ take class_limit (x ++ all_found f (chain ws c))
-  push_hit {r = r} {p = p} {q = q} a h e t g k m =
+-- the ABI classes of a chain after those so far: a class's turn, and the chain's end
+module _ (f : ℕ → Option ℕ) (ws : List ℕ) (c : ℕ) where
+  pub push_turn : (x : List ℕ) {p : List ℕ} {q : ℕ} {o : Option ℕ} → 0 < c → o ≡ f c → q ≡ parent_of ws c → p ≡ take class_limit (x ++ cons_found o [])
+      → take class_limit (p ++ all_found f (chain ws q)) ≡ take class_limit (x ++ all_found f (chain ws c))
+  unfolding all_found
+  push_turn x {q = q} {o = o} h e g k =
       let y : List ℕ = all_found f (chain ws q) in
-      let n : take class_limit (p ++ y) ≡ take class_limit (x ++ (a ∷ y)) =
-      rw k (take-cut class_limit (x ++ (a ∷ [])) y ∙ ap (λ (l : List ℕ). take class_limit l) (append_assoc x (a ∷ []) y)) in
-      let o : all_found f (chain ws c) ≡ a ∷ y = rw g (all-hit f ws c a h (sym e ∙ t)) in
-      rw o (m ∙ n)
+      rw (k, chain_more ws c h, ← e, ← g)
+      (take-cut class_limit (x ++ cons_found o []) y ∙ ap (take class_limit) (append_assoc x (cons_found o []) y ∙ ap (λ (l : List ℕ). x ++ l) (found-then o y)))
+    where
+      found-then : (o : Option ℕ) (y : List ℕ) → cons_found o [] ++ y ≡ cons_found o y
+      found-then (Some a) y = refl
+      found-then None y = refl
 
-  pub push_miss : {r : List ℕ} {q : ℕ} {d : Found} → 0 < c → d ≡ f c → d ≡ Nothing → q ≡ parent_of ws c
-      → r ≡ take class_limit (x ++ all_found f (chain ws q)) → r ≡ take class_limit (x ++ all_found f (chain ws c))
-  push_miss h e t g m = rw (all_up f ws c h (sym e ∙ t), ← g) m
+  pub push_end : (l : List ℕ) (n : ℕ) → length l ≡ class_limit → c ≡ 0 → take n l ≡ take class_limit (take n l ++ all_found f (chain ws c))
+  push_end l n e z = rw (all_none f ws c z) (push_none l n e)
 
 -- ---- what is found
 
@@ -77,7 +76,7 @@ module _ (abi : List ℕ) (a : ℕ) where
   abi-slot-room s h =
       omega (arith, numbers-within (abi_class_first_slot abi a) (list_count (abi_class_first_slot abi a) (abi_class_slot_count abi a) abi_slot_limit) s h)
 
-  pub slot-at-room : (i s : ℕ) → slot_at abi i a ≡ At s → s < abi_slot_limit
+  pub slot-at-room : (i s : ℕ) → slot_at abi i a ≡ Some s → s < abi_slot_limit
   unfolding slot_at
   slot-at-room i s e = abi-slot-room s (find-member (λ k. eqb (slot_index abi k) i) (abi_slots abi a) s e)
 

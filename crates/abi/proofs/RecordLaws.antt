@@ -3,7 +3,7 @@ use mathlib.Core.Path.{◌≡◌, ◌∙◌}
 use mathlib.Core.List.{List}
 use Prim.Native.Nat.{ℕ, ◌+◌, ◌*◌, min}
 use native.Mathlib.Omega.{arith}
-use lib.ListN.{length, get_or, take, drop}
+use lib.ListN.{length, take, drop}
 use lib.Seq.{get_or-drop}
 use lib.Dec.{eqb}
 use Rattle.words.proofs.Laws.{part-rest}
@@ -39,12 +39,6 @@ pub record_index : (abi : List ℕ) (s i : ℕ) {r : List ℕ} → r ≡ slot_re
     → eqb (min (record_word r abi_member_width s number_word) 1023) i ≡ eqb (slot_index abi s) i
 unfolding slot_index
 record_index abi s i e = rw (e, slot-word abi s number_word)
-
--- the index as the code reads it
-pub index_read : (records : List ℕ) (s i : ℕ) {j w k : ℕ} → j ≡ s → w ≡ get_or records (abi_member_width * j + number_word) 0 → k ≡ min w 1023
-    → eqb k i ≡ eqb (min (record_word records abi_member_width s number_word) 1023) i
-unfolding record_word
-index_read records s i e f g = rw (g, f, e)
 
 -- ---- fields
 

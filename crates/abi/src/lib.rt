@@ -4,54 +4,30 @@
 
 ghost use Rattle.std.specs.Prelude.{◌≡◌, ◌≤◌, min, max, [], ◌∷◌, ◌++◌, length, take, drop, eqb};
 ghost use Rattle.class_sheet.specs.ClassSheet.{class_limit};
-ghost use Rattle.words.specs.Lists.{find, all_found};
+ghost use Rattle.words.specs.Lists.{find, cons_found, all_found};
 ghost use Rattle.text.specs.Text.{number_word, same_bytes};
 ghost use Rattle.abi_sheet.specs.AbiSheet.{abi_member_width, abi_class_name, abi_class_first_slot, abi_class_slot_count, abi_class_first_field, abi_class_field_count, abi_slot_limit, abi_field_limit};
 ghost use Rattle.linking.specs.Chain.{list_count, chain};
 ghost use Rattle.linking.specs.Abi.{abi_named, abi_slots, slot_index, fixed_field_index, slot_is, vtable_index, slot_at, field_is, fixed_field, class_size, given_words, class_abi, chain_abi, fixed_index, minimum_size};
 ghost use Rattle.linking.specs.Vtable.{fixed_of};
 ghost use Rattle.chain.specs.Records.{record_word};
-ghost use Rattle.abi.specs.Abis.{slot_records, field_records};
+ghost use Rattle.abi.specs.Abis.{slot_records, field_records, class_slot};
+ghost use Rattle.linking.specs.Sheets.{of_sheets};
+ghost use Rattle.text.specs.Signatures.{of_signature};
 
-use words::Found;
+use linking::Sheets;
+use text::Signature;
 
 // How many words a slot record or a field record has.
-const MEMBER_WIDTH: u32 = 5;
-
-// The smaller of two numbers.
-fn smaller(a: u32, b: u32) -> u32
-    ensures { result ≡ min a b }
-{
-    if a < b { a } else { b }
-}
-
-// The larger of two numbers.
-pub fn larger(a: u32, b: u32) -> u32
-    ensures { result ≡ max a b }
-{
-    if a < b { b } else { a }
-}
-
-// Whether ABI class a has this name.
-fn name_is(abi: &[u32], labels: &[u8], a: u32, name: &[u8]) -> bool
-    ensures { result ≡ same_bytes (abi_class_name abi.now labels.now a) name.now }
-{
-    text::same(abi_sheet::class_name(abi, labels, a), name)
-}
+const MEMBER_WIDTH: u32 = abi_sheet::MEMBER_WIDTH as u32;
 
 // The first ABI class of this name.
-pub fn abi_named(abi: &[u32], labels: &[u8], name: &[u8]) -> Found
+pub fn abi_named(abi: &[u32], labels: &[u8], name: &[u8]) -> Option<u32>
     ensures { result ≡ abi_named abi.now labels.now name.now }
 {
-    let n = abi_sheet::class_count(abi);
-    let mut a: u32 = 0;
-    while a < n {
-        if name_is(abi, labels, a, name) {
-            return Found::At(a);
-        }
-        a += 1;
-    }
-    Found::Nothing
+    words::find_in(0, abi_sheet::class_count(abi), |a| {
+        text::same(abi_sheet::class_name(abi, labels, a), name)
+    })
 }
 
 // How many slot records ABI class a has.
@@ -77,239 +53,196 @@ pub fn field_count(abi: &[u32], a: u32) -> u32
 }
 
 // The index that slot record s fixes.
+#[tactic(auto, unfolding(linking::specs::Abi::slot_index))]
 fn slot_index(abi: &[u32], s: u32) -> u32
     ensures { result ≡ slot_index abi.now s }
 {
-    smaller(abi_sheet::slot_index(abi, s), 1023)
+    abi_sheet::slot_index(abi, s).min(1023)
 }
 
 // The index that field record f fixes.
+#[tactic(auto, unfolding(linking::specs::Abi::fixed_field_index))]
 pub fn fixed_field_index(abi: &[u32], f: u32) -> u32
     ensures { result ≡ fixed_field_index abi.now f }
 {
-    smaller(abi_sheet::field_index(abi, f), 4095)
+    abi_sheet::field_index(abi, f).min(4095)
 }
 
 // The words from the first slot record on: a loop over slots takes them once.
+#[tactic(auto, using(crate::proofs::RecordLaws::slots_are))]
 fn slot_records(abi: &[u32]) -> &[u32]
     ensures { result.now ≡ slot_records abi.now }
 {
-    words::word_part(abi, abi_sheet::slots_at(abi), abi.len())
+    words::part(abi, abi_sheet::slots_at(abi), abi.len())
 }
 
 // The words from the first field record on.
+#[tactic(auto, using(crate::proofs::RecordLaws::fields_are))]
 fn field_records(abi: &[u32]) -> &[u32]
     ensures { result.now ≡ field_records abi.now }
 {
-    words::word_part(abi, abi_sheet::fields_at(abi), abi.len())
+    words::part(abi, abi_sheet::fields_at(abi), abi.len())
 }
 
 // ABI class a's first slot record of this signature.
-fn slot_of(abi: &[u32], labels: &[u8], name: &[u8], descriptor: &[u8], a: u32) -> Found
-    ensures { result ≡ find (λ s. slot_is abi.now labels.now s name.now descriptor.now) (abi_slots abi.now a) }
+fn slot_of(abi: &[u32], labels: &[u8], signature: Signature, a: u32) -> Option<u32>
+    ensures { result ≡ find (λ s. of_signature (slot_is abi.now labels.now s) signature.entry) (abi_slots abi.now a) }
 {
     let records = slot_records(abi);
     let first = abi_sheet::class_first_slot(abi, a);
-    let n = slot_count(abi, a);
-    let mut i: u32 = 0;
-    while i < n {
-        if chain::record_is(records, MEMBER_WIDTH, labels, first + i, name, descriptor) {
-            return Found::At(first + i);
-        }
-        i += 1;
-    }
-    Found::Nothing
+    words::find_in(first, first + slot_count(abi, a), |s| {
+        chain::record_is(records, MEMBER_WIDTH, labels, s, signature)
+    })
 }
 
 // The index that ABI class a fixes for this signature.
-fn vtable_index(abi: &[u32], labels: &[u8], name: &[u8], descriptor: &[u8], a: u32) -> Found
-    ensures { result ≡ vtable_index abi.now labels.now name.now descriptor.now a }
+#[tactic(auto, unfolding(linking::specs::Abi::vtable_index))]
+fn vtable_index(abi: &[u32], labels: &[u8], signature: Signature, a: u32) -> Option<u32>
+    ensures { result ≡ of_signature (vtable_index abi.now labels.now) signature.entry a }
 {
-    match slot_of(abi, labels, name, descriptor, a) {
-        Found::At(s) => Found::At(slot_index(abi, s)),
-        Found::Nothing => Found::Nothing,
-    }
+    slot_of(abi, labels, signature, a).map(|s| slot_index(abi, s))
 }
 
 // Whether record s of the slot records fixes index i.
+#[tactic(auto, unfolding(chain::specs::Records::record_word))]
 fn index_is(records: &[u32], s: u32, i: u32) -> bool
     ensures { result ≡ eqb (min (record_word records.now abi_member_width s number_word) 1023) i }
 {
-    let index = words::word_at(
+    let index = words::get_or(
         records,
-        abi_sheet::MEMBER_WIDTH * words::wide(s) + text::NUMBER,
+        abi_sheet::MEMBER_WIDTH * (s as usize) + text::NUMBER,
+        0,
     );
-    smaller(index, 1023) == i
+    index.min(1023) == i
 }
 
 // ABI class a's first slot record that fixes index i.
-pub fn slot_at(abi: &[u32], i: u32, a: u32) -> Found
+pub fn slot_at(abi: &[u32], i: u32, a: u32) -> Option<u32>
     ensures { result ≡ slot_at abi.now i a }
 {
     let records = slot_records(abi);
     let first = abi_sheet::class_first_slot(abi, a);
-    let n = slot_count(abi, a);
-    let mut k: u32 = 0;
-    while k < n {
-        if index_is(records, first + k, i) {
-            return Found::At(first + k);
-        }
-        k += 1;
-    }
-    Found::Nothing
+    words::find_in(first, first + slot_count(abi, a), |s| {
+        index_is(records, s, i)
+    })
 }
 
 // Whether field record f has this signature.
-pub fn field_is(abi: &[u32], labels: &[u8], f: u32, name: &[u8], descriptor: &[u8]) -> bool
-    ensures { result ≡ field_is abi.now labels.now f name.now descriptor.now }
+#[tactic(auto, using(crate::proofs::RecordLaws::record_field))]
+pub fn field_is(abi: &[u32], labels: &[u8], f: u32, signature: Signature) -> bool
+    ensures { result ≡ of_signature (field_is abi.now labels.now f) signature.entry }
 {
-    chain::record_is(
-        field_records(abi),
-        MEMBER_WIDTH,
-        labels,
-        f,
-        name,
-        descriptor,
-    )
+    chain::record_is(field_records(abi), MEMBER_WIDTH, labels, f, signature)
 }
 
 // ABI class a's first field record of this signature.
-pub fn fixed_field(abi: &[u32], labels: &[u8], name: &[u8], descriptor: &[u8], a: u32) -> Found
-    ensures { result ≡ fixed_field abi.now labels.now name.now descriptor.now a }
+pub fn fixed_field(abi: &[u32], labels: &[u8], signature: Signature, a: u32) -> Option<u32>
+    ensures { result ≡ of_signature (fixed_field abi.now labels.now) signature.entry a }
 {
     let first = abi_sheet::class_first_field(abi, a);
-    let n = field_count(abi, a);
-    let mut i: u32 = 0;
-    while i < n {
-        if field_is(abi, labels, first + i, name, descriptor) {
-            return Found::At(first + i);
-        }
-        i += 1;
-    }
-    Found::Nothing
+    words::find_in(first, first + field_count(abi, a), |f| {
+        field_is(abi, labels, f, signature)
+    })
 }
 
 // How many slots ABI class a asks for: its table size, and its largest fixed index + 1.
+#[tactic(auto, unfolding(linking::specs::Abi::slot_index))]
 fn class_size(abi: &[u32], a: u32) -> u32
     ensures { result ≡ class_size abi.now a }
 {
     let first = abi_sheet::class_first_slot(abi, a);
-    let n = slot_count(abi, a);
-    let mut size = words::before(smaller(abi_sheet::class_table_size_plus_one(abi, a), 1025));
-    let mut i: u32 = 0;
-    while i < n {
-        size = larger(size, slot_index(abi, first + i) + 1);
-        i += 1;
-    }
-    size
+    let size = abi_sheet::class_table_size_plus_one(abi, a)
+        .min(1025)
+        .saturating_sub(1);
+    (first..first + slot_count(abi, a)).fold(size, |size, s| size.max(slot_index(abi, s) + 1))
 }
 
 // How many instance words ABI class a gives, plus 1; 0 if it gives none.
+#[tactic(auto, unfolding(linking::specs::Abi::given_words))]
 pub fn given_words(abi: &[u32], a: u32) -> u32
     ensures { result ≡ given_words abi.now a }
 {
-    smaller(abi_sheet::class_instance_words_plus_one(abi, a), 4097)
+    abi_sheet::class_instance_words_plus_one(abi, a).min(4097)
 }
 
 // The ABI class of class c's name.
-pub fn class_abi(ws: &[u32], text: &[u8], abi: &[u32], labels: &[u8], c: u32) -> Found
-    ensures { result ≡ class_abi ws.now text.now abi.now labels.now c }
+#[tactic(auto, unfolding(linking::specs::Abi::class_abi))]
+pub fn class_abi(sheets: Sheets, c: u32) -> Option<u32>
+    ensures { result ≡ of_sheets class_abi sheets.entry c }
 {
-    abi_named(abi, labels, class_sheet::class_name(ws, text, c))
+    abi_named(
+        sheets.abi,
+        sheets.labels,
+        class_sheet::class_name(sheets.set, sheets.text, c),
+    )
 }
 
-// Stores ABI class a after the first n, if there is room, and answers how many there are.
-fn push(at: &mut [u32], n: u32, a: u32) -> u32
+// The slot record that class c's ABI entry has for index i.
+#[tactic(auto, unfolding(crate::specs::Abis::class_slot))]
+pub fn class_slot(sheets: Sheets, i: u32, c: u32) -> Option<u32>
+    ensures { result ≡ of_sheets class_slot sheets.entry i c }
+{
+    slot_at(sheets.abi, i, class_abi(sheets, c)?)
+}
+
+// Stores the ABI class, if one was found, after the first n, if there is room, and answers how many there are.
+fn push(at: &mut [u32], n: u32, found: Option<u32>) -> u32
     requires { (length at.old ≡ class_limit) × (n ≤ class_limit) }
-    ensures is { take result at.new ≡ take class_limit (take n at.old ++ (a ∷ [])) }
+    ensures is { take result at.new ≡ take class_limit (take n at.old ++ cons_found found []) }
     ensures count { (n ≤ result) × (result ≤ class_limit) }
     ensures rest { drop result at.new ≡ drop result at.old }
 {
+    let Some(a) = found else {
+        return n;
+    };
     if class_sheet::CLASS_LIMIT <= n {
         return n;
     }
-    words::put_word(at, words::wide(n), a);
+    words::put(at, n as usize, a);
     n + 1
 }
 
 // Stores the ABI classes of class c and its ancestors after the first n, as far as there is room, and answers how many there are.
-fn push_chain(
-    ws: &[u32],
-    text: &[u8],
-    abi: &[u32],
-    labels: &[u8],
-    c: u32,
-    at: &mut [u32],
-    n: u32,
-) -> u32
+fn push_chain(sheets: Sheets, c: u32, at: &mut [u32], n: u32) -> u32
     requires { (length at.old ≡ class_limit) × (n ≤ class_limit) }
-    ensures is { take result at.new ≡ take class_limit (take n at.old ++ all_found (class_abi ws.now text.now abi.now labels.now) (chain ws.now c)) }
+    ensures is { take result at.new ≡ take class_limit (take n at.old ++ all_found (of_sheets class_abi sheets.entry) (chain sheets.entry.set.now c)) }
     ensures count { (n ≤ result) × (result ≤ class_limit) }
     ensures rest { drop result at.new ≡ drop result at.old }
 {
     if c == 0 {
         return n;
     }
-    match class_abi(ws, text, abi, labels, c) {
-        Found::At(a) => {
-            let k = push(at, n, a);
-            push_chain(ws, text, abi, labels, chain::parent_of(ws, c), at, k)
-        }
-        Found::Nothing => push_chain(ws, text, abi, labels, chain::parent_of(ws, c), at, n),
-    }
+    let k = push(at, n, class_abi(sheets, c));
+    push_chain(sheets, chain::parent_of(sheets.set, c), at, k)
 }
 
 // Stores the ABI classes that the chain of class c names, nearest first, and answers how many there are. The rest of the array stays.
-pub fn chain_abi(
-    ws: &[u32],
-    text: &[u8],
-    abi: &[u32],
-    labels: &[u8],
-    c: u32,
-    at: &mut [u32; class_sheet::CLASS_LIMIT as usize],
-) -> u32
-    ensures is { take result at.new ≡ chain_abi ws.now text.now abi.now labels.now c }
+pub fn chain_abi(sheets: Sheets, c: u32, at: &mut [u32; class_sheet::CLASS_LIMIT as usize]) -> u32
+    ensures is { take result at.new ≡ of_sheets chain_abi sheets.entry c }
     ensures count { result ≤ class_limit }
     ensures array { length at.new ≡ class_limit }
     ensures rest { drop result at.new ≡ drop result at.old }
 {
-    push_chain(ws, text, abi, labels, c, at, 0)
+    push_chain(sheets, c, at, 0)
 }
 
 // The fixed index of a signature: that of the first ABI class that fixes one.
-pub fn first_fixed(
-    abi: &[u32],
-    labels: &[u8],
-    abis: &[u32],
-    name: &[u8],
-    descriptor: &[u8],
-) -> Found
-    ensures { result ≡ fixed_index abi.now labels.now abis.now name.now descriptor.now }
+pub fn first_fixed(abi: &[u32], labels: &[u8], abis: &[u32], signature: Signature) -> Option<u32>
+    ensures { result ≡ of_signature (fixed_index abi.now labels.now abis.now) signature.entry }
 {
-    let mut i: usize = 0;
-    while i < abis.len() {
-        match vtable_index(abi, labels, name, descriptor, words::word_at(abis, i)) {
-            Found::At(k) => {
-                return Found::At(k);
-            }
-            Found::Nothing => {
-                i += 1;
-            }
-        }
-    }
-    Found::Nothing
+    words::first_found(abis, |a| vtable_index(abi, labels, signature, a))
 }
 
 // The index that the first of the ABI classes fixes for method m's signature.
-pub fn fixed_of(ws: &[u32], text: &[u8], abi: &[u32], labels: &[u8], abis: &[u32], m: u32) -> Found
-    ensures { result ≡ fixed_of ws.now text.now abi.now labels.now abis.now m }
+#[tactic(auto, unfolding(linking::specs::Vtable::fixed_of))]
+pub fn fixed_of(sheets: Sheets, abis: &[u32], m: u32) -> Option<u32>
+    ensures { result ≡ of_sheets fixed_of sheets.entry abis.now m }
 {
     first_fixed(
-        abi,
-        labels,
+        sheets.abi,
+        sheets.labels,
         abis,
-        class_sheet::method_name(ws, text, m),
-        class_sheet::method_descriptor(ws, text, m),
+        class_sheet::method_signature(sheets.set, sheets.text, m),
     )
 }
 
@@ -317,11 +250,5 @@ pub fn fixed_of(ws: &[u32], text: &[u8], abi: &[u32], labels: &[u8], abis: &[u32
 pub fn largest_size(abi: &[u32], abis: &[u32]) -> u32
     ensures { result ≡ minimum_size abi.now abis.now }
 {
-    let mut size: u32 = 0;
-    let mut i: usize = 0;
-    while i < abis.len() {
-        size = larger(size, class_size(abi, words::word_at(abis, i)));
-        i += 1;
-    }
-    size
+    abis.iter().fold(0, |size, a| size.max(class_size(abi, *a)))
 }

@@ -1,13 +1,12 @@
 -- What row 3's tests of an ABI sheet say, and row 4's records as the code reads them. Assumes nothing.
-use mathlib.Core.Path.{◌≡◌, ◌∙◌}
+use mathlib.Core.Path.{◌≡◌, refl}
 use mathlib.Core.Bool.{Bool, true}
 use mathlib.Core.List.{List}
 use Prim.Native.Nat.{ℕ, ◌+◌, ◌*◌, ◌≤◌}
-use lib.ListN.{length, take, drop}
+use lib.ListN.{length, drop}
 use lib.Dec.{leb}
 use borrow.Author.Tests.{leb-true}
 use Rattle.words.proofs.Bools.{and_both, and_3, and_4}
-use Rattle.words.proofs.Laws.{part-rest}
 use Rattle.words.specs.Folds.{all_of}
 use Rattle.words.proofs.FoldLaws.{all-ext}
 use Rattle.block.specs.Block.{least_fit}
@@ -41,16 +40,12 @@ formed abi h =
 -- ---- row 4's records, as the code reads them: from their section's beginning on, told whether the text is printable
 
 module _ (abi text : List ℕ) {clean : Bool} (told : clean ≡ printable text) where
-  pub slots_are : {at n : ℕ} {p : List ℕ} {r : Bool} → at ≡ abi_slots_at abi → p ≡ take (length abi) (drop at abi) → n ≡ abi_slot_count abi
-      → r ≡ all_of n (member_clean p abi_member_width 1023 text clean) → r ≡ all_of (abi_slot_count abi) (abi_slot_record abi text)
+  pub slots_are : all_of (abi_slot_count abi) (member_clean (drop (abi_slots_at abi) abi) abi_member_width 1023 text clean)
+      ≡ all_of (abi_slot_count abi) (abi_slot_record abi text)
   unfolding abi_slot_record abi_slot_word
-  slots_are {p = p} e q f g =
-      let rest : p ≡ drop (abi_slots_at abi) abi = q ∙ rw e (part-rest abi (abi_slots_at abi)) in
-      g ∙ rw f (all-ext (abi_slot_count abi) _ _ (λ i l. member_is abi text told (abi_slots_at abi) abi_member_width 1023 i rest))
+  slots_are = all-ext (abi_slot_count abi) _ _ (λ i l. member_is abi text told (abi_slots_at abi) abi_member_width 1023 i refl)
 
-  pub fields_are : {at n : ℕ} {p : List ℕ} {r : Bool} → at ≡ abi_fields_at abi → p ≡ take (length abi) (drop at abi) → n ≡ abi_field_count abi
-      → r ≡ all_of n (member_clean p abi_member_width 4095 text clean) → r ≡ all_of (abi_field_count abi) (abi_field_record abi text)
+  pub fields_are : all_of (abi_field_count abi) (member_clean (drop (abi_fields_at abi) abi) abi_member_width 4095 text clean)
+      ≡ all_of (abi_field_count abi) (abi_field_record abi text)
   unfolding abi_field_record abi_field_word
-  fields_are {p = p} e q f g =
-      let rest : p ≡ drop (abi_fields_at abi) abi = q ∙ rw e (part-rest abi (abi_fields_at abi)) in
-      g ∙ rw f (all-ext (abi_field_count abi) _ _ (λ i l. member_is abi text told (abi_fields_at abi) abi_member_width 4095 i rest))
+  fields_are = all-ext (abi_field_count abi) _ _ (λ i l. member_is abi text told (abi_fields_at abi) abi_member_width 4095 i refl)

@@ -5,6 +5,8 @@ ghost use Rattle.std.specs.Prelude.{◌≡◌, ◌<◌, ◌^◌};
 ghost use Rattle.text.specs.Text.{unpacked_text};
 ghost use Rattle.abi_sheet.specs.AbiSheet.{abi_count_at, abi_class_count, abi_slot_count, abi_field_count, abi_text_length, abi_slots_at, abi_fields_at, abi_text_at, abi_content_end, abi_class_word, abi_slot_word, abi_field_word, abi_text_words, abi_class_name_start, abi_class_name_length, abi_class_table_size_plus_one, abi_class_instance_words_plus_one, abi_class_first_slot, abi_class_slot_count, abi_class_first_field, abi_class_field_count, abi_slot_name_start, abi_slot_name_length, abi_slot_descriptor_start, abi_slot_descriptor_length, abi_slot_index, abi_field_name_start, abi_field_name_length, abi_field_descriptor_start, abi_field_descriptor_length, abi_field_index, abi_class_name, abi_slot_name, abi_slot_descriptor, abi_field_name, abi_field_descriptor};
 
+use text::Signature;
+
 // Widths, in words: of the counts, of a class record, and of a slot or field record.
 pub const COUNTS_WIDTH: usize = 4;
 
@@ -33,10 +35,11 @@ pub const BLOCK_LIMIT: u32 = ((CONTENT_LIMIT + 126) / 127) as u32;
 pub const SHEET_WORDS: usize = 127 * (BLOCK_LIMIT as usize);
 
 // Count k of the four.
+#[tactic(auto, unfolding(crate::specs::AbiSheet::abi_count_at))]
 fn count_at(abi: &[u32], k: usize) -> u32
     ensures { result ≡ abi_count_at abi.now k }
 {
-    words::word_at(abi, k)
+    words::get_or(abi, k, 0)
 }
 
 pub fn class_count(abi: &[u32]) -> u32
@@ -64,59 +67,66 @@ pub fn text_length(abi: &[u32]) -> u32
 }
 
 // Where the slot records begin.
+#[tactic(auto, unfolding(crate::specs::AbiSheet::abi_slots_at))]
 pub fn slots_at(abi: &[u32]) -> usize
     ensures is { result ≡ abi_slots_at abi.now }
     ensures small { result < 2 ^ 36 }
 {
-    COUNTS_WIDTH + CLASS_WIDTH * words::wide(class_count(abi))
+    COUNTS_WIDTH + CLASS_WIDTH * (class_count(abi) as usize)
 }
 
 // Where the field records begin.
+#[tactic(auto, unfolding(crate::specs::AbiSheet::abi_fields_at))]
 pub fn fields_at(abi: &[u32]) -> usize
     ensures is { result ≡ abi_fields_at abi.now }
     ensures small { result < 2 ^ 37 }
 {
-    slots_at(abi) + MEMBER_WIDTH * words::wide(slot_count(abi))
+    slots_at(abi) + MEMBER_WIDTH * (slot_count(abi) as usize)
 }
 
 // Where the text begins.
+#[tactic(auto, unfolding(crate::specs::AbiSheet::abi_text_at))]
 pub fn text_at(abi: &[u32]) -> usize
     ensures is { result ≡ abi_text_at abi.now }
     ensures small { result < 2 ^ 38 }
 {
-    fields_at(abi) + MEMBER_WIDTH * words::wide(field_count(abi))
+    fields_at(abi) + MEMBER_WIDTH * (field_count(abi) as usize)
 }
 
 // How many words the content has: the counts and the sections that they ask for.
+#[tactic(auto, unfolding(crate::specs::AbiSheet::abi_content_end))]
 pub fn content_end(abi: &[u32]) -> usize
     ensures is { result ≡ abi_content_end abi.now }
     ensures small { result < 2 ^ 39 }
 {
-    text_at(abi) + (words::wide(text_length(abi)) + 3) / 4
+    text_at(abi) + ((text_length(abi) as usize) + 3) / 4
 }
 
 // Word k of class a's record.
+#[tactic(auto, unfolding(crate::specs::AbiSheet::abi_class_word))]
 fn class_word(abi: &[u32], a: u32, k: u32) -> u32
     ensures { result ≡ abi_class_word abi.now a k }
 {
-    let at = COUNTS_WIDTH + CLASS_WIDTH * words::wide(a);
-    words::word_at(abi, at + words::wide(k))
+    let at = COUNTS_WIDTH + CLASS_WIDTH * (a as usize);
+    words::get_or(abi, at + (k as usize), 0)
 }
 
 // Word k of slot s's record.
+#[tactic(auto, unfolding(crate::specs::AbiSheet::abi_slot_word))]
 fn slot_word(abi: &[u32], s: u32, k: u32) -> u32
     ensures { result ≡ abi_slot_word abi.now s k }
 {
-    let at = slots_at(abi) + MEMBER_WIDTH * words::wide(s);
-    words::word_at(abi, at + words::wide(k))
+    let at = slots_at(abi) + MEMBER_WIDTH * (s as usize);
+    words::get_or(abi, at + (k as usize), 0)
 }
 
 // Word k of field f's record.
+#[tactic(auto, unfolding(crate::specs::AbiSheet::abi_field_word))]
 fn field_word(abi: &[u32], f: u32, k: u32) -> u32
     ensures { result ≡ abi_field_word abi.now f k }
 {
-    let at = fields_at(abi) + MEMBER_WIDTH * words::wide(f);
-    words::word_at(abi, at + words::wide(k))
+    let at = fields_at(abi) + MEMBER_WIDTH * (f as usize);
+    words::get_or(abi, at + (k as usize), 0)
 }
 
 // The text section as bytes, where the lent bytes have room for it, and else nothing.
@@ -125,7 +135,7 @@ pub fn unpack_text(abi: &[u32], text: &mut [u8])
 {
     let at = text_at(abi);
     let n = abi.len();
-    text::unpack_text(words::word_part(abi, at, n), text_length(abi), text);
+    text::unpack_text(words::part(abi, at, n), text_length(abi), text);
 }
 
 // The words of a class record.
@@ -260,6 +270,16 @@ pub fn slot_descriptor<'a>(abi: &[u32], text: &'a [u8], s: u32) -> &'a [u8]
         slot_descriptor_start(abi, s),
         slot_descriptor_length(abi, s),
     )
+}
+
+pub fn slot_signature<'a>(abi: &[u32], text: &'a [u8], s: u32) -> Signature<'a>
+    ensures name { result.name.now ≡ abi_slot_name abi.now text.now s }
+    ensures descriptor { result.descriptor.now ≡ abi_slot_descriptor abi.now text.now s }
+{
+    Signature {
+        name: slot_name(abi, text, s),
+        descriptor: slot_descriptor(abi, text, s),
+    }
 }
 
 pub fn field_name<'a>(abi: &[u32], text: &'a [u8], f: u32) -> &'a [u8]

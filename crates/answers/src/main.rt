@@ -4,638 +4,464 @@
 // Of a file its first 655,360 bytes count. Places in a file are words, and a word past its end is 0.
 #![tactic(auto)]
 
-ghost use Rattle.std.specs.Prelude.{◌≡◌, ◌≤◌, length};
-
-use class_members::FileRead;
-use std::io;
-use std::rt::{Env, Files};
-use words::{byte_at, le_word, part, put_byte, put_word, wide, word_at, word_part};
+use class_members::FileHead;
+use files::front;
+use refusal::Refusal;
+use std::marker::PhantomData;
+use std::{fmt, io};
+use words::{get_or, le_word, part, put};
 
 // `LGTA`, and the version of the form.
 const MAGIC: u32 = 1096042316;
 
 const VERSION: u32 = 2;
 
-// The place of what the file says of how it was made, after the header.
-const BODY: u32 = 5;
+// The bytes of a file that count.
+const FILE_BYTES: usize = 655360;
 
 // Room for the bytes and for the words that a call is lent.
 const MOST_BYTES: usize = 49152;
 
 const MOST_WORDS: usize = 12288;
 
-// The word at a place.
-fn word(f: &[u8], at: u32) -> u32 {
-    le_word(f, 4 * wide(at))
+// ---- the words of a file, one after the other
+
+#[derive(Clone, Copy)]
+struct Reader<'a> {
+    bytes: &'a [u8],
+    at: u32,
 }
 
-// The place n words on.
-fn on(at: u32, n: u32) -> u32 {
-    at.wrapping_add(n)
+impl<'a> Reader<'a> {
+    // The byte that it has come to.
+    fn place(&self) -> usize {
+        4 * (self.at as usize)
+    }
+
+    // Goes n words on, and answers the byte that it had come to.
+    fn pass(&mut self, n: u32) -> usize {
+        let place = self.place();
+        self.at = self.at.wrapping_add(n);
+        place
+    }
+
+    // The next word, 0 past the end.
+    fn word(&mut self) -> u32 {
+        le_word(self.bytes, self.pass(1))
+    }
+
+    // The next n words, as they are stored.
+    fn words(&mut self, n: u32) -> &'a [u8] {
+        part(self.bytes, self.pass(n), 4 * (n as usize))
+    }
+
+    // The next n bytes, which take whole words.
+    fn bytes(&mut self, n: u32) -> &'a [u8] {
+        part(self.bytes, self.pass(n.div_ceil(4)), n as usize)
+    }
 }
 
 // ---- slices: how many bytes or words are lent, how many of them are stored as they are before the call, and how many as they are after it, always
 // the first; then these. Before the call the others are 7, after it they are as before it.
 
-// How many words hold n bytes.
-fn words_for(n: u32) -> u32 {
-    n / 4 + (n % 4 + 3) / 4
+// What a slice is of: bytes or words.
+trait Element: Copy + Drop + From<u8> {
+    // The next n, as they are stored.
+    fn next<'a>(reader: &mut Reader<'a>, n: u32) -> &'a [u8];
+
+    // Stores them from the front on, as many as there is room for.
+    fn load(stored: &[u8], out: &mut [Self]);
 }
 
-// Where the bytes after the call are stored, and where the slice of bytes ends.
-fn after_bytes(f: &[u8], at: u32) -> u32 {
-    on(at, on(3, words_for(word(f, on(at, 1)))))
-}
+impl Element for u8 {
+    fn next<'a>(reader: &mut Reader<'a>, n: u32) -> &'a [u8] {
+        reader.bytes(n)
+    }
 
-fn end_bytes(f: &[u8], at: u32) -> u32 {
-    on(after_bytes(f, at), words_for(word(f, on(at, 2))))
-}
-
-// Where the words after the call are stored, and where the slice of words ends.
-fn after_words(f: &[u8], at: u32) -> u32 {
-    on(at, on(3, word(f, on(at, 1))))
-}
-
-fn end_words(f: &[u8], at: u32) -> u32 {
-    on(after_words(f, at), word(f, on(at, 2)))
-}
-
-// How many are lent, and there is room for.
-fn room(f: &[u8], at: u32, most: usize) -> usize
-    ensures { result ≤ most }
-{
-    let n = wide(word(f, at));
-    if most < n { most } else { n }
-}
-
-// Room for lent bytes and for lent words, each 7.
-fn fresh_bytes() -> [u8; 49152]
-    ensures { 49152 ≡ length result }
-{
-    [7; 49152]
-}
-
-fn fresh_words() -> [u32; 12288]
-    ensures { 12288 ≡ length result }
-{
-    [7; 12288]
-}
-
-// The n bytes that are stored from a place on.
-fn stored(f: &[u8], at: u32, n: usize) -> &[u8] {
-    part(f, 4 * wide(at), n)
-}
-
-// Stores the bytes from the front on, as many as there is room for.
-fn load_bytes(bytes: &[u8], out: &mut [u8]) {
-    let mut i: usize = 0;
-    while i < bytes.len() {
-        put_byte(out, i, byte_at(bytes, i));
-        i += 1;
+    fn load(stored: &[u8], out: &mut [u8]) {
+        for (b, to) in stored.iter().zip(out) {
+            *to = *b;
+        }
     }
 }
 
-// The n words that are stored from a place on, and 7s.
-fn loaded_words(f: &[u8], at: u32, n: u32) -> [u32; 12288]
-    ensures { 12288 ≡ length result }
-{
-    let mut words = fresh_words();
-    files::load_words(stored(f, at, 4 * wide(n)), &mut words);
-    words
+impl Element for u32 {
+    fn next<'a>(reader: &mut Reader<'a>, n: u32) -> &'a [u8] {
+        reader.words(n)
+    }
+
+    fn load(stored: &[u8], out: &mut [u32]) {
+        files::load_words(stored, out);
+    }
 }
 
-// The bytes of a slice as they are before the call, and 7s.
-fn lent_bytes(f: &[u8], at: u32) -> [u8; 49152]
-    ensures { 49152 ≡ length result }
-{
-    let mut bytes = fresh_bytes();
-    load_bytes(stored(f, on(at, 3), wide(word(f, on(at, 1)))), &mut bytes);
-    bytes
+// A slice of T, with room for N.
+#[derive(Clone, Copy)]
+struct Slice<'a, T, const N: usize> {
+    lent: usize,
+    before: &'a [u8],
+    after: &'a [u8],
+    of: PhantomData<T>,
 }
 
-// The words of a slice as they are before the call, and 7s.
-fn lent_words(f: &[u8], at: u32) -> [u32; 12288]
-    ensures { 12288 ≡ length result }
-{
-    loaded_words(f, on(at, 3), word(f, on(at, 1)))
+impl<'a, T: Element, const N: usize> Slice<'a, T, N> {
+    // The slice that is read next.
+    fn read(reader: &mut Reader<'a>) -> Slice<'a, T, N> {
+        let lent = reader.word() as usize;
+        let before = reader.word();
+        let after = reader.word();
+        Slice {
+            lent,
+            before: T::next(reader, before),
+            after: T::next(reader, after),
+            of: PhantomData,
+        }
+    }
+
+    // The memory before the call.
+    fn before(self) -> [T; N] {
+        let mut memory = [T::from(7); N];
+        T::load(self.before, &mut memory);
+        memory
+    }
+
+    // The memory as it is to be after it.
+    fn after(self) -> [T; N] {
+        let mut memory = self.before();
+        T::load(self.after, &mut memory);
+        memory
+    }
 }
 
-// Whether the bytes are as the slice says that they are after the call.
-fn are_bytes(f: &[u8], at: u32, bytes: &[u8]) -> bool {
-    let mut told = lent_bytes(f, at);
-    load_bytes(
-        stored(f, after_bytes(f, at), wide(word(f, on(at, 2)))),
-        &mut told,
-    );
-    text::same(bytes, part(&told, 0, wide(word(f, at))))
-}
+type Bytes<'a> = Slice<'a, u8, MOST_BYTES>;
 
-// Whether the words are as the slice says that they are after the call.
-fn are_words(f: &[u8], at: u32, words: &[u32]) -> bool {
-    let mut told = lent_words(f, at);
-    files::load_words(
-        stored(f, after_words(f, at), 4 * wide(word(f, on(at, 2)))),
-        &mut told,
-    );
-    files::is_front(words, &told)
-}
+type Words<'a> = Slice<'a, u32, MOST_WORDS>;
 
 // ---- calls: a kind, a number and seven answer words; bytes and words to read, each after their number; then a slice of bytes to write, and three
 // of words to write.
 
-// The place of a call's bytes to read, from its own, and of its words to read.
-const HEAD: u32 = 9;
-
-fn words_place(f: &[u8], at: u32) -> u32 {
-    on(at, on(HEAD + 1, words_for(word(f, on(at, HEAD)))))
+// The functions, in the order of their kinds' numbers.
+#[derive(Clone, Copy)]
+enum Kind {
+    Write,
+    Compare,
+    Read,
+    Renumber,
+    List,
+    Count,
+    Widen,
+    Narrow,
+    ReadFile,
+    FileHead,
 }
 
-// The places of its slices, and of what follows it.
-fn out_place(f: &[u8], at: u32) -> u32 {
-    let words_at = words_place(f, at);
-    on(words_at, on(1, word(f, words_at)))
-}
+const KINDS: [Kind; 10] = [
+    Kind::Write,
+    Kind::Compare,
+    Kind::Read,
+    Kind::Renumber,
+    Kind::List,
+    Kind::Count,
+    Kind::Widen,
+    Kind::Narrow,
+    Kind::ReadFile,
+    Kind::FileHead,
+];
 
-fn first_place(f: &[u8], at: u32) -> u32 {
-    end_bytes(f, out_place(f, at))
-}
+// A number that is no kind's.
+#[derive(Clone, Copy)]
+struct UnknownKind;
 
-fn second_place(f: &[u8], at: u32) -> u32 {
-    end_words(f, first_place(f, at))
-}
+impl TryFrom<u32> for Kind {
+    type Error = UnknownKind;
 
-fn third_place(f: &[u8], at: u32) -> u32 {
-    end_words(f, second_place(f, at))
-}
-
-fn next_place(f: &[u8], at: u32) -> u32 {
-    end_words(f, third_place(f, at))
-}
-
-// The functions, by the kind of a call.
-const KINDS: u32 = 10;
-
-const WRITE: u32 = 0;
-
-const COMPARE: u32 = 1;
-
-const READ: u32 = 2;
-
-const RENUMBER: u32 = 3;
-
-const LIST: u32 = 4;
-
-const COUNT: u32 = 5;
-
-const WIDEN: u32 = 6;
-
-const NARROW: u32 = 7;
-
-const READ_FILE: u32 = 8;
-
-const FILE_HEAD: u32 = 9;
-
-// What a call of any other kind is answered: no row has this number.
-const NO_KIND: u32 = 4294967295;
-
-// An answer's words: the refusal's number (0 if accepted), then the six result words, of which most functions give one or two.
-#[derive(Drop)]
-struct Answer {
-    refusal: u32,
-    words: [u32; 6],
-}
-
-fn accepted(first: u32, second: u32) -> Answer {
-    Answer {
-        refusal: 0,
-        words: [first, second, 0, 0, 0, 0],
+    fn try_from(kind: u32) -> Result<Kind, UnknownKind> {
+        KINDS.get(kind as usize).copied().ok_or(UnknownKind)
     }
 }
 
-fn refused(refusal: u32) -> Answer {
-    Answer {
-        refusal,
-        words: [0; 6],
+impl fmt::Display for Kind {
+    fn fmt<W: fmt::Write>(&self, f: &mut fmt::Formatter<W>) -> fmt::Result {
+        f.write_str(match self {
+            Kind::Write => "write_class_sheet",
+            Kind::Compare => "compare_names",
+            Kind::Read => "read_unordered_sheet",
+            Kind::Renumber => "renumber_classes",
+            Kind::List => "reference_words",
+            Kind::Count => "reference_count",
+            Kind::Widen => "widen_class_sheet",
+            Kind::Narrow => "narrow_class_sheet",
+            Kind::ReadFile => "read_class_file",
+            Kind::FileHead => "class_file_head",
+        })
     }
 }
 
-// What a writing or a conversion comes to.
-fn written(answer: writer::Written) -> Answer {
-    match answer {
-        writer::Written::Blocks(n) => accepted(n, 0),
-        writer::Written::Refused(row) => refused(row),
+impl fmt::Display for UnknownKind {
+    fn fmt<W: fmt::Write>(&self, f: &mut fmt::Formatter<W>) -> fmt::Result {
+        f.write_str("no such function")
     }
 }
 
-// Compares two names: 1 if they are the same, and the pairs of bytes read, modulo 2^32.
-fn compare(a: &[u8], b: &[u8]) -> Answer {
+// The answer words of a call of an unknown kind: no row has this number.
+const NO_ANSWER: [u32; 7] = [u32::MAX, 0, 0, 0, 0, 0, 0];
+
+// An answer's words, as they are stored: the row that refuses, 0 if the call is accepted, and six words, of which most functions give one or two.
+fn answer_words(answer: Result<[u32; 6], Refusal>) -> [u32; 7] {
+    let row = answer.err().map_or(0, u32::from);
+    let [a, b, c, d, e, f] = answer.unwrap_or([0; 6]);
+    [row, a, b, c, d, e, f]
+}
+
+// The six words of an answer of one.
+fn one(word: u32) -> [u32; 6] {
+    [word, 0, 0, 0, 0, 0]
+}
+
+// Those of a class file.
+fn head_words(head: FileHead) -> [u32; 6] {
+    [
+        head.name,
+        head.parent,
+        head.flags,
+        head.fields,
+        head.methods,
+        head.text,
+    ]
+}
+
+// Those of a comparison of two names: 1 if they are the same, and the pairs of bytes read, modulo 2^32.
+fn compared(a: &[u8], b: &[u8]) -> [u32; 6] {
     let c = text::compare(a, b);
-    accepted(if c.same { 1 } else { 0 }, (c.pairs % 4294967296) as u32)
+    [u32::from(c.same), (c.pairs % 4294967296) as u32, 0, 0, 0, 0]
 }
 
-// Reads a class sheet by rows 1 to 3.
-fn read(bytes: &[u8], words: &mut [u32]) -> Answer {
-    match sheet::read_unordered_sheet(bytes, words) {
-        sheet::Read::Words(n) => accepted(n, 0),
-        sheet::Read::Refused(row) => refused(row),
+// The memory that a call lends to be written; a comparison lends its second name so.
+#[derive(Drop)]
+struct Lent<'a> {
+    bytes: &'a mut [u8],
+    first: &'a mut [u32],
+    second: &'a mut [u32],
+    third: &'a mut [u32],
+}
+
+// What a call differs in.
+#[derive(Clone, Copy)]
+enum Difference {
+    Answer,
+    Memory,
+}
+
+impl fmt::Display for Difference {
+    fn fmt<W: fmt::Write>(&self, f: &mut fmt::Formatter<W>) -> fmt::Result {
+        f.write_str(match self {
+            Difference::Answer => "the answer differs",
+            Difference::Memory => "the memory differs",
+        })
     }
 }
 
-// Renumbers the classes of the class words.
-fn renumber(set: &mut [u32], order: &mut [u32]) -> Answer {
-    match renumber::renumber_classes(set, order) {
-        renumber::Renumbered::Classes(n) => accepted(n, 0),
-        renumber::Renumbered::Refused(row) => refused(row),
-    }
-}
-
-// What a bitmap comes to.
-fn counted(answer: references::References) -> Answer {
-    match answer {
-        references::References::Count(n) => accepted(n, 0),
-        references::References::Refused(row) => refused(row),
-    }
-}
-
-// What a class file comes to.
-fn members(answer: FileRead) -> Answer {
-    match answer {
-        FileRead::Members(h) => Answer {
-            refusal: 0,
-            words: [h.name, h.parent, h.flags, h.fields, h.methods, h.text],
-        },
-        FileRead::Refused(row) => refused(row),
-    }
-}
-
-// Whether a call of this kind is lent bytes to write; a comparison is lent its second name so.
-fn takes_bytes(kind: u32) -> bool {
-    (kind == WRITE) | (kind == COMPARE) | (kind == WIDEN) | (kind == NARROW)
-}
-
-// Makes a call that is lent bytes to write.
-fn make_bytes(kind: u32, bytes: &[u8], words: &[u32], out: &mut [u8]) -> Answer {
-    if kind == WRITE {
-        return written(writer::write_class_sheet(words, out));
-    }
-    if kind == WIDEN {
-        return written(convert::widen_class_sheet(bytes, out));
-    }
-    if kind == NARROW {
-        return written(convert::narrow_class_sheet(bytes, out));
-    }
-    compare(bytes, out)
-}
-
-// Makes a call that is lent up to two lists of words to write.
-fn make_words(
-    kind: u32,
+#[derive(Clone, Copy)]
+struct Call<'a> {
+    kind: Result<Kind, UnknownKind>,
     number: u32,
-    bytes: &[u8],
-    first: &mut [u32],
-    second: &mut [u32],
-) -> Answer {
-    if kind == READ {
-        return read(bytes, first);
-    }
-    if kind == RENUMBER {
-        return renumber(first, second);
-    }
-    if kind == LIST {
-        return counted(references::reference_words(bytes, number, first));
-    }
-    if kind == COUNT {
-        return counted(references::reference_count(bytes, number));
-    }
-    if kind == FILE_HEAD {
-        return members(class_file::class_file_head(bytes));
-    }
-    refused(NO_KIND)
+    told: [u32; 7],
+    bytes: &'a [u8],
+    count: usize,
+    words: &'a [u8],
+    out: Bytes<'a>,
+    first: Words<'a>,
+    second: Words<'a>,
+    third: Words<'a>,
 }
 
-// What a call differs in, 0 for nothing.
-const ANSWER: u32 = 1;
-
-const MEMORY: u32 = 2;
-
-// Whether the answer is the one of the call at a place.
-fn is_answer(f: &[u8], at: u32, answer: Answer) -> bool {
-    let words = answer.words;
-    let mut told = [0u32; 6];
-    files::load_words(stored(f, on(at, 3), 24), &mut told);
-    (answer.refusal == word(f, on(at, 2))) & files::is_front(&words, &told)
-}
-
-// What a call differs in, by whether its answer and its memory are as told.
-fn difference(answer: bool, memory: bool) -> u32 {
-    if !answer {
-        return ANSWER;
+impl<'a> Call<'a> {
+    // The call that is read next.
+    fn read(reader: &mut Reader<'a>) -> Call<'a> {
+        let kind = Kind::try_from(reader.word());
+        let number = reader.word();
+        let mut told = [0; 7];
+        files::load_words(reader.words(7), &mut told);
+        let byte_count = reader.word();
+        let bytes = reader.bytes(byte_count);
+        let count = reader.word();
+        Call {
+            kind,
+            number,
+            told,
+            bytes,
+            count: count as usize,
+            words: reader.words(count),
+            out: Bytes::read(reader),
+            first: Words::read(reader),
+            second: Words::read(reader),
+            third: Words::read(reader),
+        }
     }
-    if !memory {
-        return MEMORY;
+
+    // Makes a call of this kind on the memory lent.
+    fn make(&self, kind: Kind, lent: &mut Lent) -> Result<[u32; 6], Refusal> {
+        let bytes = self.bytes;
+        let mut room = [7; MOST_WORDS];
+        files::load_words(self.words, &mut room);
+        let words = part(&room, 0, self.count);
+        match kind {
+            Kind::Write => writer::write_class_sheet(words, lent.bytes).map(one),
+            Kind::Compare => Ok(compared(bytes, lent.bytes)),
+            Kind::Read => sheet::read_unordered_sheet(bytes, lent.first).map(one),
+            Kind::Renumber => renumber::renumber_classes(lent.first, lent.second).map(one),
+            Kind::List => references::reference_words(bytes, self.number, lent.first).map(one),
+            Kind::Count => references::reference_count(bytes, self.number).map(one),
+            Kind::Widen => convert::widen_class_sheet(bytes, lent.bytes).map(one),
+            Kind::Narrow => convert::narrow_class_sheet(bytes, lent.bytes).map(one),
+            Kind::ReadFile => {
+                class_file::read_class_file(bytes, words, lent.first, lent.second, lent.third).map(
+                    head_words,
+                )
+            }
+            Kind::FileHead => class_file::class_file_head(bytes).map(head_words),
+        }
     }
-    0
-}
 
-// The bytes to read of the call at a place.
-fn bytes_read(f: &[u8], at: u32) -> &[u8] {
-    let bytes_at = on(at, HEAD);
-    stored(f, on(bytes_at, 1), wide(word(f, bytes_at)))
-}
-
-// Makes the call at a place on the memory lent.
-fn make_stored(
-    f: &[u8],
-    at: u32,
-    out: &mut [u8],
-    first: &mut [u32],
-    second: &mut [u32],
-    third: &mut [u32],
-) -> Answer {
-    let kind = word(f, at);
-    let bytes = bytes_read(f, at);
-    let words_at = words_place(f, at);
-    let n = word(f, words_at);
-    let words = loaded_words(f, on(words_at, 1), n);
-    let read = word_part(&words, 0, wide(n));
-    if takes_bytes(kind) {
-        return make_bytes(kind, bytes, read, out);
+    // Makes the call on as much memory as it lends, and answers what differs.
+    fn replay(&self) -> Option<Difference> {
+        let mut bytes = self.out.before();
+        let mut first = self.first.before();
+        let mut second = self.second.before();
+        let mut third = self.third.before();
+        let mut lent = Lent {
+            bytes: front(&mut bytes, self.out.lent),
+            first: front(&mut first, self.first.lent),
+            second: front(&mut second, self.second.lent),
+            third: front(&mut third, self.third.lent),
+        };
+        let answer = match self.kind {
+            Ok(kind) => answer_words(self.make(kind, &mut lent)),
+            Err(UnknownKind) => NO_ANSWER,
+        };
+        if answer != self.told {
+            return Some(Difference::Answer);
+        }
+        let same = self.out.after().starts_with(lent.bytes)
+            && self.first.after().starts_with(lent.first)
+            && self.second.after().starts_with(lent.second)
+            && self.third.after().starts_with(lent.third);
+        if same { None } else { Some(Difference::Memory) }
     }
-    if kind == READ_FILE {
-        return members(class_file::read_class_file(bytes, read, first, second, third));
-    }
-    make_words(kind, word(f, on(at, 1)), bytes, first, second)
-}
-
-// Makes it, and answers what differs.
-fn replay_lent(
-    f: &[u8],
-    at: u32,
-    out: &mut [u8],
-    first: &mut [u32],
-    second: &mut [u32],
-    third: &mut [u32],
-) -> u32 {
-    let answer = make_stored(f, at, out, first, second, third);
-    let memory = are_bytes(f, out_place(f, at), out)
-        & are_words(f, first_place(f, at), first)
-        & are_words(f, second_place(f, at), second)
-        & are_words(f, third_place(f, at), third);
-    difference(is_answer(f, at, answer), memory)
-}
-
-// Replays the call at a place on as much memory as it lends, and answers what differs.
-fn replay_call(f: &[u8], at: u32) -> u32 {
-    let mut out = lent_bytes(f, out_place(f, at));
-    let mut first = lent_words(f, first_place(f, at));
-    let mut second = lent_words(f, second_place(f, at));
-    let mut third = lent_words(f, third_place(f, at));
-    let out_room = room(f, out_place(f, at), MOST_BYTES);
-    let first_room = room(f, first_place(f, at), MOST_WORDS);
-    let second_room = room(f, second_place(f, at), MOST_WORDS);
-    let third_room = room(f, third_place(f, at), MOST_WORDS);
-    replay_lent(
-        f,
-        at,
-        &mut out[..out_room],
-        &mut first[..first_room],
-        &mut second[..second_room],
-        &mut third[..third_room],
-    )
 }
 
 // ---- a file
 
-// Writes a number, and what it is of.
-fn print_count(rt: &impl Print, n: u32, what: &[u8]) -> io::Result<()> {
-    rt.print(n)?;
-    rt.write_all(what)
-}
-
-// Writes the name of the function of a kind.
-fn print_kind(rt: &impl Print, kind: u32) -> io::Result<()> {
-    if kind == WRITE {
-        rt.write_all(b"write_class_sheet")?;
-    } else if kind == COMPARE {
-        rt.write_all(b"compare_names")?;
-    } else if kind == READ {
-        rt.write_all(b"read_unordered_sheet")?;
-    } else if kind == RENUMBER {
-        rt.write_all(b"renumber_classes")?;
-    } else if kind == LIST {
-        rt.write_all(b"reference_words")?;
-    } else if kind == COUNT {
-        rt.write_all(b"reference_count")?;
-    } else if kind == WIDEN {
-        rt.write_all(b"widen_class_sheet")?;
-    } else if kind == NARROW {
-        rt.write_all(b"narrow_class_sheet")?;
-    } else if kind == READ_FILE {
-        rt.write_all(b"read_class_file")?;
-    } else if kind == FILE_HEAD {
-        rt.write_all(b"class_file_head")?;
-    } else {
-        rt.write_all(b"no such function")?;
-    }
-    Ok(())
-}
-
-// Writes the line of call i, if it differs, and answers how many lines that is.
-fn print_seen(rt: &impl Print, path: &[u8], i: u32, kind: u32, what: u32) -> io::Result<u32> {
-    if what == 0 {
-        return Ok(0);
-    }
-    rt.write_all(path)?;
-    rt.write_all(b": call ")?;
-    print_count(rt, i, b", ")?;
-    print_kind(rt, kind)?;
-    if what == ANSWER {
-        rt.write_all(b": the answer differs\n")?;
-    } else {
-        rt.write_all(b": the memory differs\n")?;
-    }
-    Ok(1)
-}
-
 // The rows that are counted of a function; 0 is a call accepted.
-const ROWS: u32 = 32;
+const ROWS: usize = 32;
 
-// The place of a function's calls that a row refuses among the counts.
-fn count_place(kind: u32, row: u32) -> usize {
-    (ROWS as usize) * wide(kind) + wide(row)
+// How many calls of each function were accepted, and how many each row refused.
+#[derive(Drop)]
+struct Counts([u32; KINDS.len() * ROWS]);
+
+impl Counts {
+    // The place of a function's calls that a row refuses.
+    fn place(kind: Kind, row: u32) -> usize {
+        ROWS * (kind as usize) + row as usize
+    }
+
+    // Counts a call.
+    fn add(&mut self, kind: Kind, row: u32) {
+        let place = Counts::place(kind, row);
+        let n = get_or(&self.0, place, 0);
+        put(&mut self.0, place, n.wrapping_add(1));
+    }
+
+    // Writes how many calls of a function were accepted, and how many a row refuses, for each that does.
+    fn print(&self, rt: &impl Print, kind: Kind) -> io::Result<()> {
+        print!(rt; "  {kind}: ")?;
+        let counts = part(&self.0, Counts::place(kind, 0), ROWS);
+        for (row, n) in counts.iter().enumerate() {
+            if row == 0 {
+                print!(rt; "{n} accepted")?;
+            } else if *n > 0 {
+                print!(rt; ", {n} refused by {row}")?;
+            }
+        }
+        rt.write_all(b"\n")
+    }
 }
 
-// Counts a call.
-fn count_call(counts: &mut [u32], kind: u32, row: u32) {
-    let place = count_place(kind, row);
-    put_word(counts, place, on(word_at(counts, place), 1));
+// Writes the line of call i, which differs.
+fn print_difference(
+    rt: &impl Print,
+    path: &[u8],
+    i: u32,
+    call: &Call,
+    what: Difference,
+) -> io::Result<()> {
+    rt.write_all(path)?;
+    match call.kind {
+        Ok(kind) => print!(rt; ": call {i}, {kind}: {what}\n"),
+        Err(unknown) => print!(rt; ": call {i}, {unknown}: {what}\n"),
+    }
 }
 
-// Where reading goes on, and how many calls differ.
-#[derive(Clone, Copy)]
-struct Sum {
-    at: u32,
-    differ: u32,
-}
-
-// Replays the n calls at a place, and counts them.
+// Replays the n calls that are read next, counts them, and answers how many differ.
 fn replay_calls(
     rt: &impl Print,
     path: &[u8],
-    f: &[u8],
-    at: u32,
+    reader: &mut Reader,
     n: u32,
-    counts: &mut [u32],
-) -> io::Result<Sum> {
-    let mut place: u32 = at;
+    counts: &mut Counts,
+) -> io::Result<u32> {
     let mut differ: u32 = 0;
-    let mut i: u32 = 0;
-    while i < n {
-        let kind = word(f, place);
-        count_call(counts, kind, word(f, on(place, 2)));
-        let what = replay_call(f, place);
-        place = next_place(f, place);
-        differ = on(differ, print_seen(rt, path, i, kind, what)?);
-        i += 1;
+    for i in 0..n {
+        let call = Call::read(reader);
+        if let Ok(kind) = call.kind {
+            counts.add(kind, call.told[0]);
+        }
+        if let Some(what) = call.replay() {
+            print_difference(rt, path, i, &call, what)?;
+            differ = differ.wrapping_add(1);
+        }
     }
-    Ok(Sum { at: place, differ })
+    Ok(differ)
 }
 
-// Writes how many calls a row refuses, if any, or with row 0 how many are accepted.
-fn print_row(rt: &impl Print, n: u32, row: u32) -> io::Result<()> {
-    if row == 0 {
-        print_count(rt, n, b" accepted")?;
-    } else if n > 0 {
-        rt.write_all(b", ")?;
-        print_count(rt, n, b" refused by ")?;
-        rt.print(row)?;
-    }
-    Ok(())
-}
-
-// Writes how many calls of a function were accepted, and how many a row refuses, for each that does.
-fn print_rows(rt: &impl Print, counts: &[u32], kind: u32) -> io::Result<()> {
-    let mut row: u32 = 0;
-    while row < ROWS {
-        print_row(rt, word_at(counts, count_place(kind, row)), row)?;
-        row += 1;
-    }
-    Ok(())
-}
-
-// Writes the line of a function.
-fn print_function(rt: &impl Print, counts: &[u32], kind: u32) -> io::Result<()> {
-    rt.write_all(b"  ")?;
-    print_kind(rt, kind)?;
-    rt.write_all(b": ")?;
-    print_rows(rt, counts, kind)?;
-    rt.write_all(b"\n")
-}
-
-// Writes the line of each function.
-fn print_functions(rt: &impl Print, counts: &[u32]) -> io::Result<()> {
-    let mut kind: u32 = 0;
-    while kind < KINDS {
-        print_function(rt, counts, kind)?;
-        kind += 1;
-    }
-    Ok(())
-}
-
-// Says so where the last call does not end at the file's end.
-fn print_end(rt: &impl Print, path: &[u8], f: &[u8], at: u32) -> io::Result<()> {
-    if 4 * wide(at) != f.len() {
+// Replays the n calls of a file, which its reader has come to, and writes its lines.
+fn print_calls(rt: &impl Print, path: &[u8], reader: &mut Reader, n: u32) -> io::Result<()> {
+    let made = reader.word();
+    let made = reader.bytes(made);
+    let mut counts = Counts([0; KINDS.len() * ROWS]);
+    let differ = replay_calls(rt, path, reader, n, &mut counts)?;
+    if reader.place() != reader.bytes.len() {
         rt.write_all(path)?;
         rt.write_all(b": the calls do not end at its end\n")?;
     }
-    Ok(())
-}
-
-// Writes how the file was made, how many calls there are and how many differ.
-fn print_sums(
-    rt: &impl Print,
-    path: &[u8],
-    made: &[u8],
-    calls: u32,
-    differ: u32,
-) -> io::Result<()> {
     rt.write_all(path)?;
     rt.write_all(b" (")?;
     rt.write_all(made)?;
-    rt.write_all(b"): ")?;
-    print_count(rt, calls, b" calls, ")?;
-    print_count(rt, differ, b" differ\n")
+    print!(rt; "): {n} calls, {differ} differ\n")?;
+    for kind in KINDS {
+        counts.print(rt, kind)?;
+    }
+    Ok(())
 }
 
-// Replays the calls of a file, and writes its lines.
-fn print_calls(rt: &impl Print, path: &[u8], f: &[u8]) -> io::Result<()> {
-    let n = word(f, 2);
-    let made = word(f, BODY);
-    let mut counts = [0u32; (KINDS * ROWS) as usize];
-    let s = replay_calls(
-        rt,
-        path,
-        f,
-        on(on(BODY, 1), words_for(made)),
-        n,
-        &mut counts,
-    )?;
-    print_end(rt, path, f, s.at)?;
-    print_sums(rt, path, stored(f, on(BODY, 1), wide(made)), n, s.differ)?;
-    print_functions(rt, &counts)
-}
-
-// Whether a file is of this form, and lends no more than there is room for.
-fn is_answers(f: &[u8]) -> bool {
-    (word(f, 0) == MAGIC)
-        & (word(f, 1) == VERSION)
-        & (wide(word(f, 3)) <= MOST_BYTES)
-        & (wide(word(f, 4)) <= MOST_WORDS)
-}
-
-// Room for the bytes of a file that count.
-fn file_bytes() -> [u8; 655360]
-    ensures { 655360 ≡ length result }
-{
-    [0; 655360]
-}
-
-// Replays the calls in the bytes of a file.
-fn replay_file(rt: &impl Print, path: &[u8], f: &[u8]) -> io::Result<()> {
-    if is_answers(f) {
-        print_calls(rt, path, f)?;
-    } else {
+// Replays the calls in the bytes of a file, where it is of this form and lends no more than there is room for.
+fn replay_file(rt: &impl Print, path: &[u8], bytes: &[u8]) -> io::Result<()> {
+    let mut reader = Reader { bytes, at: 0 };
+    let form = (reader.word(), reader.word());
+    let n = reader.word();
+    let most = (reader.word() as usize, reader.word() as usize);
+    if form != (MAGIC, VERSION) || most.0 > MOST_BYTES || most.1 > MOST_WORDS {
         rt.write_all(path)?;
-        rt.write_all(b": no stored answers\n")?;
+        return rt.write_all(b": no stored answers\n");
     }
-    Ok(())
-}
-
-// Replays the calls in the file at a path.
-fn replay_path(rt: &(impl Print + Eprint + Files), path: &[u8]) -> io::Result<()> {
-    let mut bytes = file_bytes();
-    if let files::File::Bytes(n) = files::read_path(rt, path, &mut bytes) {
-        replay_file(rt, path, part(&bytes, 0, n))?;
-    }
-    Ok(())
-}
-
-// Replays the calls in the file that argument i names, and answers whether there is one. One that is too long is said so on standard error.
-fn replay_argument(rt: &(impl Print + Eprint + Files + Env), i: usize) -> io::Result<bool> {
-    let mut path = [0u8; 4096];
-    match files::take_argument(rt, b"answers: argument", i, &mut path) {
-        files::Argument::Bytes(n) => replay_path(rt, part(&path, 0, n))?,
-        files::Argument::TooLong => {}
-        files::Argument::Missing => return Ok(false),
-    }
-    Ok(true)
+    print_calls(rt, path, &mut reader, n)
 }
 
 fn main(rt: HostRuntime) -> io::Result<()> {
-    for i in 1..usize::MAX {
-        if !replay_argument(&rt, i)? {
-            break;
-        }
-    }
-    Ok(())
+    files::each_file(
+        &rt,
+        b"answers: argument",
+        &mut [0; FILE_BYTES],
+        |path, bytes| { replay_file(&rt, path, bytes) },
+    )
 }

@@ -7,13 +7,14 @@ use Prim.Native.Nat.{ℕ, zero, suc, ◌+◌, ◌-◌, ◌≤◌, ◌<◌, max}
 use native.Mathlib.Nat.{not-suc-le-zero, eq-or-lt_of_le, le_of_suc-le-suc}
 use native.Mathlib.Numerals.{add-one}
 use native.Mathlib.Omega.{arith}
-use lib.ListN.{length, get_or, set, take, drop, length-set, drop_of_length-le}
-use lib.Seq.{drop-cons, take_at, set_out, get_or-set_same, get_or-set_other}
+use lib.ListN.{length, get_or, set, take, drop, length-set}
+use lib.Seq.{take_at, set_out, get_or-set_same, get_or-set_other}
 use lib.Dec.{eqb, leb}
 use borrow.Author.Tests.{eq-eqb, ne_eqb, eqb-true, eqb-false, le-leb, lt-leb, leb-true, leb-false, not-true}
 use Rattle.words.proofs.Bools.{by, and_both, or-either, or-neither}
 use Rattle.words.specs.Folds.{all_of, table, stores}
 use Rattle.words.specs.Lists.{some}
+use Rattle.std.specs.List.{list_any}
 use Rattle.words.proofs.FoldLaws.{all-each, all-if, all-turn, all-stop, all_done, length-table, get_d_table, stores-is}
 use Rattle.text.specs.Text.{same_bytes}
 use Rattle.text.proofs.Laws.{same-is}
@@ -56,25 +57,12 @@ apart_if f n g m h =
     let high = leb-false (g + m) f p.1 in
     absurd (h (max g f) (omega arith) (omega arith) (omega arith) (omega arith)))
 
--- ---- a key among keys, at the rest from i on
+-- ---- a key among keys
 
-unfoldable pub has_from : List ℕ → ℕ → ℕ → Bool
-has_from ks k i = has_key (drop i ks) k
-
-module _ (ks : List ℕ) (k : ℕ) where
-  pub has-start : (false || has_from ks k 0) ≡ has_key ks k
-  unfolding has_from
-  has-start = refl
-
-  pub has-turn : (i : ℕ) (f : Bool) {h : Bool} → i < length ks → (f || has_from ks k i) ≡ h → (f || eqb (get_or ks i 0) k || has_from ks k (i + 1)) ≡ h
-  unfolding has_from has_key some
-  has-turn i true l e = e
-  has-turn i false l e = rw add-one (rw (drop-cons ks i 0 l) at e)
-
-  pub has_end : (i : ℕ) (f : Bool) {h : Bool} → length ks ≤ i → (f || has_from ks k i) ≡ h → f ≡ h
-  unfolding has_from has_key some
-  has_end i true l e = e
-  has_end i false l e = rw (drop_of_length-le ks l) at e
+pub key_found : (ks : List ℕ) (k : ℕ) → list_any (λ y. eqb y k) ks ≡ has_key ks k
+unfolding has_key some
+key_found [] k = refl
+key_found (x ∷ ks) k = ap (λ (b : Bool). eqb x k || b) (key_found ks k)
 
 -- a key that is not among them differs from each
 has-not : (ks : List ℕ) (k : ℕ) → has_key ks k ≡ false → (i : ℕ) → i < length ks → get_or ks i 0 ≢ k
@@ -98,9 +86,6 @@ module _ (ms : List ℕ) (f : ℕ) where
   unfolding marked
   length_marked zero = refl
   length_marked (suc n) = length-set (marked ms f n) (f + n) 1 ∙ length_marked n
-
-  pub marked-long : (n : ℕ) {a : List ℕ} → a ≡ marked ms f n → length a ≡ length ms
-  marked-long n e = rw e (length_marked n)
 
   pub marked-done : (n k : ℕ) {a : List ℕ} → a ≡ marked ms f k → k ≡ n → a ≡ marked ms f n
   marked-done n k e d = rw d at e

@@ -5,117 +5,87 @@ ghost use Rattle.std.specs.Prelude.{◌≡◌, true, ◌+◌, length};
 ghost use Rattle.words.specs.Folds.{all_of};
 ghost use Rattle.class_sheet.specs.ClassSheet.{class_count};
 ghost use Rattle.apart.specs.Apart.{apart, methods_apart, fields_apart, classes_apart, apart_before};
-ghost use Rattle.apart.specs.Seen.{key_step, name_key, has_key, new_keys, free_list, marked, free_lists};
+ghost use Rattle.apart.specs.Seen.{key_step, name_key, new_keys, free_list, marked, free_lists};
 
 // Whether two lists have no element in common.
+#[tactic(auto, unfolding(crate::specs::Apart::apart))]
 fn is_apart(f: u32, n: u32, g: u32, m: u32) -> bool
     ensures { result ≡ apart f n g m }
 {
-    (n == 0)
-        | (m == 0)
-        | (words::wide(f) + words::wide(n) <= words::wide(g))
-        | (words::wide(g) + words::wide(m) <= words::wide(f))
+    n == 0
+        || m == 0
+        || f as usize + n as usize <= g as usize
+        || g as usize + m as usize <= f as usize
 }
 
 // Whether the method lists of classes c and d have no method in common.
+#[tactic(auto, unfolding(crate::specs::Apart::methods_apart))]
 fn methods_apart(ws: &[u32], c: u32, d: u32) -> bool
     ensures { result ≡ methods_apart ws.now c d }
 {
-    let first = class_sheet::class_first_method(ws, c);
     let n = class_sheet::class_method_count(ws, c);
+    let m = class_sheet::class_method_count(ws, d);
     is_apart(
-        first,
+        class_sheet::class_first_method(ws, c),
         n,
         class_sheet::class_first_method(ws, d),
-        class_sheet::class_method_count(ws, d),
+        m,
     )
 }
 
 // Whether the field lists of classes c and d have no field in common.
+#[tactic(auto, unfolding(crate::specs::Apart::fields_apart))]
 fn fields_apart(ws: &[u32], c: u32, d: u32) -> bool
     ensures { result ≡ fields_apart ws.now c d }
 {
-    let first = class_sheet::class_first_field(ws, c);
     let n = class_sheet::class_field_count(ws, c);
+    let m = class_sheet::class_field_count(ws, d);
     is_apart(
-        first,
+        class_sheet::class_first_field(ws, c),
         n,
         class_sheet::class_first_field(ws, d),
-        class_sheet::class_field_count(ws, d),
+        m,
     )
 }
 
 // Whether classes c and d have different names, and no method and no field in common.
+#[tactic(auto, unfolding(crate::specs::Apart::classes_apart))]
 fn classes_apart(ws: &[u32], text: &[u8], c: u32, d: u32) -> bool
     ensures { result ≡ classes_apart ws.now text.now c d }
 {
     let name = class_sheet::class_name(ws, text, c);
     !text::same(name, class_sheet::class_name(ws, text, d))
-        & methods_apart(ws, c, d)
-        & fields_apart(ws, c, d)
+        && methods_apart(ws, c, d)
+        && fields_apart(ws, c, d)
 }
 
 // Whether class d is apart from each class before it.
 fn apart_before(ws: &[u32], text: &[u8], d: u32) -> bool
     ensures { result ≡ apart_before ws.now text.now d }
 {
-    let n = words::before(d);
-    let mut i: u32 = 0;
-    while i < n {
-        if !classes_apart(ws, text, i + 1, d) {
-            return false;
-        }
-        i += 1;
-    }
-    true
+    words::all_up_to(d.saturating_sub(1), |c| classes_apart(ws, text, c, d))
 }
 
 // Whether each class is apart from each before it, pair by pair.
 fn each_apart(ws: &[u32], text: &[u8]) -> bool
     ensures { result ≡ all_of (class_count ws.now) (λ i. apart_before ws.now text.now (i + 1)) }
 {
-    let n = class_sheet::class_count(ws);
-    let mut i: u32 = 0;
-    while i < n {
-        if !apart_before(ws, text, i + 1) {
-            return false;
-        }
-        i += 1;
-    }
-    true
+    words::all_up_to(class_sheet::class_count(ws), |c| apart_before(ws, text, c))
 }
 
 // The key after one byte more.
+#[tactic(auto, unfolding(crate::specs::Seen::key_step))]
 fn key_step(key: u32, b: u8) -> u32
     ensures { result ≡ key_step key b }
 {
-    ((16777619 * words::wide(key) + (b as usize)) % 4294967296) as u32
+    key.wrapping_mul(16777619).wrapping_add(b as u32)
 }
 
 // A number that a name's bytes give: names with different keys are different.
 fn name_key(name: &[u8]) -> u32
     ensures { result ≡ name_key name.now }
 {
-    let mut key: u32 = 0;
-    let mut i: usize = 0;
-    while i < name.len() {
-        key = key_step(key, name[i]);
-        i += 1;
-    }
-    key
-}
-
-// Whether one of the keys is k. It looks at all of them, so that the compiler can take several at a time.
-fn has_key(keys: &[u32], k: u32) -> bool
-    ensures { result ≡ has_key keys.now k }
-{
-    let mut found = false;
-    let mut i: usize = 0;
-    while i < keys.len() {
-        found = found | (keys[i] == k);
-        i += 1;
-    }
-    found
+    name.iter().fold(0, |key, b| key_step(key, *b))
 }
 
 // Whether there is room for the keys of all classes, and no two are the same; it leaves keys there.
@@ -123,18 +93,15 @@ fn new_keys(ws: &[u32], text: &[u8], keys: &mut [u32]) -> bool
     ensures { result ≡ new_keys ws.now text.now (length keys.old) }
 {
     let n = class_sheet::class_count(ws);
-    if keys.len() < words::wide(n) {
+    if keys.len() < n as usize {
         return false;
     }
-    let mut i: u32 = 0;
-    while i < n {
-        let at = words::wide(i);
+    for i in 0..n {
         let key = name_key(class_sheet::class_name(ws, text, i + 1));
-        if has_key(words::word_part(keys, 0, at), key) {
+        if words::part(keys, 0, i as usize).contains(&key) {
             return false;
         }
-        words::put_word(keys, at, key);
-        i += 1;
+        words::put(keys, i as usize, key);
     }
     true
 }
@@ -144,18 +111,16 @@ fn mark_list(marks: &mut [u8], first: u32, n: u32) -> bool
     ensures is { result ≡ free_list marks.old first n }
     ensures marks { result ≡ true → marks.new ≡ marked marks.old first n }
 {
-    let start = words::wide(first);
-    let count = words::wide(n);
+    let start = first as usize;
+    let count = n as usize;
     if marks.len() < start + count {
         return false;
     }
-    let mut k: usize = 0;
-    while k < count {
+    for k in 0..count {
         if marks[start + k] != 0 {
             return false;
         }
         marks[start + k] = 1;
-        k += 1;
     }
     true
 }
@@ -164,9 +129,7 @@ fn mark_list(marks: &mut [u8], first: u32, n: u32) -> bool
 fn free_lists(ws: &[u32], methods: &mut [u8], fields: &mut [u8]) -> bool
     ensures { result ≡ free_lists ws.now methods.old fields.old }
 {
-    let n = class_sheet::class_count(ws);
-    let mut i: u32 = 0;
-    while i < n {
+    for i in 0..class_sheet::class_count(ws) {
         let first_method = class_sheet::class_first_method(ws, i + 1);
         let method_count = class_sheet::class_method_count(ws, i + 1);
         let first_field = class_sheet::class_first_field(ws, i + 1);
@@ -176,7 +139,6 @@ fn free_lists(ws: &[u32], methods: &mut [u8], fields: &mut [u8]) -> bool
         if !free {
             return false;
         }
-        i += 1;
     }
     true
 }
@@ -199,8 +161,5 @@ fn seen_apart(ws: &[u32], text: &[u8]) -> bool
 pub fn all_apart(ws: &[u32], text: &[u8]) -> bool
     ensures { result ≡ all_of (class_count ws.now) (λ i. apart_before ws.now text.now (i + 1)) }
 {
-    if seen_apart(ws, text) {
-        return true;
-    }
-    each_apart(ws, text)
+    seen_apart(ws, text) || each_apart(ws, text)
 }

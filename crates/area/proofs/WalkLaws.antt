@@ -11,9 +11,11 @@ use Rattle.words.proofs.Bools.{by}
 use Rattle.words.proofs.ListLaws.{rest-suc}
 use Rattle.linking.specs.Link.{next_free}
 use Rattle.linking.specs.Ask.{Walk, hit, missed, broken, walk}
-use Rattle.area.specs.Area.{walk_of, nodes_to, Counted}
+use Rattle.std.specs.Prelude.{Option, Some, None, Result, Ok, Err}
+use Rattle.refusal.specs.declared.Refusal.{Refusal}
+use Rattle.refusal.proofs.Rows.{row_above}
+use Rattle.area.specs.Area.{node_or_end, walk_of, nodes_to, Counted}
 use Rattle.area.specs.declared.Walked.{Walked}
-use Rattle.area.specs.declared.Walked.TheVariants.{Hit, Missed, Broken}
 
 -- ---- what the answer of a walk says
 
@@ -79,19 +81,13 @@ module _ (area : List ℕ) (i : ℕ) where
       (λ k. rw (f, k) (omega arith))
       (λ k. rw (f, k) (omega (arith, nodes_few left (get_or area n 0)))))
 
-  counted : (head : ℕ) (r : Walked) → walk_of r ≡ walk area i 64 0 head → Counted r (nodes_to area i 64 head)
-  counted head (Hit n nodes) e =
-      let h = (hit-is 64 0 head n nodes (sym e)).1 in record { all = λ z. omega arith; few = omega (arith, nodes_few 64 head) }
-  counted head (Missed nodes) e =
-      let h = missed-is 64 0 head nodes (sym e) in record { all = λ z. omega arith; few = omega (arith, nodes_few 64 head) }
-  counted head Broken e = record { all = λ z. absurd (omega arith); few = omega arith }
+  read-is : (head nodes : ℕ) (node : Option ℕ) → node_or_end node nodes ≡ walk area i 64 0 head → nodes ≡ length (nodes_to area i 64 head)
+  read-is head nodes (Some n) e = let h = (hit-is 64 0 head n nodes (sym e)).1 in omega arith
+  read-is head nodes None e = let h = missed-is 64 0 head nodes (sym e) in omega arith
 
-  -- the walk's two promises; the second follows from the first
-  abbrev pub Promised : ℕ → Walked → Type 0
-  Promised head r = (walk_of r ≡ walk area i 64 0 head) × Counted r (nodes_to area i 64 head)
-
-  promised : (head : ℕ) (r : Walked) → walk_of r ≡ walk area i 64 0 head → Promised head r
-  promised head r e = (e, counted head r e)
+  pub counted : (head : ℕ) (r : Result Walked Refusal) → walk_of r ≡ walk area i 64 0 head → Counted r (nodes_to area i 64 head)
+  counted head (Ok w) e = let h = read-is head w.read w.node e in record { all = λ z. h; few = omega (arith, nodes_few 64 head) }
+  counted head (Err r) e = record { all = λ z. absurd (omega (arith, row_above r)); few = omega arith }
 
 -- ---- the loop
 
@@ -112,41 +108,37 @@ module _ (area : List ℕ) (i : ℕ) where
 
   -- what is left to walk is the whole walk from the head
   module _ (head read n : ℕ) (left : walk_at read n ≡ walk area i 64 0 head) where
-    pub walk-missed : n ≡ 0 → Promised area i head (Missed read)
+    pub walk-missed : n ≡ 0 → missed read ≡ walk area i 64 0 head
     unfolding walk_at
-    walk-missed e = promised area i head (Missed read) (walk-ended area i (64 - read) read n e ∙ left)
+    walk-missed e = walk-ended area i (64 - read) read n e ∙ left
 
-    pub walk_out : 64 ≤ read → (n ≡ 0 → ⊥) → Promised area i head Broken
+    pub walk-last : read ≡ 64 → n ≡ 0 → missed 64 ≡ walk area i 64 0 head
+    walk-last e z = rw e at (walk-missed z)
+
+    pub walk_out : 64 ≤ read → (n ≡ 0 → ⊥) → broken ≡ walk area i 64 0 head
     unfolding walk_at walk
     walk_out h some =
         let e : 64 - read ≡ 0 = omega arith in
-        let w : broken ≡ walk_at read n = rw (e, ne_eqb n 0 some) in
-        promised area i head Broken (w ∙ left)
+        let w : broken ≡ walk_at read n = rw (e, ne_eqb n 0 some) in w ∙ left
 
     -- the link word's place, as the code has it
-    module _ (next link : ℕ) (free : next ≡ next_free area) (at : link ≡ n) (some : n ≡ 0 → ⊥) (h : read < 64) where
-      pub walk-broken : next ≤ link + 1 → Promised area i head Broken
+    module _ {next : ℕ} (free : next ≡ next_free area) (some : n ≡ 0 → ⊥) (h : read < 64) where
+      pub walk-broken : next ≤ n + 1 → broken ≡ walk area i 64 0 head
       unfolding walk_at walk
       walk-broken k =
           let b : leb (next_free area) (n + 1) ≡ true = le-leb (next_free area) (n + 1) (omega arith) in
-          let w : broken ≡ walk_at read n = rw (rest-suc 64 read h, ne_eqb n 0 some, b) in
-          promised area i head Broken (w ∙ left)
+          let w : broken ≡ walk_at read n = rw (rest-suc 64 read h, ne_eqb n 0 some, b) in w ∙ left
 
-      module _ {w : ℕ} (k : link + 1 < next) (word : w ≡ get_or area (link + 1) 0) where
+      module _ {w : ℕ} (k : n + 1 < next) (word : w ≡ get_or area (n + 1) 0) where
         below : leb (next_free area) (n + 1) ≡ false
         below = lt-leb (next_free area) (n + 1) (omega arith)
 
-        here : get_or area (n + 1) 0 ≡ w
-        here = rw (word, at)
-
-        pub walk-hit : w ≡ i → Promised area i head (Hit n (read + 1))
+        pub walk-hit : w ≡ i → hit n (read + 1) ≡ walk area i 64 0 head
         unfolding walk_at walk
         walk-hit e =
-            let v : hit n (read + 1) ≡ walk_at read n = rw (rest-suc 64 read h, ne_eqb n 0 some, below, here, eq-eqb w i e) in
-            promised area i head (Hit n (read + 1)) (v ∙ left)
+            let v : hit n (read + 1) ≡ walk_at read n = rw (rest-suc 64 read h, ne_eqb n 0 some, below, ← word, eq-eqb w i e) in v ∙ left
 
-        pub walk_turn : {m : ℕ} → (w ≡ i → ⊥) → m ≡ get_or area link 0 → walk_at (read + 1) m ≡ walk area i 64 0 head
+        pub walk_turn : {m : ℕ} → (w ≡ i → ⊥) → m ≡ get_or area n 0 → walk_at (read + 1) m ≡ walk area i 64 0 head
         unfolding walk_at walk
         walk_turn {m} e f =
-            let v : walk_at (read + 1) m ≡ walk_at read n = rw (rest-suc 64 read h, ne_eqb n 0 some, below, here, ne_eqb w i e, f, at) in
-            v ∙ left
+            let v : walk_at (read + 1) m ≡ walk_at read n = rw (rest-suc 64 read h, ne_eqb n 0 some, below, ← word, ne_eqb w i e, f) in v ∙ left

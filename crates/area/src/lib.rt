@@ -1,71 +1,80 @@
 // The table area: the walk over a class's interface tables, the room that is left, and the words of tables and nodes.
 #![tactic(auto)]
 
-ghost use Rattle.std.specs.Prelude.{◌≡◌, ◌+◌, ◌≤◌, length};
+ghost use Rattle.std.specs.Prelude.{◌≡◌, ◌+◌, ◌≤◌, length, IfErr};
+ghost use Rattle.refusal.specs.Rows.{row};
 ghost use Rattle.linking.specs.Vtable.{slot_word};
 ghost use Rattle.linking.specs.Set.{write_at};
 ghost use Rattle.linking.specs.Link.{no_room};
 ghost use Rattle.linking.specs.Ask.{walk};
 ghost use Rattle.area.specs.Area.{walk_of, nodes_to, Counted, slots_of, table_words, node_words, may_not_write, table_written, node_written};
 
-// What a link or an ask answers: its two values, or the row that refuses it.
+use refusal::Refusal;
+
+// What an accepted link or ask answers: its two values.
 #[derive(Clone, Copy)]
-pub enum Answer {
-    Done(u32, u32),
-    Refused(u32),
+pub struct Answer {
+    pub first: u32,
+    pub second: u32,
 }
 
-// What a walk ends with: at a node, having read so many; at the list's end, likewise; or at a link that row 7 refuses.
+// What a walk ends with: the interface's node, if the list has one, and how many nodes were read.
 #[derive(Clone, Copy)]
-pub enum Walked {
-    Hit(u32, u32),
-    Missed(u32),
-    Broken,
+pub struct Walked {
+    pub node: Option<u32>,
+    pub read: u32,
 }
 
 // The most nodes that a walk reads.
 const MOST_NODES: u32 = 64;
 
-// Walks from the head to interface i's node, and counts the nodes read: those of the list up to the hit, or all of it, at most 64.
-pub fn walk(area: &[u32], i: u32, head: u32) -> Walked
+// Walks from the head to interface i's node, and counts the nodes read: those of the list up to it, or all, at most 64. Row 7 refuses a link
+// that does not lie below word 0, and a 65th node.
+pub fn walk(area: &[u32], i: u32, head: u32) -> Result<Walked, Refusal>
     ensures walked { walk_of result ≡ walk area.now i 64 0 head }
     ensures counted { Counted result (nodes_to area.now i 64 head) }
+    ensures row { IfErr result (λ refusal. row refusal ≡ 7) }
 {
-    let next = words::wide(words::word_at(area, 0));
+    let next = words::get_or(area, 0, 0) as usize;
     let mut n: u32 = head;
-    let mut read: u32 = 0;
-    while read < MOST_NODES {
+    for read in 0..MOST_NODES {
         if n == 0 {
-            return Walked::Missed(read);
+            return Ok(Walked { node: None, read });
         }
-        let link = words::wide(n);
+        let link = n as usize;
         if next <= link + 1 {
-            return Walked::Broken;
+            return Err(Refusal::Area);
         }
-        read += 1;
-        if words::word_at(area, link + 1) == i {
-            return Walked::Hit(n, read);
+        if words::get_or(area, link + 1, 0) == i {
+            return Ok(Walked {
+                node: Some(n),
+                read: read + 1,
+            });
         }
-        n = words::word_at(area, link);
+        n = words::get_or(area, link, 0);
     }
     if n == 0 {
-        Walked::Missed(read)
+        Ok(Walked {
+            node: None,
+            read: MOST_NODES,
+        })
     } else {
-        Walked::Broken
+        Err(Refusal::Area)
     }
 }
 
 // Whether there are fewer stubs than n slots, or fewer free words than a table or a node of n slots needs.
-pub fn no_room(area: &[u32], stubs: &[u32], n: u32) -> bool
+#[tactic(auto, using(crate::proofs::AreaLaws::few_stubs, crate::proofs::AreaLaws::few_words))]
+pub fn no_room(area: &[u32], stubs: &[u32], n: usize) -> bool
     ensures { result ≡ no_room area.now stubs.now n }
 {
-    let slots = words::wide(n);
-    let next = words::wide(words::word_at(area, 0));
-    (stubs.len() < slots) | (area.len() < next + (slots + 2))
+    let next = words::get_or(area, 0, 0) as usize;
+    stubs.len() < n || area.len() < next + (n + 2)
 }
 
 // The same, or an area of which a place does not fit into a word.
-fn may_not_write(area: &[u32], stubs: &[u32], n: u32) -> bool
+#[tactic(auto, unfolding(crate::specs::Area::may_not_write))]
+fn may_not_write(area: &[u32], stubs: &[u32], n: usize) -> bool
     ensures { result ≡ may_not_write area.now stubs.now n }
 {
     no_room(area, stubs, n) | (4294967295 < area.len())
@@ -78,63 +87,62 @@ fn slot_word(w: u32, stub: u32) -> u32
     if w == 0 { stub } else { w }
 }
 
-// Writes n slots from the place `at` on.
-fn put_slots(part: &mut [u32], at: usize, ts: &[u32], n: u32, stubs: &[u32])
-    requires { at + n ≤ length part.old }
-    ensures { part.new ≡ write_at part.old at (slots_of ts.now stubs.now n) }
+// Writes the slots of these words from the place `at` on.
+fn put_slots(part: &mut [u32], at: usize, slots: &[u32], stubs: &[u32])
+    requires { at + length slots.now ≤ length part.old }
+    ensures { part.new ≡ write_at part.old at (slots_of slots.now stubs.now) }
 {
-    let slots = words::wide(n);
-    let mut j: usize = 0;
-    while j < slots {
-        let w = slot_word(words::word_at(ts, j), words::word_at(stubs, j));
-        words::put_word(part, at + j, w);
-        j += 1;
+    for j in 0..slots.len() {
+        let w = slot_word(slots[j], words::get_or(stubs, j, 0));
+        words::put(part, at + j, w);
     }
 }
 
 // Fills a part of the area with class number, slots and a zero list head.
-fn fill_table(part: &mut [u32], c: u32, ts: &[u32], n: u32, stubs: &[u32])
-    requires { n + 2 ≤ length part.old }
-    ensures { part.new ≡ write_at part.old 0 (table_words c ts.now stubs.now n) }
+#[tactic(auto, using(crate::proofs::AreaLaws::table_filled))]
+fn fill_table(part: &mut [u32], c: u32, slots: &[u32], stubs: &[u32])
+    requires { length slots.now + 2 ≤ length part.old }
+    ensures { part.new ≡ write_at part.old 0 (table_words c slots.now stubs.now) }
 {
-    words::put_word(part, 0, c);
-    put_slots(part, 1, ts, n, stubs);
-    words::put_word(part, words::wide(n) + 1, 0);
+    words::put(part, 0, c);
+    put_slots(part, 1, slots, stubs);
+    words::put(part, slots.len() + 1, 0);
 }
 
 // Fills a part of the area with old head, interface number and slots.
-fn fill_node(part: &mut [u32], old: u32, i: u32, ts: &[u32], n: u32, stubs: &[u32])
-    requires { n + 2 ≤ length part.old }
-    ensures { part.new ≡ write_at part.old 0 (node_words old i ts.now stubs.now n) }
+#[tactic(auto, using(crate::proofs::AreaLaws::node_filled))]
+fn fill_node(part: &mut [u32], old: u32, i: u32, slots: &[u32], stubs: &[u32])
+    requires { length slots.now + 2 ≤ length part.old }
+    ensures { part.new ≡ write_at part.old 0 (node_words old i slots.now stubs.now) }
 {
-    words::put_word(part, 0, old);
-    words::put_word(part, 1, i);
-    put_slots(part, 2, ts, n, stubs);
+    words::put(part, 0, old);
+    words::put(part, 1, i);
+    put_slots(part, 2, slots, stubs);
 }
 
-// Writes class c's table of n slots from the next free word on, where there is room, and else nothing.
-pub fn write_table(area: &mut [u32], c: u32, ts: &[u32], n: u32, stubs: &[u32])
-    ensures { area.new ≡ table_written area.old c ts.now n stubs.now }
+// Writes class c's table, whose slots have these words, from the next free word on, where there is room, and else nothing.
+pub fn write_table(area: &mut [u32], c: u32, slots: &[u32], stubs: &[u32])
+    ensures { area.new ≡ table_written area.old c slots.now stubs.now }
 {
-    if may_not_write(area, stubs, n) {
+    if may_not_write(area, stubs, slots.len()) {
         return;
     }
-    let next = words::wide(words::word_at(area, 0));
-    fill_table(&mut area[next..], c, ts, n, stubs);
-    words::put_word(area, 0, (next + words::wide(n) + 2) as u32);
+    let next = words::get_or(area, 0, 0) as usize;
+    fill_table(&mut area[next..], c, slots, stubs);
+    words::put(area, 0, (next + slots.len() + 2) as u32);
 }
 
-// Writes interface i's node of n slots likewise, in front of the list whose head is at `head`.
-pub fn write_node(area: &mut [u32], head: usize, i: u32, ts: &[u32], n: u32, stubs: &[u32])
-    ensures { area.new ≡ node_written area.old head i ts.now n stubs.now }
+// Writes interface i's node likewise, in front of the list whose head is at `head`.
+pub fn write_node(area: &mut [u32], head: usize, i: u32, slots: &[u32], stubs: &[u32])
+    ensures { area.new ≡ node_written area.old head i slots.now stubs.now }
 {
-    if may_not_write(area, stubs, n) {
+    if may_not_write(area, stubs, slots.len()) {
         return;
     }
-    let node = words::word_at(area, 0);
-    let old = words::word_at(area, head);
-    let next = words::wide(node);
-    fill_node(&mut area[next..], old, i, ts, n, stubs);
-    words::put_word(area, head, node);
-    words::put_word(area, 0, (next + words::wide(n) + 2) as u32);
+    let node = words::get_or(area, 0, 0);
+    let old = words::get_or(area, head, 0);
+    let next = node as usize;
+    fill_node(&mut area[next..], old, i, slots, stubs);
+    words::put(area, head, node);
+    words::put(area, 0, (next + slots.len() + 2) as u32);
 }

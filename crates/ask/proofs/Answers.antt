@@ -10,8 +10,8 @@ use lib.ListN.{length, get_or}
 use lib.Dec.{eqb}
 use borrow.Author.Tests.{eqb-false}
 use Rattle.words.proofs.Bools.{by}
-use Rattle.words.specs.declared.Found.{Found}
-use Rattle.words.specs.declared.Found.TheVariants.{At, Nothing}
+use Rattle.std.specs.Prelude.{Option, Some, None, Result}
+use Rattle.refusal.specs.declared.Refusal.{Refusal}
 use Rattle.class_sheet.specs.ClassSheet.{text_of}
 use Rattle.abi_sheet.specs.AbiSheet.{abi_text_of}
 use Rattle.set_rules.specs.SetRules.{set_refusal}
@@ -28,19 +28,19 @@ not-refused : {T : List Entry} {n : ℕ} → built T ≡ refused n → ⊥
 not-refused e = let z : ◌≡◌ {A = ℕ} 0 1 = cc in absurd (omega arith)
 
 module _ (ws abi : List ℕ) (c i : ℕ) (area stubs : List ℕ) where
-  entry-refused : (e : Entry) (m k : Found) (b : Built) (n : ℕ) → ((j : ℕ) → b ≡ refused j → j ≢ 0)
+  entry-refused : (e : Entry) (m k : Option ℕ) (b : Built) (n : ℕ) → ((j : ℕ) → b ≡ refused j → j ≢ 0)
       → cons_entry (dispatch_entry ws e m k) b ≡ refused n → n ≢ 0
-  entry-refused e (At m) (At k) (built T) n h q = absurd (not-refused q)
-  entry-refused e (At m) (At k) (refused j) n h q = λ z. h j refl (cc)
-  entry-refused e (At m) Nothing b n h q = λ z. let k : ◌≡◌ {A = ℕ} 16 n = cc in omega arith
-  entry-refused e Nothing k (built T) n h q = absurd (not-refused q)
-  entry-refused e Nothing k (refused j) n h q = λ z. h j refl (cc)
+  entry-refused e (Some m) (Some k) (built T) n h q = absurd (not-refused q)
+  entry-refused e (Some m) (Some k) (refused j) n h q = λ z. h j refl (cc)
+  entry-refused e (Some m) None b n h q = λ z. let k : ◌≡◌ {A = ℕ} 16 n = cc in omega arith
+  entry-refused e None k (built T) n h q = absurd (not-refused q)
+  entry-refused e None k (refused j) n h q = λ z. h j refl (cc)
 
   entries-refused : (T : List Entry) (n : ℕ) → dispatch_entries ws (text_of ws) c T ≡ refused n → n ≢ 0
   unfolding dispatch_entries
   entries-refused [] n e = absurd (not-refused e)
   entries-refused (x ∷ T) n e =
-      entry-refused x x.method (on_found x.method (implementation ws (text_of ws) c) Nothing) (dispatch_entries ws (text_of ws) c T) n
+      entry-refused x x.method (on_found x.method (implementation ws (text_of ws) c) None) (dispatch_entries ws (text_of ws) c T) n
       (entries-refused T) e
 
   node_tells : (nodes : ℕ) (b : Built) → ((n : ℕ) → b ≡ refused n → n ≢ 0)
@@ -76,6 +76,6 @@ module _ (ws abi : List ℕ) (c i : ℕ) (area stubs : List ℕ) where
       (λ v. rw v (λ e. absurd (eqb-false (set_refusal ws abi) 0 v e)))
 
   -- the answer of an ask is determined
-  pub ask-answer : (a b : Answer) (s t s' t' : List ℕ) → outcome a s t ≡ ask_def ws abi c i area stubs → outcome b s' t' ≡ ask_def ws abi c i area stubs
+  pub ask-answer : (a b : Result Answer Refusal) (s t s' t' : List ℕ) → outcome a s t ≡ ask_def ws abi c i area stubs → outcome b s' t' ≡ ask_def ws abi c i area stubs
       → a ≡ b
   ask-answer a b s t s' t' e f = answer_unique a b s t s' t' ask_tells e f

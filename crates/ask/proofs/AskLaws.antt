@@ -2,49 +2,34 @@
 use mathlib.Core.Path.{◌≡◌, sym, ◌∙◌}
 use mathlib.Core.Bool.{Bool, true, false, cond}
 use mathlib.Core.List.{List}
-use Prim.Native.Nat.{ℕ, ◌+◌, ◌<◌}
+use Prim.Native.Nat.{ℕ, ◌+◌, ◌<◌, ◌≤◌}
 use native.Mathlib.Omega.{arith}
-use lib.ListN.{length, get_or}
+use lib.ListN.{length, get_or, take}
 use lib.Dec.{eqb}
-use borrow.Author.Tests.{eq-eqb, ne_eqb, eqb-true}
+use borrow.Author.Tests.{eq-eqb, eqb-true}
 use Rattle.words.proofs.Bools.{by, passed}
 use Rattle.class_sheet.specs.ClassSheet.{text_of}
 use Rattle.abi_sheet.specs.AbiSheet.{abi_text_of}
 use Rattle.set_rules.specs.SetRules.{set_refusal}
-use Rattle.linking.specs.Vtable.{Built, table_entries}
+use Rattle.linking.specs.Vtable.{Built, built, refused, table_entries}
 use Rattle.linking.specs.Link.{next_free, bad_area, no_room, Outcome, refused_call}
 use Rattle.linking.specs.Ask.{Walk, hit, missed, broken, walk, head_place, dispatch_entries, build_node, bad_ask, ask_def}
-use Rattle.reading.specs.Arrays.{entries_of}
+use Rattle.reading.specs.declared.table.Table.{Table}
+use Rattle.reading.specs.Tables.{entries}
 use Rattle.reading.proofs.ArrayLaws.{length-entries}
-use Rattle.area.specs.declared.Answer.TheVariants.{Done}
+use Rattle.std.proofs.Common.{Ok, refl}
+use Rattle.refusal.specs.declared.Refusal.{Refusal}
+use Rattle.refusal.specs.Rows.{row}
+use Rattle.refusal.proofs.Rows.{row_above}
 use Rattle.area.specs.Area.{outcome, node_written}
 use Rattle.linking.proofs.Rows.{sound, fits}
 use Rattle.area.proofs.AreaLaws.{node-asked}
 use Rattle.area.proofs.WalkLaws.{hit-is}
-use Rattle.ask.specs.Dispatch.{table_built, ask_refusal, finish_ask}
+use Rattle.ask.specs.Dispatch.{ask_refusal, finish_ask}
 
 -- ---- rows 3 to 7
 
 module _ (ws abi : List ℕ) (c i : ℕ) (area : List ℕ) where
-  module _ {r : ℕ} (set : r ≡ set_refusal ws abi) where
-    pub rows-set : (r ≡ 0 → ⊥) → r ≡ ask_refusal ws abi c i area
-    unfolding ask_refusal
-    rows-set h = rw (← set, ne_eqb r 0 h)
-
-    module _ {b : Bool} (zero : r ≡ 0) (ask : b ≡ bad_ask ws c i) where
-      pub rows_6 : b ≡ true → 6 ≡ ask_refusal ws abi c i area
-      unfolding ask_refusal
-      rows_6 t = rw (← set, eq-eqb r 0 zero, ← ask, t)
-
-      module _ {d : Bool} (no : b ≡ false) (bad : d ≡ bad_area ws area) where
-        pub rows_7 : d ≡ true → 7 ≡ ask_refusal ws abi c i area
-        unfolding ask_refusal
-        rows_7 t = rw (← set, eq-eqb r 0 zero, ← ask, no, ← bad, t)
-
-        pub rows_none : d ≡ false → 0 ≡ ask_refusal ws abi c i area
-        unfolding ask_refusal
-        rows_none f = rw (← set, eq-eqb r 0 zero, ← ask, no, ← bad, f)
-
   -- none of them refuses
   pub record Asks : Type 0 where
     pub accepted : set_refusal ws abi ≡ 0
@@ -60,56 +45,51 @@ module _ (ws abi : List ℕ) (c i : ℕ) (area : List ℕ) where
       let q = passed (bad_area ws area) 7 0 (λ (y : 7 ≡ 0). omega arith) p.1 in
       record { accepted = z; classes = p.0; tables = q.0 }
 
--- ---- rows 16 and 15, and the node
+-- ---- row 15, and the node
 
-module _ (ws : List ℕ) (c i : ℕ) (area stubs : List ℕ) (nodes : ℕ) (ts ms : List ℕ) (n row : ℕ) where
-  pub finish-row : (row ≡ 0 → ⊥) → refused_call row ws area ≡ finish_ask ws c i area stubs nodes (table_built ts ms n row)
+module _ (ws : List ℕ) (c i : ℕ) (area stubs : List ℕ) (nodes : ℕ) (t : Table 1024) {b : Bool} (room : b ≡ no_room area stubs t.len) where
+  room-is : no_room area stubs (length (entries t)) ≡ b
+  room-is = rw (length-entries t.words t.marks t.len) (sym room)
+
+  pub finish-full : b ≡ true → refused_call 15 ws area ≡ finish_ask ws c i area stubs nodes (built (entries t))
   unfolding finish_ask
-  finish-row h = rw (ne_eqb row 0 h)
+  finish-full e = rw (room-is, e)
 
-  module _ {b : Bool} (zero : row ≡ 0) (room : b ≡ no_room area stubs n) where
-    room-is : no_room area stubs (length (entries_of ts ms n)) ≡ b
-    room-is = rw (length-entries ts ms n) (sym room)
+  module _ (free : b ≡ false) (bad : bad_area ws area ≡ false) {node : ℕ} (next : node ≡ next_free area) where
+    -- the place that is answered is a word
+    pub node-fits : node + 1 < 4294967296
+    node-fits =
+        let s = sound ws area bad in
+        let f = fits area stubs t.len (sym room ∙ free) in
+        omega (arith, s.short, f.free)
 
-    pub finish-full : b ≡ true → refused_call 15 ws area ≡ finish_ask ws c i area stubs nodes (table_built ts ms n row)
+    pub finish-done : {head : ℕ} {us area₂ : List ℕ} → head ≡ head_place ws c → us ≡ take t.len t.words → area₂ ≡ node_written area head i us stubs
+        → outcome (Ok (record { first = node + 1; second = nodes })) ws area₂ ≡ finish_ask ws c i area stubs nodes (built (entries t))
     unfolding finish_ask
-    finish-full t = rw (eq-eqb row 0 zero, room-is, t)
+    finish-done {head = head} e u g =
+        let within : t.len ≤ length t.words = omega (arith, t.fits, t.lengths.0) in
+        let k = node-asked t.words t.marks stubs t.len within area (sym room ∙ free) (sound ws area bad).short ws c head i e in
+        rw (room-is, free, g, u, k, next)
 
-    module _ (free : b ≡ false) (bad : bad_area ws area ≡ false) {node : ℕ} (next : node ≡ next_free area) where
-      -- the place that is answered is a word
-      pub node-fits : node + 1 < 4294967296
-      node-fits =
-          let s = sound ws area bad in
-          let f = fits area stubs n (sym room ∙ free) in
-          omega (arith, s.short, f.free)
-
-      pub finish-done : {head : ℕ} {area₂ : List ℕ} → head ≡ head_place ws c → area₂ ≡ node_written area head i ts n stubs
-          → outcome (Done (node + 1) nodes) ws area₂ ≡ finish_ask ws c i area stubs nodes (table_built ts ms n row)
-      unfolding finish_ask
-      finish-done {head = head} e g =
-          let k = node-asked area ts ms stubs n (sym room ∙ free) (sound ws area bad).short ws c head i e in
-          rw (eq-eqb row 0 zero, room-is, free, g, k, next)
-
--- the table of an interface that was read, and the class's for it, with the texts as the code hands them on
-pub table-handed : (ws abi area : List ℕ) (c i : ℕ) (ts ms : List ℕ) (n : ℕ) {text labels : List ℕ} {B : Built} → text ≡ text_of ws → labels ≡ abi_text_of abi
-    → entries_of ts ms n ≡ table_entries ws text abi labels area i
-    → B ≡ dispatch_entries ws text c (entries_of ts ms n)
-    → B ≡ dispatch_entries ws (text_of ws) c (table_entries ws (text_of ws) abi (abi_text_of abi) area i)
-table-handed ws abi area c i ts ms n e f g h = h ∙ rw (g, e, f)
-
--- the node's table, as `build_node` has it
+-- the node's table, as `build_node` has it, or row 16
 pub node-built : (ws abi : List ℕ) (c i : ℕ) (area stubs : List ℕ) (nodes : ℕ) {B : Built} {o : Outcome}
     → B ≡ dispatch_entries ws (text_of ws) c (table_entries ws (text_of ws) abi (abi_text_of abi) area i)
     → o ≡ finish_ask ws c i area stubs nodes B → o ≡ build_node ws abi c i area stubs nodes
 unfolding build_node finish_ask
 node-built ws abi c i area stubs nodes e f = f ∙ rw e
 
+pub node-refused : (ws abi : List ℕ) (c i : ℕ) (area stubs : List ℕ) (nodes n : ℕ)
+    → refused n ≡ dispatch_entries ws (text_of ws) c (table_entries ws (text_of ws) abi (abi_text_of abi) area i)
+    → refused_call n ws area ≡ build_node ws abi c i area stubs nodes
+unfolding build_node
+node-refused ws abi c i area stubs nodes n e = rw (← e) refl
+
 -- ---- the call
 
 -- rows 3 to 7, and the walk from the class's head
-module _ (ws abi : List ℕ) (c i : ℕ) (area : List ℕ) {r : ℕ} (rows : r ≡ ask_refusal ws abi c i area) (zero : r ≡ 0) where
+module _ (ws abi : List ℕ) (c i : ℕ) (area : List ℕ) (rows : 0 ≡ ask_refusal ws abi c i area) where
   pub code-asks : Asks ws abi c i area
-  code-asks = asks ws abi c i area (sym rows ∙ zero)
+  code-asks = asks ws abi c i area (sym rows)
 
   -- the place that is answered is a word
   pub hit-fits : (head : ℕ) {u : Walk} → u ≡ walk area i 64 0 head → (n nodes : ℕ) → u ≡ hit n nodes → n + 1 < 4294967296
@@ -117,7 +97,7 @@ module _ (ws abi : List ℕ) (c i : ℕ) (area : List ℕ) {r : ℕ} (rows : r �
       let s = sound ws area code-asks.tables in
       omega (arith, (hit-is area i 64 0 head n nodes (sym walked ∙ e)).0, s.within, s.short)
 
-module _ (ws abi : List ℕ) (c i : ℕ) (area stubs : List ℕ) {r : ℕ} (rows : r ≡ ask_refusal ws abi c i area) where
+module _ (ws abi : List ℕ) (c i : ℕ) (area stubs : List ℕ) where
   refused-by : (x : ℕ) → ask_refusal ws abi c i area ≡ x → (x ≡ 0 → ⊥) → refused_call x ws area ≡ ask_def ws abi c i area stubs
   unfolding ask_refusal ask_def
   refused-by x e h =
@@ -131,28 +111,28 @@ module _ (ws abi : List ℕ) (c i : ℕ) (area stubs : List ℕ) {r : ℕ} (rows
       (λ v. let p : 0 ≡ x = rw (t, u, v) at e in absurd (h (sym p)))))
       (λ f. let p : set_refusal ws abi ≡ x = rw f at e in rw (f, p))
 
-  pub ask-refused : (r ≡ 0 → ⊥) → refused_call r ws area ≡ ask_def ws abi c i area stubs
-  ask-refused h = refused-by r (sym rows) h
+  pub ask-refused : (k : Refusal) → row k ≡ ask_refusal ws abi c i area → refused_call (row k) ws area ≡ ask_def ws abi c i area stubs
+  ask-refused k rows = refused-by (row k) (sym rows) (λ z. omega (arith, z, row_above k))
 
-  module _ (zero : r ≡ 0) {place head : ℕ} {u : Walk} (at : place ≡ head_place ws c) (from : head ≡ get_or area place 0)
+  module _ (rows : 0 ≡ ask_refusal ws abi c i area) {place head : ℕ} {u : Walk} (at : place ≡ head_place ws c) (from : head ≡ get_or area place 0)
       (walked : u ≡ walk area i 64 0 head) where
     head_is : walk area i 64 0 (get_or area (head_place ws c) 0) ≡ u
     head_is = rw (← at, ← from) (sym walked)
 
-    pub ask-hit : (n nodes : ℕ) → u ≡ hit n nodes → outcome (Done (n + 1) nodes) ws area ≡ ask_def ws abi c i area stubs
+    pub ask-hit : (n nodes : ℕ) → u ≡ hit n nodes → outcome (Ok (record { first = n + 1; second = nodes })) ws area ≡ ask_def ws abi c i area stubs
     unfolding ask_def
     ask-hit n nodes e =
-        let a = code-asks ws abi c i area rows zero in
+        let a = code-asks ws abi c i area rows in
         rw (eq-eqb (set_refusal ws abi) 0 a.accepted, a.classes, a.tables, head_is, e)
 
     pub ask-built : (nodes : ℕ) {o : Outcome} → u ≡ missed nodes → o ≡ build_node ws abi c i area stubs nodes → o ≡ ask_def ws abi c i area stubs
     unfolding ask_def
     ask-built nodes e f =
-        let a = code-asks ws abi c i area rows zero in
+        let a = code-asks ws abi c i area rows in
         f ∙ rw (eq-eqb (set_refusal ws abi) 0 a.accepted, a.classes, a.tables, head_is, e)
 
     pub ask-broken : u ≡ broken → refused_call 7 ws area ≡ ask_def ws abi c i area stubs
     unfolding ask_def
     ask-broken e =
-        let a = code-asks ws abi c i area rows zero in
+        let a = code-asks ws abi c i area rows in
         rw (eq-eqb (set_refusal ws abi) 0 a.accepted, a.classes, a.tables, head_is, e)

@@ -1,26 +1,30 @@
--- What the ask's functions compute: a slot, a table of slots as the code holds them, and the rows of an ask. Assumes nothing.
+-- What the ask's functions compute: a slot, a table, and the rows of an ask. Assumes nothing.
 use Rattle.std.specs.Prelude.{ℕ, ◌+◌, cond, not, List, [], ◌∷◌, length, eqb}
-use Rattle.words.specs.declared.Found.TheVariants.{Nothing}
+use Rattle.std.specs.Prelude.{Option, Some, None, Result, Ok, Err}
+use Rattle.refusal.specs.declared.Refusal.{Refusal}
+use Rattle.refusal.specs.Rows.{row}
 use Rattle.set_rules.specs.SetRules.{set_refusal}
 use Rattle.linking.specs.Chain.{on_found}
 use Rattle.linking.specs.Vtable.{Entry, Built, built, refused}
 use Rattle.linking.specs.Link.{next_free, bad_area, no_room, Outcome, refused_call}
 use Rattle.linking.specs.Ask.{implementation, dispatch_entry, asked_area, on_dispatch, bad_ask}
-use Rattle.reading.specs.Arrays.{method_of, source_of, entries_of}
-use Rattle.ask.specs.declared.Slot.{Slot}
+use Rattle.reading.specs.declared.table.Slot.{Slot}
+use Rattle.reading.specs.Tables.{entry}
 
--- the slot that the struct stands for, or row 16
-abbrev pub slot_built : Slot → Built
-slot_built s = cond s.missing (refused 16) (built (record { word = s.word; method = method_of s.mark; source = source_of s.mark } ∷ []))
+-- the slot that is answered, or row 16
+abbrev pub slot_built : Option Slot → Built
+slot_built (Some s) = built (entry s ∷ [])
+slot_built None = refused 16
 
 -- "each known interface entry takes the first non-static, non-private method of its signature, class first, an unknown one keeps its
 -- target": one entry
 unfoldable pub dispatched : List ℕ → List ℕ → ℕ → Entry → Built
-dispatched ws text c e = dispatch_entry ws e e.method (on_found e.method (implementation ws text c) Nothing)
+dispatched ws text c e = dispatch_entry ws e e.method (on_found e.method (implementation ws text c) None)
 
--- the table that two arrays, a count and a row stand for
-abbrev pub table_built : List ℕ → List ℕ → ℕ → ℕ → Built
-table_built ts ms n row = cond (eqb row 0) (built (entries_of ts ms n)) (refused row)
+-- the table of these entries, unless a row refuses it
+abbrev pub table_built : {A : Type 0} → List Entry → Result A Refusal → Built
+table_built T (Ok x) = built T
+table_built T (Err refusal) = refused (row refusal)
 
 -- rows 3 to 7 of an ask but for the walk, 0 where none refuses
 unfoldable pub ask_refusal : List ℕ → List ℕ → ℕ → ℕ → List ℕ → ℕ

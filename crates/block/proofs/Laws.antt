@@ -1,23 +1,14 @@
 -- Laws of the block form. Assumes nothing.
-use Rattle.std.proofs.Common.{◌≡◌, ℕ, zero, suc, ◌+◌, ◌-◌, ◌*◌, ◌/◌, ◌%◌, ◌^◌, ◌<◌, ◌≤◌, true, not, ◌&&◌, eqb, ltb, leb, List, [], ◌++◌, length, take, drop, refl, ◌∙◌, append_assoc, append-nil, add-one, arith, length-append, length-drop, drop_of_length-le, length-take-le, drop-drop, take_at, drop_at, ltb-true, le-ltb, lt-ltb, ne_eqb, eqb-true, le-leb, leb-true}
+use Rattle.std.proofs.Common.{◌≡◌, ℕ, zero, suc, ◌+◌, ◌-◌, ◌*◌, ◌/◌, ◌%◌, ◌<◌, ◌≤◌, true, not, ◌&&◌, eqb, ltb, leb, List, [], ◌++◌, length, take, drop, refl, ◌∙◌, append_assoc, append-nil, add-one, arith, length-append, length-drop, drop_of_length-le, length-take-le, drop-drop, take_at, drop_at, ltb-true, le-ltb, lt-ltb, ne_eqb, eqb-true, le-leb, leb-true}
 use borrow.Author.Tests.{eqb-false, not-true}
 use Rattle.words.proofs.FoldLaws.{length-table, stores-is}
 use Rattle.words.proofs.Bools.{and_both, and_4}
-use Rattle.words.specs.Words.{le_word}
-use Rattle.words.specs.Folds.{sum_of, table, stores}
-use Rattle.block.specs.Block.{word_of, block, check_ok, content, unpacked, shape_ok, least_fit, blocks_for}
+use Rattle.words.specs.Folds.{table, stores}
+use Rattle.block.specs.Block.{word_of, block, content, unpacked, shape_ok, least_fit, blocks_for}
 
--- the test of a block, as the code makes it
-pub check-is : (bs : List ℕ) (k : ℕ) {b : List ℕ} {w s t : ℕ} → b ≡ take 512 (drop (k * 512) bs) → s ≡ sum_of 127 (word_of b) % 2 ^ 32
-    → t ≡ (s + (k + 1) % 4294967296) % 2 ^ 32 → w ≡ le_word b 508 → eqb w t ≡ check_ok bs k
-unfolding check_ok block word_of
-check-is bs k {b = b} {t = t} p q r e =
-    let f : t ≡ (sum_of 127 (word_of b) + (k + 1)) % 2 ^ 32 = omega arith in
-    rw (e, f, p)
-
-pub content-none : (bs : List ℕ) (d : List ℕ) → d ≡ content bs 0 ++ drop (127 * 0) d
+pub content_none : (bs : List ℕ) (d : List ℕ) → d ≡ content bs 0 ++ drop (127 * 0) d
 unfolding content
-content-none bs d = refl
+content_none bs d = refl
 
 pub length-content : (bs : List ℕ) (n : ℕ) → length (content bs n) ≡ 127 * n
 unfolding content
@@ -42,23 +33,23 @@ part_filled P d p w f {o = o} {y = y} h room e r =
     rw (t, n, u, s, drop-drop, append_assoc)
 
 -- a turn of the loop that unpacks: block k's words
-pub content-turn : (bs d : List ℕ) (k : ℕ) {o y b : List ℕ} → 127 * k + 127 ≤ length d → o ≡ content bs k ++ drop (127 * k) d
+pub content_turn : (bs d : List ℕ) (k : ℕ) {o y b : List ℕ} → 127 * k + 127 ≤ length d → o ≡ content bs k ++ drop (127 * k) d
     → b ≡ take 512 (drop (k * 512) bs) → y ≡ stores 127 (word_of b) (take (127 * k + 127 - 127 * k) (drop (127 * k) o))
     → take (127 * k) o ++ (y ++ drop (127 * k + 127 - 127 * k) (drop (127 * k) o)) ≡ content bs (k + 1) ++ drop (127 * (k + 1)) d
 unfolding content block
-content-turn bs d k {b = b} room p q r =
+content_turn bs d k {b = b} room p q r =
     let e : 127 * (k + 1) ≡ 127 * k + 127 = omega arith in
     rw (e, add-one k) (rw q at (part_filled (content bs k) d (127 * k) 127 (word_of b) (length-content bs k) room p r))
 
 -- ---- the laws of `unpacked`
 
-pub unpacked-none : (bs : List ℕ) (n : ℕ) (ws : List ℕ) → length ws < 127 * n → ws ≡ unpacked bs n ws
+pub unpacked_none : (bs : List ℕ) (n : ℕ) (ws : List ℕ) → length ws < 127 * n → ws ≡ unpacked bs n ws
 unfolding unpacked
-unpacked-none bs n ws h = simp (lt-ltb (length ws) (127 * n) h)
+unpacked_none bs n ws h = simp (lt-ltb (length ws) (127 * n) h)
 
-pub unpacked-all : (bs : List ℕ) (n : ℕ) (ws : List ℕ) (k : ℕ) {o : List ℕ} → o ≡ content bs k ++ drop (127 * k) ws → k ≡ n → 127 * n ≤ length ws → o ≡ unpacked bs n ws
+pub unpacked_all : (bs : List ℕ) (n k : ℕ) (ws : List ℕ) {o : List ℕ} → o ≡ content bs k ++ drop (127 * k) ws → n ≤ k → k ≤ n → 127 * n ≤ length ws → o ≡ unpacked bs n ws
 unfolding unpacked
-unpacked-all bs n ws k p e h = p ∙ simp (le-ltb (length ws) (127 * n) h, e)
+unpacked_all bs n k ws p g l h = let e : k ≡ n = omega arith in p ∙ simp (le-ltb (length ws) (127 * n) h, e)
 
 pub unpacked-is : (bs : List ℕ) (n : ℕ) (ws : List ℕ) → 127 * n ≤ length ws → unpacked bs n ws ≡ content bs n ++ drop (127 * n) ws
 unfolding unpacked

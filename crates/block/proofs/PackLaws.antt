@@ -1,16 +1,9 @@
 -- Laws of packing words into blocks. Assumes nothing.
-use Rattle.std.proofs.Common.{◌≡◌, ℕ, zero, suc, ◌+◌, ◌-◌, ◌*◌, ◌/◌, ◌%◌, ◌^◌, ◌<◌, ◌≤◌, List, ◌++◌, length, get_or, take, drop, refl, ◌∙◌, add-one, arith, length-append, le-ltb, lt-ltb}
-use Rattle.words.specs.Words.{byte_of}
-use Rattle.words.specs.Folds.{sum_of, table, stores}
+use Rattle.std.proofs.Common.{◌≡◌, ℕ, zero, suc, ◌+◌, ◌-◌, ◌*◌, ◌/◌, ◌<◌, ◌≤◌, List, ◌++◌, length, get_or, take, drop, refl, ◌∙◌, add-one, arith, length-append, le-ltb, lt-ltb}
+use Rattle.words.specs.Folds.{table, stores}
 use Rattle.words.proofs.FoldLaws.{sum-ext, length-table, table-ext}
 use Rattle.block.proofs.Laws.{part_filled}
 use Rattle.block.specs.Block.{word_in, check_word, packed_word, block_byte, sheet_bytes, packed_blocks}
-
--- the check word, as the code sums it
-pub check-word-is : (ws : List ℕ) (k j : ℕ) {s t : ℕ} → s ≡ sum_of j (word_in ws k) % 2 ^ 32 → j ≡ 127
-    → t ≡ (s + (k + 1) % 4294967296) % 2 ^ 32 → t ≡ check_word ws k
-unfolding check_word
-check-word-is ws k j {s = s} p e q = let r : s ≡ sum_of 127 (word_in ws k) % 2 ^ 32 = rw e at p in omega arith
 
 pub packed-one : (ws : List ℕ) (k j : ℕ) {w : ℕ} → j < 127 → w ≡ word_in ws k j → w ≡ packed_word ws k j
 unfolding packed_word
@@ -20,15 +13,11 @@ pub packed-check : (ws : List ℕ) (k j : ℕ) {w : ℕ} → 127 ≤ j → w ≡
 unfolding packed_word
 packed-check ws k j h e = simp (le-ltb j 127 h) e
 
-pub block-byte-is : (ws : List ℕ) (k i : ℕ) {b w : ℕ} → b ≡ byte_of w (i % 4) → w ≡ packed_word ws k (i / 4) → b ≡ block_byte ws k i
-unfolding block_byte
-block-byte-is ws k i p q = rw (p, q)
-
 -- ---- the blocks
 
-pub bytes-none : (ws d : List ℕ) → d ≡ sheet_bytes ws 0 ++ drop (512 * 0) d
+pub bytes_none : (ws d : List ℕ) → d ≡ sheet_bytes ws 0 ++ drop (512 * 0) d
 unfolding sheet_bytes
-bytes-none ws d = refl
+bytes_none ws d = refl
 
 pub length-bytes : (ws : List ℕ) (n : ℕ) → length (sheet_bytes ws n) ≡ 512 * n
 unfolding sheet_bytes
@@ -40,11 +29,11 @@ length-bytes ws (suc n) =
     omega (arith, add-one n)
 
 -- a turn of the loop that packs: block k's bytes
-pub bytes-turn : (ws d : List ℕ) (k : ℕ) {o y : List ℕ} → 512 * k + 512 ≤ length d → o ≡ sheet_bytes ws k ++ drop (512 * k) d
+pub bytes_turn : (ws d : List ℕ) (k : ℕ) {o y : List ℕ} → 512 * k + 512 ≤ length d → o ≡ sheet_bytes ws k ++ drop (512 * k) d
     → y ≡ stores 512 (block_byte ws k) (take (512 * k + 512 - 512 * k) (drop (512 * k) o))
     → take (512 * k) o ++ (y ++ drop (512 * k + 512 - 512 * k) (drop (512 * k) o)) ≡ sheet_bytes ws (k + 1) ++ drop (512 * (k + 1)) d
 unfolding sheet_bytes
-bytes-turn ws d k room p r =
+bytes_turn ws d k room p r =
     let e : 512 * (k + 1) ≡ 512 * k + 512 = omega arith in
     rw (e, add-one k) (part_filled (sheet_bytes ws k) d (512 * k) 512 (block_byte ws k) (length-bytes ws k) room p r)
 
@@ -52,10 +41,10 @@ pub packed_none : (ws : List ℕ) (n : ℕ) (bs : List ℕ) → length bs < 512 
 unfolding packed_blocks
 packed_none ws n bs h = simp (lt-ltb (length bs) (512 * n) h)
 
-pub packed_all : (ws : List ℕ) (n : ℕ) (bs : List ℕ) (k : ℕ) {o : List ℕ} → o ≡ sheet_bytes ws k ++ drop (512 * k) bs → k ≡ n
-    → 512 * n ≤ length bs → o ≡ packed_blocks ws n bs
+pub packed_all : (ws : List ℕ) (n k : ℕ) (bs : List ℕ) {o : List ℕ} → o ≡ sheet_bytes ws k ++ drop (512 * k) bs → n ≤ k → k ≤ n → 512 * n ≤ length bs
+    → o ≡ packed_blocks ws n bs
 unfolding packed_blocks
-packed_all ws n bs k p e h = p ∙ simp (le-ltb (length bs) (512 * n) h, e)
+packed_all ws n k bs p g l h = let e : k ≡ n = omega arith in p ∙ simp (le-ltb (length bs) (512 * n) h, e)
 
 pub packed-is : (ws : List ℕ) (n : ℕ) (bs : List ℕ) → 512 * n ≤ length bs → packed_blocks ws n bs ≡ sheet_bytes ws n ++ drop (512 * n) bs
 unfolding packed_blocks

@@ -1,11 +1,5 @@
 -- What an accepted link and an ask leave in the area. Assumes nothing.
-use mathlib.Core.Path.{◌≡◌, ap, ◌∙◌}
-use mathlib.Core.Logic.{◌≢◌, inl}
-use mathlib.Core.List.{List, [], ◌∷◌, ◌++◌, append_assoc}
-use Prim.Native.Nat.{ℕ, ◌+◌, ◌≤◌, ◌<◌}
-use native.Mathlib.Omega.{arith}
-use lib.ListN.{length, get_or, set, take, drop, length-append, length-set}
-use lib.Seq.{get_or-set_other, take_at}
+use Rattle.std.proofs.Common.{◌≡◌, ap, ◌∙◌, ◌≢◌, inl, List, [], ◌∷◌, ◌++◌, append_assoc, ℕ, ◌+◌, ◌≤◌, ◌<◌, arith, length, get_or, set, take, drop, length-append, length-set, get_or-set_other, take_at}
 use Rattle.words.proofs.Lists.{part-set-other}
 use Rattle.linking.proofs.Writes.{length-write, write-before, write-drop}
 use Rattle.linking.specs.Vtable.{Entry, slot_words}

@@ -1,13 +1,7 @@
 -- A list that is long enough changes no answer (`LinkBefore`): a link reads it in row 15's last clause alone. And what a class's words say (`CountIs`).
 -- Assumes nothing.
-use mathlib.Core.Path.{◌≡◌, refl, sym, ap, ◌∙◌}
-use mathlib.Core.Logic.{◌≢◌, ◌⊎◌, inl, inr}
-use mathlib.Core.Bool.{true, false, ◌||◌, true≢false}
-use mathlib.Core.List.{List, [], ◌∷◌}
-use Prim.Native.Nat.{ℕ, ◌*◌}
-use lib.ListN.{length, get_or-eq_default}
-use lib.Dec.{eqb}
-use borrow.Author.Tests.{le-ltb}
+use Rattle.std.proofs.Common.{◌≡◌, refl, sym, ap, ◌∙◌, ◌≢◌, ◌⊎◌, inl, inr, true, false, ◌||◌, true≢false, List, [], ◌∷◌, ℕ, ◌*◌, length, eqb, le-ltb}
+use lib.ListN.{get_or-eq_default}
 use Rattle.words.proofs.Bools.{by}
 use Rattle.class_sheet.specs.ClassSheet.{class_count, text_of}
 use Rattle.abi_sheet.specs.AbiSheet.{abi_text_of}

@@ -1,14 +1,7 @@
 -- Kind 3 beside kind 0: a chain to which `AsKindZero` speaks; and each of its premises is needed: two lists for each, in which the class is linked, all
 -- premises but that one hold, and the two kinds make other tables. Assumes nothing.
-use mathlib.Core.Path.{◌≡◌, refl}
-use mathlib.Core.Logic.{◌≢◌}
-use mathlib.Core.Bool.{Bool, true, false, not, ◌&&◌, ◌||◌}
-use mathlib.Core.List.{List, [], ◌∷◌, Memᴰ}
-use Prim.Native.Nat.{ℕ}
-use native.Mathlib.Omega.{arith}
-use lib.ListN.{length, get_or, replicate}
-use lib.Dec.{eqb}
-use borrow.Author.Tests.{eqb-true}
+use Rattle.std.proofs.Common.{◌≡◌, refl, ◌≢◌, Bool, true, false, not, ◌&&◌, ◌||◌, List, [], ◌∷◌, ℕ, arith, length, get_or, replicate, eqb, eqb-true}
+use mathlib.Core.List.{Memᴰ}
 use Rattle.words.proofs.Bools.{or-either}
 use Rattle.class_sheet.specs.ClassSheet.{text_of, class_kind, is_packaged, method_flags}
 use Rattle.linking.specs.Chain.{own_methods, chain, eligible, same_methods}

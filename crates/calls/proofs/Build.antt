@@ -1,11 +1,8 @@
 -- The linker reads the same entries, and makes the same table of them, in the words that calls left as in the sheet at the list's start, along a chain
 -- whose classes list their own methods as before: methods of the sheet are alike in both by their own numbers (`linking/proofs/Renumbered`).
 -- Assumes nothing.
-use mathlib.Core.Path.{◌≡◌, refl, sym}
-use mathlib.Core.List.{List, Memᴰ}
-use Prim.Native.Nat.{ℕ, ◌+◌, ◌≤◌, ◌<◌}
-use lib.ListN.{length, get_or}
-use Rattle.words.specs.declared.Found.{Found}
+use Rattle.std.proofs.Common.{◌≡◌, refl, sym, List, ℕ, ◌+◌, ◌≤◌, ◌<◌, length, get_or, Option}
+use mathlib.Core.List.{Memᴰ}
 use Rattle.words.proofs.ListLaws.{by-found}
 use Rattle.class_sheet.specs.ClassSheet.{class_count, method_count, text_of, class_kind}
 use Rattle.set_rules.specs.Valid.{Valid}
@@ -26,11 +23,11 @@ pub record Own (n m k : ℕ) : Type 0 where
   pub below : m < n
 
 -- tables that are alike so are equal
-own-found : {n : ℕ} {f g : Found} → Both (Own n) f g → f ≡ g
+own-found : {n : ℕ} {f g : Option ℕ} → Both (Own n) f g → f ≡ g
 own-found (both {m} {k} r) = rw r.same
 own-found neither = refl
 
-abbrev entry_of : ℕ → Found → Found → Entry
+abbrev entry_of : ℕ → Option ℕ → Option ℕ → Entry
 entry_of w m s = record { word = w; method = m; source = s }
 
 own-entry : {n : ℕ} (e e' : Entry) → SameEntry (Own n) e e' → e ≡ e'

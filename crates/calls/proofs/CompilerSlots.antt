@@ -1,17 +1,10 @@
 -- What is a copy, of a compiler table by index (specs/Sources.antt): the compiler's slots come first, and what is appended leaves them as they are. A method
 -- that had its turn is not appended again, so an appended parent method is a copy of its first entry. Assumes nothing.
-use mathlib.Core.Path.{◌≡◌, refl, sym, ap, ◌∙◌, subst}
-use mathlib.Core.Logic.{◌≢◌}
-use mathlib.Core.Bool.{Bool, true, false, not, ◌&&◌, ◌||◌, true≢false}
-use mathlib.Core.List.{List, [], ◌∷◌, ◌++◌, Memᴰ}
-use Prim.Native.Nat.{ℕ, zero, suc, ◌+◌, ◌≤◌, ◌<◌}
-use native.Mathlib.Omega.{arith}
-use lib.ListN.{length, get_or, length-append, get_or-append, get_or-eq_default}
-use lib.Dec.{eqb}
-use borrow.Author.Tests.{eqb-true, eqb-false, ne_eqb}
+use Rattle.std.proofs.Common.{◌≡◌, refl, sym, ap, ◌∙◌, subst, ◌≢◌, Bool, true, false, not, ◌&&◌, ◌||◌, true≢false, List, [], ◌∷◌, ◌++◌, ℕ, zero, suc, ◌+◌, ◌≤◌, ◌<◌, arith, length, get_or, length-append, eqb, eqb-true, ne_eqb, Option, Some, None}
+use mathlib.Core.List.{Memᴰ}
+use lib.ListN.{get_or-append, get_or-eq_default}
+use borrow.Author.Tests.{eqb-false}
 use Rattle.words.specs.Lists.{fold, some}
-use Rattle.words.specs.declared.Found.{Found}
-use Rattle.words.specs.declared.Found.TheVariants.{At, Nothing}
 use Rattle.words.proofs.Bools.{by}
 use Rattle.words.proofs.ListLaws.{by-found}
 use Rattle.linking.specs.Chain.{on_found, is_eligible}
@@ -50,9 +43,9 @@ module _ (S : Entry → Type 0) (blank : S empty) (x : Entry) (s : S x) where
 -- no entry of P before the one that e is a copy of has its method
 module _ (P : List Entry) where
   abbrev First : Entry → Type 0
-  First e = (j m k : ℕ) → e.source ≡ At j → e.method ≡ At m → k < j → (get_or P k empty).method ≢ At m
+  First e = (j m k : ℕ) → e.source ≡ Some j → e.method ≡ Some m → k < j → (get_or P k empty).method ≢ Some m
 
-  no_source : (e : Entry) → e.source ≡ Nothing → First e
+  no_source : (e : Entry) → e.source ≡ None → First e
   no_source x z j m k e = not_found (sym z ∙ e)
 
 module _ (ws text : List ℕ) (new : List New) where
@@ -60,8 +53,8 @@ module _ (ws text : List ℕ) (new : List New) where
   abbrev appends : ℕ → List Entry → Bool
   appends m T = is_eligible (flags_of ws new m) (name_of ws text new m) && not (has_slot ws text new m T)
 
-  abbrev new_entry : Found → ℕ → Entry
-  new_entry source m = record { word = target_of ws new m; method = At m; source = source }
+  abbrev new_entry : Option ℕ → ℕ → Entry
+  new_entry source m = record { word = target_of ws new m; method = Some m; source = source }
 
   -- ---- T is the front of U
 
@@ -69,7 +62,7 @@ module _ (ws text : List ℕ) (new : List New) where
     long : length T ≤ length U
     same : (i : ℕ) → i < length T → get_or U i empty ≡ get_or T i empty
 
-  front-from : (source : Found) (T : List Entry) (m : ℕ) → Front T (append_from ws text new source T m)
+  front-from : (source : Option ℕ) (T : List Entry) (m : ℕ) → Front T (append_from ws text new source T m)
   unfolding append_from
   front-from source T m =
       by (appends m T)
@@ -81,9 +74,9 @@ module _ (ws text : List ℕ) (new : List New) where
       }))
       (λ t. rw t (record { long = omega arith; same = λ i h. refl }))
 
-  front-known : (f source : Found) (T : List Entry) → Front T (on_found f (append_from ws text new source T) T)
-  front-known (At m) source T = front-from source T m
-  front-known Nothing source T = record { long = omega arith; same = λ i h. refl }
+  front-known : (f source : Option ℕ) (T : List Entry) → Front T (on_found f (append_from ws text new source T) T)
+  front-known (Some m) source T = front-from source T m
+  front-known None source T = record { long = omega arith; same = λ i h. refl }
 
   front-fold : {A : Type 0} (f : List Entry → A → List Entry) → ((T : List Entry) (x : A) → Front T (f T x)) → (T : List Entry) (xs : List A)
       → Front T (fold f T xs)
@@ -100,21 +93,21 @@ module _ (ws text : List ℕ) (new : List New) where
     abbrev From : List Entry → Type 0
     From T = (i : ℕ) → n ≤ i → S (get_or T i empty)
 
-    from_one : (source : Found) (T : List Entry) (m : ℕ) → (appends m T ≡ true → S (new_entry source m)) → From T → From (append_from ws text new source T m)
+    from_one : (source : Option ℕ) (T : List Entry) (m : ℕ) → (appends m T ≡ true → S (new_entry source m)) → From T → From (append_from ws text new source T m)
     unfolding append_from
     from_one source T m s h i l =
         by (appends m T) (λ t. rw t (at-end S blank (new_entry source m) (s t) T i (h i l))) (λ t. rw t (h i l))
 
-    from-known : (f source : Found) (T : List Entry) → ((m : ℕ) → S (new_entry source m)) → From T → From (on_found f (append_from ws text new source T) T)
-    from-known (At m) source T s h = from_one source T m (λ t. s m) h
-    from-known Nothing source T s h = h
+    from-known : (f source : Option ℕ) (T : List Entry) → ((m : ℕ) → S (new_entry source m)) → From T → From (on_found f (append_from ws text new source T) T)
+    from-known (Some m) source T s h = from_one source T m (λ t. s m) h
+    from-known None source T s h = h
 
-    from-methods : (ms : List ℕ) (T : List Entry) → ((m : ℕ) → Memᴰ m ms → S (new_entry Nothing m)) → From T
-        → From (fold (append_from ws text new Nothing) T ms)
+    from-methods : (ms : List ℕ) (T : List Entry) → ((m : ℕ) → Memᴰ m ms → S (new_entry None m)) → From T
+        → From (fold (append_from ws text new None) T ms)
     unfolding fold
     from-methods [] T s h = h
     from-methods (m ∷ ms) T s h =
-        from-methods ms (append_from ws text new Nothing T m) (λ k i. s k (Memᴰ.tail i)) (from_one Nothing T m (λ t. s m (Memᴰ.head refl)) h)
+        from-methods ms (append_from ws text new None T m) (λ k i. s k (Memᴰ.tail i)) (from_one None T m (λ t. s m (Memᴰ.head refl)) h)
 
     from_entries : (E T : List Entry) → ((k m : ℕ) → k < length E → S (new_entry (get_or E k empty).source m)) → From T
         → From (fold (append_entry ws text new) T E)
@@ -131,7 +124,7 @@ module _ (ws text : List ℕ) (new : List New) where
   some_end p [] U = refl
   some_end p (e ∷ T) U = by (p e) (λ t. rw t) (λ t. rw t (some_end p T U))
 
-  own-slot : (source : Found) (m : ℕ) (T : List Entry) → has_slot ws text new m (T ++ (new_entry source m ∷ [])) ≡ true
+  own-slot : (source : Option ℕ) (m : ℕ) (T : List Entry) → has_slot ws text new m (T ++ (new_entry source m ∷ [])) ≡ true
   unfolding has_slot some same_signature
   own-slot source m T =
       rw (
@@ -141,7 +134,7 @@ module _ (ws text : List ℕ) (new : List New) where
       )
       (by (has_slot ws text new m T) (λ t. rw t) (λ t. rw t))
 
-  turn-over : (source : Found) (m : ℕ) (T : List Entry) → appends m (append_from ws text new source T m) ≡ false
+  turn-over : (source : Option ℕ) (m : ℕ) (T : List Entry) → appends m (append_from ws text new source T m) ≡ false
   unfolding append_from
   turn-over source m T =
       by (appends m T)
@@ -163,43 +156,43 @@ module _ (ws text : List ℕ) (new : List New) where
   module _ (P : List Entry) where
     -- the methods of entries below b had their turn
     abbrev Over : ℕ → List Entry → Type 0
-    Over b T = (k m : ℕ) → k < b → (get_or P k empty).method ≡ At m → appends m T ≡ false
+    Over b T = (k m : ℕ) → k < b → (get_or P k empty).method ≡ Some m → appends m T ≡ false
 
-    module _ (b m : ℕ) (T : List Entry) (is : (get_or P b empty).method ≡ At m) (over : Over b T) where
-      first-new : appends m T ≡ true → First P (new_entry (At b) m)
+    module _ (b m : ℕ) (T : List Entry) (is : (get_or P b empty).method ≡ Some m) (over : Over b T) where
+      first-new : appends m T ≡ true → First P (new_entry (Some b) m)
       first-new t j n k e f l g =
           let q : b ≡ j = found-same e in true≢false (sym t ∙ over k m (omega arith) (g ∙ sym f))
 
-      over-next : Over (b + 1) (append_from ws text new (At b) T m)
+      over-next : Over (b + 1) (append_from ws text new (Some b) T m)
       unfolding append_from
       over-next k n l g =
           by (eqb k b)
           (λ u.
           let e : k ≡ b = eqb-true k b u in
           let f : n ≡ m = found-same (sym (rw e at g) ∙ is) in
-          rw f (unfold append_from in turn-over (At b) m T))
+          rw f (unfold append_from in turn-over (Some b) m T))
           (λ u.
           let d = eqb-false k b u in
           let h : appends n T ≡ false = over k n (omega arith) g in
-          by (appends m T) (λ t. rw t (over-stays n T (new_entry (At b) m) h)) (λ t. rw t h))
+          by (appends m T) (λ t. rw t (over-stays n T (new_entry (Some b) m) h)) (λ t. rw t h))
 
     turns : (n b : ℕ) (E T : List Entry)
-        → ((k : ℕ) → k < length E → (get_or E k empty ≡ get_or P (b + k) empty) × ((get_or E k empty).source ≡ At (b + k)))
+        → ((k : ℕ) → k < length E → (get_or E k empty ≡ get_or P (b + k) empty) × ((get_or E k empty).source ≡ Some (b + k)))
         → From (First P) (no_source P empty refl) n T → Over b T → From (First P) (no_source P empty refl) n (fold (append_entry ws text new) T E)
     unfolding fold append_entry
     turns n b [] T at h over = h
     turns n b (e ∷ E) T at h over =
         let z : b + 0 ≡ b = omega arith in
         let is : e ≡ get_or P b empty = rw z at (at 0 (omega arith)).0 in
-        let from : e.source ≡ At b = rw z at (at 0 (omega arith)).1 in
-        let rest : (k : ℕ) → k < length E → (get_or E k empty ≡ get_or P (b + 1 + k) empty) × ((get_or E k empty).source ≡ At (b + 1 + k)) = λ k l.
+        let from : e.source ≡ Some b = rw z at (at 0 (omega arith)).1 in
+        let rest : (k : ℕ) → k < length E → (get_or E k empty ≡ get_or P (b + 1 + k) empty) × ((get_or E k empty).source ≡ Some (b + 1 + k)) = λ k l.
         let q : b + suc k ≡ b + 1 + k = omega arith in rw q at (at (suc k) (omega arith)) in
         by-found e.method
         (λ m q.
-        let p : (get_or P b empty).method ≡ At m = ap (λ (x : Entry). x.method) (sym is) ∙ q in
+        let p : (get_or P b empty).method ≡ Some m = ap (λ (x : Entry). x.method) (sym is) ∙ q in
         rw (q, from)
-        (turns n (b + 1) E (append_from ws text new (At b) T m) rest
-        (from_one (First P) (no_source P empty refl) n (At b) T m (first-new b m T p over) h) (over-next b m T p over)))
+        (turns n (b + 1) E (append_from ws text new (Some b) T m) rest
+        (from_one (First P) (no_source P empty refl) n (Some b) T m (first-new b m T p over) h) (over-next b m T p over)))
         (λ q.
         rw q
         (turns n (b + 1) E T rest h
@@ -224,15 +217,15 @@ module _ (ws text abi labels area : List ℕ) (c : ℕ) where
   unfolding compiler_table append_entry
   compiler-slot i h =
       let n = length-entries ws methods c view 0 (compiler_targets ws c) in
-      let T : List Entry = fold (append_from ws text methods Nothing) slots (class_methods ws methods c) in
-      let a = front-fold ws text methods (append_from ws text methods Nothing) (front-from ws text methods Nothing) slots (class_methods ws methods c) in
+      let T : List Entry = fold (append_from ws text methods None) slots (class_methods ws methods c) in
+      let a = front-fold ws text methods (append_from ws text methods None) (front-from ws text methods None) slots (class_methods ws methods c) in
       let b = front-fold ws text methods (append_entry ws text methods) (λ T e. front-known ws text methods e.method e.source T) T
       (parent_entries ws text abi labels area c) in
       let z : 0 + i ≡ i = omega arith in
       b.same i (omega (arith, a.long)) ∙ a.same i (omega arith) ∙ (rw z at (entry_at ws methods c view 0 (compiler_targets ws c) i h))
 
   nonzero-slot : (i : ℕ) → i < length (compiler_targets ws c) → get_or (compiler_targets ws c) i 0 ≢ 0
-      → (get_or (compiler_table ws text abi labels area c) i empty).source ≡ Nothing
+      → (get_or (compiler_table ws text abi labels area c) i empty).source ≡ None
   unfolding compiler_entry
   nonzero-slot i h n = rw (compiler-slot i h, ne_eqb (get_or (compiler_targets ws c) i 0) 0 n)
 
@@ -245,18 +238,18 @@ module _ (ws text abi labels area : List ℕ) (c : ℕ) where
   of_parent = parent_entries ws text abi labels area c
 
   abbrev of_class : List Entry
-  of_class = fold (append_from ws text methods Nothing) slots (class_methods ws methods c)
+  of_class = fold (append_from ws text methods None) slots (class_methods ws methods c)
 
   -- past the compiler's slots
   past : (S : Entry → Type 0) → S empty → (i : ℕ) → length slots ≤ i → S (get_or slots i empty)
   past S z i h = subst S (sym (get_or-eq_default slots empty h)) z
 
-  own-from : (i m : ℕ) → length (compiler_targets ws c) ≤ i → (get_or (compiler_table ws text abi labels area c) i empty).source ≡ Nothing
-      → (get_or (compiler_table ws text abi labels area c) i empty).method ≡ At m → Memᴰ m (class_methods ws methods c)
+  own-from : (i m : ℕ) → length (compiler_targets ws c) ≤ i → (get_or (compiler_table ws text abi labels area c) i empty).source ≡ None
+      → (get_or (compiler_table ws text abi labels area c) i empty).method ≡ Some m → Memᴰ m (class_methods ws methods c)
   unfolding compiler_table
   own-from i m h =
       let n = length-entries ws methods c view 0 (compiler_targets ws c) in
-      let S : Entry → Type 0 = λ e. e.source ≡ Nothing → e.method ≡ At m → Memᴰ m (class_methods ws methods c) in
+      let S : Entry → Type 0 = λ e. e.source ≡ None → e.method ≡ Some m → Memᴰ m (class_methods ws methods c) in
       let z : S empty = λ e f. not_found f in
       from_entries ws text methods S z (length slots) of_parent of_class
       (λ k l g e f. not_found (sym e ∙ (read-parent ws text abi labels area c k g).0))
@@ -272,7 +265,7 @@ module _ (ws text abi labels area : List ℕ) (c : ℕ) where
       turns ws text methods of_parent (length slots) 0 of_parent of_class
       (λ k l. let q : 0 + k ≡ k = omega arith in rw q (refl, (read-parent ws text abi labels area c k l).0))
       (from-methods ws text methods (First of_parent) z (length slots) (class_methods ws methods c) slots
-      (λ m g. no_source of_parent (new_entry ws text methods Nothing m) refl) (past (First of_parent) z))
+      (λ m g. no_source of_parent (new_entry ws text methods None m) refl) (past (First of_parent) z))
       (λ k m l g. absurd (omega arith)) i (omega arith)
 
 pub sources : Sources

@@ -1,11 +1,7 @@
 -- What a link adds is fine: names and descriptors that are there, flags and descriptors that rows 4 and 5 accept. Assumes nothing.
-use mathlib.Core.Path.{refl, ◌∙◌}
-use mathlib.Core.Bool.{not}
+use Rattle.std.proofs.Common.{refl, ◌∙◌, not, List, [], ◌∷◌, ℕ, zero, suc, ◌/◌, ◌%◌, ◌≤◌, ◌<◌, arith, eqb-true}
 use mathlib.Core.List.Memᴰ
-use mathlib.Core.List.{List, [], ◌∷◌, Memᴰ}
-use Prim.Native.Nat.{ℕ, zero, suc, ◌/◌, ◌%◌, ◌≤◌, ◌<◌}
-use native.Mathlib.Omega.{arith}
-use borrow.Author.Tests.{eqb-true}
+use mathlib.Core.List.{Memᴰ}
 use Rattle.words.proofs.Bools.{by}
 use Rattle.words.proofs.ListLaws.{by-found, numbers-within}
 use Rattle.descriptor.specs.Grammar.{FieldDerivation}

@@ -1,12 +1,8 @@
 -- What row 26 leaves of a chain: only classes of kind 3, with no interface and no ABI entry, or none of kind 3. Assumes nothing.
-use mathlib.Core.Path.{◌≡◌}
-use mathlib.Core.Logic.{◌⊎◌, inl, inr}
-use mathlib.Core.Bool.{Bool, true, false, not, ◌||◌, true≢false}
-use mathlib.Core.List.{List, [], ◌∷◌, Memᴰ}
-use Prim.Native.Nat.{ℕ}
-use borrow.Author.Tests.{eqb-true, eqb-false, not-false}
+use Rattle.std.proofs.Common.{◌≡◌, ◌⊎◌, inl, inr, Bool, true, false, not, ◌||◌, true≢false, List, [], ◌∷◌, ℕ, eqb-true, None}
+use mathlib.Core.List.{Memᴰ}
+use borrow.Author.Tests.{eqb-false, not-false}
 use Rattle.words.specs.Lists.{some}
-use Rattle.words.specs.declared.Found.TheVariants.{Nothing}
 use Rattle.words.proofs.Bools.{by, or-neither}
 use Rattle.words.proofs.ListLaws.{by-found}
 use Rattle.class_sheet.specs.ClassSheet.{class_kind, is_packaged, class_flags}
@@ -43,7 +39,7 @@ module _ (ws text abi labels : List ℕ) (c : ℕ) (fits : bad_packages ws text 
     pub no_interface : (d : ℕ) → Memᴰ d (chain ws c) → is_interface (class_flags ws d) ≡ false
     no_interface d i = (fit_parts d i).1
 
-    pub no_entry : (d : ℕ) → Memᴰ d (chain ws c) → class_abi ws text abi labels d ≡ Nothing
+    pub no_entry : (d : ℕ) → Memᴰ d (chain ws c) → class_abi ws text abi labels d ≡ None
     no_entry d i = by-found (class_abi ws text abi labels d) (λ a q. absurd (true≢false (rw q at (fit_parts d i).0))) (λ q. q)
 
     all-packaged : PackageRule ws c

@@ -1,18 +1,9 @@
 -- KIND 3 AS KIND 0 (specs/KindZero.antt): the sheet with each kind 3 written as 0 is the same in all else, so the old rule makes of it what it makes of
 -- the methods of this one; and the two rules make the same of them (`same_tables`, crate slots). Assumes nothing.
-use mathlib.Core.Path.{◌≡◌, refl, sym, ap, ◌∙◌}
-use mathlib.Core.Logic.{◌⊎◌, inl, inr, ◌≢◌}
-use mathlib.Core.Bool.{false}
-use mathlib.Core.List.{List, [], ◌∷◌, append-nil, Memᴰ}
-use Prim.Native.Nat.{ℕ, zero, suc, ◌+◌, ◌*◌, ◌-◌, ◌≤◌, ◌<◌}
-use native.Mathlib.Omega.{arith}
-use lib.ListN.{length, get_or, drop}
-use lib.Seq.{get_or-set_same, get_or-set_other, drop-set-lt}
-use lib.Dec.{eqb}
-use borrow.Author.Tests.{eqb-true, eqb-false, eq-eqb}
+use Rattle.std.proofs.Common.{◌≡◌, refl, sym, ap, ◌∙◌, ◌⊎◌, inl, inr, ◌≢◌, false, List, [], ◌∷◌, append-nil, ℕ, zero, suc, ◌+◌, ◌*◌, ◌-◌, ◌≤◌, ◌<◌, arith, length, get_or, drop, get_or-set_same, get_or-set_other, drop-set-lt, eqb, eqb-true, eq-eqb, Option, None}
+use mathlib.Core.List.{Memᴰ}
+use borrow.Author.Tests.{eqb-false}
 use Rattle.words.specs.Lists.{list_from, numbers, fold, all_found}
-use Rattle.words.specs.declared.Found.{Found}
-use Rattle.words.specs.declared.Found.TheVariants.{Nothing}
 use Rattle.words.proofs.Bools.{by}
 use Rattle.class_sheet.specs.ClassSheet.{counts_width, class_width, member_width, kind_word, count_at, class_count, methods_at, fields_at, interfaces_at, compilers_at, text_at, text_of, class_word, class_kind, is_packaged, method_word}
 use Rattle.abi_sheet.specs.AbiSheet.{abi_text_of}
@@ -148,16 +139,16 @@ module _ (ws : List ℕ) where
 -- ---- without ABI entries the old rule adds a class's methods to its parent's entries as they are
 
 module _ (ws text abi labels : List ℕ) where
-  none_found : (f : ℕ → Found) (xs : List ℕ) → ((x : ℕ) → Memᴰ x xs → f x ≡ Nothing) → all_found f xs ≡ []
+  none_found : (f : ℕ → Option ℕ) (xs : List ℕ) → ((x : ℕ) → Memᴰ x xs → f x ≡ None) → all_found f xs ≡ []
   unfolding all_found
   none_found f [] h = refl
   none_found f (x ∷ xs) h = rw (h x (Memᴰ.head refl)) (none_found f xs (λ y i. h y (Memᴰ.tail i)))
 
-  no_abis : (c : ℕ) → ((d : ℕ) → Memᴰ d (chain ws c) → class_abi ws text abi labels d ≡ Nothing) → chain_abi ws text abi labels c ≡ []
+  no_abis : (c : ℕ) → ((d : ℕ) → Memᴰ d (chain ws c) → class_abi ws text abi labels d ≡ None) → chain_abi ws text abi labels c ≡ []
   unfolding chain_abi
   no_abis c h = rw (none_found (class_abi ws text abi labels) (chain ws c) (λ d i. h d i))
 
-  start_is : (c : ℕ) (Q : List Entry) → 0 < c → ((d : ℕ) → Memᴰ d (chain ws c) → class_abi ws text abi labels d ≡ Nothing)
+  start_is : (c : ℕ) (Q : List Entry) → 0 < c → ((d : ℕ) → Memᴰ d (chain ws c) → class_abi ws text abi labels d ≡ None)
       → start_from ws text abi labels c Q ≡ Q
   unfolding start_from extended minimum_size fold
   start_is c Q s h =
@@ -213,9 +204,6 @@ module _ (ws abi area₃ area₀ missing₃ missing₀ : List ℕ) (unlinked : U
   here-kind : class_kind ws c ≡ 3
   here-kind = premises.packages c (chain-here ws c among.0)
 
-  entries_none : (d : ℕ) → Memᴰ d (chain ws c) → class_abi ws text abi labels d ≡ Nothing
-  entries_none = no_entry ws text abi labels c fits here-kind
-
   -- the other run's chain is of kind 0
 
   chain-is : chain vs c ≡ chain ws c
@@ -260,7 +248,7 @@ module _ (ws abi area₃ area₀ missing₃ missing₀ : List ℕ) (unlinked : U
   made-zero d i =
       let m = made₀ d i in
       let j = class d i in
-      let none : (e : ℕ) → Memᴰ e (chain ws d) → class_abi ws text abi labels e ≡ Nothing = λ e y. entries_none e (up d i e y) in
+      let none : (e : ℕ) → Memᴰ e (chain ws d) → class_abi ws text abi labels e ≡ None = λ e y. no_entry ws text abi labels c fits here-kind e (up d i e y) in
       record {
         entries = m.entries;
         stubs = m.stubs;

@@ -1,10 +1,6 @@
 -- What a list of calls leaves of the class words: names, parents, flags and kinds, the method lists of classes that are not generated, method
 -- records, and the text as the beginning of the new one. Assumes nothing.
-use mathlib.Core.Path.{◌≡◌, refl, sym, ap, ◌∙◌}
-use mathlib.Core.Logic.{◌≢◌}
-use mathlib.Core.List.{List, [], ◌++◌, append-nil, append_assoc}
-use Prim.Native.Nat.{ℕ, ◌≤◌, ◌<◌}
-use native.Mathlib.Omega.{arith}
+use Rattle.std.proofs.Common.{◌≡◌, refl, sym, ap, ◌∙◌, ◌≢◌, List, [], ◌++◌, append-nil, append_assoc, ℕ, ◌≤◌, ◌<◌, arith}
 use Rattle.class_sheet.specs.ClassSheet.{member_width, kind_word, first_method_word, method_count_word, first_field_word, class_count, method_count, text_of, class_word, class_kind, method_word}
 use Rattle.linking.proofs.Rebuilt.{Unmoved}
 

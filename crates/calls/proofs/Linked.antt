@@ -1,14 +1,7 @@
 -- What an accepted link leaves of the class words, whichever of its lists grow: its sections are those that were there, but for the class's record and
 -- what is added (`linked-left`), and each named word is read off them. Assumes nothing.
-use mathlib.Core.Path.{◌≡◌, sym, ap, ◌∙◌}
-use mathlib.Core.Logic.{◌≢◌, ◌⊎◌, inl, inr, ⊎_elim}
-use mathlib.Core.Bool.{false}
-use mathlib.Core.List.{List, ◌++◌}
-use Prim.Native.Nat.{ℕ, ◌+◌, ◌-◌, ◌≤◌, ◌<◌}
-use native.Mathlib.Omega.{arith}
-use lib.ListN.{length, get_or}
-use lib.Dec.{eqb}
-use borrow.Author.Tests.{eqb-true, eqb-false}
+use Rattle.std.proofs.Common.{◌≡◌, sym, ap, ◌∙◌, ◌≢◌, ◌⊎◌, inl, inr, ⊎_elim, false, List, ◌++◌, ℕ, ◌+◌, ◌-◌, ◌≤◌, ◌<◌, arith, length, get_or, eqb, eqb-true}
+use borrow.Author.Tests.{eqb-false}
 use Rattle.words.proofs.Bools.{by}
 use Rattle.class_sheet.specs.ClassSheet.{class_width, member_width, first_method_word, method_count_word, first_field_word, field_count_word, table_place_word, slot_count_word, class_count, method_count, field_count, content_end, class_word, class_kind, class_first_method, class_method_count, class_first_field, class_field_count, class_table_place, class_slot_count, method_word}
 use Rattle.words.specs.Rows.{row_word}

@@ -1,12 +1,7 @@
 -- Rows of members: what makes them valid stays where text is appended, rows are copied, indices are stored, and rows of new members follow whose names
 -- are appended to the text. Assumes nothing.
-use mathlib.Core.Path.{◌≡◌, refl, ap}
-use mathlib.Core.List.{List, [], ◌++◌}
-use Prim.Native.Nat.{ℕ, ◌+◌, ◌-◌, ◌≤◌, ◌<◌}
-use native.Mathlib.Omega.{arith}
-use lib.ListN.{length, get_or, take, drop, length-append, length-take, length-drop, get_or-append}
-use lib.Dec.{ltb}
-use borrow.Author.Tests.{ltb-true, ltb-false}
+use Rattle.std.proofs.Common.{◌≡◌, refl, ap, List, [], ◌++◌, ℕ, ◌+◌, ◌-◌, ◌≤◌, ◌<◌, arith, length, get_or, take, drop, length-append, length-take, length-drop, ltb, ltb-true, ltb-false}
+use lib.ListN.{get_or-append}
 use Rattle.words.proofs.Bools.{by}
 use Rattle.words.proofs.Lists.{skip, part_at, length_part}
 use Rattle.words.specs.Rows.{row_word}

@@ -1,16 +1,11 @@
 -- HOW MANY SLOTS ARE MISSING (specs/Missing.antt), after any list of calls. A call keeps every table that stands, and what each is built from; so a table
 -- can be built anew, and its words in the list stay the count made anew. A link's own class, whose list of methods may have grown, has the same table by
 -- the words after the link as by those before it (`linking/proofs/Rebuilt`, `RebuiltGrown`). Assumes nothing.
-use mathlib.Core.Path.{◌≡◌, refl, sym, ap, ◌∙◌, subst, fun_ext}
-use mathlib.Core.Logic.{◌⊎◌, inl, inr, ⊎_elim, ◌≢◌}
-use mathlib.Core.Bool.{Bool, true, false, not, ◌&&◌, true≢false}
+use Rattle.std.proofs.Common.{◌≡◌, refl, sym, ap, ◌∙◌, subst, ◌⊎◌, inl, inr, ⊎_elim, ◌≢◌, Bool, true, false, not, ◌&&◌, true≢false, List, [], ◌∷◌, ℕ, zero, suc, ◌+◌, ◌*◌, ◌≤◌, ◌<◌, min, arith, length, get_or, take, drop, eqb, ltb, eqb-true, ne_eqb, eq-eqb, ltb-false, le-ltb}
+use mathlib.Core.Path.{fun_ext}
 use mathlib.Core.List.Memᴰ
-use mathlib.Core.List.{List, [], ◌∷◌, Memᴰ}
-use Prim.Native.Nat.{ℕ, zero, suc, ◌+◌, ◌*◌, ◌≤◌, ◌<◌, min}
-use native.Mathlib.Omega.{arith}
-use lib.ListN.{length, get_or, take, drop}
-use lib.Dec.{eqb, ltb}
-use borrow.Author.Tests.{eqb-true, eqb-false, ne_eqb, eq-eqb, ltb-false, le-ltb}
+use mathlib.Core.List.{Memᴰ}
+use borrow.Author.Tests.{eqb-false}
 use Rattle.words.proofs.Bools.{by, or-neither}
 use Rattle.words.proofs.ListLaws.{by-found}
 use Rattle.words.proofs.Ext.{list_ext}
@@ -50,7 +45,7 @@ use Rattle.calls.proofs.Runs.{table_of, Keeps, Inv, link-keeps, link-inv, new-sl
 use Rattle.calls.proofs.Lists.{same-state, Goes, step-goes}
 use Rattle.calls.proofs.View.{parent-same}
 use Rattle.calls.proofs.Stays.{stays-accepted}
-use Rattle.calls.proofs.Theorem.{run-bad, start-inv}
+use Rattle.calls.proofs.Theorem.{run-bad, none-linked, start-inv}
 
 -- ---- slots
 
@@ -490,17 +485,14 @@ module _ (ws abi area missing : List ℕ) (unlinked : Unlinked ws) (calls : List
   abbrev final : State
   final = run abi calls (start ws area missing)
 
-  no_class_lem : (d : ℕ) → Linked ws d → ⊥
-  no_class_lem d l = l.has (unlinked d l.some l.among)
-
   -- rows 3 to 5 passed the set at the start, or no class is linked
   holds : (valid₀ : Valid ws) → Holds abi ws valid₀ final
   holds valid₀ =
       run_holds abi ws valid₀ calls (start ws area missing)
       (record {
         inv = start-inv ws abi area missing valid₀ unlinked Whatever;
-        rebuilt = λ d l. absurd (no_class_lem d l);
-        counted = λ d l. absurd (no_class_lem d l);
+        rebuilt = λ d l. absurd (none-linked unlinked l);
+        counted = λ d l. absurd (none-linked unlinked l);
       })
 
   pub start-accepted : (c : ℕ) → HasTable final c → set_refusal ws abi ≡ 0
@@ -508,7 +500,7 @@ module _ (ws abi area missing : List ℕ) (unlinked : Unlinked ws) (calls : List
       by (eqb (set_refusal ws abi) 0) (λ t. eqb-true (set_refusal ws abi) 0 t)
       (λ t.
       let e = run-bad ws abi (eqb-false (set_refusal ws abi) 0 t) calls (start ws area missing) refl in
-      absurd (no_class_lem c (record { some = l.some; among = rw e at l.among; has = rw e at l.has })))
+      absurd (none-linked unlinked (record { some = l.some; among = rw e at l.among; has = rw e at l.has })))
 
   holds-now : (c : ℕ) → HasTable final c → Rebuilt abi final c × Counted abi final c
   holds-now c l =

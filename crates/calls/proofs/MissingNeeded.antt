@@ -1,14 +1,8 @@
 -- A list to which `MissingKept` speaks: an array class, an own ABI entry, a generated class whose list of methods grows, a child of it, and a chain of kind 3;
 -- every class has slots that are counted and slots that are not. And its premises are needed: without each, a class whose words in the list are not the count
 -- made anew. Assumes nothing.
-use mathlib.Core.Path.{◌≡◌, refl, sym, ◌∙◌}
-use mathlib.Core.Bool.{true, false}
-use mathlib.Core.List.{List, [], ◌∷◌}
-use Prim.Native.Nat.{ℕ, ◌+◌}
-use native.Mathlib.Omega.{arith}
-use lib.ListN.{get_or, set, replicate}
-use lib.Dec.{eqb, leb}
-use borrow.Author.Tests.{eqb-false, leb-true}
+use Rattle.std.proofs.Common.{◌≡◌, refl, sym, ◌∙◌, true, false, List, [], ◌∷◌, ℕ, ◌+◌, arith, get_or, set, replicate, eqb, leb, leb-true}
+use borrow.Author.Tests.{eqb-false}
 use Rattle.words.specs.Lists.{list_from}
 use Rattle.class_sheet.specs.ClassSheet.{class_count, method_count, class_table_place, class_slot_count}
 use Rattle.linking.specs.Counts.{missing_at, bit_count}

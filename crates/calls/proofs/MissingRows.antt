@@ -1,9 +1,6 @@
 -- Counts by computation: of each class, linked in order, its slots, its count and the first 32 bits; the 33 words of a class of more slots; how long the
 -- list must be; and asking. Assumes nothing.
-use mathlib.Core.Path.{◌≡◌, refl}
-use mathlib.Core.List.{List, [], ◌∷◌}
-use Prim.Native.Nat.{ℕ, ◌+◌}
-use lib.ListN.{get_or, take, replicate}
+use Rattle.std.proofs.Common.{◌≡◌, refl, List, [], ◌∷◌, ℕ, ◌+◌, get_or, take, replicate}
 use Rattle.words.specs.Lists.{list_from}
 use Rattle.class_sheet.specs.ClassSheet.{class_slot_count, put_class_kind}
 use Rattle.linking.specs.Counts.{missing_at}

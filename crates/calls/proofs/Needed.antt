@@ -1,14 +1,7 @@
 -- Each premise of demand 3 is needed: a list for each, in which the class is linked, all premises but that one hold, and the claim fails. Of orderly
 -- this is so of "each signature (name and descriptor) has one index"; "each index one signature" is not needed (`one-index-enough`, Theorem.antt). Assumes nothing.
-use mathlib.Core.Path.{◌≡◌, refl, sym, ap, ◌∙◌}
-use mathlib.Core.Logic.{inl, inr, ◌≢◌, ◌⊎◌}
-use mathlib.Core.Bool.{Bool, true, false, true≢false}
+use Rattle.std.proofs.Common.{◌≡◌, refl, sym, ap, ◌∙◌, inl, inr, ◌≢◌, ◌⊎◌, Bool, true, false, true≢false, List, [], ◌∷◌, ℕ, ◌<◌, arith, length, get_or, replicate, Some, None}
 use mathlib.Core.List.Memᴰ
-use mathlib.Core.List.{List, [], ◌∷◌}
-use Prim.Native.Nat.{ℕ, ◌<◌}
-use native.Mathlib.Omega.{arith}
-use lib.ListN.{length, get_or, replicate}
-use Rattle.words.specs.declared.Found.TheVariants.{At, Nothing}
 use Rattle.class_sheet.specs.ClassSheet.{text_of, method_name, method_descriptor}
 use Rattle.abi_sheet.specs.AbiSheet.{abi_text_of}
 use Rattle.linking.specs.Chain.{own_methods, parent_of}
@@ -45,7 +38,7 @@ module _ (x : Case) where
 
   -- slot i of a table reads as method m
   abbrev pub Reads : ℕ → List ℕ → ℕ → ℕ → Type 0
-  Reads c t i m = (read_entry x.set (text_of x.set) x.sheet (abi_text_of x.sheet) c i (get_or t i 0)).method ≡ At m
+  Reads c t i m = (read_entry x.set (text_of x.set) x.sheet (abi_text_of x.sheet) c i (get_or t i 0)).method ≡ Some m
 
   a-known : (c : ℕ) (t u : List ℕ) → t ≡ u → (i m : ℕ) → i < length u → Reads c u i m
       → Known x.set (text_of x.set) x.sheet (abi_text_of x.sheet) c t i m
@@ -74,7 +67,7 @@ module _ (x : Case) where
   KeptAt c t q = Kept x.set (text_of x.set) x.sheet (abi_text_of x.sheet) c t q
 
   module _ (c : ℕ) (t q u v : List ℕ) (child : t ≡ u) (parent : q ≡ v) (i m : ℕ) (h : i < length v) (known : Reads (parent_of x.set c) v i m) where
-    not_known : (read_entry x.set (text_of x.set) x.sheet (abi_text_of x.sheet) c i (get_or u i 0)).method ≡ Nothing → KeptAt c t q → ⊥
+    not_known : (read_entry x.set (text_of x.set) x.sheet (abi_text_of x.sheet) c i (get_or u i 0)).method ≡ None → KeptAt c t q → ⊥
     not_known r kept =
         let g = kept i m (a-known (parent_of x.set c) q v parent i m h known) in
         not_found (sym r ∙ (rw child at g.known.reads))
@@ -89,7 +82,7 @@ module _ (x : Case) where
 
   -- then the claim fails
   module _ (c p n p' n' : ℕ) (has : parent_of x.set c ≢ 0)
-      (none : class_abi x.set (text_of x.set) x.sheet (abi_text_of x.sheet) c ≡ Nothing) (linked : LinkedAt (parent_of x.set c) p' n') where
+      (none : class_abi x.set (text_of x.set) x.sheet (abi_text_of x.sheet) c ≡ None) (linked : LinkedAt (parent_of x.set c) p' n') where
     broken : (KeptAt c (final_table p n) (final_table p' n') → ⊥) → Holds c p n → ⊥
     broken f claim = f ((claim.keeps_parent has none).kept p' n' linked)
 

@@ -1,11 +1,7 @@
 -- The table of a class of kind 3 is the same by the words that calls left as by the sheet at the list's start, along a chain whose classes list their own
 -- methods as before (`linking/proofs/RenumberedPackages`). Assumes nothing.
-use mathlib.Core.Path.{◌≡◌, sym}
-use mathlib.Core.List.{List, Memᴰ}
-use Prim.Native.Nat.{ℕ, ◌≤◌}
-use native.Mathlib.Omega.{arith}
-use lib.ListN.{length, get_or}
-use lib.Dec.{eqb, ltb}
+use Rattle.std.proofs.Common.{◌≡◌, sym, List, ℕ, ◌≤◌, arith, length, get_or, eqb, ltb}
+use mathlib.Core.List.{Memᴰ}
 use Rattle.words.proofs.Bools.{by}
 use Rattle.words.proofs.ListLaws.{by-found}
 use Rattle.class_sheet.specs.ClassSheet.{class_count, method_count, text_of}

@@ -1,17 +1,10 @@
 -- Under demand 3's conditions a slot is counted if and only if its word is the target of no method of the chain (`NoRealMethod`, specs/Missing.antt). Each
 -- entry that a link writes is a copy of a slot of the parent's table, an own method's, or empty (`From`); so, from the root down, the word of a counted slot
 -- is a stub that was lent, and that of any other a method's target (`Real`). Assumes nothing.
-use mathlib.Core.Path.{◌≡◌, refl, sym, ap, ◌∙◌, subst}
-use mathlib.Core.Logic.{inl, inr, ◌≢◌, ◌↔◌}
-use mathlib.Core.Bool.{Bool, true, false, cond, true≢false}
-use mathlib.Core.List.{List, [], ◌∷◌, Memᴰ}
-use Prim.Native.Nat.{ℕ, zero, suc, ◌+◌, ◌≤◌, ◌<◌}
-use native.Mathlib.Omega.{arith}
-use lib.ListN.{length, get_or}
-use lib.Dec.{eqb}
-use borrow.Author.Tests.{eqb-true, eqb-false, eq-eqb, ne_eqb}
+use Rattle.std.proofs.Common.{◌≡◌, refl, sym, ap, ◌∙◌, subst, inl, inr, ◌≢◌, ◌↔◌, Bool, true, false, cond, true≢false, List, [], ◌∷◌, ℕ, zero, suc, ◌+◌, ◌≤◌, ◌<◌, arith, length, get_or, eqb, eqb-true, eq-eqb, ne_eqb, Some, None}
+use mathlib.Core.List.{Memᴰ}
+use borrow.Author.Tests.{eqb-false}
 use Rattle.words.specs.Lists.{list_from}
-use Rattle.words.specs.declared.Found.TheVariants.{At, Nothing}
 use Rattle.words.proofs.Bools.{by}
 use Rattle.words.proofs.ListLaws.{by-found, length-list-from, get_d_list_from}
 use Rattle.class_sheet.specs.ClassSheet.{text_of, is_packaged, is_array, method_target}
@@ -32,6 +25,7 @@ use Rattle.linking.proofs.MissingLaws.{bits-ext, bit-read}
 use Rattle.slots.specs.Slots.{ChainMethod}
 use Rattle.slots.specs.Made.{read_words, start_from, table_from, inherited_from, introduced_from, packages_from, made_from}
 use Rattle.slots.proofs.ChainFacts.{chain-here, chain-up}
+use Rattle.slots.proofs.EntryFacts.{own-word, stub-word}
 use Rattle.slots.proofs.ReadFacts.{length-words, word_at}
 use Rattle.calls.specs.Calls.{Call, link, ask, State, start, step, run, Unlinked, LinkedIn, table_at, Lent, lent_now, lent_later, stubs_of}
 use Rattle.calls.specs.Demand.{Conditions}
@@ -44,7 +38,7 @@ use Rattle.calls.proofs.Fits.{one_rule}
 use Rattle.calls.proofs.Sources.{All, none, all-at, all-each, relayed-all, extended-all, adds-all, packages-all}
 use Rattle.calls.proofs.Missing.{Holds, link-holds, ask_holds, bits-other, bits_c, parent-bits, bits-kept, missing-kept, start-accepted}
 use Rattle.calls.proofs.Stays.{stays-accepted}
-use Rattle.calls.proofs.Theorem.{start-inv, after, table_is, whole_is, link_fits, linked-valid}
+use Rattle.calls.proofs.Theorem.{none-linked, start-inv, after, table_is, whole_is, link_fits, linked-valid}
 
 -- ---- one bit
 
@@ -52,17 +46,11 @@ module _ (f : ℕ → Bool) (e : Entry) where
   counted-zero : e.word ≡ 0 → is_counted f e ≡ true
   counted-zero z = rw (eq-eqb e.word 0 z)
 
-  counted_none : e.word ≢ 0 → e.source ≡ Nothing → is_counted f e ≡ false
+  counted_none : e.word ≢ 0 → e.source ≡ None → is_counted f e ≡ false
   counted_none n s = rw (ne_eqb e.word 0 n, s)
 
-  counted-copy : (j : ℕ) → e.word ≢ 0 → e.source ≡ At j → is_counted f e ≡ f j
+  counted-copy : (j : ℕ) → e.word ≢ 0 → e.source ≡ Some j → is_counted f e ≡ f j
   counted-copy j n s = rw (ne_eqb e.word 0 n, s)
-
-word-zero : (w stub : ℕ) → w ≡ 0 → slot_word w stub ≡ stub
-word-zero w stub z = rw (eq-eqb w 0 z)
-
-word-other : (w stub : ℕ) → w ≢ 0 → slot_word w stub ≡ w
-word-other w stub n = rw (ne_eqb w 0 n)
 
 bit_at : (f : ℕ → Bool) (T : List Entry) (i : ℕ) → i < length T → get_or (bits_of f T) i false ≡ is_counted f (get_or T i empty)
 unfolding bits_of
@@ -73,7 +61,7 @@ bit_at f (e ∷ T) (suc i) h = bit_at f T i (omega arith)
 -- ---- where an entry of class d's table is from, by the words of the parent's table
 
 pub data From (ws : List ℕ) (parent : List ℕ) (d : ℕ) (e : Entry) : Type 0 where
-  copy : (j : ℕ) → j < length parent → e.word ≡ get_or parent j 0 → e.source ≡ At j → From ws parent d e
+  copy : (j : ℕ) → j < length parent → e.word ≡ get_or parent j 0 → e.source ≡ Some j → From ws parent d e
   own : (m : ℕ) → Memᴰ m (own_methods ws d) → e ≡ method_entry ws m → From ws parent d e
   hole : e ≡ empty → From ws parent d e
 
@@ -297,13 +285,13 @@ module _ (ws₀ abi : List ℕ) (valid₀ : Valid ws₀) (P : ℕ → Type 0) wh
         → Real d (is_counted (λ j. get_or (bits_now abi s (parent_of ws₀ d)) j false) e) (slot_word e.word x)
     entry-real d h targets up e x p (hole q) =
         let z : e.word ≡ 0 = ap (λ (y : Entry). y.word) q in
-        rw (counted-zero (λ j. get_or (bits_now abi s (parent_of ws₀ d)) j false) e z, word-zero e.word x z) (stub p)
+        rw (counted-zero (λ j. get_or (bits_now abi s (parent_of ws₀ d)) j false) e z, stub-word e.word x z) (stub p)
     entry-real d h targets up e x p (own m i q) =
         let here : ChainMethod ws₀ d m = record { owner = d; along = chain-here ws₀ d h; own = i } in
         let t : method_target ws₀ m ≡ e.word = sym (ap (λ (y : Entry). y.word) q) in
         let n : e.word ≢ 0 = λ z. targets m here (t ∙ z) in
-        let s₀ : e.source ≡ Nothing = ap (λ (y : Entry). y.source) q in
-        rw (counted_none (λ j. get_or (bits_now abi s (parent_of ws₀ d)) j false) e n s₀, word-other e.word x n) (real m here t)
+        let s₀ : e.source ≡ None = ap (λ (y : Entry). y.source) q in
+        rw (counted_none (λ j. get_or (bits_now abi s (parent_of ws₀ d)) j false) e n s₀, own-word e.word x n) (real m here t)
     entry-real d h targets up e x p (copy j b w q) =
         by (eqb (parent_of ws₀ d) 0) (λ t. absurd (let z = rw t at b in omega arith))
         (λ t.
@@ -311,7 +299,7 @@ module _ (ws₀ abi : List ℕ) (valid₀ : Valid ws₀) (P : ℕ → Type 0) wh
         let v : e.word ≡ get_or (table_of s (parent_of ws₀ d)) j 0 = rw t at w in
         let here : Real d (get_or (bits_now abi s (parent_of ws₀ d)) j false) e.word = rw v (real-up h r) in
         let n = real-some nonzero targets here in
-        rw (counted-copy (λ j. get_or (bits_now abi s (parent_of ws₀ d)) j false) e j n q, word-other e.word x n) here)
+        rw (counted-copy (λ j. get_or (bits_now abi s (parent_of ws₀ d)) j false) e j n q, own-word e.word x n) here)
 
     pub slots-real : (bound d : ℕ) → d ≤ bound → Linked s.set d → Plain ws₀ d → ((m : ℕ) → ChainMethod ws₀ d m → method_target ws₀ m ≢ 0) → (i : ℕ)
         → i < length (table_of s d) → SlotReal d i
@@ -344,20 +332,17 @@ module _ (ws abi area missing : List ℕ) (unlinked : Unlinked ws) (calls : List
   abbrev final : State
   final = run abi calls (start ws area missing)
 
-  not_yet : (d : ℕ) → Linked ws d → ⊥
-  not_yet d l = l.has (unlinked d l.some l.among)
-
   stands : Stands ws abi valid₀ P final
   stands =
       run-stands ws abi valid₀ P calls (start ws area missing)
       (record {
         holds = record {
           inv = start-inv ws abi area missing valid₀ unlinked (λ x. Unit {0});
-          rebuilt = λ d l. absurd (not_yet d l);
-          counted = λ d l. absurd (not_yet d l);
+          rebuilt = λ d l. absurd (none-linked unlinked l);
+          counted = λ d l. absurd (none-linked unlinked l);
         };
         inv = start-inv ws abi area missing valid₀ unlinked P;
-        witness = λ d l. absurd (not_yet d l);
+        witness = λ d l. absurd (none-linked unlinked l);
       })
       (λ x i. i)
 

@@ -1,13 +1,6 @@
 -- What the rows that an accepted call has passed say, in plain words; and that a refused call leaves everything. Assumes nothing.
-use mathlib.Core.Path.{◌≡◌, refl}
-use mathlib.Core.Logic.{◌⊎◌, inl, inr, ◌≢◌}
-use mathlib.Core.Bool.{true, false, cond, not, ◌&&◌, ◌||◌}
-use mathlib.Core.List.{List}
-use Prim.Native.Nat.{ℕ, ◌+◌, ◌*◌, ◌≤◌}
-use native.Mathlib.Omega.{arith}
-use lib.ListN.{length, get_or}
-use lib.Dec.{eqb, ltb}
-use borrow.Author.Tests.{eqb-true, eqb-false, eq-eqb, ne_eqb, ltb-false, not-true, not-false}
+use Rattle.std.proofs.Common.{◌≡◌, refl, ◌⊎◌, inl, inr, ◌≢◌, true, false, cond, not, ◌&&◌, ◌||◌, List, ℕ, ◌+◌, ◌*◌, ◌≤◌, arith, length, get_or, eqb, ltb, eqb-true, eq-eqb, ne_eqb, ltb-false}
+use borrow.Author.Tests.{eqb-false, not-true, not-false}
 use Rattle.words.proofs.Bools.{by, or-neither}
 use Rattle.text.specs.Text.{same_bytes}
 use Rattle.class_sheet.specs.ClassSheet.{class_count, text_of, class_kind, class_name, class_method_count, class_field_count, class_table_place}

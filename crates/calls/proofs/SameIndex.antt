@@ -1,15 +1,8 @@
 -- Without an ABI entry of its own and a compiler table a class has its copies at the index of what they are copies of (`same_index`, specs/Sources.antt): the
 -- parent's entries are read so, empty ones come after them, and what is put over them is no copy. Assumes nothing.
-use mathlib.Core.Path.{◌≡◌, refl, sym, ap, ◌∙◌, subst}
-use mathlib.Core.Logic.{◌⊎◌, inl, inr}
-use mathlib.Core.Bool.{true}
-use mathlib.Core.List.{List, [], ◌∷◌, ◌++◌}
-use Prim.Native.Nat.{ℕ, zero, suc, ◌-◌}
-use lib.ListN.{length, get_or, set, get_or-eq_default}
-use lib.Dec.{ltb}
-use borrow.Author.Tests.{eq-eqb, ltb-true, ltb-false}
+use Rattle.std.proofs.Common.{◌≡◌, refl, sym, ap, ◌∙◌, subst, ◌⊎◌, inl, inr, true, List, [], ◌∷◌, ◌++◌, ℕ, zero, suc, ◌-◌, length, get_or, set, ltb, eq-eqb, ltb-true, ltb-false, Some, None}
+use lib.ListN.{get_or-eq_default}
 use Rattle.words.specs.Lists.{keep}
-use Rattle.words.specs.declared.Found.TheVariants.{At, Nothing}
 use Rattle.words.proofs.Bools.{by}
 use Rattle.class_sheet.specs.ClassSheet.{class_kind, is_built_kind, is_packaged, is_generated, class_flags, class_compiler_table, class_limit}
 use Rattle.linking.specs.Chain.{own_methods, parent_of, is_interface, eligible, same_methods}
@@ -24,10 +17,10 @@ use Rattle.linking.proofs.Plans.{built-same}
 use Rattle.calls.proofs.Sources.{all_get, adds, packages, interface-all, read-parent}
 
 abbrev Placed : List Entry → Type 0
-Placed T = (i j : ℕ) → (get_or T i empty).source ≡ At j → j ≡ i
+Placed T = (i j : ℕ) → (get_or T i empty).source ≡ Some j → j ≡ i
 
 abbrev NoCopy : Entry → Type 0
-NoCopy e = e.source ≡ Nothing
+NoCopy e = e.source ≡ None
 
 -- ---- entries that are no copies, stored or at the end
 
@@ -39,7 +32,7 @@ set-either (x ∷ T) (suc k) zero e = inr refl
 set-either (x ∷ T) (suc k) (suc i) e = set-either T k i e
 
 -- an entry that is no copy, or one of a table whose copies are at their index
-placed_one : (T : List Entry) (x e : Entry) (i j : ℕ) → NoCopy e → Placed T → (x ≡ e) ⊎ (x ≡ get_or T i empty) → x.source ≡ At j → j ≡ i
+placed_one : (T : List Entry) (x e : Entry) (i j : ℕ) → NoCopy e → Placed T → (x ≡ e) ⊎ (x ≡ get_or T i empty) → x.source ≡ Some j → j ≡ i
 placed_one T x e i j n p (inl q) s = not_found (sym n ∙ ap (λ (y : Entry). y.source) (sym q) ∙ s)
 placed_one T x e i j n p (inr q) s = p i j (ap (λ (y : Entry). y.source) (sym q) ∙ s)
 
@@ -76,7 +69,7 @@ module _ (ws text abi labels area : List ℕ) (c : ℕ) where
       not_found (sym (all_get {S = NoCopy} refl
       (interface-all ws text abi labels NoCopy refl (keep (eligible ws text) (own_methods ws c)) (λ m k. refl)) i) ∙ s)
 
-  module _ (none : class_abi ws text abi labels c ≡ Nothing) where
+  module _ (none : class_abi ws text abi labels c ≡ None) where
     inherited-placed : Placed (inherited_table ws text abi labels area c)
     unfolding inherited_table extended
     inherited-placed =

@@ -1,28 +1,22 @@
 -- What is a copy (specs/Sources.antt). What holds of the parent's entries, of the empty one and of own methods' holds of each entry of a table, however it is
 -- built: the builders move entries about and make none but these. Assumes nothing.
-use mathlib.Core.Path.{◌≡◌, refl, sym, ap, ◌∙◌, subst}
-use mathlib.Core.Logic.{◌≢◌, ⊎_elim}
-use mathlib.Core.Bool.{Bool, false, not, ◌&&◌}
-use mathlib.Core.List.{List, [], ◌∷◌, ◌++◌, Memᴰ}
-use Prim.Native.Nat.{ℕ, zero, suc, ◌+◌, ◌-◌, ◌<◌, min}
-use native.Mathlib.Omega.{arith}
-use lib.ListN.{length, get_or, set, replicate}
-use lib.Dec.{eqb, ltb}
-use borrow.Author.Tests.{eqb-false, lt-ltb, le-ltb}
-use Rattle.words.specs.Lists.{list_from, and_then, fold, keep}
-use Rattle.words.specs.declared.Found.{Found}
-use Rattle.words.specs.declared.Found.TheVariants.{At, Nothing}
+use Rattle.std.proofs.Common.{◌≡◌, refl, sym, ap, ◌∙◌, subst, ◌≢◌, ⊎_elim, Bool, false, not, ◌&&◌, List, [], ◌∷◌, ◌++◌, ℕ, zero, suc, ◌+◌, ◌-◌, ◌<◌, min, arith, length, get_or, set, replicate, eqb, ltb, lt-ltb, le-ltb, Option, Some, None}
+use mathlib.Core.List.{Memᴰ}
+use borrow.Author.Tests.{eqb-false}
+use Rattle.words.specs.Lists.{list_from, fold, keep}
+use Rattle.std.specs.Option.{option_and_then}
 use Rattle.words.proofs.Bools.{by}
 use Rattle.words.proofs.ListLaws.{by-found, found-by, length-list-from, get_d_list_from, numbers-within}
 use Rattle.class_sheet.specs.ClassSheet.{class_kind, is_built_kind, is_packaged, is_generated, class_flags, class_compiler_table, class_table_place, class_slot_count, method_target, method_limit, method_name, method_descriptor, class_limit}
 use Rattle.linking.specs.Chain.{on_found, own_methods, parent_of, chain, is_interface, is_eligible, eligible, same_methods, find_by_target}
 use Rattle.linking.specs.Abi.{slot_at, class_abi, chain_abi, minimum_size}
-use Rattle.linking.specs.Vtable.{Entry, empty, Built, built, refused, on_built, own_fixed, find_by_index, read_entry, read_slot, table_entries, parent_entries, entry_is_other, method_entry, extended, put_fixed, fixed_of, slot_of, relay, relay_step, relayed, inherited_table, put_method, add_method, add_methods, build_methods, method_entries, build_interface_methods}
+use Rattle.linking.specs.Vtable.{Entry, empty, built, own_fixed, find_by_index, read_entry, read_slot, table_entries, parent_entries, entry_is_other, method_entry, extended, put_fixed, fixed_of, slot_of, relay, relay_step, relayed, inherited_table, put_method, add_method, add_methods, build_methods, method_entries, build_interface_methods}
 use Rattle.linking.specs.Packages.{introducing, overridden, taken_slots, put_taken, take_slots, packages_over, build_packages}
 use Rattle.linking.specs.Compiler.{New, is_emptied, view_from, native_view, compiler_targets, added_methods, name_of, flags_of, target_of, class_methods, match_target, compiler_entry, compiler_entries, has_slot, append_from, append_entry, compiler_table}
 use Rattle.linking.specs.Link.{built_table, generated_table, generated_methods}
 use Rattle.linking.specs.Missing.{table_by}
 use Rattle.calls.specs.Sources.{Slot, whole, appended, hole, declared, added, compiled}
+use Rattle.slots.proofs.AddFacts.{built_on}
 use Rattle.linking.proofs.Added.{not_found}
 use Rattle.linking.proofs.ChainLaws.{own-method-room, target_room, found-method-room}
 use Rattle.linking.proofs.Plans.{built-same, not-built}
@@ -81,10 +75,6 @@ module _ {S : Entry → Type 0} where
   all-over f h none a = a
   all-over f h {T = U} (more {e} q p) a = all-over f h p (h U e q a)
 
-on_built_lem : (b : Built) (f : List Entry → Built) (U : List Entry) → on_built b f ≡ built U → (T : List Entry) × (b ≡ built T) × (f T ≡ built U)
-on_built_lem (built T) f U e = (T, refl, e)
-on_built_lem (refused n) f U e = not-built e
-
 fold-keeps : (Q : List Entry → Type 0) (f : List Entry → ℕ → List Entry) (ms : List ℕ)
     → ((T : List Entry) (m : ℕ) → Memᴰ m ms → Q T → Q (f T m)) → (T : List Entry) → Q T → Q (fold f T ms)
 unfolding fold
@@ -95,16 +85,16 @@ fold-keeps Q f (m ∷ ms) h T a = fold-keeps Q f ms (λ U k i. h U k (mathlib.Co
 
 module _ (ws text abi labels : List ℕ) (S : Entry → Type 0) (Q : List Entry → Type 0)
     (store : (e : Entry) (i : ℕ) (T : List Entry) → S e → Q T → Q (set T i e)) (last : (e : Entry) (T : List Entry) → S e → Q T → Q (T ++ (e ∷ []))) where
-  put-method : (fixed slot : Found) (m : ℕ) (T U : List Entry) → put_method ws text fixed slot m T ≡ built U → S (method_entry ws m) → Q T → Q U
+  put-method : (fixed slot : Option ℕ) (m : ℕ) (T U : List Entry) → put_method ws text fixed slot m T ≡ built U → S (method_entry ws m) → Q T → Q U
   unfolding put_method
-  put-method (At i) slot m T U e s a =
+  put-method (Some i) slot m T U e s a =
       by (on_found slot (λ j. not (eqb j i)) false) (λ t. not-built (rw t at e))
       (λ t.
       let r = rw t at e in
       by (entry_is_other ws text (method_name ws text m) (method_descriptor ws text m) (get_or T i empty)) (λ u. not-built (rw u at r))
       (λ u. subst Q (built-same (rw u at r)) (store (method_entry ws m) i T s a)))
-  put-method Nothing (At j) m T U e s a = subst Q (built-same e) (store (method_entry ws m) j T s a)
-  put-method Nothing Nothing m T U e s a = subst Q (built-same e) (last (method_entry ws m) T s a)
+  put-method None (Some j) m T U e s a = subst Q (built-same e) (store (method_entry ws m) j T s a)
+  put-method None None m T U e s a = subst Q (built-same e) (last (method_entry ws m) T s a)
 
   add-one : (abis : List ℕ) (m : ℕ) (T U : List Entry) → add_method ws text abi labels abis m T ≡ built U → S (method_entry ws m) → Q T → Q U
   unfolding add_method
@@ -119,7 +109,7 @@ module _ (ws text abi labels : List ℕ) (S : Entry → Type 0) (Q : List Entry 
   unfolding add_methods
   adds abis [] h T U e a = subst Q (built-same e) a
   adds abis (m ∷ ms) h T U e a =
-      let r = on_built_lem (add_method ws text abi labels abis m T) (add_methods ws text abi labels abis ms) U e in
+      let r = built_on (add_method ws text abi labels abis m T) (add_methods ws text abi labels abis ms) U e in
       adds abis ms (λ k i. h k (mathlib.Core.List.Memᴰ.tail i)) r.0 U r.2 (add-one abis m T r.0 r.1 (h m (mathlib.Core.List.Memᴰ.head refl)) a)
 
   -- kind 3
@@ -128,7 +118,7 @@ module _ (ws text abi labels : List ℕ) (S : Entry → Type 0) (Q : List Entry 
   put-taken e [] T s a = last e T s a
   put-taken e (i ∷ is) T s a = fold-keeps Q (λ U j. set U j e) is (λ U j k b. store e j U s b) (set T i e) (store e i T s a)
 
-  pub packages : (introduced : ℕ → Found) (c : ℕ) → ((m : ℕ) → Memᴰ m (own_methods ws c) → S (method_entry ws m)) → (P : List Entry) → Q P
+  pub packages : (introduced : ℕ → Option ℕ) (c : ℕ) → ((m : ℕ) → Memᴰ m (own_methods ws c) → S (method_entry ws m)) → (P : List Entry) → Q P
       → Q (packages_over (same_methods ws text) ws text introduced c P)
   unfolding packages_over take_slots
   packages introduced c h P p =
@@ -141,13 +131,13 @@ module _ (ws text abi labels : List ℕ) (S : Entry → Type 0) (Q : List Entry 
 -- ---- tables that are built from entries P of which S holds, over the empty entry and those of methods
 
 module _ (ws text abi labels : List ℕ) (S : Entry → Type 0) (blank : S empty) where
-  put-fixed : (f : Found) (e : Entry) (T : List Entry) → S e → All S T → All S (put_fixed f e T)
-  put-fixed (At i) e T s a = all_set e i s a
-  put-fixed Nothing e T s a = all_append a (more s none)
+  put-fixed : (f : Option ℕ) (e : Entry) (T : List Entry) → S e → All S T → All S (put_fixed f e T)
+  put-fixed (Some i) e T s a = all_set e i s a
+  put-fixed None e T s a = all_append a (more s none)
 
-  relay-one : (abis : List ℕ) (f : Found) (e : Entry) (T : List Entry) → S e → All S T → All S (relay ws text abi labels abis f e T)
-  relay-one abis (At m) e T s a = put-fixed (fixed_of ws text abi labels abis m) e T s a
-  relay-one abis Nothing e T s a = a
+  relay-one : (abis : List ℕ) (f : Option ℕ) (e : Entry) (T : List Entry) → S e → All S T → All S (relay ws text abi labels abis f e T)
+  relay-one abis (Some m) e T s a = put-fixed (fixed_of ws text abi labels abis m) e T s a
+  relay-one abis None e T s a = a
 
   pub relayed-all : (abis : List ℕ) {P : List Entry} → All S P → All S (relayed ws text abi labels abis P)
   unfolding relayed relay_step
@@ -163,7 +153,7 @@ module _ (ws text abi labels : List ℕ) (S : Entry → Type 0) (blank : S empty
   adds-all = adds ws text abi labels S (All S) (λ e i T s a. all_set e i s a) (λ e T s a. all_append a (more s none))
 
   -- kind 3
-  pub packages-all : (introduced : ℕ → Found) (c : ℕ) → ((m : ℕ) → Memᴰ m (own_methods ws c) → S (method_entry ws m)) → {P : List Entry} → All S P
+  pub packages-all : (introduced : ℕ → Option ℕ) (c : ℕ) → ((m : ℕ) → Memᴰ m (own_methods ws c) → S (method_entry ws m)) → {P : List Entry} → All S P
       → All S (packages_over (same_methods ws text) ws text introduced c P)
   packages-all introduced c h {P} p =
       packages ws text abi labels S (All S) (λ e i T s a. all_set e i s a) (λ e T s a. all_append a (more s none)) introduced c h P p
@@ -183,7 +173,7 @@ module _ (ws text abi labels : List ℕ) (S : Entry → Type 0) (blank : S empty
 
   module _ (new : List New) where
     entries-all : (c i : ℕ) {view : List Entry} (ts : List ℕ)
-        → ((t : ℕ) → Memᴰ t ts → t ≢ 0 → S (record { word = t; method = match_target ws new c view t; source = Nothing }))
+        → ((t : ℕ) → Memᴰ t ts → t ≢ 0 → S (record { word = t; method = match_target ws new c view t; source = None }))
         → All S view → All S (compiler_entries ws new c view i ts)
     unfolding compiler_entries compiler_entry
     entries-all c i [] h v = none
@@ -192,28 +182,28 @@ module _ (ws text abi labels : List ℕ) (S : Entry → Type 0) (blank : S empty
         (λ z. rw z (more (all_get blank v i) (entries-all c (i + 1) ts (λ u k. h u (mathlib.Core.List.Memᴰ.tail k)) v)))
         (λ z. rw z (more (h t (mathlib.Core.List.Memᴰ.head refl) (eqb-false t 0 z)) (entries-all c (i + 1) ts (λ u k. h u (mathlib.Core.List.Memᴰ.tail k)) v)))
 
-    append-one : (source : Found) {T : List Entry} (m : ℕ) → S (record { word = target_of ws new m; method = At m; source = source }) → All S T
+    append-one : (source : Option ℕ) {T : List Entry} (m : ℕ) → S (record { word = target_of ws new m; method = Some m; source = source }) → All S T
         → All S (append_from ws text new source T m)
     unfolding append_from
     append-one source {T} m s a =
         by (is_eligible (flags_of ws new m) (name_of ws text new m) && not (has_slot ws text new m T)) (λ t. rw t (all_append a (more s none)))
         (λ t. rw t a)
 
-    append-known : (f source : Found) {T : List Entry} → ((m : ℕ) → f ≡ At m → S (record { word = target_of ws new m; method = At m; source = source }))
+    append-known : (f source : Option ℕ) {T : List Entry} → ((m : ℕ) → f ≡ Some m → S (record { word = target_of ws new m; method = Some m; source = source }))
         → All S T → All S (on_found f (append_from ws text new source T) T)
-    append-known (At m) source s a = append-one source m (s m refl) a
-    append-known Nothing source s a = a
+    append-known (Some m) source s a = append-one source m (s m refl) a
+    append-known None source s a = a
 
 -- ---- the parent's entries: read with their own index, and their methods are of the sheet
 
 module _ (ws text abi labels : List ℕ) where
-  fixed-room : (i d m : ℕ) → own_fixed ws text abi labels i d ≡ At m → m < method_limit
+  fixed-room : (i d m : ℕ) → own_fixed ws text abi labels i d ≡ Some m → m < method_limit
   unfolding own_fixed
   fixed-room i d m e =
-      by-found (and_then (class_abi ws text abi labels d) (slot_at abi i)) (λ s q. found-method-room ws text _ _ d m (rw q at e))
+      by-found (option_and_then (slot_at abi i) (class_abi ws text abi labels d)) (λ s q. found-method-room ws text _ _ d m (rw q at e))
       (λ q. not_found (rw q at e))
 
-  known-room : (c i w m : ℕ) → (read_entry ws text abi labels c i w).method ≡ At m → m < method_limit
+  known-room : (c i w m : ℕ) → (read_entry ws text abi labels c i w).method ≡ Some m → m < method_limit
   unfolding read_entry find_by_index
   known-room c i w m e =
       by-found (find_by_target ws c w) (λ k q. target_room ws c w m (q ∙ (rw q at e)))
@@ -230,10 +220,10 @@ module _ (ws text abi labels : List ℕ) where
       index : ℕ
       below : index < length P
       is : e ≡ get_or P index empty
-      source : e.source ≡ At index
-      small : (m : ℕ) → e.method ≡ At m → m < method_limit
+      source : e.source ≡ Some index
+      small : (m : ℕ) → e.method ≡ Some m → m < method_limit
 
-    pub read-parent : (j : ℕ) → j < length P → ((get_or P j empty).source ≡ At j) × ((m : ℕ) → (get_or P j empty).method ≡ At m → m < method_limit)
+    pub read-parent : (j : ℕ) → j < length P → ((get_or P j empty).source ≡ Some j) × ((m : ℕ) → (get_or P j empty).method ≡ Some m → m < method_limit)
     unfolding parent_entries table_entries read_slot
     read-parent j h =
         by (eqb (parent_of ws c) 0) (λ t. absurd (let z = rw t at h in omega arith))
@@ -301,7 +291,7 @@ module _ (ws text abi labels : List ℕ) where
       abbrev xs : List New
       xs = added_methods ws text abi labels area c
 
-      class-method : (m : ℕ) → Memᴰ m (class_methods ws xs c) → Here (record { word = target_of ws xs m; method = At m; source = Nothing })
+      class-method : (m : ℕ) → Memᴰ m (class_methods ws xs c) → Here (record { word = target_of ws xs m; method = Some m; source = None })
       unfolding class_methods
       class-method m i =
           ⊎_elim
@@ -311,7 +301,7 @@ module _ (ws text abi labels : List ℕ) where
           added (m - method_limit) (rw g (omega arith)) (rw g (unfold target_of in rw (le-ltb m method_limit (omega arith)))) refl)
           (mathlib.Core.List.Memᴰ.append_cases (own_methods ws c) i)
 
-      parent-method : (e : Entry) → Parent e → (m : ℕ) → e.method ≡ At m → Here (record { word = target_of ws xs m; method = At m; source = e.source })
+      parent-method : (e : Entry) → Parent e → (m : ℕ) → e.method ≡ Some m → Here (record { word = target_of ws xs m; method = Some m; source = e.source })
       parent-method e p m q =
           rw (target-of xs m (p.small m q), p.source)
           (appended p.index m p.below (ap (λ (x : Entry). x.method) (sym p.is) ∙ q) refl)
@@ -320,8 +310,8 @@ module _ (ws text abi labels : List ℕ) where
       unfolding compiler_table native_view append_entry
       compiler-built =
           all-over (append_entry ws text xs) (λ T e p a. append-known ws text abi labels Here blank xs e.method e.source (parent-method e p) a) parents
-          (fold-keeps (All Here) (append_from ws text xs Nothing) (class_methods ws xs c)
-          (λ T m i a. append-one ws text abi labels Here blank xs Nothing m (class-method m i) a)
+          (fold-keeps (All Here) (append_from ws text xs None) (class_methods ws xs c)
+          (λ T m i a. append-one ws text abi labels Here blank xs None m (class-method m i) a)
           (compiler_entries ws xs c (native_view ws text abi labels area c) 0 (compiler_targets ws c))
           (entries-all ws text abi labels Here blank xs c 0 (compiler_targets ws c) (λ t i n. compiled i n refl)
           (view-all ws text abi labels Here blank (chain_abi ws text abi labels (parent_of ws c)) 0 copies)))

@@ -1,14 +1,7 @@
 -- An accepted link leaves a set that rows 3 to 5 accept: what it adds is fine, and it writes into the class's record what rows
 -- 10 and 13 bound. Assumes nothing.
-use mathlib.Core.Path.{◌≡◌, sym, ap, ◌∙◌}
-use mathlib.Core.Logic.{◌≢◌, ◌⊎◌, inl, inr, ⊎_elim}
-use mathlib.Core.Bool.{false, not, ◌&&◌}
-use mathlib.Core.List.{List, [], ◌∷◌, ◌++◌}
-use Prim.Native.Nat.{ℕ, ◌+◌, ◌-◌, ◌≤◌, ◌<◌}
-use native.Mathlib.Omega.{arith}
-use lib.ListN.{length, get_or, take, drop}
-use lib.Dec.{eqb, ltb}
-use borrow.Author.Tests.{eqb-true, eqb-false, ltb-false}
+use Rattle.std.proofs.Common.{◌≡◌, sym, ap, ◌∙◌, ◌≢◌, ◌⊎◌, inl, inr, ⊎_elim, false, not, ◌&&◌, List, [], ◌∷◌, ◌++◌, ℕ, ◌+◌, ◌-◌, ◌≤◌, ◌<◌, arith, length, get_or, take, drop, eqb, ltb, eqb-true, ltb-false}
+use borrow.Author.Tests.{eqb-false}
 use Rattle.words.proofs.Bools.{by, or-neither}
 use Rattle.words.proofs.Lists.{length_part}
 use Rattle.words.specs.Rows.{Rows, row_word}

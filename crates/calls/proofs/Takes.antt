@@ -1,16 +1,9 @@
 -- The table of a class of kind 3 (specs/Takes.antt): of one method what it does to each slot, then of all of them in turn; and the slots that the
 -- walk gives a method are those whose introducing method it overrides. Assumes nothing.
-use mathlib.Core.Path.{◌≡◌, refl, sym, ap, ◌∙◌}
-use mathlib.Core.Logic.{◌⊎◌, inl, inr, ⊎_elim}
-use mathlib.Core.Bool.{true, false, true≢false}
+use Rattle.std.proofs.Common.{◌≡◌, refl, sym, ap, ◌∙◌, ◌⊎◌, inl, inr, ⊎_elim, true, false, true≢false, List, [], ◌∷◌, ◌++◌, append_assoc, append-nil, ℕ, zero, suc, ◌+◌, ◌≤◌, ◌<◌, arith, length, set, drop, length-append, drop-set-lt, Option}
 use mathlib.Core.List.Memᴰ
-use mathlib.Core.List.{List, [], ◌∷◌, ◌++◌, append_assoc, append-nil, Memᴰ}
-use Prim.Native.Nat.{ℕ, zero, suc, ◌+◌, ◌≤◌, ◌<◌}
-use native.Mathlib.Omega.{arith}
-use lib.ListN.{length, set, drop, length-append}
-use lib.Seq.{drop-set-lt}
+use mathlib.Core.List.{Memᴰ}
 use Rattle.words.specs.Lists.{list_from, numbers, fold}
-use Rattle.words.specs.declared.Found.{Found}
 use Rattle.words.proofs.Bools.{by}
 use Rattle.words.proofs.ListLaws.{numbers-within}
 use Rattle.class_sheet.specs.ClassSheet.{class_limit, text_of, class_kind, class_first_method, class_method_count, method_limit}
@@ -61,7 +54,7 @@ picked-by (x ∷ xs) f g (skip n r) =
 
 -- ---- by the walk
 
-module _ (ws text abi labels : List ℕ) (c : ℕ) (introduced : ℕ → Found) (P : List Entry) where
+module _ (ws text abi labels : List ℕ) (c : ℕ) (introduced : ℕ → Option ℕ) (P : List Entry) where
   abbrev entry : ℕ → Entry
   entry m = method_entry ws m
 
@@ -209,7 +202,7 @@ module _ (ws abi area : List ℕ) (c : ℕ) (some : 0 < c) (room : c ≤ class_l
   abbrev labels : List ℕ
   labels = abi_text_of abi
 
-  abbrev first : ℕ → Found
+  abbrev first : ℕ → Option ℕ
   first = introducing ws text abi labels area (parent_of ws c)
 
   abbrev inherited : List Entry

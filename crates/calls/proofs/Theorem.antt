@@ -1,15 +1,8 @@
 -- DEMAND 3 (specs/Demand.antt), for every list of links and asks: from what holds after the list (Lists.antt), by what such tables have (crate
 -- slots). Assumes nothing.
-use mathlib.Core.Path.{◌≡◌, refl, sym, ap, ◌∙◌, subst}
-use mathlib.Core.Logic.{inl, inr, ◌≢◌}
-use mathlib.Core.Bool.{false}
-use mathlib.Core.List.{List, [], ◌∷◌, Memᴰ}
-use Prim.Native.Nat.{ℕ, zero, suc, ◌≤◌}
-use native.Mathlib.Omega.{arith}
-use lib.ListN.{length}
-use lib.Dec.{eqb}
-use borrow.Author.Tests.{eqb-true, eqb-false}
-use Rattle.words.specs.declared.Found.TheVariants.{Nothing}
+use Rattle.std.proofs.Common.{◌≡◌, refl, sym, ap, ◌∙◌, subst, inl, inr, ◌≢◌, false, List, [], ◌∷◌, ℕ, zero, suc, ◌≤◌, arith, length, eqb, eqb-true, None}
+use mathlib.Core.List.{Memᴰ}
+use borrow.Author.Tests.{eqb-false}
 use Rattle.words.proofs.Bools.{by}
 use Rattle.class_sheet.specs.ClassSheet.{text_of, class_count, class_slot_count, class_limit}
 use Rattle.abi_sheet.specs.AbiSheet.{abi_text_of}
@@ -62,18 +55,19 @@ module _ (ws abi : List ℕ) (bad : set_refusal ws abi ≢ 0) where
 
 -- ---- the others
 
-module _ (ws abi area missing : List ℕ) (valid₀ : Valid ws) (unlinked : Unlinked ws) where
-  none : (c : ℕ) → Linked ws c → ⊥
-  none c l = l.has (unlinked c l.some l.among)
+-- no class is linked
+pub none-linked : {ws : List ℕ} {c : ℕ} → Unlinked ws → Linked ws c → ⊥
+none-linked {c = c} unlinked l = l.has (unlinked c l.some l.among)
 
+module _ (ws abi area missing : List ℕ) (valid₀ : Valid ws) (unlinked : Unlinked ws) where
   pub start-inv : (P : ℕ → Type 0) → Inv ws abi valid₀ P (start ws area missing)
   start-inv P = record {
     like = like-same ws;
-    parent = λ c l. absurd (none c l);
-    made = λ c l. absurd (none c l);
-    fits = λ c l. absurd (none c l);
-    whole = λ c l. absurd (none c l);
-    apart = λ c d l. absurd (none c l);
+    parent = λ c l. absurd (none-linked unlinked l);
+    made = λ c l. absurd (none-linked unlinked l);
+    fits = λ c l. absurd (none-linked unlinked l);
+    whole = λ c l. absurd (none-linked unlinked l);
+    apart = λ c d l. absurd (none-linked unlinked l);
   }
 
 module _ (ws abi area missing : List ℕ) (valid₀ : Valid ws) (unlinked : Unlinked ws) (calls : List Call) where
@@ -85,9 +79,6 @@ module _ (ws abi area missing : List ℕ) (valid₀ : Valid ws) (unlinked : Unli
 
   begins : Inv ws abi valid₀ P (start ws area missing)
   begins = start-inv ws abi area missing valid₀ unlinked P
-
-  not_yet : (c : ℕ) → Linked ws c → ⊥
-  not_yet c l = none ws abi area missing valid₀ unlinked c l
 
   goes : Goes ws abi valid₀ P (start ws area missing) final
   goes = run-goes ws abi valid₀ P calls (start ws area missing) begins (λ x i. i)
@@ -133,7 +124,7 @@ module _ (ws abi area missing : List ℕ) (valid₀ : Valid ws) (unlinked : Unli
   chain_in {c} linked d i =
       elim (history ws abi valid₀ P calls (start ws area missing) begins (λ x j. j) d
       (runs.chain-linked ws abi valid₀ P goes.inv c c (omega arith) (after linked).linked d i)) [
-        | inl l ↦ absurd (not_yet d l)
+        | inl l ↦ absurd (none-linked unlinked l)
         | inr r ↦ (r.place, r.slots, r.found)
       ]
 
@@ -155,7 +146,7 @@ module _ (ws abi area missing : List ℕ) (valid₀ : Valid ws) (unlinked : Unli
         (table-unique ws (text_of ws) abi (abi_text_of abi) (table_of final) P c within old conditions made)
 
     -- by either rule
-    both-kept : parent_of ws c ≢ 0 → class_abi ws (text_of ws) abi (abi_text_of abi) c ≡ Nothing
+    both-kept : parent_of ws c ≢ 0 → class_abi ws (text_of ws) abi (abi_text_of abi) c ≡ None
         → Kept ws (text_of ws) abi (abi_text_of abi) c (table_of final c) (table_of final (parent_of ws c))
     both-kept n e =
         elim plain.kinds [
@@ -164,10 +155,10 @@ module _ (ws abi area missing : List ℕ) (valid₀ : Valid ws) (unlinked : Unli
               (record { nonzero = conditions.nonzero_targets; different = conditions.different_targets }) made n
         ]
 
-    keeps_parent : parent_of ws c ≢ 0 → class_abi ws (text_of ws) abi (abi_text_of abi) c ≡ Nothing → KeepsParent ws abi area missing calls c place slots
+    keeps_parent : parent_of ws c ≢ 0 → class_abi ws (text_of ws) abi (abi_text_of abi) c ≡ None → KeepsParent ws abi area missing calls c place slots
     keeps_parent n e =
         elim (history ws abi valid₀ P calls (start ws area missing) begins (λ x i. i) (parent_of ws c) (goes.inv.parent c (after linked).linked n)) [
-          | inl l ↦ absurd (not_yet (parent_of ws c) l)
+          | inl l ↦ absurd (none-linked unlinked l)
           | inr r ↦ record {
             parent_place = r.place;
             parent_slots = r.slots;

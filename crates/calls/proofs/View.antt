@@ -1,10 +1,7 @@
 -- Chains, methods and class names go by the sheet at the list's start: they are the same in the words that calls left, and so are the own methods of a
 -- class whose list is left. Assumes nothing.
-use mathlib.Core.Path.{◌≡◌, refl, ap}
-use mathlib.Core.List.{List, ◌∷◌, Memᴰ}
-use Prim.Native.Nat.{ℕ, zero, suc, ◌+◌, ◌≤◌, ◌<◌}
-use native.Mathlib.Omega.{arith}
-use lib.ListN.{length}
+use Rattle.std.proofs.Common.{◌≡◌, refl, ap, List, ◌∷◌, ℕ, zero, suc, ◌+◌, ◌≤◌, ◌<◌, arith, length}
+use mathlib.Core.List.{Memᴰ}
 use Rattle.words.proofs.ListLaws.{numbers-within}
 use Rattle.text.specs.Text.{name_at, name_start_word, name_length_word}
 use Rattle.class_sheet.specs.ClassSheet.{parent_word, class_count, method_count, text_of, class_first_method, class_method_count, class_name, method_name, method_descriptor, method_flags, method_target, method_limit}

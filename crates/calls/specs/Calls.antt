@@ -1,7 +1,7 @@
 -- Lists of links and interface asks: "Each call gets the sheet and area as the last one left them, and no one else writes them
 -- meanwhile." Assumes nothing.
-use Rattle.std.specs.Prelude.{ℕ, ◌+◌, ◌≤◌, ◌≡◌, take, drop}
-use mathlib.Core.List.{List, [], ◌∷◌, Memᴰ}
+use Rattle.std.specs.Prelude.{ℕ, ◌+◌, ◌≤◌, ◌≡◌, take, drop, List, [], ◌∷◌}
+use mathlib.Core.List.{Memᴰ}
 use Rattle.class_sheet.specs.ClassSheet.{class_count, class_table_place}
 use Rattle.linking.specs.Link.{Outcome, link_def}
 use Rattle.linking.specs.Ask.{ask_def}

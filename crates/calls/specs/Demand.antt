@@ -1,9 +1,8 @@
 -- DEMAND 3: `Demand3`, at the end, is its statement; proofs/Theorem.antt proves it. "Chains, methods and Reading above go by the sheet at the
 -- list's start": `ws` is that sheet. The terms of a list (linked in the list, its table, stubs lent) are in Calls.antt; those of one table (known
 -- slots, signatures, chains, orderly) in slots/specs/Slots.antt. Assumes nothing.
-use Rattle.std.specs.Prelude.{ℕ, ◌≡◌, ◌≢◌, ◌⊎◌, false, length}
-use mathlib.Core.List.{List, Memᴰ}
-use Rattle.words.specs.declared.Found.TheVariants.{Nothing}
+use Rattle.std.specs.Prelude.{ℕ, ◌≡◌, ◌≢◌, ◌⊎◌, false, length, List, None}
+use mathlib.Core.List.{Memᴰ}
 use Rattle.class_sheet.specs.ClassSheet.{text_of, class_kind, class_flags, method_target}
 use Rattle.abi_sheet.specs.AbiSheet.{abi_text_of}
 use Rattle.linking.specs.Chain.{parent_of, chain, is_interface}
@@ -55,7 +54,7 @@ module _ (ws abi area missing : List ℕ) (calls : List Call) where
   pub record Claim (c place slots : ℕ) : Type 0 where
     -- "no two known slots in a class's table have one signature": "made only for the old rule"
     pub unique : OldRule ws c → Unique ws (text_of ws) abi (abi_text_of abi) c (table place slots)
-    pub keeps_parent : parent_of ws c ≢ 0 → class_abi ws (text_of ws) abi (abi_text_of abi) c ≡ Nothing → KeepsParent c place slots
+    pub keeps_parent : parent_of ws c ≢ 0 → class_abi ws (text_of ws) abi (abi_text_of abi) c ≡ None → KeepsParent c place slots
     -- "as many as the slots it answered": the table lies inside the area
     pub whole : length (table place slots) ≡ slots
     -- "the place that this link answered" is one place: no second link of a class is accepted

@@ -2,8 +2,8 @@
 -- demand 3 gets the same slots as kind 0 throughout, where both links are accepted, every eligible method is public, no class declares a signature
 -- twice, and targets and stubs are as the old claim needs them." Of stubs nothing is needed: in a chain without ABI entries no slot is empty, and
 -- targets are nonzero. Assumes nothing.
-use Rattle.std.specs.Prelude.{ℕ, ◌≡◌, ◌≢◌, ◌⊎◌, true, cond}
-use mathlib.Core.List.{List, Memᴰ}
+use Rattle.std.specs.Prelude.{ℕ, ◌≡◌, ◌≢◌, ◌⊎◌, true, cond, List}
+use mathlib.Core.List.{Memᴰ}
 use Rattle.words.specs.Lists.{numbers, fold}
 use Rattle.class_sheet.specs.ClassSheet.{class_count, text_of, is_packaged, put_class_kind, method_flags, method_target}
 use Rattle.linking.specs.Chain.{own_methods, chain, eligible, SameSignature}

@@ -1,8 +1,7 @@
 -- Whose a method is after links and asks: "the declaring class's number" that a search answers is that of the one class whose list holds the method, also
 -- in the words that a list of calls leaves. `owners` of proofs/Owners.antt proves it. Assumes nothing.
-use Rattle.std.specs.Prelude.{ℕ, ◌≡◌, List}
+use Rattle.std.specs.Prelude.{ℕ, ◌≡◌, List, Some}
 use Rattle.words.specs.Lists.{numbers, find}
-use Rattle.words.specs.declared.Found.TheVariants.{At}
 use Rattle.class_sheet.specs.ClassSheet.{class_count}
 use Rattle.set_rules.specs.Valid.{IsClass, Valid}
 use Rattle.linking.specs.Compiler.{holds}
@@ -16,4 +15,4 @@ pub record Owners : Type 0 where
   -- so the class that declares a method there is the only one whose list holds it
   pub owner : (abi : List ℕ) (calls : List Call) (start : State) (c d m : ℕ) → Valid start.set
       → IsClass (run abi calls start).set c → Declares (run abi calls start).set c d m
-      → find (holds (run abi calls start).set m) (numbers 1 (class_count (run abi calls start).set)) ≡ At d
+      → find (holds (run abi calls start).set m) (numbers 1 (class_count (run abi calls start).set)) ≡ Some d

@@ -1,9 +1,8 @@
 -- WHAT IS A COPY: `Sources`, at the end, is the statement; proofs/Sources.antt, SameIndex.antt and CompilerSlots.antt prove it. Of each slot of a class's
 -- table it says, by the entry and not by how the table is built, whether the slot is "copied from parent entries", and from which; then, by the slot's index,
 -- which it is. Assumes nothing.
-use Rattle.std.specs.Prelude.{ℕ, ◌≤◌, ◌<◌, ◌≡◌, ◌≢◌, true, length, get_or}
-use mathlib.Core.List.{List, Memᴰ}
-use Rattle.words.specs.declared.Found.TheVariants.{At, Nothing}
+use Rattle.std.specs.Prelude.{ℕ, ◌≤◌, ◌<◌, ◌≡◌, ◌≢◌, true, length, get_or, List, Some, None}
+use mathlib.Core.List.{Memᴰ}
 use Rattle.class_sheet.specs.ClassSheet.{is_generated, class_compiler_table, method_target}
 use Rattle.linking.specs.Chain.{own_methods}
 use Rattle.linking.specs.Abi.{class_abi}
@@ -15,34 +14,34 @@ use Rattle.linking.specs.Missing.{table_by}
 -- a slot of class c's table, where `new` are the methods that the link adds, and `P` the parent's entries
 pub data Slot (ws : List ℕ) (new : List New) (c : ℕ) (P : List Entry) (e : Entry) : Type 0 where
   -- "copied from parent entries": one of them, whole
-  whole : (j : ℕ) → j < length P → e ≡ get_or P j empty → e.source ≡ At j → Slot ws new c P e
+  whole : (j : ℕ) → j < length P → e ≡ get_or P j empty → e.source ≡ Some j → Slot ws new c P e
   -- "an appended parent method is": the method of one of them, with its own target
-  appended : (j m : ℕ) → j < length P → (get_or P j empty).method ≡ At m → e ≡ record { word = method_target ws m; method = At m; source = At j }
+  appended : (j m : ℕ) → j < length P → (get_or P j empty).method ≡ Some m → e ≡ record { word = method_target ws m; method = Some m; source = Some j }
       → Slot ws new c P e
   -- and no copies: an empty slot, a method that the class declares or the link adds, and
   hole : e ≡ empty → Slot ws new c P e
   declared : (m : ℕ) → Memᴰ m (own_methods ws c) → e ≡ method_entry ws m → Slot ws new c P e
-  added : (j : ℕ) → j < length new → e.word ≡ (get_or new j no_new).last → e.source ≡ Nothing → Slot ws new c P e
+  added : (j : ℕ) → j < length new → e.word ≡ (get_or new j no_new).last → e.source ≡ None → Slot ws new c P e
   -- "a nonzero compiler slot is no copy"
-  compiled : Memᴰ e.word (compiler_targets ws c) → e.word ≢ 0 → e.source ≡ Nothing → Slot ws new c P e
+  compiled : Memᴰ e.word (compiler_targets ws c) → e.word ≢ 0 → e.source ≡ None → Slot ws new c P e
 
 pub record Sources : Type 0 where
   pub slots : (ws text abi labels area : List ℕ) (c : ℕ) (T : List Entry) → table_by ws text abi labels area c ≡ built T → (i : ℕ) → i < length T
       → Slot ws (generated_methods ws text abi labels area c) c (parent_entries ws text abi labels area c) (get_or T i empty)
   -- without an ABI entry of its own and a compiler table: a copy of the entry of its index
   pub same_index : (ws text abi labels area : List ℕ) (c : ℕ) (T : List Entry) → table_by ws text abi labels area c ≡ built T
-      → class_abi ws text abi labels c ≡ Nothing → (is_generated ws c ≡ true → class_compiler_table ws c ≡ 0)
-      → (i j : ℕ) → (get_or T i empty).source ≡ At j → j ≡ i
+      → class_abi ws text abi labels c ≡ None → (is_generated ws c ≡ true → class_compiler_table ws c ≡ 0)
+      → (i j : ℕ) → (get_or T i empty).source ≡ Some j → j ≡ i
   -- "a nonzero compiler slot is no copy"; a zero one is the native view's of its index
   pub nonzero : (ws text abi labels area : List ℕ) (c i : ℕ) → i < length (compiler_targets ws c) → get_or (compiler_targets ws c) i 0 ≢ 0
-      → (get_or (compiler_table ws text abi labels area c) i empty).source ≡ Nothing
+      → (get_or (compiler_table ws text abi labels area c) i empty).source ≡ None
   pub zero : (ws text abi labels area : List ℕ) (c i : ℕ) → i < length (compiler_targets ws c) → get_or (compiler_targets ws c) i 0 ≡ 0
       → get_or (compiler_table ws text abi labels area c) i empty ≡ get_or (native_view ws text abi labels area c) i empty
   -- "an appended parent method is": what is appended as no copy is a method that the class declares or the link adds
   pub own : (ws text abi labels area : List ℕ) (c i m : ℕ) → length (compiler_targets ws c) ≤ i
-      → (get_or (compiler_table ws text abi labels area c) i empty).source ≡ Nothing → (get_or (compiler_table ws text abi labels area c) i empty).method ≡ At m
+      → (get_or (compiler_table ws text abi labels area c) i empty).source ≡ None → (get_or (compiler_table ws text abi labels area c) i empty).method ≡ Some m
       → Memᴰ m (class_methods ws (added_methods ws text abi labels area c) c)
   -- and a copy is one of the first entry of its method
   pub first : (ws text abi labels area : List ℕ) (c i j m k : ℕ) → length (compiler_targets ws c) ≤ i
-      → (get_or (compiler_table ws text abi labels area c) i empty).source ≡ At j → (get_or (compiler_table ws text abi labels area c) i empty).method ≡ At m
-      → k < j → (get_or (parent_entries ws text abi labels area c) k empty).method ≢ At m
+      → (get_or (compiler_table ws text abi labels area c) i empty).source ≡ Some j → (get_or (compiler_table ws text abi labels area c) i empty).method ≡ Some m
+      → k < j → (get_or (parent_entries ws text abi labels area c) k empty).method ≢ Some m

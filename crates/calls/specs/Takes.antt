@@ -1,9 +1,8 @@
 -- THE TABLE OF A CLASS OF KIND 3: `TakenSlots`, at the end, is the statement; proofs/Takes.antt proves it. "An eligible method takes every inherited
 -- slot whose introducing method it overrides by that section, and a new last slot if there is none." The section is the type `Overrides` of
 -- linking/specs/Packages.antt; "inherited" is the parent's table as Reading finds it. Assumes nothing.
-use Rattle.std.specs.Prelude.{ℕ, ◌+◌, ◌≤◌, ◌<◌, ◌≡◌, true, length, get_or, drop}
-use mathlib.Core.List.{List, [], ◌∷◌, Memᴰ}
-use Rattle.words.specs.declared.Found.TheVariants.{At}
+use Rattle.std.specs.Prelude.{ℕ, ◌+◌, ◌≤◌, ◌<◌, ◌≡◌, true, length, get_or, drop, List, [], ◌∷◌, Some}
+use mathlib.Core.List.{Memᴰ}
 use Rattle.class_sheet.specs.ClassSheet.{text_of, class_kind}
 use Rattle.abi_sheet.specs.AbiSheet.{abi_text_of}
 use Rattle.linking.specs.Chain.{own_methods, parent_of, eligible}
@@ -27,7 +26,7 @@ module _ (ws abi area : List ℕ) (c : ℕ) where
     pub it_is_eligible : eligible ws (text_of ws) m ≡ true
     pub slot : i < length inherited
     pub introducer : ℕ
-    pub introduced : introducing ws (text_of ws) abi (abi_text_of abi) area (parent_of ws c) i ≡ At introducer
+    pub introduced : introducing ws (text_of ws) abi (abi_text_of abi) area (parent_of ws c) i ≡ Some introducer
     pub owner : ℕ
     pub overrides : Overrides ws (text_of ws) c m owner introducer
 

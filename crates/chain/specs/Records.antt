@@ -1,7 +1,7 @@
 -- Member records read from the part of the words that begins with the first of them. Assumes nothing.
 use Rattle.std.specs.Prelude.{ℕ, ◌+◌, ◌*◌, Bool, ◌&&◌, List, get_or, drop, eqb}
 use Rattle.words.specs.Lists.{numbers, find}
-use Rattle.words.specs.declared.Found.{Found}
+use Rattle.std.specs.Prelude.{Option}
 use Rattle.text.specs.Text.{name_start_word, name_length_word, descriptor_start_word, descriptor_length_word, name_at, same_bytes}
 use Rattle.class_sheet.specs.ClassSheet.{member_width, method_limit, target_word, methods_at}
 use Rattle.linking.specs.Chain.{list_count}
@@ -21,5 +21,5 @@ record_is records width text m name descriptor =
     && same_bytes (name_at text (record_word records width m descriptor_start_word) (record_word records width m descriptor_length_word)) descriptor
 
 -- the first with this target of the method records that a list asks for
-unfoldable pub first_target : List ℕ → ℕ → ℕ → ℕ → Found
+unfoldable pub first_target : List ℕ → ℕ → ℕ → ℕ → Option ℕ
 first_target records first count t = find (λ m. eqb (record_word records member_width m target_word) t) (numbers first (list_count first count method_limit))

@@ -6,8 +6,9 @@ ghost use Rattle.std.specs.Prelude.{◌≡◌};
 ghost use Rattle.class_sheet.specs.ClassSheet.{member_width, method_limit, field_limit, interface_limit, target_word, class_first_method, class_method_count, class_first_field, class_field_count, class_first_interface, class_interface_count};
 ghost use Rattle.linking.specs.Chain.{list_count, parent_of, is_virtual, is_eligible, eligible, method_is, own_method};
 ghost use Rattle.chain.specs.Records.{method_records, record_word, record_is};
+ghost use Rattle.text.specs.Signatures.{of_signature};
 
-use words::Found;
+use text::Signature;
 
 // How many words a method record has.
 const MEMBER_WIDTH: u32 = class_sheet::MEMBER_WIDTH as u32;
@@ -16,13 +17,7 @@ const MEMBER_WIDTH: u32 = class_sheet::MEMBER_WIDTH as u32;
 pub fn list_count(first: u32, count: u32, limit: u32) -> u32
     ensures { result ≡ list_count first count limit }
 {
-    if limit <= first {
-        return 0;
-    }
-    if limit - first < count {
-        return limit - first;
-    }
-    count
+    count.min(limit.saturating_sub(first))
 }
 
 // How many methods class c has.
@@ -59,31 +54,32 @@ pub fn interface_count(ws: &[u32], c: u32) -> u32
 }
 
 // The number of class c's parent, 0 without one.
+#[tactic(auto, unfolding(linking::specs::Chain::parent_of))]
 pub fn parent_of(ws: &[u32], c: u32) -> u32
     ensures { result ≡ parent_of ws.now c }
 {
     let parent = class_sheet::class_parent(ws, c);
-    if parent < c {
-        return parent;
-    }
-    0
+    if parent < c { parent } else { 0 }
 }
 
 // Whether a method of these flags is neither static nor private.
+#[tactic(auto, unfolding(linking::specs::Chain::is_virtual))]
 pub fn is_virtual(flags: u32) -> bool
     ensures { result ≡ is_virtual flags }
 {
-    (flags / 8 % 2 != 1) & (flags / 2 % 2 != 1)
+    !class_sheet::is_static(flags) & !class_sheet::is_private(flags)
 }
 
 // Whether a method of these flags and this name may take a slot: it is virtual, and its name does not start with `<`.
+#[tactic(auto, unfolding(linking::specs::Chain::is_eligible))]
 pub fn is_eligible(flags: u32, name: &[u8]) -> bool
     ensures { result ≡ is_eligible flags name.now }
 {
-    is_virtual(flags) & (words::byte_at(name, 0) != 60)
+    is_virtual(flags) & (words::get_or(name, 0, 0) != b'<')
 }
 
 // Whether method m may take a slot.
+#[tactic(auto, unfolding(linking::specs::Chain::eligible))]
 pub fn eligible(ws: &[u32], text: &[u8], m: u32) -> bool
     ensures { result ≡ eligible ws.now text.now m }
 {
@@ -94,64 +90,63 @@ pub fn eligible(ws: &[u32], text: &[u8], m: u32) -> bool
 }
 
 // The words from the first method record on: a loop over methods takes them once.
+#[tactic(auto, using(crate::proofs::RecordLaws::records_are))]
 pub fn method_records(ws: &[u32]) -> &[u32]
     ensures { result.now ≡ method_records ws.now }
 {
-    words::word_part(ws, class_sheet::methods_at(ws), ws.len())
+    words::part(ws, class_sheet::methods_at(ws), ws.len())
 }
 
 // Whether record m, of records of this width, has this name and descriptor. Most records already differ in the name.
-pub fn record_is(
-    records: &[u32],
-    width: u32,
-    text: &[u8],
-    m: u32,
-    name: &[u8],
-    descriptor: &[u8],
-) -> bool
-    ensures { result ≡ record_is records.now width text.now m name.now descriptor.now }
+#[tactic(auto, using(text::proofs::Laws::product), unfolding(crate::specs::Records::record_is, crate::specs::Records::record_word))]
+pub fn record_is(records: &[u32], width: u32, text: &[u8], m: u32, signature: Signature) -> bool
+    ensures { result ≡ of_signature (record_is records.now width text.now m) signature.entry }
 {
-    let at = words::wide(width) * words::wide(m);
-    let start = words::word_at(records, at);
-    let len = words::word_at(records, at + text::NAME_LENGTH);
-    if !text::same(text::name_at(text, start, len), name) {
-        return false;
-    }
-    let start = words::word_at(records, at + text::DESCRIPTOR_START);
-    let len = words::word_at(records, at + text::DESCRIPTOR_LENGTH);
-    text::same(text::name_at(text, start, len), descriptor)
+    let at = (width as usize) * (m as usize);
+    text::same(
+        text::name_at(
+            text,
+            words::get_or(records, at, 0),
+            words::get_or(records, at + text::NAME_LENGTH, 0),
+        ),
+        signature.name,
+    ) && text::same(
+        text::name_at(
+            text,
+            words::get_or(records, at + text::DESCRIPTOR_START, 0),
+            words::get_or(records, at + text::DESCRIPTOR_LENGTH, 0),
+        ),
+        signature.descriptor,
+    )
 }
 
 // Whether method m has this name and descriptor.
-pub fn method_is(ws: &[u32], text: &[u8], m: u32, name: &[u8], descriptor: &[u8]) -> bool
-    ensures { result ≡ method_is ws.now text.now m name.now descriptor.now }
+#[tactic(auto, using(crate::proofs::RecordLaws::record_method))]
+pub fn method_is(ws: &[u32], text: &[u8], m: u32, signature: Signature) -> bool
+    ensures { result ≡ of_signature (method_is ws.now text.now m) signature.entry }
 {
-    record_is(method_records(ws), MEMBER_WIDTH, text, m, name, descriptor)
+    record_is(method_records(ws), MEMBER_WIDTH, text, m, signature)
 }
 
 // The target of method record m.
+#[tactic(auto, unfolding(crate::specs::Records::record_word))]
 pub fn record_target(records: &[u32], m: u32) -> u32
     ensures { result ≡ record_word records.now member_width m target_word }
 {
-    words::word_at(
+    words::get_or(
         records,
-        class_sheet::MEMBER_WIDTH * words::wide(m) + class_sheet::TARGET,
+        class_sheet::MEMBER_WIDTH * (m as usize) + class_sheet::TARGET,
+        0,
     )
 }
 
 // Class c's first method of this signature, of any flags.
-pub fn own_method(ws: &[u32], text: &[u8], name: &[u8], descriptor: &[u8], c: u32) -> Found
-    ensures { result ≡ own_method ws.now text.now name.now descriptor.now c }
+pub fn own_method(ws: &[u32], text: &[u8], signature: Signature, c: u32) -> Option<u32>
+    ensures { result ≡ of_signature (own_method ws.now text.now) signature.entry c }
 {
     let records = method_records(ws);
     let first = class_sheet::class_first_method(ws, c);
-    let n = method_count(ws, c);
-    let mut i: u32 = 0;
-    while i < n {
-        if record_is(records, MEMBER_WIDTH, text, first + i, name, descriptor) {
-            return Found::At(first + i);
-        }
-        i += 1;
-    }
-    Found::Nothing
+    words::find_in(first, first + method_count(ws, c), |m| {
+        record_is(records, MEMBER_WIDTH, text, m, signature)
+    })
 }

@@ -1,1 +1,2 @@
+pub mod InForm
 pub mod Walk

@@ -2,470 +2,351 @@
 // rows 4, 5 and 14, and only then the three lent lists are written, in the sheet's form.
 #![tactic(auto)]
 
-ghost use Rattle.std.specs.Prelude.{◌≡◌, ◌+◌, ◌<◌, ◌≤◌, ◌*◌, ◌^◌, [], ◌++◌, length, ◌&&◌, ◌||◌, eqb};
+ghost use Rattle.std.specs.Prelude.{◌≡◌, ◌+◌, ◌<◌, ◌≤◌, ◌*◌, ◌^◌, [], ◌++◌, length, ◌&&◌, ◌||◌, eqb, ℕ, IfOk, IfErr, Err};
 ghost use Rattle.linking.specs.Set.{write_at, new_records, new_text, packed, overlaid};
-ghost use Rattle.class_form.specs.Marks.{Near};
-ghost use Rattle.class_members.specs.Members.{head_place, string_at, utf8_bytes, class_bytes, file_name, file_parent, file_text, file_fields, file_methods, members_at, places_from, string_ok, file_outcome, fields_start, methods_start, class_file_head, read_class_file};
-ghost use Rattle.words.specs.Words.{words_for};
-ghost use Rattle.class_sheet.specs.ClassSheet.{member_width, text_limit, member_words};
-ghost use Rattle.class_file.specs.Walk.{row_four, row_five, tally, member_of, parent_of, holds, head_read, answered, Parted, Room, Fits};
+ghost use Rattle.class_form.specs.Parts.{form_of, member_at};
+ghost use Rattle.class_members.specs.Members.{string_at, utf8_bytes, class_bytes, file_name, file_parent, file_text, file_fields, file_methods, members_at, member_places, string_ok, file_outcome, fields_start, methods_start, class_file_head, read_class_file};
+ghost use Rattle.class_sheet.specs.ClassSheet.{text_limit};
+ghost use Rattle.class_file.specs.InForm.{InForm};
+ghost use Rattle.class_file.specs.Walk.{row_four, row_five, tally, member_of, parent_of, head_read, holds, Parted, Room, Fits};
 
-use class_form::{Judged, MARKS, Step};
-use class_members::{FileHead, FileRead};
+use class_form::{MARKS, Mark, Places, Pool};
+use class_members::FileHead;
 use class_sheet::MEMBER_WIDTH;
-
-const ROW_NAMES: u32 = 4;
-
-const ROW_DESCRIPTORS: u32 = 5;
-
-const ROW_SIZES: u32 = 14;
+use refusal::Refusal;
+use text::Signature;
 
 const TEXT_LIMIT: usize = class_sheet::TEXT_LIMIT as usize;
 
 // ---- strings
 
 // The bytes of the Utf8 constant whose tag was found, none where it was not.
-pub fn string_at(bytes: &[u8], found: Step) -> &[u8]
+fn string_at(bytes: &[u8], found: Result<usize, Refusal>) -> &[u8]
     ensures is { result.now ≡ string_at bytes.now found }
     ensures small { length result.now < 65536 }
 {
     match found {
-        Step::Stop(_) => words::part(bytes, 0, 0),
-        Step::To(p) => {
+        Ok(p) => {
             let n = class_form::u2_after(bytes, p, 1);
             let constant = words::part(bytes, p, bytes.len());
-            words::part(constant, 3, words::wide(n))
+            words::part(constant, 3, n as usize)
         }
+        Err(_) => words::part(bytes, 0, 0),
     }
 }
 
 // The bytes of the Utf8 constant i.
-fn utf8_bytes<'a>(bytes: &'a [u8], marks: &[usize; MARKS], i: u32) -> &'a [u8]
-    requires { Near bytes.now marks.now }
-    ensures is { result.now ≡ utf8_bytes bytes.now i }
+#[tactic(auto, unfolding(class_members::specs::Members::utf8_bytes))]
+pub fn utf8_bytes<'a>(pool: Pool<'a>, i: u32) -> &'a [u8]
+    ensures is { result.now ≡ utf8_bytes pool.entry.bytes.now i }
     ensures small { length result.now < 65536 }
 {
-    string_at(bytes, class_form::utf8_near(bytes, marks, i))
+    string_at(pool.bytes, class_form::utf8_at(pool, i))
 }
 
 // The name of the Class constant i.
-fn class_bytes<'a>(bytes: &'a [u8], marks: &[usize; MARKS], i: u32) -> &'a [u8]
-    requires { Near bytes.now marks.now }
-    ensures is { result.now ≡ class_bytes bytes.now i }
+#[tactic(auto, unfolding(class_members::specs::Members::class_bytes))]
+pub fn class_bytes<'a>(pool: Pool<'a>, i: u32) -> &'a [u8]
+    ensures is { result.now ≡ class_bytes pool.entry.bytes.now i }
     ensures small { length result.now < 65536 }
 {
-    string_at(bytes, class_form::class_near(bytes, marks, i))
+    string_at(pool.bytes, class_form::class_at(pool, i))
+}
+
+// The parent's name, none where its reference is 0.
+#[tactic(auto, unfolding(crate::specs::Walk::parent_of))]
+pub fn parent_bytes<'a>(pool: Pool<'a>, i: u32) -> &'a [u8]
+    ensures is { result.now ≡ parent_of pool.entry.bytes.now i }
+    ensures small { length result.now < 65536 }
+{
+    if i == 0 {
+        return words::part(pool.bytes, 0, 0);
+    }
+    class_bytes(pool, i)
 }
 
 // Whether a string has 1 to 255 bytes, each from 0x21 to 0x7E.
+#[tactic(auto, using(crate::proofs::Laws::string_long), unfolding(class_members::specs::Members::string_ok, text::specs::Text::part_ok, text::specs::Text::part_clean))]
 fn string_ok(s: &[u8]) -> bool
     ensures { result ≡ string_ok s.now }
 {
-    let n = s.len();
-    if 255 < n {
-        return false;
+    s.len() <= 255 && text::part_clean(s, false, 0, s.len() as u32)
+}
+
+// A member's name, descriptor and flags, and where the next one begins.
+#[derive(Clone, Copy)]
+pub struct Member<'a> {
+    pub signature: Signature<'a>,
+    pub flags: u32,
+    pub next: usize,
+}
+
+// The member that begins at p.
+pub fn member_at<'a>(pool: Pool<'a>, p: usize) -> Member<'a>
+    ensures name { result.signature.name.now ≡ utf8_bytes pool.entry.bytes.now (member_at pool.entry.bytes.now p).name }
+    ensures descriptor { result.signature.descriptor.now ≡ utf8_bytes pool.entry.bytes.now (member_at pool.entry.bytes.now p).descriptor }
+    ensures flags { result.flags ≡ (member_at pool.entry.bytes.now p).flags }
+    ensures next { result.next ≡ (member_at pool.entry.bytes.now p).next }
+    ensures small { (length result.signature.name.now < 65536) × (length result.signature.descriptor.now < 65536) }
+{
+    let m = class_form::member_at(pool.bytes, p);
+    Member {
+        signature: Signature {
+            name: utf8_bytes(pool, m.name),
+            descriptor: utf8_bytes(pool, m.descriptor),
+        },
+        flags: m.flags,
+        next: m.next,
     }
-    text::part_clean(s, false, 0, n as u32)
 }
 
 // ---- rows 4 and 5 along a list of members, and how many bytes their strings have
 
-// What is told of a list of members: whether row 4 refuses none, and then whether row 5 refuses none, and how many bytes their strings have.
+// Of members that row 4 does not refuse, how many there are, whether row 5 refuses none, and how many bytes their strings have.
 #[derive(Clone, Copy)]
 struct Tally {
-    named: bool,
+    members: u32,
     typed: bool,
     text: usize,
 }
 
 // Row 4 of a method or a field.
-fn is_named(method: bool, name: &[u8], descriptor: &[u8], flags: u32) -> bool
-    ensures { result ≡ row_four method (member_of name.now descriptor.now flags 0) }
+#[tactic(auto, unfolding(class_members::specs::Members::method_ok, class_members::specs::Members::field_ok))]
+fn is_named(method: bool, m: Member) -> bool
+    ensures { result ≡ row_four method (member_of m.entry.signature.name.now m.entry.signature.descriptor.now m.entry.flags 0) }
 {
-    string_ok(name) & string_ok(descriptor) & (!method | class_rules::method_flags_ok(flags))
+    string_ok(m.signature.name)
+        & string_ok(m.signature.descriptor)
+        & (!method | class_rules::method_flags_ok(m.flags))
 }
 
 // Row 5 of a method, by its own flags, or a field.
-fn is_typed(method: bool, descriptor: &[u8], flags: u32) -> bool
-    ensures { result ≡ row_five method (member_of [] descriptor.now flags 0) }
+#[tactic(auto, unfolding(class_members::specs::Members::method_typed, class_members::specs::Members::field_typed))]
+fn is_typed(method: bool, m: Member) -> bool
+    ensures { result ≡ row_five method (member_of m.entry.signature.name.now m.entry.signature.descriptor.now m.entry.flags 0) }
 {
     if method {
-        return descriptor::is_method(descriptor, flags);
+        return descriptor::is_method(m.signature.descriptor, m.flags);
     }
-    descriptor::is_field_descriptor(descriptor)
+    descriptor::is_field_descriptor(m.signature.descriptor)
 }
 
-// The n methods or fields of which the first begins at p.
-fn tally_members(bytes: &[u8], marks: &[usize; MARKS], method: bool, n: u32, p: usize) -> Tally
-    requires { Near bytes.now marks.now }
-    ensures is { result ≡ tally method (members_at bytes.now [] 0 (places_from bytes.now n p)) }
-    ensures small { result.text < 2 ^ 50 }
+// The methods or fields whose count stands at p.
+#[tactic(auto, using(crate::proofs::Laws::tally_steps))]
+fn tally_members(pool: Pool, method: bool, p: usize) -> Result<Tally, Refusal>
+    requires { p + 2 ≤ length pool.bytes.now }
+    ensures is { result ≡ tally method (members_at pool.entry.bytes.now [] 0 (member_places pool.entry.bytes.now p)) }
+    ensures small { IfOk result (λ t. t.text < 2 ^ 50) }
 {
+    let members = class_form::u2(pool.bytes, p);
     let mut typed = true;
     let mut text: usize = 0;
-    let mut next: usize = p;
-    let mut i: u32 = 0;
-    while i < n {
-        let m = class_form::member_at(bytes, next);
-        let name = utf8_bytes(bytes, marks, m.name);
-        let descriptor = utf8_bytes(bytes, marks, m.descriptor);
-        if !is_named(method, name, descriptor, m.flags) {
-            return Tally {
-                named: false,
-                typed: false,
-                text: 0,
-            };
+    let mut next = p + 2;
+    for _ in 0..members {
+        let m = member_at(pool, next);
+        if !is_named(method, m) {
+            return Err(Refusal::Record);
         }
-        typed = typed & is_typed(method, descriptor, m.flags);
-        text += name.len() + descriptor.len();
+        typed = typed & is_typed(method, m);
+        text += m.signature.name.len() + m.signature.descriptor.len();
         next = m.next;
-        i += 1;
     }
-    Tally {
-        named: true,
+    Ok(Tally {
+        members,
         typed,
         text,
-    }
+    })
 }
 
 // ---- rows 4, 5 and 14 of the whole
 
-// Where the access flags, the fields' count and the methods' count stand.
+// A class file in form: its bytes with the marks of its pool, and where its parts stand.
 #[derive(Clone, Copy)]
-pub struct Places {
-    pub head: usize,
-    pub fields: usize,
-    pub methods: usize,
+pub struct File<'a> {
+    pub pool: Pool<'a>,
+    pub places: Places,
+    pub ghost parted: { Parted pool.bytes.now places },
 }
 
-// The parent's name, none where its reference is 0.
-fn parent_bytes<'a>(bytes: &'a [u8], marks: &[usize; MARKS], i: u32) -> &'a [u8]
-    requires { Near bytes.now marks.now }
-    ensures is { result.now ≡ parent_of bytes.now i }
-    ensures small { length result.now < 65536 }
+// The six words of a file, or the row of 4, 5 and 14 that refuses it.
+#[tactic(auto, unfolding(crate::specs::Walk::head_read))]
+fn head_read(file: File) -> Result<FileHead, Refusal>
+    ensures { result ≡ head_read file.entry.pool.bytes.now file.entry.places }
 {
-    if i == 0 {
-        return words::part(bytes, 0, 0);
+    let bytes = file.pool.bytes;
+    let at = file.places;
+    let name = class_bytes(file.pool, class_form::u2_after(bytes, at.head, 2));
+    let index = class_form::u2_after(bytes, at.head, 4);
+    let parent = parent_bytes(file.pool, index);
+    if !(string_ok(name) & ((index == 0) | string_ok(parent))) {
+        return Err(Refusal::Record);
     }
-    class_bytes(bytes, marks, i)
-}
-
-// Row 4 of the class's name and, where its reference is not 0, of the parent's.
-fn class_named(name: &[u8], index: u32, parent: &[u8]) -> bool
-    ensures { result ≡ (string_ok name.now && (eqb index 0 || string_ok parent.now)) }
-{
-    string_ok(name) & ((index == 0) | string_ok(parent))
-}
-
-// Rows 4, 5 and 14 by what was read: the six words, or the row that refuses.
-fn answer(
-    named: bool,
-    f: Tally,
-    m: Tally,
-    name: usize,
-    parent: usize,
-    flags: u32,
-    fields: u32,
-    methods: u32,
-) -> FileRead
-    requires { (name < 65536) × (parent < 65536) × (f.text < 2 ^ 50) × (m.text < 2 ^ 50) }
-    ensures { result ≡ answered named f m name parent flags fields methods }
-{
-    if !(named & f.named & m.named) {
-        return FileRead::Refused(ROW_NAMES);
-    }
+    let f = tally_members(file.pool, false, at.fields)?;
+    let m = tally_members(file.pool, true, at.methods)?;
     if !(f.typed & m.typed) {
-        return FileRead::Refused(ROW_DESCRIPTORS);
+        return Err(Refusal::Descriptor);
     }
-    let text = name + parent + (f.text + m.text);
-    if (class_sheet::FIELD_LIMIT < fields)
-        | (class_sheet::METHOD_LIMIT < methods)
+    let text = name.len() + parent.len() + (f.text + m.text);
+    if (class_sheet::FIELD_LIMIT < f.members)
+        | (class_sheet::METHOD_LIMIT < m.members)
         | (TEXT_LIMIT < text)
     {
-        return FileRead::Refused(ROW_SIZES);
+        return Err(Refusal::FullLists);
     }
-    FileRead::Members(FileHead {
-        name: name as u32,
-        parent: parent as u32,
-        flags,
-        fields,
-        methods,
+    Ok(FileHead {
+        name: name.len() as u32,
+        parent: parent.len() as u32,
+        flags: class_form::u2(bytes, at.head),
+        fields: f.members,
+        methods: m.members,
         text: text as u32,
     })
 }
 
-// The file whose parts stand at these places: its six words, or the row that refuses.
-fn judge_members(bytes: &[u8], marks: &[usize; MARKS], at: Places) -> FileRead
-    requires { Parted bytes.now marks.now at }
-    ensures { result ≡ head_read bytes.now }
-{
-    let name = class_bytes(bytes, marks, class_form::u2_after(bytes, at.head, 2));
-    let index = class_form::u2_after(bytes, at.head, 4);
-    let parent = parent_bytes(bytes, marks, index);
-    let field_count = class_form::u2(bytes, at.fields);
-    let method_count = class_form::u2(bytes, at.methods);
-    let f = tally_members(bytes, marks, false, field_count, at.fields + 2);
-    let m = tally_members(bytes, marks, true, method_count, at.methods + 2);
-    answer(
-        class_named(name, index, parent),
-        f,
-        m,
-        name.len(),
-        parent.len(),
-        class_form::u2(bytes, at.head),
-        field_count,
-        method_count,
-    )
-}
-
 // Row 14 by the lists: whether they hold the file's members and text, and there is a target for each method.
+#[tactic(auto, using(crate::proofs::Laws::words_hold), unfolding(crate::specs::Walk::holds))]
 fn lists_hold(h: FileHead, targets: usize, fields: usize, methods: usize, text: usize) -> bool
     ensures { result ≡ holds h.fields h.methods h.text targets fields methods text }
 {
-    (MEMBER_WIDTH * words::wide(h.fields) <= fields)
-        & (MEMBER_WIDTH * words::wide(h.methods) <= methods)
-        & ((words::wide(h.text) + 3) / 4 <= text)
-        & (targets == words::wide(h.methods))
+    (MEMBER_WIDTH * (h.fields as usize) <= fields)
+        & (MEMBER_WIDTH * (h.methods as usize) <= methods)
+        & (((h.text as usize) + 3) / 4 <= text)
+        & (targets == (h.methods as usize))
 }
 
 // ---- writing
 
-// Copies bytes to the place `at` of others.
-fn put_part(bytes: &mut [u8], at: usize, part: &[u8])
-    requires { at + length part.now ≤ length bytes.old }
-    ensures { bytes.new ≡ write_at bytes.old at part.now }
-{
-    let mut j: usize = 0;
-    while j < part.len() {
-        words::put_byte(bytes, at + j, words::byte_at(part, j));
-        j += 1;
-    }
-}
-
-// Two strings, one after the other, from `at` on; answers where they end.
-fn put_strings(text: &mut [u8], at: u32, first: &[u8], second: &[u8]) -> u32
-    requires { (at + (length first.now + length second.now) ≤ length text.old) × (length text.old ≤ text_limit) }
-    ensures is { text.new ≡ write_at text.old at (first.now ++ second.now) }
-    ensures end { result ≡ at + (length first.now + length second.now) }
-{
-    let start = words::wide(at);
-    let middle = start + first.len();
-    put_part(text, start, first);
-    put_part(text, middle, second);
-    (middle + second.len()) as u32
-}
-
-// Record i of a list: its name begins at byte `start` of the text, its descriptor after it.
-fn put_record(
-    records: &mut [u32],
-    i: u32,
-    start: u32,
-    name: u32,
-    descriptor: u32,
-    flags: u32,
-    last: u32,
-)
-    requires { (member_width * i + member_width ≤ length records.old) × (start + (name + descriptor) < 2 ^ 32) }
-    ensures { records.new ≡ write_at records.old (member_width * i) (member_words start name (start + name) descriptor flags last) }
-{
-    let at = MEMBER_WIDTH * words::wide(i);
-    let end = at + MEMBER_WIDTH;
-    class_sheet::put_member(
-        &mut records[at..end],
-        start,
-        name,
-        start + name,
-        descriptor,
-        flags,
-        last,
-    );
-}
-
-// The records of n members, of which the first begins at p, and their strings, from `start` on; answers where these end.
+// The records of the members whose count stands at p, and their strings, from `start` on; answers where these end.
+#[tactic(auto, using(crate::proofs::WriteLaws::write_steps, growth::proofs::GrowthLaws::strings_put, growth::proofs::GrowthLaws::strings_next, growth::proofs::GrowthLaws::member_put))]
 fn put_members(
     records: &mut [u32],
     text: &mut [u8],
-    start: u32,
-    bytes: &[u8],
-    marks: &[usize; MARKS],
-    n: u32,
+    start: usize,
+    pool: Pool,
     p: usize,
     lasts: &[u32],
-) -> u32
-    requires { Room records.old text.old start bytes.now marks.now n p lasts.now }
-    ensures records { records.new ≡ write_at records.old 0 (new_records start (members_at bytes.now lasts.now 0 (places_from bytes.now n p))) }
-    ensures text { text.new ≡ write_at text.old start (new_text (members_at bytes.now lasts.now 0 (places_from bytes.now n p))) }
-    ensures end { result ≡ start + length (new_text (members_at bytes.now lasts.now 0 (places_from bytes.now n p))) }
+) -> usize
+    requires { Room records.old text.old start pool.bytes.now p lasts.now }
+    ensures records { records.new ≡ write_at records.old 0 (new_records start (members_at pool.entry.bytes.now lasts.now 0 (member_places pool.entry.bytes.now p))) }
+    ensures text { text.new ≡ write_at text.old start (new_text (members_at pool.entry.bytes.now lasts.now 0 (member_places pool.entry.bytes.now p))) }
+    ensures end { result ≡ start + length (new_text (members_at pool.entry.bytes.now lasts.now 0 (member_places pool.entry.bytes.now p))) }
 {
-    let mut at: u32 = start;
-    let mut next: usize = p;
-    let mut i: u32 = 0;
-    while i < n {
-        let m = class_form::member_at(bytes, next);
-        let name = utf8_bytes(bytes, marks, m.name);
-        let descriptor = utf8_bytes(bytes, marks, m.descriptor);
-        let last = words::word_at(lasts, words::wide(i));
-        put_record(
+    let mut at = start;
+    let mut next = p + 2;
+    for i in 0..class_form::u2(pool.bytes, p) as usize {
+        let m = member_at(pool, next);
+        let signature = m.signature;
+        growth::put_record(
             records,
-            i,
-            at,
-            name.len() as u32,
-            descriptor.len() as u32,
+            MEMBER_WIDTH * i,
+            at as u32,
+            signature.name.len() as u32,
+            (at + signature.name.len()) as u32,
+            signature.descriptor.len() as u32,
             m.flags,
-            last,
+            words::get_or(lasts, i, 0),
         );
-        at = put_strings(text, at, name, descriptor);
+        at = growth::put_strings(text, at, signature.name, signature.descriptor);
         next = m.next;
-        i += 1;
     }
     at
 }
 
-// Bytes as words, four a word, lowest first, zeros after the last.
-fn put_packed(out: &mut [u32], bytes: &[u8])
-    requires { (words_for (length bytes.now) ≤ length out.old) × (length bytes.now ≤ text_limit) }
-    ensures { out.new ≡ write_at out.old 0 (packed bytes.now) }
-{
-    let n = (bytes.len() + 3) / 4;
-    let mut i: usize = 0;
-    while i < n {
-        words::put_word(out, i, words::le_word(bytes, 4 * i));
-        i += 1;
-    }
-}
-
 // The class's and the parent's name at the front of the text; answers where they end.
-fn put_head(text: &mut [u8], bytes: &[u8], marks: &[usize; MARKS], head: usize) -> u32
-    requires { (Near bytes.now marks.now) × (head_place bytes.now ≡ head) × (fields_start bytes.now ≤ length text.old) × (length text.old ≤ text_limit) }
-    ensures is { text.new ≡ write_at text.old 0 (file_name bytes.now ++ file_parent bytes.now) }
-    ensures end { result ≡ fields_start bytes.now }
+#[tactic(auto, using(crate::proofs::JudgeLaws::name_is, crate::proofs::JudgeLaws::parent_is, crate::proofs::ReadLaws::fields_start_is, growth::proofs::GrowthLaws::strings_put, growth::proofs::GrowthLaws::strings_next))]
+fn put_head(text: &mut [u8], file: File) -> usize
+    requires { (fields_start file.pool.bytes.now ≤ length text.old) × (length text.old ≤ text_limit) }
+    ensures is { text.new ≡ write_at text.old 0 (file_name file.entry.pool.bytes.now ++ file_parent file.entry.pool.bytes.now) }
+    ensures end { result ≡ fields_start file.entry.pool.bytes.now }
 {
-    let name = class_bytes(bytes, marks, class_form::u2_after(bytes, head, 2));
-    let parent = parent_bytes(bytes, marks, class_form::u2_after(bytes, head, 4));
-    put_strings(text, 0, name, parent)
+    let bytes = file.pool.bytes;
+    let head = file.places.head;
+    let name = class_bytes(file.pool, class_form::u2_after(bytes, head, 2));
+    let parent = parent_bytes(file.pool, class_form::u2_after(bytes, head, 4));
+    growth::put_strings(text, 0, name, parent)
 }
 
 // The three lists, of a file that no row refuses.
+#[tactic(auto, using(crate::proofs::ReadLaws::list_steps, growth::proofs::GrowthLaws::packed_laid))]
 fn write_lists(
-    bytes: &[u8],
-    marks: &[usize; MARKS],
-    at: Places,
+    file: File,
     targets: &[u32],
     fields: &mut [u32],
     methods: &mut [u32],
     text: &mut [u32],
 )
-    requires { (Parted bytes.now marks.now at) × (Fits bytes.now targets.now fields.old methods.old text.old) }
-    ensures fields { fields.new ≡ overlaid (new_records (fields_start bytes.now) (file_fields bytes.now)) fields.old }
-    ensures methods { methods.new ≡ overlaid (new_records (methods_start bytes.now) (file_methods bytes.now targets.now)) methods.old }
-    ensures text { text.new ≡ overlaid (packed (file_text bytes.now targets.now)) text.old }
+    requires { Fits file.pool.bytes.now targets.now fields.old methods.old text.old }
+    ensures fields { fields.new ≡ overlaid (new_records (fields_start file.entry.pool.bytes.now) (file_fields file.entry.pool.bytes.now)) fields.old }
+    ensures methods { methods.new ≡ overlaid (new_records (methods_start file.entry.pool.bytes.now) (file_methods file.entry.pool.bytes.now targets.now)) methods.old }
+    ensures text { text.new ≡ overlaid (packed (file_text file.entry.pool.bytes.now targets.now)) text.old }
 {
-    let none = words::word_part(targets, 0, 0);
-    let field_count = class_form::u2(bytes, at.fields);
-    let method_count = class_form::u2(bytes, at.methods);
+    let places = file.places;
     let mut strings = [0u8; TEXT_LIMIT];
-    let first = put_head(&mut strings, bytes, marks, at.head);
-    let second = put_members(
-        fields,
-        &mut strings,
-        first,
-        bytes,
-        marks,
-        field_count,
-        at.fields + 2,
-        none,
-    );
+    let first = put_head(&mut strings, file);
+    let second = put_members(fields, &mut strings, first, file.pool, places.fields, &[]);
     let end = put_members(
         methods,
         &mut strings,
         second,
-        bytes,
-        marks,
-        method_count,
-        at.methods + 2,
+        file.pool,
+        places.methods,
         targets,
     );
-    put_packed(text, words::part(&strings, 0, words::wide(end)));
+    growth::put_packed(text, 0, &strings[..end]);
 }
 
 // ---- the entries
 
-// The file whose parts stand at these places, into the lists.
-fn read_parts(
-    bytes: &[u8],
-    marks: &[usize; MARKS],
-    at: Places,
-    targets: &[u32],
-    fields: &mut [u32],
-    methods: &mut [u32],
-    text: &mut [u32],
-) -> FileRead
-    requires { Parted bytes.now marks.now at }
-    ensures { file_outcome result fields.new methods.new text.new ≡ read_class_file bytes.now targets.now fields.old methods.old text.old }
+// The six words of a file in form, or the row of 4, 5 and 14 that refuses it.
+#[tactic(auto, using(crate::proofs::JudgeLaws::head_outcome))]
+pub fn file_head(file: File) -> Result<FileHead, Refusal>
+    ensures { file_outcome result [] [] [] ≡ class_file_head file.entry.pool.bytes.now }
 {
-    match judge_members(bytes, marks, at) {
-        FileRead::Refused(row) => FileRead::Refused(row),
-        FileRead::Members(h) => {
-            if !lists_hold(h, targets.len(), fields.len(), methods.len(), text.len()) {
-                return FileRead::Refused(ROW_SIZES);
-            }
-            write_lists(bytes, marks, at, targets, fields, methods, text);
-            FileRead::Members(h)
-        }
-    }
+    head_read(file)
+}
+
+// A file whose form is accepted, with the marks of its pool in the array lent for them.
+#[tactic(auto, using(crate::proofs::ReadLaws::read_steps))]
+pub fn in_form<'a>(bytes: &'a [u8], marks: &'a mut [Mark; MARKS]) -> Result<File<'a>, Refusal>
+    ensures accepted { IfOk result (λ f. InForm bytes.now f.places f.pool.bytes.now f.pool.marks.now) }
+    ensures refused { IfErr result (λ r. form_of bytes.now ≡ Err r) }
+{
+    let places = class_form::form(bytes)?;
+    *marks = class_form::pool_marks(bytes);
+    Ok(File {
+        pool: Pool { bytes, marks },
+        places,
+    })
+}
+
+// The six words alone, for a caller that has yet to lend lists (the program's choice): every row but 14 by the lists and targets.
+#[tactic(auto, using(class_form::proofs::PartLaws::form_near, crate::proofs::ReadLaws::form_parted, crate::proofs::ReadLaws::head_by_form))]
+pub fn class_file_head(bytes: &[u8]) -> Result<FileHead, Refusal>
+    ensures { file_outcome result [] [] [] ≡ class_file_head bytes.now }
+{
+    let mut marks = class_form::NO_MARKS;
+    file_head(in_form(bytes, &mut marks)?)
 }
 
 // Reads a class file's members into three lent lists in the sheet's form, each method with its target. The six words that are answered, zeros
 // after the text in its last word, and that words after what is written stay are this program's choice: the papers name no answer words, and
 // say of the lists only what fills them. A refused call changes none.
+#[tactic(auto, using(crate::proofs::ReadLaws::read_steps))]
 pub fn read_class_file(
     bytes: &[u8],
     targets: &[u32],
     fields: &mut [u32],
     methods: &mut [u32],
     text: &mut [u32],
-) -> FileRead
+) -> Result<FileHead, Refusal>
     ensures { file_outcome result fields.new methods.new text.new ≡ read_class_file bytes.now targets.now fields.old methods.old text.old }
 {
-    match class_form::form(bytes) {
-        Judged::Refused(row) => FileRead::Refused(row),
-        Judged::Parts {
-            head,
-            fields: first,
-            methods: second,
-        } => {
-            let marks = class_form::pool_marks(bytes);
-            let at = Places {
-                head,
-                fields: first,
-                methods: second,
-            };
-            read_parts(bytes, &marks, at, targets, fields, methods, text)
-        }
+    let mut marks = class_form::NO_MARKS;
+    let file = in_form(bytes, &mut marks)?;
+    let head = head_read(file)?;
+    if !lists_hold(head, targets.len(), fields.len(), methods.len(), text.len()) {
+        return Err(Refusal::FullLists);
     }
-}
-
-// The six words alone, for a caller that has yet to lend lists (the program's choice): every row but 14 by the lists and targets.
-pub fn class_file_head(bytes: &[u8]) -> FileRead
-    ensures { file_outcome result [] [] [] ≡ class_file_head bytes.now }
-{
-    match class_form::form(bytes) {
-        Judged::Refused(row) => FileRead::Refused(row),
-        Judged::Parts {
-            head,
-            fields,
-            methods,
-        } => {
-            let marks = class_form::pool_marks(bytes);
-            judge_members(
-                bytes,
-                &marks,
-                Places {
-                    head,
-                    fields,
-                    methods,
-                },
-            )
-        }
-    }
+    write_lists(file, targets, fields, methods, text);
+    Ok(head)
 }

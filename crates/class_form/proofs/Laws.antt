@@ -1,136 +1,68 @@
--- Steps and the numbers of two and four bytes, as the code meets them. Assumes nothing.
-use mathlib.Core.Path.{◌≡◌, sym, ◌∙◌}
-use mathlib.Core.Bool.{Bool, true, false, not, ◌||◌}
+-- Steps, and items one after the other, as the code meets them. Assumes nothing.
+use mathlib.Core.Path.{◌≡◌, refl, sym, ◌∙◌}
 use mathlib.Core.List.{List}
-use Prim.Native.Nat.{ℕ, suc, ◌+◌, ◌*◌, ◌-◌, ◌≤◌, ◌<◌}
+use Prim.Native.Nat.{ℕ, suc, ◌+◌, ◌-◌, ◌≤◌, ◌<◌}
 use native.Mathlib.Omega.{arith}
-use lib.ListN.{length, get_or}
+use lib.ListN.{length}
 use lib.Dec.{leb, eqb}
-use borrow.Author.Tests.{le-leb, lt-leb, leb-true, leb-false, ne_eqb, not-true, not-false}
+use borrow.Author.Tests.{lt-leb, leb-true, eq-eqb, ne_eqb, eqb-true, eqb-false}
+use Rattle.std.specs.Prelude.{Result, Ok, Err}
 use Rattle.words.proofs.Bools.{by}
-use Rattle.words.proofs.Laws.{past}
-use Rattle.class_form.specs.declared.Step.{Step}
-use Rattle.class_form.specs.declared.Step.TheVariants.{To, Stop}
-use Rattle.class_form.specs.Form.{u2, u4, on_step, taken, is_wide, places, body_size, tag_ok, after_constant, after_each}
+use Rattle.refusal.specs.declared.Refusal.{Refusal}
+use Rattle.refusal.specs.declared.Refusal.TheVariants.{WrongEnd}
+use Rattle.class_form.specs.Form.{Step, ◌>>=◌, taken, is_wide, places, after_constants, pool_count, after_pool, after_each, after_counted, after_attributes}
 
--- ---- steps: the code's result s is the definition's step t
+-- ---- results told apart
 
-pub on_stop : (f : ℕ → Step) {s t : Step} {row : ℕ} → s ≡ t → s ≡ Stop row → Stop row ≡ on_step t f
-on_stop f e h = rw (← e, h)
+module _ {A : Type 0} where
+  pub ok_same : {x y : A} → ◌≡◌ {A = Result A Refusal} (Ok x) (Ok y) → x ≡ y
+  ok_same e = cc
 
-pub on_to : (f : ℕ → Step) {s t r : Step} {q : ℕ} → s ≡ t → s ≡ To q → r ≡ f q → r ≡ on_step t f
-on_to f e h g = rw (← e, h) g
+  pub not_ok : {X : Type 0} {r : Refusal} {x : A} → ◌≡◌ {A = Result A Refusal} (Err r) (Ok x) → X
+  not_ok e = let z : ◌≡◌ {A = ℕ} 0 1 = cc in absurd (omega arith)
 
--- ---- an item
+  -- what follows a step goes on, so the step does
+  pub step_to : (s : Step) (g : ℕ → Result A Refusal) {x : A} → (s >>= g) ≡ Ok x → (q : ℕ) × (s ≡ Ok q) × (g q ≡ Ok x)
+  step_to (Ok q) g e = (q, refl, e)
+  step_to (Err r) g e = not_ok e
 
-pub taken-there : (bs : List ℕ) (p n : ℕ) → p + n ≤ length bs → To (p + n) ≡ taken bs p n
+-- ---- items
+
+-- what was taken is there
+pub taken_to : (bs : List ℕ) (p n : ℕ) {q : ℕ} → taken bs p n ≡ Ok q → (q ≡ p + n) × (p + n ≤ length bs)
 unfolding taken
-taken-there bs p n h = rw (le-leb (p + n) (length bs) h)
-
-pub taken-cut : (bs : List ℕ) (p n : ℕ) → length bs < p + n → Stop 21 ≡ taken bs p n
-unfolding taken
-taken-cut bs p n h = rw (lt-leb (p + n) (length bs) h)
-
--- what was taken is there, and what was not is not
-pub taken_to : (bs : List ℕ) (p n : ℕ) {s : Step} {q : ℕ} → s ≡ taken bs p n → s ≡ To q → (q ≡ p + n) × (p + n ≤ length bs)
-taken_to bs p n {q = q} e h =
+taken_to bs p n {q} e =
     by (leb (p + n) (length bs))
-    (λ t. let l : p + n ≤ length bs = leb-true _ _ t in let k = taken-there bs p n l in (cc, l))
-    (λ t. let k = taken-cut bs p n (leb-false _ _ t) in let z : ◌≡◌ {A = ℕ} 0 1 = cc in absurd (omega arith))
+    (λ t. (ok_same (sym (rw t at e)), leb-true _ _ t))
+    (λ t. not_ok (rw t at e))
 
-pub taken-stop : (bs : List ℕ) (p n : ℕ) {s : Step} {row : ℕ} → s ≡ taken bs p n → s ≡ Stop row → length bs < p + n
-taken-stop bs p n e h =
-    by (leb (p + n) (length bs))
-    (λ t. let k = taken-there bs p n (leb-true _ _ t) in let z : ◌≡◌ {A = ℕ} 0 1 = cc in absurd (omega arith))
-    (λ t. leb-false _ _ t)
-
--- ---- numbers: past the end there are zeros
-
-pub u2-past : (bs : List ℕ) (p : ℕ) → length bs ≤ p → 0 ≡ u2 bs p
-unfolding u2
-u2-past bs p h = omega (arith, past bs p h, past bs (p + 1) (omega arith))
-
-pub u4-past : (bs : List ℕ) (p : ℕ) → length bs ≤ p → 0 ≡ u4 bs p
-unfolding u4
-u4-past bs p h = omega (arith, u2-past bs p h, u2-past bs (p + 2) (omega arith))
-
--- the number n bytes after p, from the step over them
-pub u2_on : (bs : List ℕ) (p n : ℕ) {s : Step} {q r : ℕ} → s ≡ taken bs p n → s ≡ To q → r ≡ u2 bs q → r ≡ u2 bs (p + n)
-u2_on bs p n e h g = let t = taken_to bs p n e h in rw (← t.0) g
-
-pub u4_on : (bs : List ℕ) (p n : ℕ) {s : Step} {q a b : ℕ} → s ≡ taken bs p n → s ≡ To q → a ≡ u2 bs q → b ≡ u2 bs (q + 2)
-    → 65536 * a + b ≡ u4 bs (p + n)
-unfolding u4
-u4_on bs p n e h g k = let t = taken_to bs p n e h in rw (← t.0, g, k)
-
-pub u2-cut : (bs : List ℕ) (p n : ℕ) {s : Step} {row : ℕ} → s ≡ taken bs p n → s ≡ Stop row → 0 ≡ u2 bs (p + n)
-u2-cut bs p n e h = let l = taken-stop bs p n e h in u2-past bs (p + n) (omega arith)
-
-pub u4-cut : (bs : List ℕ) (p n : ℕ) {s : Step} {row : ℕ} → s ≡ taken bs p n → s ≡ Stop row → 0 ≡ u4 bs (p + n)
-u4-cut bs p n e h = let l = taken-stop bs p n e h in u4-past bs (p + n) (omega arith)
-
--- ---- a constant
-
-module _ (bs : List ℕ) (p : ℕ) {t : ℕ} where
-  pub size-utf8 : {n w : ℕ} → t ≡ 1 → n ≡ u2 bs p → w ≡ n → 2 + w ≡ body_size bs t p
-  unfolding body_size
-  size-utf8 e f g = rw (e, g, f)
-
-  pub size_wide : {b : Bool} → (t ≡ 1 → ⊥) → b ≡ is_wide t → b ≡ true → 8 ≡ body_size bs t p
-  unfolding body_size
-  size_wide n e h = rw (ne_eqb t 1 n, ← e, h)
-
-  pub size-two : {b : Bool} → (t ≡ 1 → ⊥) → b ≡ is_wide t → b ≡ false → (eqb t 7 || eqb t 8) ≡ true → 2 ≡ body_size bs t p
-  unfolding body_size
-  size-two n e h k = rw (ne_eqb t 1 n, ← e, h, k)
-
-  pub size-four : {b : Bool} → (t ≡ 1 → ⊥) → b ≡ is_wide t → b ≡ false → (eqb t 7 || eqb t 8) ≡ false → 4 ≡ body_size bs t p
-  unfolding body_size
-  size-four n e h k = rw (ne_eqb t 1 n, ← e, h, k)
-
-module _ (bs : List ℕ) (count i p : ℕ) {s : Step} where
-  pub constant-cut : {row : ℕ} → s ≡ taken bs p 1 → s ≡ Stop row → Stop row ≡ after_constant bs count i p
-  unfolding after_constant
-  constant-cut e h = rw (← e, h)
-
-  pub constant-bad : {q t : ℕ} {b : Bool} → s ≡ taken bs p 1 → s ≡ To q → t ≡ get_or bs p 0 → b ≡ tag_ok count i t → not b ≡ true
-      → Stop 22 ≡ after_constant bs count i p
-  unfolding after_constant
-  constant-bad {b = b} e h f g n = rw (← e, h, ← f, ← g, not-true b n)
-
-  pub constant-body : {q t n : ℕ} {b : Bool} {r : Step} → s ≡ taken bs p 1 → s ≡ To q → t ≡ get_or bs p 0 → b ≡ tag_ok count i t → not b ≡ false
-      → n ≡ body_size bs t q → r ≡ taken bs q n → r ≡ after_constant bs count i p
-  unfolding after_constant
-  constant-body {b = b} e h f g n k l = rw (← e, h, ← f, ← g, not-false b n, ← k) l
+-- one index is left where the next one is the count
+pub last_index : (i count : ℕ) → eqb (count - i) 1 ≡ eqb (i + 1) count
+last_index i count =
+    by (eqb (i + 1) count)
+    (λ t. let e = eqb-true _ _ t in eq-eqb _ _ (omega arith) ∙ sym t)
+    (λ t. let n = eqb-false _ _ t in ne_eqb _ _ (λ (e : count - i ≡ 1). n (omega arith)) ∙ sym t)
 
 -- a constant takes one place or two
-pub places-few : (t : ℕ) → (1 ≤ places t) × (places t ≤ 2)
+pub places_few : (t : ℕ) → (1 ≤ places t) × (places t ≤ 2)
 unfolding places
-places-few t = by (is_wide t) (λ e. rw e (omega arith)) (λ e. rw e (omega arith))
+places_few t = by (is_wide t) (λ e. rw e (omega arith)) (λ e. rw e (omega arith))
 
--- ---- items one after the other: what is left of n items, k of them taken, is the whole
-
-module _ (item : ℕ → Step) (n p k at : ℕ) (inv : after_each item (n - k) at ≡ after_each item n p) where
-  pub each_turn : {s : Step} {q : ℕ} → k < n → s ≡ item at → s ≡ To q → after_each item (n - (k + 1)) q ≡ after_each item n p
+-- k of n items have been passed: one more, or none is left
+module _ (item : ℕ → Step) (n k at : ℕ) where
+  pub each_turn : k < n → after_each item (n - k) at ≡ (item at >>= after_each item (n - (k + 1)))
   unfolding after_each
-  each_turn {q = q} l e h =
-      let z : n - k ≡ suc (n - (k + 1)) = omega arith in
-      let g : after_each item (n - k) at ≡ after_each item (n - (k + 1)) q = rw (z, ← e, h) in
-      sym g ∙ inv
+  each_turn h = let z : n - k ≡ suc (n - (k + 1)) = omega arith in rw z
 
-  pub each-stop : {s : Step} {row : ℕ} → k < n → s ≡ item at → s ≡ Stop row → Stop row ≡ after_each item n p
+  pub each_end : n ≤ k → after_each item (n - k) at ≡ Ok at
   unfolding after_each
-  each-stop {row = row} l e h =
-      let z : n - k ≡ suc (n - (k + 1)) = omega arith in
-      let g : after_each item (n - k) at ≡ Stop row = rw (z, ← e, h) in
-      sym g ∙ inv
+  each_end h = let z : n - k ≡ 0 = omega arith in rw z
 
-  pub each-end : n ≤ k → To at ≡ after_each item n p
-  unfolding after_each
-  each-end l =
-      let z : n - k ≡ 0 = omega arith in
-      let g : after_each item (n - k) at ≡ To at = rw z in
-      sym g ∙ inv
+-- attributes that begin past the end, and a pool whose count is there
+pub attributes_cut : (bs : List ℕ) (p : ℕ) → length bs < p → after_attributes bs p ≡ Err WrongEnd
+unfolding after_attributes after_counted taken
+attributes_cut bs p h = rw (lt-leb (p + 2) (length bs) (omega arith))
 
-pub each_start : (item : ℕ → Step) (n p : ℕ) → after_each item (n - 0) p ≡ after_each item n p
-each_start item n p = let z : n - 0 ≡ n = omega arith in rw z
+pub pool_is : (bs : List ℕ) → after_pool bs ≡ (taken bs 8 2 >>= (λ q. after_constants bs (pool_count bs) (pool_count bs) 1 10))
+unfolding after_pool taken
+pool_is bs = by (leb 10 (length bs)) (λ t. rw t) (λ t. rw t)

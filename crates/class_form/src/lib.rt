@@ -1,27 +1,19 @@
 // The form of a class file (JVMS chapter 4), judged front to back: where each item ends, or the row that refuses it.
 #![tactic(auto)]
 
-ghost use Rattle.std.specs.Prelude.{◌≡◌, ◌+◌, ◌<◌, get_or};
-ghost use Rattle.class_form.specs.Form.{u2, u4, taken, is_tag, is_wide, places, body_size, tag_ok, after_constant, after_constants, pool_count, constant_from, after_name, after_class, after_parent, after_interfaces, after_attribute, after_each, after_attributes, after_member, after_members, after_head, version_ok};
-ghost use Rattle.class_form.specs.Marks.{marked, marks_from, pool_marks, constant_near, tagged_near, utf8_near, class_near, Near};
-ghost use Rattle.class_form.specs.Parts.{rest_of, body_of, class_of, file_of, form_of, ended, member_at};
+ghost use Rattle.std.specs.Prelude.{◌≡◌, ◌+◌, ◌<◌, get_or, ℕ};
+ghost use Rattle.class_form.specs.Form.{Step, u2, u4, taken, is_tag, is_wide, places, body_size, tag_ok, after_constant, after_constants, pool_count, constant_from, tagged_at, utf8_at, class_at, after_name, after_class, after_parent, after_interfaces, after_attribute, after_counted, after_attributes, after_member, after_members, after_head, version_ok};
+ghost use Rattle.class_form.specs.Marks.{marked, marks_from, pool_marks, constant_near, Near};
+ghost use Rattle.class_form.specs.Parts.{class_of, file_of, form_of, ended, member_at};
 
-// Where the next item begins, or the row that refuses.
-#[derive(Clone, Copy)]
-pub enum Step {
-    To(usize),
-    Stop(u32),
-}
+use refusal::Refusal;
 
-// The places of the access flags, of the fields' count and of the methods' count, or the row that refuses the form.
+// The places of the access flags, of the fields' count and of the methods' count.
 #[derive(Clone, Copy)]
-pub enum Judged {
-    Parts {
-        head: usize,
-        fields: usize,
-        methods: usize,
-    },
-    Refused(u32),
+pub struct Places {
+    pub head: usize,
+    pub fields: usize,
+    pub methods: usize,
 }
 
 // A field or a method: its flags, its references to name and descriptor, and the place after its attributes.
@@ -33,15 +25,20 @@ pub struct Member {
     pub next: usize,
 }
 
-const NOT_A_CLASS_FILE: u32 = 20;
+// A constant's index and place.
+#[derive(Clone, Copy)]
+pub struct Mark {
+    pub index: usize,
+    pub place: usize,
+}
 
-// The bytes end early, or continue after the last attribute.
-const WRONG_END: u32 = 21;
+// One mark for each 64 indices.
+pub const MARKS: usize = 1024;
 
-const WRONG_POOL: u32 = 22;
+const NO_MARK: Mark = Mark { index: 0, place: 0 };
 
-// The numbers of 1,024 marks, one for each 64 indices: an index and a place each.
-pub const MARKS: usize = 2048;
+// Marks of which none is set yet.
+pub const NO_MARKS: [Mark; MARKS] = [NO_MARK; MARKS];
 
 // Where the pool's count stands, and its first constant.
 const COUNT_PLACE: usize = 8;
@@ -53,6 +50,7 @@ const UTF8: u32 = 1;
 const CLASS: u32 = 7;
 
 // The number of two bytes at p.
+#[tactic(auto, unfolding(crate::specs::Form::u2))]
 pub fn u2(bytes: &[u8], p: usize) -> u32
     ensures is { result ≡ u2 bytes.now p }
     ensures small { result < 65536 }
@@ -60,42 +58,45 @@ pub fn u2(bytes: &[u8], p: usize) -> u32
     if bytes.len() <= p {
         return 0;
     }
-    let high = words::byte_at(bytes, p) as u32;
-    let low = words::byte_at(bytes, p + 1) as u32;
-    256 * high + low
+    u16::from_be_bytes([words::get_or(bytes, p, 0), words::get_or(bytes, p + 1, 0)]) as u32
 }
 
 // An item of n bytes at p.
-fn take(bytes: &[u8], p: usize, n: usize) -> Step
+#[tactic(auto, unfolding(crate::specs::Form::taken))]
+fn take(bytes: &[u8], p: usize, n: usize) -> Result<usize, Refusal>
     ensures { result ≡ taken bytes.now p n }
 {
-    if bytes.len() < n {
-        return Step::Stop(WRONG_END);
+    if bytes.len() < n || bytes.len() - n < p {
+        return Err(Refusal::WrongEnd);
     }
-    if bytes.len() - n < p {
-        return Step::Stop(WRONG_END);
-    }
-    Step::To(p + n)
+    Ok(p + n)
 }
 
 // The number of two bytes n bytes after p; the sum does not wrap.
+#[tactic(auto, unfolding(crate::specs::Form::u2, crate::specs::Form::taken))]
 pub fn u2_after(bytes: &[u8], p: usize, n: usize) -> u32
     ensures is { result ≡ u2 bytes.now (p + n) }
     ensures small { result < 65536 }
 {
     match take(bytes, p, n) {
-        Step::To(q) => u2(bytes, q),
-        Step::Stop(_) => 0,
+        Ok(q) => u2(bytes, q),
+        Err(_) => 0,
     }
 }
 
 // The number of four bytes n bytes after p.
+#[tactic(auto, unfolding(crate::specs::Form::u4, crate::specs::Form::u2, crate::specs::Form::taken))]
 fn u4_after(bytes: &[u8], p: usize, n: usize) -> u32
     ensures { result ≡ u4 bytes.now (p + n) }
 {
     match take(bytes, p, n) {
-        Step::To(q) => 65536 * u2(bytes, q) + u2_after(bytes, q, 2),
-        Step::Stop(_) => 0,
+        Ok(q) => u32::from_be_bytes([
+            words::get_or(bytes, q, 0),
+            words::get_or(bytes, q + 1, 0),
+            words::get_or(bytes, q + 2, 0),
+            words::get_or(bytes, q + 3, 0),
+        ]),
+        Err(_) => 0,
     }
 }
 
@@ -103,10 +104,11 @@ fn u4_after(bytes: &[u8], p: usize, n: usize) -> u32
 fn tag_at(bytes: &[u8], p: usize) -> u32
     ensures { result ≡ get_or bytes.now p 0 }
 {
-    words::byte_at(bytes, p) as u32
+    words::get_or(bytes, p, 0) as u32
 }
 
 // Whether t is one of the eleven tags.
+#[tactic(auto, unfolding(crate::specs::Form::is_tag))]
 fn is_tag(t: u32) -> bool
     ensures { result ≡ is_tag t }
 {
@@ -114,6 +116,7 @@ fn is_tag(t: u32) -> bool
 }
 
 // Whether a constant takes two places.
+#[tactic(auto, unfolding(crate::specs::Form::is_wide))]
 fn is_wide(t: u32) -> bool
     ensures { result ≡ is_wide t }
 {
@@ -121,18 +124,20 @@ fn is_wide(t: u32) -> bool
 }
 
 // How many places of the pool a constant takes.
-fn places(t: u32) -> usize
+#[tactic(auto, unfolding(crate::specs::Form::places))]
+fn places_of(t: u32) -> usize
     ensures { result ≡ places t }
 {
     if is_wide(t) { 2 } else { 1 }
 }
 
 // How many bytes follow the tag t, from p on.
+#[tactic(auto, unfolding(crate::specs::Form::body_size))]
 fn body_size(bytes: &[u8], t: u32, p: usize) -> usize
     ensures { result ≡ body_size bytes.now t p }
 {
     if t == UTF8 {
-        return 2 + words::wide(u2(bytes, p));
+        return 2 + (u2(bytes, p) as usize);
     }
     if is_wide(t) {
         return 8;
@@ -144,54 +149,50 @@ fn body_size(bytes: &[u8], t: u32, p: usize) -> usize
 }
 
 // Whether t may be the tag of the constant of index i.
+#[tactic(auto, using(crate::proofs::Laws::last_index), unfolding(crate::specs::Form::tag_ok))]
 fn tag_ok(count: usize, i: usize, t: u32) -> bool
-    requires { i < 65536 }
     ensures { result ≡ tag_ok count i t }
 {
-    is_tag(t) & !(is_wide(t) & (i + 1 == count))
+    is_tag(t) & !(is_wide(t) & (count.saturating_sub(i) == 1))
 }
 
 // The constant of index i at p: its tag is judged before its body is looked at.
-fn after_constant(bytes: &[u8], count: usize, i: usize, p: usize) -> Step
-    requires { i < 65536 }
+#[tactic(auto, unfolding(crate::specs::Form::after_constant))]
+fn after_constant(bytes: &[u8], count: usize, i: usize, p: usize) -> Result<usize, Refusal>
     ensures { result ≡ after_constant bytes.now count i p }
 {
-    match take(bytes, p, 1) {
-        Step::Stop(row) => Step::Stop(row),
-        Step::To(q) => {
-            let t = tag_at(bytes, p);
-            if !tag_ok(count, i, t) {
-                return Step::Stop(WRONG_POOL);
-            }
-            take(bytes, q, body_size(bytes, t, q))
-        }
+    let body = take(bytes, p, 1)?;
+    let t = tag_at(bytes, p);
+    if !tag_ok(count, i, t) {
+        return Err(Refusal::WrongPool);
     }
+    take(bytes, body, body_size(bytes, t, body))
 }
 
 // How many indices the pool has, 0 included.
+#[tactic(auto, unfolding(crate::specs::Form::pool_count))]
 fn pool_count(bytes: &[u8]) -> usize
     ensures is { result ≡ pool_count bytes.now }
     ensures small { result < 65536 }
 {
-    words::wide(u2(bytes, COUNT_PLACE))
+    u2(bytes, COUNT_PLACE) as usize
 }
 
 // ---- marks
 
 // Marks the constant of index i at p, if it is at the front of 64 indices.
-fn put_mark(marks: &mut [usize; MARKS], i: usize, p: usize)
-    requires { i < 65536 }
+#[tactic(auto, unfolding(crate::specs::Marks::marked))]
+fn put_mark(marks: &mut [Mark; MARKS], i: usize, p: usize)
     ensures { marks.new ≡ marked i p marks.old }
 {
     if i % 64 <= 1 {
-        let k = 2 * (i / 64);
-        marks[k] = i;
-        marks[k + 1] = p;
+        words::put(marks, i / 64, Mark { index: i, place: p });
     }
 }
 
 // Walks the constants from the pool's front on, and marks them.
-fn after_constants(bytes: &[u8], marks: &mut [usize; MARKS]) -> Step
+#[tactic(auto, using(crate::proofs::WalkLaws::pool_steps))]
+fn after_constants(bytes: &[u8], marks: &mut [Mark; MARKS]) -> Result<usize, Refusal>
     ensures is { result ≡ after_constants bytes.now (pool_count bytes.now) (pool_count bytes.now) 1 10 }
     ensures marks { marks.new ≡ marks_from bytes.now (pool_count bytes.now) (pool_count bytes.now) 1 10 marks.old }
 {
@@ -200,325 +201,240 @@ fn after_constants(bytes: &[u8], marks: &mut [usize; MARKS]) -> Step
     let mut p: usize = POOL_PLACE;
     while i < count {
         put_mark(marks, i, p);
-        match after_constant(bytes, count, i, p) {
-            Step::Stop(row) => {
-                return Step::Stop(row);
-            }
-            Step::To(q) => {
-                i += places(tag_at(bytes, p));
-                p = q;
-            }
-        }
+        let q = after_constant(bytes, count, i, p)?;
+        i += places_of(tag_at(bytes, p));
+        p = q;
     }
-    Step::To(p)
+    Ok(p)
 }
 
 // The marks of a file's pool.
-pub fn pool_marks(bytes: &[u8]) -> [usize; MARKS]
+#[tactic(auto, unfolding(crate::specs::Marks::pool_marks))]
+pub fn pool_marks(bytes: &[u8]) -> [Mark; MARKS]
     ensures { result ≡ pool_marks bytes.now }
 {
-    let mut marks = [0usize; MARKS];
-    after_constants(bytes, &mut marks);
+    let mut marks = NO_MARKS;
+    let _ = after_constants(bytes, &mut marks);
     marks
 }
 
 // The place of constant i, by the walk on from the constant of index j at p.
-fn constant_from(bytes: &[u8], i: usize, j: usize, p: usize) -> Step
-    requires { i < 65536 }
+#[tactic(auto, using(crate::proofs::WalkLaws::look_steps))]
+fn constant_from(bytes: &[u8], i: u32, j: usize, p: usize) -> Result<usize, Refusal>
     ensures { result ≡ constant_from bytes.now i i j p }
 {
     let count = pool_count(bytes);
     let mut at = j;
     let mut place = p;
-    while at < i {
-        match after_constant(bytes, count, at, place) {
-            Step::Stop(row) => {
-                return Step::Stop(row);
-            }
-            Step::To(q) => {
-                at += places(tag_at(bytes, place));
-                place = q;
-            }
-        }
+    while at < i as usize {
+        let q = after_constant(bytes, count, at, place)?;
+        at += places_of(tag_at(bytes, place));
+        place = q;
     }
-    if at == i {
-        return Step::To(place);
+    if at == i as usize {
+        Ok(place)
+    } else {
+        Err(Refusal::WrongPool)
     }
-    Step::Stop(WRONG_POOL)
+}
+
+// The bytes of a file whose pool was taken, and the pool's marks: by them a constant is found where a walk from the pool's front finds it.
+#[derive(Clone, Copy)]
+pub struct Pool<'a> {
+    pub bytes: &'a [u8],
+    pub marks: &'a [Mark; MARKS],
+    pub ghost near: { Near bytes.now marks.now },
 }
 
 // The place of constant i, by the walk on from the mark before it.
-fn constant_near(bytes: &[u8], marks: &[usize; MARKS], i: u32) -> Step
+#[tactic(auto, unfolding(crate::specs::Marks::constant_near))]
+fn constant_near(bytes: &[u8], marks: &[Mark; MARKS], i: u32) -> Result<usize, Refusal>
     ensures { result ≡ constant_near bytes.now marks.now i }
 {
-    let n = words::wide(i);
-    if n == 0 {
-        return Step::Stop(WRONG_POOL);
+    let n = i as usize;
+    if n == 0 || pool_count(bytes) <= n {
+        return Err(Refusal::WrongPool);
     }
-    if pool_count(bytes) <= n {
-        return Step::Stop(WRONG_POOL);
-    }
-    let k = 2 * ((n - 1) / 64);
-    constant_from(bytes, n, marks[k], marks[k + 1])
+    let mark = words::get_or(marks, (n - 1) / 64, NO_MARK);
+    constant_from(bytes, i, mark.index, mark.place)
 }
 
-// The same, if it has this tag.
-fn tagged_near(bytes: &[u8], marks: &[usize; MARKS], t: u32, i: u32) -> Step
-    ensures { result ≡ tagged_near bytes.now marks.now t i }
+// The place of constant i, if it has this tag.
+#[tactic(auto, unfolding(crate::specs::Form::tagged_at))]
+fn tagged_at(pool: Pool, t: u32, i: u32) -> Result<usize, Refusal>
+    ensures { result ≡ tagged_at pool.entry.bytes.now t i }
 {
-    match constant_near(bytes, marks, i) {
-        Step::Stop(row) => Step::Stop(row),
-        Step::To(p) => {
-            if tag_at(bytes, p) == t {
-                return Step::To(p);
-            }
-            Step::Stop(WRONG_POOL)
-        }
+    let p = constant_near(pool.bytes, pool.marks, i)?;
+    if tag_at(pool.bytes, p) == t {
+        Ok(p)
+    } else {
+        Err(Refusal::WrongPool)
     }
 }
 
 // The place of the Utf8 constant i.
-pub fn utf8_near(bytes: &[u8], marks: &[usize; MARKS], i: u32) -> Step
-    ensures { result ≡ utf8_near bytes.now marks.now i }
+#[tactic(auto, unfolding(crate::specs::Form::utf8_at))]
+pub fn utf8_at(pool: Pool, i: u32) -> Result<usize, Refusal>
+    ensures { result ≡ utf8_at pool.entry.bytes.now i }
 {
-    tagged_near(bytes, marks, UTF8, i)
+    tagged_at(pool, UTF8, i)
 }
 
 // The place of the name of the Class constant i.
-pub fn class_near(bytes: &[u8], marks: &[usize; MARKS], i: u32) -> Step
-    ensures { result ≡ class_near bytes.now marks.now i }
+#[tactic(auto, unfolding(crate::specs::Form::class_at))]
+pub fn class_at(pool: Pool, i: u32) -> Result<usize, Refusal>
+    ensures { result ≡ class_at pool.entry.bytes.now i }
 {
-    match tagged_near(bytes, marks, CLASS, i) {
-        Step::Stop(row) => Step::Stop(row),
-        Step::To(p) => utf8_near(bytes, marks, u2_after(bytes, p, 1)),
-    }
+    let p = tagged_at(pool, CLASS, i)?;
+    utf8_at(pool, u2_after(pool.bytes, p, 1))
 }
 
 // ---- the items after the pool
 
 // A reference to a Utf8 at p, looked up once it has been taken.
-fn after_name(bytes: &[u8], marks: &[usize; MARKS], p: usize) -> Step
-    requires { Near bytes.now marks.now }
-    ensures { result ≡ after_name bytes.now p }
+#[tactic(auto, unfolding(crate::specs::Form::after_name))]
+fn after_name(pool: Pool, p: usize) -> Result<usize, Refusal>
+    ensures { result ≡ after_name pool.entry.bytes.now p }
 {
-    match take(bytes, p, 2) {
-        Step::Stop(row) => Step::Stop(row),
-        Step::To(q) => match utf8_near(bytes, marks, u2(bytes, p)) {
-            Step::Stop(row) => Step::Stop(row),
-            Step::To(_) => Step::To(q),
-        },
-    }
+    let q = take(pool.bytes, p, 2)?;
+    utf8_at(pool, u2(pool.bytes, p))?;
+    Ok(q)
 }
 
 // A reference to a Class at p, likewise.
-fn after_class(bytes: &[u8], marks: &[usize; MARKS], p: usize) -> Step
-    requires { Near bytes.now marks.now }
-    ensures { result ≡ after_class bytes.now p }
+#[tactic(auto, unfolding(crate::specs::Form::after_class))]
+fn after_class(pool: Pool, p: usize) -> Result<usize, Refusal>
+    ensures { result ≡ after_class pool.entry.bytes.now p }
 {
-    match take(bytes, p, 2) {
-        Step::Stop(row) => Step::Stop(row),
-        Step::To(q) => match class_near(bytes, marks, u2(bytes, p)) {
-            Step::Stop(row) => Step::Stop(row),
-            Step::To(_) => Step::To(q),
-        },
-    }
+    let q = take(pool.bytes, p, 2)?;
+    class_at(pool, u2(pool.bytes, p))?;
+    Ok(q)
 }
 
 // The parent's reference: 0, or a Class.
-fn after_parent(bytes: &[u8], marks: &[usize; MARKS], p: usize) -> Step
-    requires { Near bytes.now marks.now }
-    ensures { result ≡ after_parent bytes.now p }
+#[tactic(auto, unfolding(crate::specs::Form::after_parent))]
+fn after_parent(pool: Pool, p: usize) -> Result<usize, Refusal>
+    ensures { result ≡ after_parent pool.entry.bytes.now p }
 {
-    if u2(bytes, p) == 0 {
-        return take(bytes, p, 2);
+    if u2(pool.bytes, p) == 0 {
+        return take(pool.bytes, p, 2);
     }
-    after_class(bytes, marks, p)
+    after_class(pool, p)
 }
 
 // The interfaces, which are not looked up.
-fn after_interfaces(bytes: &[u8], p: usize) -> Step
+#[tactic(auto, unfolding(crate::specs::Form::after_interfaces))]
+fn after_interfaces(bytes: &[u8], p: usize) -> Result<usize, Refusal>
     ensures { result ≡ after_interfaces bytes.now p }
 {
-    match take(bytes, p, 2) {
-        Step::Stop(row) => Step::Stop(row),
-        Step::To(q) => take(bytes, q, 2 * words::wide(u2(bytes, p))),
-    }
+    let q = take(bytes, p, 2)?;
+    take(bytes, q, 2 * (u2(bytes, p) as usize))
 }
 
 // An attribute: a name, which is not looked up, a length, and so many bytes.
-fn after_attribute(bytes: &[u8], p: usize) -> Step
+#[tactic(auto, unfolding(crate::specs::Form::after_attribute))]
+fn after_attribute(bytes: &[u8], p: usize) -> Result<usize, Refusal>
     ensures { result ≡ after_attribute bytes.now p }
 {
-    match take(bytes, p, 6) {
-        Step::Stop(row) => Step::Stop(row),
-        Step::To(q) => take(bytes, q, words::wide(u4_after(bytes, p, 2))),
-    }
+    let q = take(bytes, p, 6)?;
+    take(bytes, q, u4_after(bytes, p, 2) as usize)
 }
 
-// n attributes from p on.
-fn each_attribute(bytes: &[u8], n: u32, p: usize) -> Step
-    ensures { result ≡ after_each (after_attribute bytes.now) n p }
+// A count of two bytes, then so many items.
+#[tactic(auto, using(crate::proofs::Laws::each_turn, crate::proofs::Laws::each_end), unfolding(crate::specs::Form::after_counted))]
+fn after_counted<F: Fn(usize) -> Result<usize, Refusal>>(
+    bytes: &[u8],
+    p: usize,
+    after_item: F,
+) -> Result<usize, Refusal>
+    requires { F.IsAlwaysCallable after_item }
+    ensures { (item : ℕ → Step) → ((q : ℕ) (r : Step) → F.post after_item q r → r ≡ item q) → result ≡ after_counted bytes.now item p }
 {
-    let mut at = p;
-    let mut k: u32 = 0;
-    while k < n {
-        match after_attribute(bytes, at) {
-            Step::Stop(row) => {
-                return Step::Stop(row);
-            }
-            Step::To(q) => {
-                at = q;
-                k += 1;
-            }
-        }
+    let mut at = take(bytes, p, 2)?;
+    for _ in 0..u2(bytes, p) {
+        at = after_item(at)?;
     }
-    Step::To(at)
+    Ok(at)
 }
 
 // A count of attributes, and so many.
-fn after_attributes(bytes: &[u8], p: usize) -> Step
+#[tactic(auto, unfolding(crate::specs::Form::after_attributes))]
+fn after_attributes(bytes: &[u8], p: usize) -> Result<usize, Refusal>
     ensures { result ≡ after_attributes bytes.now p }
 {
-    match take(bytes, p, 2) {
-        Step::Stop(row) => Step::Stop(row),
-        Step::To(q) => each_attribute(bytes, u2(bytes, p), q),
-    }
+    after_counted(bytes, p, |q| after_attribute(bytes, q))
 }
 
 // A member: access flags, name, descriptor, attributes.
-fn after_member(bytes: &[u8], marks: &[usize; MARKS], p: usize) -> Step
-    requires { Near bytes.now marks.now }
-    ensures { result ≡ after_member bytes.now p }
+#[tactic(auto, unfolding(crate::specs::Form::after_member))]
+fn after_member(pool: Pool, p: usize) -> Result<usize, Refusal>
+    ensures { result ≡ after_member pool.entry.bytes.now p }
 {
-    match take(bytes, p, 2) {
-        Step::Stop(row) => Step::Stop(row),
-        Step::To(name) => match after_name(bytes, marks, name) {
-            Step::Stop(row) => Step::Stop(row),
-            Step::To(descriptor) => match after_name(bytes, marks, descriptor) {
-                Step::Stop(row) => Step::Stop(row),
-                Step::To(attributes) => after_attributes(bytes, attributes),
-            },
-        },
-    }
-}
-
-// n members from p on.
-fn each_member(bytes: &[u8], marks: &[usize; MARKS], n: u32, p: usize) -> Step
-    requires { Near bytes.now marks.now }
-    ensures { result ≡ after_each (after_member bytes.now) n p }
-{
-    let mut at = p;
-    let mut k: u32 = 0;
-    while k < n {
-        match after_member(bytes, marks, at) {
-            Step::Stop(row) => {
-                return Step::Stop(row);
-            }
-            Step::To(q) => {
-                at = q;
-                k += 1;
-            }
-        }
-    }
-    Step::To(at)
+    let name = take(pool.bytes, p, 2)?;
+    let descriptor = after_name(pool, name)?;
+    let attributes = after_name(pool, descriptor)?;
+    after_attributes(pool.bytes, attributes)
 }
 
 // A count of members, and so many.
-fn after_members(bytes: &[u8], marks: &[usize; MARKS], p: usize) -> Step
-    requires { Near bytes.now marks.now }
-    ensures { result ≡ after_members bytes.now p }
+#[tactic(auto, unfolding(crate::specs::Form::after_members))]
+fn after_members(pool: Pool, p: usize) -> Result<usize, Refusal>
+    ensures { result ≡ after_members pool.entry.bytes.now p }
 {
-    match take(bytes, p, 2) {
-        Step::Stop(row) => Step::Stop(row),
-        Step::To(q) => each_member(bytes, marks, u2(bytes, p), q),
-    }
+    after_counted(pool.bytes, p, |q| after_member(pool, q))
 }
 
 // Access flags, this class, its parent and the interfaces.
-fn after_head(bytes: &[u8], marks: &[usize; MARKS], p: usize) -> Step
-    requires { Near bytes.now marks.now }
-    ensures { result ≡ after_head bytes.now p }
+#[tactic(auto, unfolding(crate::specs::Form::after_head))]
+fn after_head(pool: Pool, p: usize) -> Result<usize, Refusal>
+    ensures { result ≡ after_head pool.entry.bytes.now p }
 {
-    match take(bytes, p, 2) {
-        Step::Stop(row) => Step::Stop(row),
-        Step::To(class) => match after_class(bytes, marks, class) {
-            Step::Stop(row) => Step::Stop(row),
-            Step::To(parent) => match after_parent(bytes, marks, parent) {
-                Step::Stop(row) => Step::Stop(row),
-                Step::To(interfaces) => after_interfaces(bytes, interfaces),
-            },
-        },
-    }
+    let class = take(pool.bytes, p, 2)?;
+    let parent = after_class(pool, class)?;
+    let interfaces = after_parent(pool, parent)?;
+    after_interfaces(pool.bytes, interfaces)
 }
 
 // ---- the file
 
-// The methods and the attributes after them, to the file's end.
-fn rest_of(
-    bytes: &[u8],
-    marks: &[usize; MARKS],
-    head: usize,
-    fields: usize,
-    methods: usize,
-) -> Judged
-    requires { Near bytes.now marks.now }
-    ensures { result ≡ rest_of bytes.now head fields methods }
+// The access flags and what follows them, to the file's end.
+#[tactic(auto, unfolding(crate::specs::Parts::class_of))]
+fn class_of(pool: Pool, head: usize) -> Result<Places, Refusal>
+    ensures { result ≡ class_of pool.entry.bytes.now head }
 {
-    match after_members(bytes, marks, methods) {
-        Step::Stop(row) => Judged::Refused(row),
-        Step::To(attributes) => match after_attributes(bytes, attributes) {
-            Step::Stop(row) => Judged::Refused(row),
-            Step::To(end) => {
-                if end == bytes.len() {
-                    return Judged::Parts {
-                        head,
-                        fields,
-                        methods,
-                    };
-                }
-                Judged::Refused(WRONG_END)
-            }
-        },
-    }
-}
-
-// The fields and what follows them.
-fn body_of(bytes: &[u8], marks: &[usize; MARKS], head: usize, fields: usize) -> Judged
-    requires { Near bytes.now marks.now }
-    ensures { result ≡ body_of bytes.now head fields }
-{
-    match after_members(bytes, marks, fields) {
-        Step::Stop(row) => Judged::Refused(row),
-        Step::To(methods) => rest_of(bytes, marks, head, fields, methods),
-    }
-}
-
-// The access flags and what follows them.
-fn class_of(bytes: &[u8], marks: &[usize; MARKS], head: usize) -> Judged
-    requires { Near bytes.now marks.now }
-    ensures { result ≡ class_of bytes.now head }
-{
-    match after_head(bytes, marks, head) {
-        Step::Stop(row) => Judged::Refused(row),
-        Step::To(fields) => body_of(bytes, marks, head, fields),
+    let fields = after_head(pool, head)?;
+    let methods = after_members(pool, fields)?;
+    let attributes = after_members(pool, methods)?;
+    if after_attributes(pool.bytes, attributes)? == pool.bytes.len() {
+        Ok(Places {
+            head,
+            fields,
+            methods,
+        })
+    } else {
+        Err(Refusal::WrongEnd)
     }
 }
 
 // The pool and what follows it.
-fn file_of(bytes: &[u8]) -> Judged
+#[tactic(auto, using(crate::proofs::Laws::pool_is), unfolding(crate::specs::Parts::file_of))]
+fn file_of(bytes: &[u8]) -> Result<Places, Refusal>
     ensures { result ≡ file_of bytes.now }
 {
-    let mut marks = [0usize; MARKS];
-    match take(bytes, COUNT_PLACE, 2) {
-        Step::Stop(row) => Judged::Refused(row),
-        Step::To(_) => match after_constants(bytes, &mut marks) {
-            Step::Stop(row) => Judged::Refused(row),
-            Step::To(head) => class_of(bytes, &marks, head),
+    let mut marks = NO_MARKS;
+    take(bytes, COUNT_PLACE, 2)?;
+    let head = after_constants(bytes, &mut marks)?;
+    class_of(
+        Pool {
+            bytes,
+            marks: &marks,
         },
-    }
+        head,
+    )
 }
 
 // Magic CAFEBABE and a major version of 45 to 48.
+#[tactic(auto, unfolding(crate::specs::Form::version_ok))]
 fn version_ok(bytes: &[u8]) -> bool
     ensures { result ≡ version_ok bytes.now }
 {
@@ -527,32 +443,32 @@ fn version_ok(bytes: &[u8]) -> bool
 }
 
 // Judges the form of a class file, front to back.
-pub fn form(bytes: &[u8]) -> Judged
+#[tactic(auto, unfolding(crate::specs::Parts::form_of))]
+pub fn form(bytes: &[u8]) -> Result<Places, Refusal>
     ensures { result ≡ form_of bytes.now }
 {
     if bytes.len() < 8 {
-        return Judged::Refused(WRONG_END);
+        return Err(Refusal::WrongEnd);
     }
     if !version_ok(bytes) {
-        return Judged::Refused(NOT_A_CLASS_FILE);
+        return Err(Refusal::NotClassFile);
     }
     file_of(bytes)
 }
 
 // The place after the attributes that begin n bytes after p, or the end of the bytes.
+#[tactic(auto, using(crate::proofs::Laws::attributes_cut), unfolding(crate::specs::Form::taken))]
 fn attributes_end(bytes: &[u8], p: usize, n: usize) -> usize
     ensures { result ≡ ended bytes.now (after_attributes bytes.now (p + n)) }
 {
     match take(bytes, p, n) {
-        Step::Stop(_) => bytes.len(),
-        Step::To(q) => match after_attributes(bytes, q) {
-            Step::Stop(_) => bytes.len(),
-            Step::To(end) => end,
-        },
+        Err(_) => bytes.len(),
+        Ok(q) => after_attributes(bytes, q).unwrap_or(bytes.len()),
     }
 }
 
 // The member at p.
+#[tactic(auto, unfolding(crate::specs::Parts::member_at))]
 pub fn member_at(bytes: &[u8], p: usize) -> Member
     ensures { result ≡ member_at bytes.now p }
 {

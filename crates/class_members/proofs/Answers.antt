@@ -9,24 +9,26 @@ use native.Mathlib.Omega.{arith}
 use lib.ListN.{length}
 use lib.Dec.{eqb, leb}
 use borrow.Author.Tests.{leb-true, eqb-true, eqb-false}
+use Rattle.std.specs.Prelude.{Result, Ok, Err}
+use Rattle.refusal.specs.declared.Refusal.{Refusal}
 use Rattle.words.proofs.Bools.{by, and_4}
 use Rattle.text.specs.Text.{name_at, printable, part_ok}
+use Rattle.refusal.proofs.Rows.{row_unique}
 use Rattle.class_members.specs.Members.{FileOutcome, file_name, parent_index, file_parent, file_fields, file_methods, string_ok, field_ok, method_ok, every}
 use Rattle.class_members.specs.Members.{names_ok, file_refusal, file_outcome, read_class_file, class_file_head}
-use Rattle.class_members.specs.declared.FileRead.{FileRead}
-use Rattle.class_members.specs.declared.FileRead.TheVariants.{Members, Refused}
+use Rattle.class_members.specs.declared.FileHead.{FileHead}
 use Rattle.class_members.proofs.SheetForm.{file-passed, read-passed}
 
 -- an outcome that tells its answer
 abbrev pub Tells : FileOutcome → Type 0
 Tells o = o.refusal ≡ 0 → o.name ≢ 0
 
-pub answer_unique : (a b : FileRead) (fs ms ts fs' ms' ts' : List ℕ) {o : FileOutcome} → Tells o → file_outcome a fs ms ts ≡ o
+pub answer_unique : (a b : Result FileHead Refusal) (fs ms ts fs' ms' ts' : List ℕ) {o : FileOutcome} → Tells o → file_outcome a fs ms ts ≡ o
     → file_outcome b fs' ms' ts' ≡ o → a ≡ b
-answer_unique (Members h) (Members k) fs ms ts fs' ms' ts' t e f =
+answer_unique (Ok h) (Ok k) fs ms ts fs' ms' ts' t e f =
     ap
     (λ (o : FileOutcome).
-    Members (record {
+    Ok (record {
       name = o.name;
       parent = o.parent;
       flags = o.flags;
@@ -35,11 +37,11 @@ answer_unique (Members h) (Members k) fs ms ts fs' ms' ts' t e f =
       text = o.text_length;
     }))
     (e ∙ sym f)
-answer_unique (Members h) (Refused k) fs ms ts fs' ms' ts' t e f =
+answer_unique (Ok h) (Err k) fs ms ts fs' ms' ts' t e f =
     absurd (t (sym (ap (λ (o : FileOutcome). o.refusal) e)) (sym (ap (λ (o : FileOutcome). o.name) f)))
-answer_unique (Refused j) (Members k) fs ms ts fs' ms' ts' t e f =
+answer_unique (Err j) (Ok k) fs ms ts fs' ms' ts' t e f =
     absurd (t (sym (ap (λ (o : FileOutcome). o.refusal) f)) (sym (ap (λ (o : FileOutcome). o.name) e)))
-answer_unique (Refused j) (Refused k) fs ms ts fs' ms' ts' t e f = ap Refused (ap (λ (o : FileOutcome). o.refusal) (e ∙ sym f))
+answer_unique (Err j) (Err k) fs ms ts fs' ms' ts' t e f = ap Err (row_unique j k (ap (λ (o : FileOutcome). o.refusal) (e ∙ sym f)))
 
 -- ---- an accepted class has a name
 

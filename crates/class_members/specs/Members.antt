@@ -1,6 +1,6 @@
 -- What a class file yields: its class, parent and flags, its fields and methods in file order, the rows that judge them after the reading, and
 -- what the reader leaves in three lent word lists. A member is a `New` of `linking`, whose records and text are the sheet's form. Assumes nothing.
-use Rattle.std.specs.Prelude.{ℕ, zero, suc, ◌+◌, ◌*◌, Bool, true, cond, not, ◌&&◌, ◌||◌, List, [], ◌∷◌, ◌++◌, length, get_or, eqb, leb}
+use Rattle.std.specs.Prelude.{ℕ, zero, suc, ◌+◌, ◌*◌, Bool, true, cond, not, ◌&&◌, ◌||◌, List, [], ◌∷◌, ◌++◌, length, get_or, eqb, leb, Result, Ok, Err}
 use Rattle.text.specs.Text.{name_at, part_ok}
 use Rattle.descriptor.specs.Machine.{is_field_descriptor}
 use Rattle.descriptor.specs.Words.{is_method}
@@ -8,13 +8,12 @@ use Rattle.class_sheet.specs.ClassSheet.{member_width, method_limit, field_limit
 use Rattle.class_rules.specs.ClassRules.{method_flags_ok}
 use Rattle.linking.specs.Compiler.{New}
 use Rattle.linking.specs.Set.{new_records, new_text, packed, overlaid}
-use Rattle.class_form.specs.declared.Step.{Step}
-use Rattle.class_form.specs.declared.Step.TheVariants.{To, Stop}
+use Rattle.refusal.specs.declared.Refusal.{Refusal}
+use Rattle.refusal.specs.Rows.{row}
 use Rattle.class_form.specs.declared.Member.{Member}
-use Rattle.class_form.specs.Form.{u2, utf8_at, class_at, after_pool, after_head, after_members, form_refusal}
+use Rattle.class_form.specs.Form.{Step, u2, utf8_at, class_at, after_pool, after_head, after_members, form_refusal}
 use Rattle.class_form.specs.Parts.{ended, member_at}
-use Rattle.class_members.specs.declared.FileRead.{FileRead}
-use Rattle.class_members.specs.declared.FileRead.TheVariants.{Members, Refused}
+use Rattle.class_members.specs.declared.FileHead.{FileHead}
 
 -- ---- places: where each item begins. A file that is read has them all.
 
@@ -47,8 +46,8 @@ method_places bs = member_places bs (methods_place bs)
 -- ---- strings: the constant's tag, a length of two bytes, and so many bytes
 
 abbrev pub string_at : List ℕ → Step → List ℕ
-string_at bs (To p) = name_at bs (p + 3) (u2 bs (p + 1))
-string_at bs (Stop row) = []
+string_at bs (Ok p) = name_at bs (p + 3) (u2 bs (p + 1))
+string_at bs (Err refusal) = []
 
 -- of a Utf8 by its index, and the name of a Class by the Class's
 unfoldable pub utf8_bytes : List ℕ → ℕ → List ℕ
@@ -192,8 +191,8 @@ refused_by row fields methods text =
     }
 
 -- the number and values of each case of the answer, beside the lists
-abbrev pub file_outcome : FileRead → List ℕ → List ℕ → List ℕ → FileOutcome
-file_outcome (Members h) fields methods text =
+abbrev pub file_outcome : Result FileHead Refusal → List ℕ → List ℕ → List ℕ → FileOutcome
+file_outcome (Ok h) fields methods text =
     record {
       refusal = 0;
       name = h.name;
@@ -206,7 +205,7 @@ file_outcome (Members h) fields methods text =
       methods = methods;
       text = text;
     }
-file_outcome (Refused row) fields methods text = refused_by row fields methods text
+file_outcome (Err refusal) fields methods text = refused_by (row refusal) fields methods text
 
 -- the six words of an accepted file
 abbrev pub members_by : List ℕ → List ℕ → List ℕ → List ℕ → List ℕ → FileOutcome

@@ -1,5 +1,5 @@
-// What a class file yields: this crate has no functions, only specs/, which the reader's contract and the theorems cite, and the types of the
-// reader's answer.
+// What a class file yields: this crate has no functions, only specs/, which the reader's contract and the theorems cite, and the type of what
+// the reader answers.
 #![tactic(auto)]
 
 // Of an accepted file: the lengths of the class's and the parent's name (0 for none), the class's flags, how many fields and methods it has, and
@@ -12,11 +12,4 @@ pub struct FileHead {
     pub fields: u32,
     pub methods: u32,
     pub text: u32,
-}
-
-// What a reading answers: the file's head, or the row that refuses.
-#[derive(Clone, Copy)]
-pub enum FileRead {
-    Members(FileHead),
-    Refused(u32),
 }

@@ -19,21 +19,6 @@ use Rattle.class_sheet.specs.ClassSheet.{member_width, class_limit, method_limit
 use Rattle.class_sheet.proofs.Laws.{Within}
 use Rattle.class_rules.specs.ClassRules.{class_limits, class_fits, unlinked, statics_clean, fresh, all_fresh, class_form, method_flags_ok, method_record, field_record}
 
-module _ (ws : List ℕ) {l : Bool} (limits : l ≡ class_limits ws) where
-  pub form-limits : l ≡ false → false ≡ class_form ws
-  unfolding class_form
-  form-limits h = simp (sym limits ∙ h)
-
-  module _ {e : ℕ} (end : e ≡ content_end ws) where
-    pub form-short : length ws < e → false ≡ class_form ws
-    unfolding class_form least_fit
-    form-short h = simp (← end, lt-leb e (length ws) h, and-false)
-
-    pub form-rest : l ≡ true → e ≤ length ws → {x : ℕ} {z u : Bool} → x ≡ 4 * text_at ws + text_length ws → z ≡ zero_rest ws x
-        → u ≡ all_fresh ws → (ltb (length ws) (e + 127) && z && u) ≡ class_form ws
-    unfolding class_form least_fit
-    form-rest h k f g i = rw (g, i, f) (simp (← limits, h, ← end, le-leb e (length ws) k))
-
 -- ---- what the tests say
 
 pub limits : (ws : List ℕ) → class_limits ws ≡ true → Within ws

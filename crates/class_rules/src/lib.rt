@@ -3,14 +3,17 @@
 
 ghost use Rattle.std.specs.Prelude.{◌≡◌, ◌+◌, ◌<◌, ◌^◌};
 ghost use Rattle.words.specs.Folds.{all_of};
-ghost use Rattle.text.specs.Text.{printable};
 ghost use Rattle.class_sheet.specs.ClassSheet.{class_count, method_count, field_count, interface_count, methods_at};
 ghost use Rattle.class_rules.specs.ClassRules.{class_limits, class_fits, unlinked, statics_clean, fresh, all_fresh, class_form, compiler_ok, class_numbers, class_lists, class_record, method_flags_ok, method_record, field_record, interface_names, class_records};
+
+use class_sheet::Kind;
+use text::Seen;
 
 // The words of a method record, and of a field record.
 const MEMBER_WIDTH: u32 = class_sheet::MEMBER_WIDTH as u32;
 
 // Whether each count is within its limit.
+#[tactic(auto, unfolding(crate::specs::ClassRules::class_limits))]
 pub fn limits_ok(ws: &[u32]) -> bool
     ensures { result ≡ class_limits ws.now }
 {
@@ -23,6 +26,7 @@ pub fn limits_ok(ws: &[u32]) -> bool
 }
 
 // Row 3 of a link or an ask: whether the counts are within their limits and the content fits the slice.
+#[tactic(auto, unfolding(crate::specs::ClassRules::class_fits))]
 pub fn fits_ok(ws: &[u32]) -> bool
     ensures { result ≡ class_fits ws.now }
 {
@@ -30,6 +34,7 @@ pub fn fits_ok(ws: &[u32]) -> bool
 }
 
 // Whether class c has table place and slot count 0.
+#[tactic(auto, unfolding(crate::specs::ClassRules::unlinked))]
 fn is_unlinked(ws: &[u32], c: u32) -> bool
     ensures { result ≡ unlinked ws.now c }
 {
@@ -37,15 +42,16 @@ fn is_unlinked(ws: &[u32], c: u32) -> bool
 }
 
 // Whether class c, if built or an array class, has no static words.
+#[tactic(auto, unfolding(crate::specs::ClassRules::statics_clean))]
 fn statics_clean(ws: &[u32], c: u32) -> bool
     ensures { result ≡ statics_clean ws.now c }
 {
-    let kind = class_sheet::class_kind(ws, c);
     (class_sheet::class_static_words(ws, c) == 0)
-        | !(class_sheet::is_built_kind(kind) | (kind == class_sheet::ARRAY))
+        | !(class_sheet::is_built(ws, c) | class_sheet::has_kind(ws, c, Kind::Array))
 }
 
 // Whether class c has what a sheet may bring: no table, and no static words that a link would write.
+#[tactic(auto, unfolding(crate::specs::ClassRules::fresh))]
 fn is_fresh(ws: &[u32], c: u32) -> bool
     ensures { result ≡ fresh ws.now c }
 {
@@ -56,49 +62,42 @@ fn is_fresh(ws: &[u32], c: u32) -> bool
 pub fn all_fresh(ws: &[u32]) -> bool
     ensures { result ≡ all_fresh ws.now }
 {
-    let n = class_sheet::class_count(ws);
-    let mut i: u32 = 0;
-    while i < n {
-        if !is_fresh(ws, i + 1) {
-            return false;
-        }
-        i += 1;
-    }
-    true
+    words::all_up_to(class_sheet::class_count(ws), |c| is_fresh(ws, c))
 }
 
 // Row 3 of a reading, for the words of whole blocks.
+#[tactic(auto, unfolding(crate::specs::ClassRules::class_form, block::specs::Block::least_fit))]
 pub fn form_ok(ws: &[u32]) -> bool
     ensures { result ≡ class_form ws.now }
 {
-    if !limits_ok(ws) {
-        return false;
-    }
     let end = class_sheet::content_end(ws);
-    let n = ws.len();
-    if n < end {
-        return false;
-    }
-    let text_end = 4 * class_sheet::text_at(ws) + words::wide(class_sheet::text_length(ws));
-    (n < end + 127) & text::zero_rest(ws, text_end) & all_fresh(ws)
+    let text_end = 4 * class_sheet::text_at(ws) + class_sheet::text_length(ws) as usize;
+    limits_ok(ws)
+        && end <= ws.len()
+        && ws.len() < end + 127
+        && text::zero_rest(ws, text_end)
+        && all_fresh(ws)
 }
 
 // Whether a compiler table, counted from 1, lies inside its section; without one there are no slots.
+#[tactic(auto, unfolding(crate::specs::ClassRules::compiler_ok))]
 fn compiler_ok(first: u32, slots: u32, total: u32) -> bool
     ensures { result ≡ compiler_ok first slots total }
 {
     if first == 0 {
-        return slots == 0;
+        slots == 0
+    } else {
+        words::is_inside(first - 1, slots, total)
     }
-    words::is_inside(first - 1, slots, total)
 }
 
 // Whether class c's numbers are within their limits, and its parent is below it.
+#[tactic(auto, using(class_sheet::proofs::KindLaws::known_kind), unfolding(crate::specs::ClassRules::class_numbers, crate::specs::ClassRules::own_numbers))]
 fn numbers_ok(ws: &[u32], c: u32) -> bool
     ensures { result ≡ class_numbers ws.now c }
 {
     (class_sheet::class_flags(ws, c) <= 65535)
-        & (class_sheet::class_kind(ws, c) <= class_sheet::PACKAGED)
+        & class_sheet::kind_of(ws, c).is_ok()
         & (class_sheet::class_link_state(ws, c) <= 65535)
         & (class_sheet::class_instance_words(ws, c) <= 65535)
         & (class_sheet::class_compiler_slots(ws, c) <= 1024)
@@ -108,6 +107,7 @@ fn numbers_ok(ws: &[u32], c: u32) -> bool
 }
 
 // Whether the four lists of class c lie inside their sections.
+#[tactic(auto, unfolding(crate::specs::ClassRules::class_lists))]
 fn lists_ok(ws: &[u32], c: u32) -> bool
     ensures { result ≡ class_lists ws.now c }
 {
@@ -134,33 +134,25 @@ fn lists_ok(ws: &[u32], c: u32) -> bool
     methods & fields & interfaces & compiler
 }
 
-// Whether class c's record is in order. Here and below `clean` tells whether each byte of the text is from 0x21 to 0x7E.
-fn class_ok(ws: &[u32], text: &[u8], clean: bool, c: u32) -> bool
-    requires { clean ≡ printable text.now }
-    ensures { result ≡ class_record ws.now text.now c }
+// Whether class c's record is in order.
+#[tactic(auto, using(text::proofs::Laws::clean_is), unfolding(crate::specs::ClassRules::class_record))]
+fn class_ok(ws: &[u32], text: Seen, c: u32) -> bool
+    ensures { result ≡ class_record ws.now text.entry.bytes.now c }
 {
     let start = class_sheet::class_name_start(ws, c);
     let length = class_sheet::class_name_length(ws, c);
-    text::part_clean(text, clean, start, length) & numbers_ok(ws, c) & lists_ok(ws, c)
+    text::part_clean(text.bytes, text.clean, start, length) & numbers_ok(ws, c) & lists_ok(ws, c)
 }
 
 // Whether each class record is in order.
-fn classes_ok(ws: &[u32], text: &[u8], clean: bool) -> bool
-    requires { clean ≡ printable text.now }
-    ensures { result ≡ all_of (class_count ws.now) (λ i. class_record ws.now text.now (i + 1)) }
+fn classes_ok(ws: &[u32], text: Seen) -> bool
+    ensures { result ≡ all_of (class_count ws.now) (λ i. class_record ws.now text.entry.bytes.now (i + 1)) }
 {
-    let n = class_sheet::class_count(ws);
-    let mut i: u32 = 0;
-    while i < n {
-        if !class_ok(ws, text, clean, i + 1) {
-            return false;
-        }
-        i += 1;
-    }
-    true
+    words::all_up_to(class_sheet::class_count(ws), |c| class_ok(ws, text, c))
 }
 
 // Whether a method's flags lie within 0x1DFF.
+#[tactic(auto, unfolding(crate::specs::ClassRules::method_flags_ok))]
 pub fn method_flags_ok(flags: u32) -> bool
     ensures { result ≡ method_flags_ok flags }
 {
@@ -168,53 +160,47 @@ pub fn method_flags_ok(flags: u32) -> bool
 }
 
 // Whether method m's record is in order; the records begin at `at`.
-fn method_ok(ws: &[u32], at: usize, text: &[u8], clean: bool, m: u32) -> bool
-    requires { (at ≡ methods_at ws.now) × (at < 2 ^ 37) × (clean ≡ printable text.now) }
-    ensures { result ≡ method_record ws.now text.now m }
+fn method_ok(ws: &[u32], at: usize, text: Seen, m: u32) -> bool
+    requires { (at ≡ methods_at ws.now) × (at < 2 ^ 37) }
+    ensures { result ≡ method_record ws.now text.entry.bytes.now m }
 {
-    let place = at + (MEMBER_WIDTH as usize) * words::wide(m);
-    if !text::signature_clean(ws, place, text, clean) {
+    let place = at + (MEMBER_WIDTH as usize) * (m as usize);
+    if !text::signature_clean(ws, place, text.bytes, text.clean) {
         return false;
     }
-    method_flags_ok(words::word_at(ws, place + text::NUMBER))
+    method_flags_ok(words::get_or(ws, place + text::NUMBER, 0))
 }
 
 // Whether each method record is in order.
-fn methods_ok(ws: &[u32], text: &[u8], clean: bool) -> bool
-    requires { clean ≡ printable text.now }
-    ensures { result ≡ all_of (method_count ws.now) (method_record ws.now text.now) }
+fn methods_ok(ws: &[u32], text: Seen) -> bool
+    ensures { result ≡ all_of (method_count ws.now) (method_record ws.now text.entry.bytes.now) }
 {
     let at = class_sheet::methods_at(ws);
-    let n = class_sheet::method_count(ws);
-    let mut m: u32 = 0;
-    while m < n {
-        if !method_ok(ws, at, text, clean, m) {
-            return false;
-        }
-        m += 1;
-    }
-    true
+    words::all_of(
+        class_sheet::method_count(ws),
+        |m| method_ok(ws, at, text, m),
+    )
 }
 
 // Whether each field record is in order.
-fn fields_ok(ws: &[u32], text: &[u8], clean: bool) -> bool
-    requires { clean ≡ printable text.now }
-    ensures { result ≡ all_of (field_count ws.now) (field_record ws.now text.now) }
+fn fields_ok(ws: &[u32], text: Seen) -> bool
+    ensures { result ≡ all_of (field_count ws.now) (field_record ws.now text.entry.bytes.now) }
 {
     let at = class_sheet::fields_at(ws);
     let end = ws.len();
     let n = class_sheet::field_count(ws);
     text::members_clean(
-        words::word_part(ws, at, end),
+        words::part(ws, at, end),
         MEMBER_WIDTH,
         n,
         65535,
-        text,
-        clean,
+        text.bytes,
+        text.clean,
     )
 }
 
 // Whether interface word i names a class.
+#[tactic(auto, unfolding(crate::specs::ClassRules::interface_names))]
 fn interface_ok(ws: &[u32], i: u32) -> bool
     ensures { result ≡ interface_names ws.now i }
 {
@@ -226,25 +212,18 @@ fn interface_ok(ws: &[u32], i: u32) -> bool
 pub fn interfaces_ok(ws: &[u32]) -> bool
     ensures { result ≡ all_of (interface_count ws.now) (interface_names ws.now) }
 {
-    let n = class_sheet::interface_count(ws);
-    let mut i: u32 = 0;
-    while i < n {
-        if !interface_ok(ws, i) {
-            return false;
-        }
-        i += 1;
-    }
-    true
+    words::all_of(class_sheet::interface_count(ws), |i| interface_ok(ws, i))
 }
 
 // Row 4, of a reading, a link or an ask.
+#[tactic(auto, unfolding(crate::specs::ClassRules::class_records))]
 pub fn records_ok(ws: &[u32], text: &[u8]) -> bool
     ensures { result ≡ class_records ws.now text.now }
 {
-    let clean = text::is_printable(text);
-    classes_ok(ws, text, clean)
-        & methods_ok(ws, text, clean)
-        & fields_ok(ws, text, clean)
+    let seen = text::see(text);
+    classes_ok(ws, seen)
+        & methods_ok(ws, seen)
+        & fields_ok(ws, seen)
         & interfaces_ok(ws)
         & apart::all_apart(ws, text)
 }

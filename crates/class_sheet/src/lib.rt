@@ -1,9 +1,13 @@
 // The words of a class sheet by name: the one place of the code that knows its layout. Every read is total: 0 outside the words.
 #![tactic(auto)]
 
-ghost use Rattle.std.specs.Prelude.{◌≡◌, ◌<◌, ◌^◌};
+ghost use Rattle.std.specs.Prelude.{◌≡◌, eqb, ◌<◌, ◌^◌};
 ghost use Rattle.text.specs.Text.{unpacked_text};
+ghost use Rattle.class_sheet.specs.Flags.{is_private, is_static, is_interface, is_abstract};
+ghost use Rattle.class_sheet.specs.Kinds.{kind_at, kind_number};
 ghost use Rattle.class_sheet.specs.ClassSheet.{count_at, class_count, method_count, field_count, interface_count, compiler_count, text_length, methods_at, fields_at, interfaces_at, compilers_at, text_at, content_end, class_word, method_word, field_word, interface_word, text_words, class_name_start, class_name_length, class_parent, class_flags, class_kind, class_first_method, class_method_count, class_first_field, class_field_count, class_first_interface, class_interface_count, class_link_state, class_instance_words, class_compiler_table, class_compiler_slots, class_table_place, class_slot_count, class_static_words, is_built_kind, method_name_start, method_name_length, method_descriptor_start, method_descriptor_length, method_flags, method_target, field_name_start, field_name_length, field_descriptor_start, field_descriptor_length, field_flags, field_index, class_name, method_name, method_descriptor, field_name, field_descriptor, put_count, put_method_count, put_field_count, put_text_length, put_class_word, put_class_first_method, put_class_method_count, put_class_first_field, put_class_field_count, put_class_instance_words, put_class_table_place, put_class_slot_count, put_class_static_words, put_member};
+
+use text::Signature;
 
 // Widths, in words: of the counts, of a class record, and of a method or field record.
 pub const COUNTS_WIDTH: usize = 6;
@@ -12,12 +16,56 @@ pub const CLASS_WIDTH: usize = 18;
 
 pub const MEMBER_WIDTH: usize = 6;
 
-// The kinds of classes by name, but for 0, built.
-pub const GENERATED: u32 = 1;
+// The kinds of classes.
+#[derive(Clone, Copy, Debug, PartialEq, Eq)]
+pub enum Kind {
+    Built,
+    Generated,
+    Array,
+    Packaged,
+}
 
-pub const ARRAY: u32 = 2;
+// A number that is no kind's.
+#[derive(Clone, Copy, Debug, PartialEq, Eq)]
+pub struct UnknownKind(pub u32);
 
-pub const PACKAGED: u32 = 3;
+// The kind's number.
+impl From<Kind> for u32 {
+    ghost use Rattle.std.specs.Prelude.{◌≡◌};
+    ghost use Rattle.class_sheet.specs.Flags.{is_private, is_static, is_interface, is_abstract};
+    ghost use Rattle.class_sheet.specs.Kinds.{kind_number};
+
+    ghost from_gives = { λ kind n. n ≡ kind_number kind };
+
+    fn from(kind: Kind) -> u32 {
+        match kind {
+            Kind::Built => 0,
+            Kind::Generated => 1,
+            Kind::Array => 2,
+            Kind::Packaged => 3,
+        }
+    }
+}
+
+impl TryFrom<u32> for Kind {
+    type Error = UnknownKind;
+
+    ghost use Rattle.std.specs.Prelude.{◌≡◌};
+    ghost use Rattle.class_sheet.specs.Flags.{is_private, is_static, is_interface, is_abstract};
+    ghost use Rattle.class_sheet.specs.Kinds.{kind_at};
+
+    ghost try_from_gives = { λ n kind. kind ≡ kind_at n };
+
+    fn try_from(n: u32) -> Result<Self, UnknownKind> {
+        match n {
+            0 => Ok(Kind::Built),
+            1 => Ok(Kind::Generated),
+            2 => Ok(Kind::Array),
+            3 => Ok(Kind::Packaged),
+            _ => Err(UnknownKind(n)),
+        }
+    }
+}
 
 // What each count may be at most.
 pub const CLASS_LIMIT: u32 = 64;
@@ -81,10 +129,11 @@ pub const FIELD_INDEX: usize = 5;
 pub const TARGET: usize = 5;
 
 // Count k of the six.
+#[tactic(auto, unfolding(crate::specs::ClassSheet::count_at))]
 fn count_at(ws: &[u32], k: usize) -> u32
     ensures { result ≡ count_at ws.now k }
 {
-    words::word_at(ws, k)
+    words::get_or(ws, k, 0)
 }
 
 pub fn class_count(ws: &[u32]) -> u32
@@ -124,82 +173,92 @@ pub fn text_length(ws: &[u32]) -> u32
 }
 
 // Where the method records begin.
+#[tactic(auto, unfolding(crate::specs::ClassSheet::methods_at))]
 pub fn methods_at(ws: &[u32]) -> usize
     ensures is { result ≡ methods_at ws.now }
     ensures small { result < 2 ^ 37 }
 {
-    COUNTS_WIDTH + CLASS_WIDTH * words::wide(class_count(ws))
+    COUNTS_WIDTH + CLASS_WIDTH * (class_count(ws) as usize)
 }
 
 // Where the field records begin.
+#[tactic(auto, unfolding(crate::specs::ClassSheet::fields_at))]
 pub fn fields_at(ws: &[u32]) -> usize
     ensures is { result ≡ fields_at ws.now }
     ensures small { result < 2 ^ 38 }
 {
-    methods_at(ws) + MEMBER_WIDTH * words::wide(method_count(ws))
+    methods_at(ws) + MEMBER_WIDTH * (method_count(ws) as usize)
 }
 
 // Where the interface words begin.
+#[tactic(auto, unfolding(crate::specs::ClassSheet::interfaces_at))]
 pub fn interfaces_at(ws: &[u32]) -> usize
     ensures is { result ≡ interfaces_at ws.now }
     ensures small { result < 2 ^ 39 }
 {
-    fields_at(ws) + MEMBER_WIDTH * words::wide(field_count(ws))
+    fields_at(ws) + MEMBER_WIDTH * (field_count(ws) as usize)
 }
 
 // Where the compiler words begin.
+#[tactic(auto, unfolding(crate::specs::ClassSheet::compilers_at))]
 pub fn compilers_at(ws: &[u32]) -> usize
     ensures is { result ≡ compilers_at ws.now }
     ensures small { result < 2 ^ 40 }
 {
-    interfaces_at(ws) + words::wide(interface_count(ws))
+    interfaces_at(ws) + (interface_count(ws) as usize)
 }
 
 // Where the text begins.
+#[tactic(auto, unfolding(crate::specs::ClassSheet::text_at))]
 pub fn text_at(ws: &[u32]) -> usize
     ensures is { result ≡ text_at ws.now }
     ensures small { result < 2 ^ 41 }
 {
-    compilers_at(ws) + words::wide(compiler_count(ws))
+    compilers_at(ws) + (compiler_count(ws) as usize)
 }
 
 // How many words the content has: the counts and the sections that they ask for.
+#[tactic(auto, unfolding(crate::specs::ClassSheet::content_end))]
 pub fn content_end(ws: &[u32]) -> usize
     ensures is { result ≡ content_end ws.now }
     ensures small { result < 2 ^ 42 }
 {
-    text_at(ws) + (words::wide(text_length(ws)) + 3) / 4
+    text_at(ws) + ((text_length(ws) as usize) + 3) / 4
 }
 
 // Word k of class c's record.
+#[tactic(auto, unfolding(crate::specs::ClassSheet::class_word))]
 fn class_word(ws: &[u32], c: u32, k: u32) -> u32
     ensures { result ≡ class_word ws.now c k }
 {
-    let at = COUNTS_WIDTH + CLASS_WIDTH * words::wide(words::before(c));
-    words::word_at(ws, at + words::wide(k))
+    let at = COUNTS_WIDTH + CLASS_WIDTH * (c.saturating_sub(1) as usize);
+    words::get_or(ws, at + (k as usize), 0)
 }
 
 // Word k of method m's record.
+#[tactic(auto, unfolding(crate::specs::ClassSheet::method_word))]
 fn method_word(ws: &[u32], m: u32, k: u32) -> u32
     ensures { result ≡ method_word ws.now m k }
 {
-    let at = methods_at(ws) + MEMBER_WIDTH * words::wide(m);
-    words::word_at(ws, at + words::wide(k))
+    let at = methods_at(ws) + MEMBER_WIDTH * (m as usize);
+    words::get_or(ws, at + (k as usize), 0)
 }
 
 // Word k of field f's record.
+#[tactic(auto, unfolding(crate::specs::ClassSheet::field_word))]
 fn field_word(ws: &[u32], f: u32, k: u32) -> u32
     ensures { result ≡ field_word ws.now f k }
 {
-    let at = fields_at(ws) + MEMBER_WIDTH * words::wide(f);
-    words::word_at(ws, at + words::wide(k))
+    let at = fields_at(ws) + MEMBER_WIDTH * (f as usize);
+    words::get_or(ws, at + (k as usize), 0)
 }
 
 // Interface word i.
+#[tactic(auto, unfolding(crate::specs::ClassSheet::interface_word))]
 pub fn interface_word(ws: &[u32], i: u32) -> u32
     ensures { result ≡ interface_word ws.now i }
 {
-    words::word_at(ws, interfaces_at(ws) + words::wide(i))
+    words::get_or(ws, interfaces_at(ws) + (i as usize), 0)
 }
 
 // The text section as bytes, where the lent bytes have room for it, and else nothing.
@@ -208,7 +267,7 @@ pub fn unpack_text(ws: &[u32], text: &mut [u8])
 {
     let at = text_at(ws);
     let n = ws.len();
-    text::unpack_text(words::word_part(ws, at, n), text_length(ws), text);
+    text::unpack_text(words::part(ws, at, n), text_length(ws), text);
 }
 
 // The words of a class record.
@@ -242,11 +301,62 @@ pub fn class_kind(ws: &[u32], c: u32) -> u32
     class_word(ws, c, 4)
 }
 
-// Whether a class of this kind is built.
+// Class c's kind, by name.
+pub fn kind_of(ws: &[u32], c: u32) -> Result<Kind, UnknownKind>
+    ensures { result ≡ kind_at (class_kind ws.now c) }
+{
+    Kind::try_from(class_kind(ws, c))
+}
+
+// Whether class c is of this kind.
+pub fn has_kind(ws: &[u32], c: u32, kind: Kind) -> bool
+    ensures { result ≡ eqb (class_kind ws.now c) (kind_number kind) }
+{
+    class_kind(ws, c) == u32::from(kind)
+}
+
+// The bits of access flags, of a class, a method or a field.
+#[tactic(auto, using(crate::proofs::FlagLaws::private_bit))]
+pub fn is_private(flags: u32) -> bool
+    ensures { result ≡ is_private flags }
+{
+    flags & 0x0002 != 0
+}
+
+#[tactic(auto, using(crate::proofs::FlagLaws::static_bit))]
+pub fn is_static(flags: u32) -> bool
+    ensures { result ≡ is_static flags }
+{
+    flags & 0x0008 != 0
+}
+
+#[tactic(auto, using(crate::proofs::FlagLaws::interface_bit))]
+pub fn is_interface(flags: u32) -> bool
+    ensures { result ≡ is_interface flags }
+{
+    flags & 0x0200 != 0
+}
+
+#[tactic(auto, using(crate::proofs::FlagLaws::abstract_bit))]
+pub fn is_abstract(flags: u32) -> bool
+    ensures { result ≡ is_abstract flags }
+{
+    flags & 0x0400 != 0
+}
+
+// Whether a class of this kind is built, by packages or not.
+#[tactic(auto, unfolding(crate::specs::ClassSheet::is_built_kind))]
 pub fn is_built_kind(kind: u32) -> bool
     ensures { result ≡ is_built_kind kind }
 {
-    (kind == 0) | (kind == PACKAGED)
+    matches!(Kind::try_from(kind), Ok(Kind::Built | Kind::Packaged))
+}
+
+// Whether class c is built.
+pub fn is_built(ws: &[u32], c: u32) -> bool
+    ensures { result ≡ is_built_kind (class_kind ws.now c) }
+{
+    is_built_kind(class_kind(ws, c))
 }
 
 pub fn class_first_method(ws: &[u32], c: u32) -> u32
@@ -424,6 +534,16 @@ pub fn method_descriptor<'a>(ws: &[u32], text: &'a [u8], m: u32) -> &'a [u8]
     )
 }
 
+pub fn method_signature<'a>(ws: &[u32], text: &'a [u8], m: u32) -> Signature<'a>
+    ensures name { result.name.now ≡ method_name ws.now text.now m }
+    ensures descriptor { result.descriptor.now ≡ method_descriptor ws.now text.now m }
+{
+    Signature {
+        name: method_name(ws, text, m),
+        descriptor: method_descriptor(ws, text, m),
+    }
+}
+
 pub fn field_name<'a>(ws: &[u32], text: &'a [u8], f: u32) -> &'a [u8]
     ensures { result.now ≡ field_name ws.now text.now f }
 {
@@ -440,11 +560,21 @@ pub fn field_descriptor<'a>(ws: &[u32], text: &'a [u8], f: u32) -> &'a [u8]
     )
 }
 
+pub fn field_signature<'a>(ws: &[u32], text: &'a [u8], f: u32) -> Signature<'a>
+    ensures name { result.name.now ≡ field_name ws.now text.now f }
+    ensures descriptor { result.descriptor.now ≡ field_descriptor ws.now text.now f }
+{
+    Signature {
+        name: field_name(ws, text, f),
+        descriptor: field_descriptor(ws, text, f),
+    }
+}
+
 // Stores to the counts of methods, fields and text bytes.
 fn put_count(ws: &mut [u32], k: usize, v: u32)
     ensures { ws.new ≡ put_count ws.old k v }
 {
-    words::put_word(ws, k, v);
+    words::put(ws, k, v);
 }
 
 pub fn put_method_count(ws: &mut [u32], v: u32)
@@ -469,8 +599,8 @@ pub fn put_text_length(ws: &mut [u32], v: u32)
 fn put_class_word(ws: &mut [u32], c: u32, k: u32, v: u32)
     ensures { ws.new ≡ put_class_word ws.old c k v }
 {
-    let at = COUNTS_WIDTH + CLASS_WIDTH * words::wide(words::before(c));
-    words::put_word(ws, at + words::wide(k), v);
+    let at = COUNTS_WIDTH + CLASS_WIDTH * (c.saturating_sub(1) as usize);
+    words::put(ws, at + (k as usize), v);
 }
 
 pub fn put_class_first_method(ws: &mut [u32], c: u32, v: u32)
@@ -534,10 +664,10 @@ pub fn put_member(
 )
     ensures { part.new ≡ put_member part.old start name from descriptor flags last }
 {
-    words::put_word(part, 0, start);
-    words::put_word(part, 1, name);
-    words::put_word(part, 2, from);
-    words::put_word(part, 3, descriptor);
-    words::put_word(part, 4, flags);
-    words::put_word(part, 5, last);
+    words::put(part, 0, start);
+    words::put(part, 1, name);
+    words::put(part, 2, from);
+    words::put(part, 3, descriptor);
+    words::put(part, 4, flags);
+    words::put(part, 5, last);
 }

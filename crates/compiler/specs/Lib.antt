@@ -1,2 +1,1 @@
 pub mod Methods
-pub mod Added

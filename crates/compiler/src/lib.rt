@@ -2,314 +2,211 @@
 // Methods are numbered on: below 512 those of the sheet, 512 + j the j-th that is added.
 #![tactic(auto)]
 
-ghost use Rattle.std.specs.Prelude.{◌≡◌, cond, ◌++◌, ◌+◌, ◌-◌, ◌≤◌, ◌<◌, min, length, eqb};
-ghost use Rattle.words.specs.Lists.{numbers, find, fold};
-ghost use Rattle.class_sheet.specs.ClassSheet.{class_compiler_slots, method_limit};
-ghost use Rattle.words.specs.declared.Found.TheVariants.{Nothing};
-ghost use Rattle.linking.specs.Chain.{own_methods};
-ghost use Rattle.linking.specs.Compiler.{compiler_table, compiler_entries, compiler_targets, class_methods, added_methods};
-ghost use Rattle.reading.specs.Arrays.{method_of, source_of, entries_of};
-ghost use Rattle.growth.specs.News.{first_news};
-ghost use Rattle.native_view.specs.Native.{below, mark_entry, marks_in};
-ghost use Rattle.compiler.specs.Methods.{name_in, descriptor_in, mark_same, some_same, flags_in, takes_slot, target_in, mark_has, view_target, match_in, method_at, source_at, slots_in, method_number};
-ghost use Rattle.compiler.specs.Added.{appending, copying, targeted, methods};
+ghost use Rattle.std.specs.Prelude.{◌≡◌, None, ◌++◌, ◌+◌, ◌-◌, ◌≤◌, ◌<◌, length, get_or, eqb};
+ghost use Rattle.words.specs.Lists.{numbers, find, first_found, fold, some};
+ghost use Rattle.class_sheet.specs.ClassSheet.{method_limit};
+ghost use Rattle.linking.specs.Vtable.{empty};
+ghost use Rattle.linking.specs.Compiler.{name_of, descriptor_of, flags_of, target_of, class_methods, entry_target, match_target, compiler_entry, compiler_entries, compiler_targets, append_from, append_entry, compiler_table, added_methods};
+ghost use Rattle.reading.specs.Arrays.{method_of};
+ghost use Rattle.reading.specs.Tables.{entry, entries};
+ghost use Rattle.growth.specs.News.{news_of};
+ghost use Rattle.compiler.specs.Methods.{of_news, has_target, same_method, takes_slot, method_number};
+ghost use Rattle.linking.specs.Sheets.{of_sheets};
+ghost use Rattle.text.specs.Signatures.{of_signature};
 
-use words::Found;
+use growth::News;
+use linking::Sheets;
+use reading::{Slot, Table};
+use text::Signature;
 
-// How many slots the table has, and how many methods are added to the class.
-#[derive(Clone, Copy)]
-pub struct Prepared {
-    pub n: u32,
-    pub added: u32,
-}
-
-// The name of method m, of the sheet or of the first n added ones.
-fn name_of<'a>(
-    ws: &[u32],
-    text: &'a [u8],
-    abi: &[u32],
-    labels: &'a [u8],
-    refs: &[u32],
-    n: u32,
-    m: u32,
-) -> &'a [u8]
-    ensures { result.now ≡ name_in ws.now text.now abi.now labels.now refs.now n m }
+// The name and descriptor of method m, of the sheet or an added one.
+fn signature_of<'a>(sheets: Sheets<'a>, news: &News, m: u32) -> Signature<'a>
+    ensures name { result.name.now ≡ of_news name_of sheets.entry news.now m }
+    ensures descriptor { result.descriptor.now ≡ of_news descriptor_of sheets.entry news.now m }
 {
     if m < class_sheet::METHOD_LIMIT {
-        return class_sheet::method_name(ws, text, m);
+        return class_sheet::method_signature(sheets.set, sheets.text, m);
     }
-    if m - class_sheet::METHOD_LIMIT < n {
-        let r = words::word_at(refs, words::wide(m - class_sheet::METHOD_LIMIT));
-        return growth::ref_name(ws, text, abi, labels, r);
+    if let Some(new) = news.get(m - class_sheet::METHOD_LIMIT) {
+        return growth::ref_signature(sheets, new.names);
     }
-    words::part(text, 0, 0)
-}
-
-// The descriptor of method m, likewise.
-fn descriptor_of<'a>(
-    ws: &[u32],
-    text: &'a [u8],
-    abi: &[u32],
-    labels: &'a [u8],
-    refs: &[u32],
-    n: u32,
-    m: u32,
-) -> &'a [u8]
-    ensures { result.now ≡ descriptor_in ws.now text.now abi.now labels.now refs.now n m }
-{
-    if m < class_sheet::METHOD_LIMIT {
-        return class_sheet::method_descriptor(ws, text, m);
+    let name = words::part(sheets.text, 0, 0);
+    Signature {
+        name,
+        descriptor: name,
     }
-    if m - class_sheet::METHOD_LIMIT < n {
-        let r = words::word_at(refs, words::wide(m - class_sheet::METHOD_LIMIT));
-        return growth::ref_descriptor(ws, text, abi, labels, r);
-    }
-    words::part(text, 0, 0)
 }
 
 // The flags of method m.
-fn flags_of(ws: &[u32], flags: &[u32], n: u32, m: u32) -> u32
-    ensures { result ≡ flags_in ws.now flags.now n m }
+#[tactic(auto, using(crate::proofs::MethodLaws::flags_own, crate::proofs::MethodLaws::flags_added, crate::proofs::MethodLaws::flags_none))]
+fn flags_of(sheets: Sheets, news: &News, m: u32) -> u32
+    ensures { result ≡ flags_of sheets.entry.set.now (of_sheets news_of sheets.entry news.now) m }
 {
     if m < class_sheet::METHOD_LIMIT {
-        return class_sheet::method_flags(ws, m);
+        return class_sheet::method_flags(sheets.set, m);
     }
-    native_view::word_below(flags, n, m - class_sheet::METHOD_LIMIT)
+    match news.get(m - class_sheet::METHOD_LIMIT) {
+        Some(new) => new.flags,
+        None => 0,
+    }
 }
 
 // The target of method m.
-fn target_of(ws: &[u32], lasts: &[u32], n: u32, m: u32) -> u32
-    ensures { result ≡ target_in ws.now lasts.now n m }
+#[tactic(auto, using(crate::proofs::MethodLaws::target_own, crate::proofs::MethodLaws::target_added, crate::proofs::MethodLaws::target_none))]
+fn target_of(sheets: Sheets, news: &News, m: u32) -> u32
+    ensures { result ≡ target_of sheets.entry.set.now (of_sheets news_of sheets.entry news.now) m }
 {
     if m < class_sheet::METHOD_LIMIT {
-        return class_sheet::method_target(ws, m);
+        return class_sheet::method_target(sheets.set, m);
     }
-    native_view::word_below(lasts, n, m - class_sheet::METHOD_LIMIT)
+    match news.get(m - class_sheet::METHOD_LIMIT) {
+        Some(new) => new.last,
+        None => 0,
+    }
 }
 
 // Whether method m has target t.
-fn target_is(ws: &[u32], lasts: &[u32], n: u32, m: u32, t: u32) -> bool
-    ensures { result ≡ eqb (target_in ws.now lasts.now n m) t }
+fn target_is(sheets: Sheets, news: &News, m: u32, t: u32) -> bool
+    ensures { result ≡ eqb (target_of sheets.entry.set.now (of_sheets news_of sheets.entry news.now) m) t }
 {
-    target_of(ws, lasts, n, m) == t
+    target_of(sheets, news, m) == t
 }
 
 // The first of `count` methods from `first` on that has target t.
-fn target_in(ws: &[u32], lasts: &[u32], n: u32, first: u32, count: u32, t: u32) -> Found
+fn target_in(sheets: Sheets, news: &News, first: u32, count: u32, t: u32) -> Option<u32>
     requires { first + count ≤ 4294967295 }
-    ensures { result ≡ find (λ m. eqb (target_in ws.now lasts.now n m) t) (numbers first count) }
+    ensures { result ≡ find (λ m. eqb (target_of sheets.entry.set.now (of_sheets news_of sheets.entry news.now) m) t) (numbers first count) }
 {
-    let mut i: u32 = 0;
-    while i < count {
-        if target_is(ws, lasts, n, first + i, t) {
-            return Found::At(first + i);
-        }
-        i += 1;
-    }
-    Found::Nothing
+    words::find_in(first, first + count, |m| target_is(sheets, news, m, t))
 }
 
-// Whether the method with mark k has target t.
-fn mark_has(ws: &[u32], lasts: &[u32], n: u32, k: u32, t: u32) -> bool
-    ensures { result ≡ mark_has ws.now lasts.now n t k }
+// Whether the slot's method has target t.
+#[tactic(auto, using(crate::proofs::EntryLaws::target_known, crate::proofs::EntryLaws::target_unknown))]
+fn has_target(sheets: Sheets, news: &News, slot: Slot, t: u32) -> bool
+    ensures { result ≡ has_target sheets.entry.set.now (of_sheets news_of sheets.entry news.now) t (entry slot) }
 {
-    match reading::method_of(k) {
-        Found::At(m) => target_is(ws, lasts, n, m, t),
-        Found::Nothing => false,
+    match slot.method() {
+        Some(m) => target_is(sheets, news, m, t),
+        None => false,
     }
 }
 
-// The mark of the first of `size` slots whose method has target t.
-fn view_target(ws: &[u32], lasts: &[u32], n: u32, vm: &[u32], size: u32, t: u32) -> u32
-    ensures { method_of result ≡ view_target ws.now lasts.now n vm.now size t }
+// The mark of the first slot of the view whose method has target t.
+fn view_target(sheets: Sheets, news: &News, view: &Table<1024>, t: u32) -> u32
+    ensures { method_of result ≡ first_found (entry_target sheets.entry.set.now (of_sheets news_of sheets.entry news.now) t) (entries view.now) }
 {
-    let mut i: u32 = 0;
-    while i < size {
-        let k = words::word_at(vm, words::wide(i));
-        if mark_has(ws, lasts, n, k, t) {
-            return k;
-        }
-        i += 1;
+    match words::find_in(0, view.len, |i| has_target(sheets, news, view.slot(i), t)) {
+        Some(i) => view.slot(i).mark,
+        None => reading::mark_of(None),
     }
-    reading::mark_of(Found::Nothing)
 }
 
 // The mark of the first method with target t: declared, added, or of the native view's slots.
-fn match_target(ws: &[u32], lasts: &[u32], n: u32, c: u32, vm: &[u32], size: u32, t: u32) -> u32
-    requires { n ≤ 1024 }
-    ensures { method_of result ≡ match_in ws.now lasts.now n c vm.now size t }
+fn match_target(sheets: Sheets, news: &News, c: u32, view: &Table<1024>, t: u32) -> u32
+    ensures { method_of result ≡ match_target sheets.entry.set.now (of_sheets news_of sheets.entry news.now) c (entries view.now) t }
 {
-    let first = class_sheet::class_first_method(ws, c);
-    let count = chain::method_count(ws, c);
-    match target_in(ws, lasts, n, first, count, t) {
-        Found::At(m) => reading::mark_of(Found::At(m)),
-        Found::Nothing => match target_in(ws, lasts, n, class_sheet::METHOD_LIMIT, n, t) {
-            Found::At(m) => reading::mark_of(Found::At(m)),
-            Found::Nothing => view_target(ws, lasts, n, vm, size, t),
-        },
+    let first = class_sheet::class_first_method(sheets.set, c);
+    let count = chain::method_count(sheets.set, c);
+    if let Some(m) = target_in(sheets, news, first, count, t) {
+        return reading::mark_of(Some(m));
     }
+    if let Some(m) = target_in(sheets, news, class_sheet::METHOD_LIMIT, news.len(), t) {
+        return reading::mark_of(Some(m));
+    }
+    view_target(sheets, news, view, t)
 }
 
-// The word of slot i of the compiler table, whose target is t.
-fn entry_word(vs: &[u32], size: u32, i: u32, t: u32) -> u32
-    ensures { result ≡ cond (eqb t 0) (below vs.now size i) t }
-{
-    if t == 0 {
-        return native_view::word_below(vs, size, i);
-    }
-    t
-}
-
-// The mark of slot i of the compiler table, whose target is t.
-fn entry_mark(
-    ws: &[u32],
-    lasts: &[u32],
-    n: u32,
-    c: u32,
-    vm: &[u32],
-    size: u32,
-    i: u32,
-    t: u32,
-) -> u32
-    requires { n ≤ 1024 }
-    ensures { (method_of result ≡ method_at ws.now lasts.now n c vm.now size i t) × (source_of result ≡ source_at vm.now size i t) }
+// Slot i of the compiler table, whose target is t.
+#[tactic(auto, using(crate::proofs::EntryLaws::slot_zero, crate::proofs::EntryLaws::slot_match))]
+fn entry_slot(sheets: Sheets, news: &News, c: u32, view: &Table<1024>, i: u32, t: u32) -> Slot
+    ensures { entry result ≡ compiler_entry sheets.entry.set.now (of_sheets news_of sheets.entry news.now) c (entries view.now) i t }
 {
     if t == 0 {
-        return native_view::word_below(vm, size, i);
+        return view.slot(i);
     }
-    let k = match_target(ws, lasts, n, c, vm, size, t);
-    reading::mark_of(reading::method_of(k))
+    let k = match_target(sheets, news, c, view, t);
+    Slot {
+        word: t,
+        mark: reading::mark_of(reading::method_of(k)),
+    }
 }
 
-// Fills the arrays with the slots of class c's compiler table, and answers how many there are.
+// Fills the table with the slots of class c's compiler table.
 fn compiler_entries(
-    ws: &[u32],
-    lasts: &[u32],
-    n: u32,
+    sheets: Sheets,
+    news: &News,
     c: u32,
-    vs: &[u32],
-    vm: &[u32],
-    size: u32,
-    ts: &mut [u32],
-    ms: &mut [u32],
-) -> u32
-    requires { (n ≤ 1024) × (1024 ≤ length ts.old) × (1024 ≤ length ms.old) }
-    ensures is { entries_of ts.new ms.new result ≡ slots_in ws.now lasts.now n c vs.now vm.now size result }
-    ensures count { result ≡ min (class_compiler_slots ws.now c) 1024 }
+    view: &Table<1024>,
+    table: &mut Table<3584>,
+)
+    ensures is { entries table.new
+        ≡ compiler_entries sheets.entry.set.now (of_sheets news_of sheets.entry news.now) c (entries view.now) 0 (compiler_targets sheets.entry.set.now c) }
+    ensures count { table.new.len ≤ 1024 }
 {
-    let count = native_view::compiler_count(ws, c);
-    let mut i: u32 = 0;
-    while i < count {
-        let t = native_view::compiler_target(ws, c, i);
-        let k = entry_mark(ws, lasts, n, c, vm, size, i, t);
-        reading::put_slot(ts, ms, i, entry_word(vs, size, i, t), k);
-        i += 1;
+    table.clear();
+    let count = native_view::compiler_count(sheets.set, c);
+    for i in 0..count {
+        let t = native_view::compiler_target(sheets.set, c, i);
+        table.push(entry_slot(sheets, news, c, view, i, t));
     }
-    count
 }
 
-// Whether the method with mark k has this name and descriptor.
-fn mark_same<'a>(
-    ws: &[u32],
-    text: &'a [u8],
-    abi: &[u32],
-    labels: &'a [u8],
-    refs: &[u32],
-    n: u32,
-    name: &[u8],
-    descriptor: &[u8],
-    k: u32,
-) -> bool
-    ensures { result ≡ mark_same ws.now text.now abi.now labels.now refs.now n name.now descriptor.now k }
+// Whether the slot's method has this name and descriptor.
+#[tactic(auto, using(crate::proofs::MethodLaws::same_known, crate::proofs::MethodLaws::same_none))]
+fn same_method(sheets: Sheets, news: &News, signature: Signature, slot: Slot) -> bool
+    ensures { result ≡ of_signature (of_news same_method sheets.entry news.now) signature.entry (entry slot) }
 {
-    match reading::method_of(k) {
-        Found::At(m) => {
-            text::same(name, name_of(ws, text, abi, labels, refs, n, m))
-                & text::same(descriptor, descriptor_of(ws, text, abi, labels, refs, n, m))
+    match slot.method() {
+        Some(m) => {
+            let own = signature_of(sheets, news, m);
+            text::same(signature.name, own.name) & text::same(signature.descriptor, own.descriptor)
         }
-        Found::Nothing => false,
+        None => false,
     }
 }
 
-// Whether one of the first `size` slots has this name and descriptor.
-fn has_slot<'a>(
-    ws: &[u32],
-    text: &'a [u8],
-    abi: &[u32],
-    labels: &'a [u8],
-    refs: &[u32],
-    n: u32,
-    name: &[u8],
-    descriptor: &[u8],
-    ms: &[u32],
-    size: u32,
-) -> bool
-    ensures { result ≡ some_same ws.now text.now abi.now labels.now refs.now n name.now descriptor.now ms.now size }
+// Whether a slot of the table has this name and descriptor.
+fn has_slot(sheets: Sheets, news: &News, signature: Signature, table: &Table<3584>) -> bool
+    ensures { result ≡ some (of_signature (of_news same_method sheets.entry news.now) signature.entry) (entries table.now) }
 {
-    let mut i: u32 = 0;
-    while i < size {
-        let k = words::word_at(ms, words::wide(i));
-        if mark_same(ws, text, abi, labels, refs, n, name, descriptor, k) {
-            return true;
-        }
-        i += 1;
-    }
-    false
+    words::some_in(
+        0,
+        table.len,
+        |i| same_method(sheets, news, signature, table.slot(i)),
+    )
 }
 
-// Whether method m takes a slot behind the first `end`: it is eligible, and none of them has its signature.
-fn takes_slot<'a>(
-    ws: &[u32],
-    text: &'a [u8],
-    abi: &[u32],
-    labels: &'a [u8],
-    refs: &[u32],
-    flags: &[u32],
-    n: u32,
-    ms: &[u32],
-    end: u32,
-    m: u32,
-) -> bool
-    ensures { result ≡ takes_slot ws.now text.now abi.now labels.now refs.now n flags.now ms.now end m }
+// Whether method m takes a slot behind those of the table: it is eligible, and none of them has its signature.
+#[tactic(auto, using(crate::proofs::AppendLaws::takes_none, crate::proofs::AppendLaws::takes_new))]
+fn takes_slot(sheets: Sheets, news: &News, table: &Table<3584>, m: u32) -> bool
+    ensures { result ≡ of_news takes_slot sheets.entry news.now (entries table.now) m }
 {
-    let name = name_of(ws, text, abi, labels, refs, n, m);
-    let descriptor = descriptor_of(ws, text, abi, labels, refs, n, m);
-    if !chain::is_eligible(flags_of(ws, flags, n, m), name) {
+    let signature = signature_of(sheets, news, m);
+    if !chain::is_eligible(flags_of(sheets, news, m), signature.name) {
         return false;
     }
-    !has_slot(ws, text, abi, labels, refs, n, name, descriptor, ms, end)
+    !has_slot(sheets, news, signature, table)
 }
 
-// Appends the method with mark k, if it has one that takes a slot, and answers how many slots there are.
-fn append_mark<'a>(
-    ws: &[u32],
-    text: &'a [u8],
-    abi: &[u32],
-    labels: &'a [u8],
-    refs: &[u32],
-    flags: &[u32],
-    lasts: &[u32],
-    n: u32,
-    k: u32,
-    ts: &mut [u32],
-    ms: &mut [u32],
-    end: u32,
-) -> u32
-    requires { (end < 4294967295) × (end < length ts.old) × (end < length ms.old) }
-    ensures is { entries_of ts.new ms.new result ≡ copying ws.now text.now abi.now labels.now refs.now flags.now lasts.now n (entries_of ts.old ms.old end) (mark_entry k) }
-    ensures count { result ≤ end + 1 }
+// Appends the slot's method, if it has one that takes a slot.
+fn append(sheets: Sheets, news: &News, slot: Slot, table: &mut Table<3584>)
+    requires { table.old.len < 3584 }
+    ensures is { entries table.new ≡ of_news append_entry sheets.entry news.now (entries table.old) (entry slot) }
+    ensures count { table.new.len ≤ table.old.len + 1 }
 {
-    let Found::At(m) = reading::method_of(k) else {
-        return end;
+    let Some(m) = slot.method() else {
+        return;
     };
-    if !takes_slot(ws, text, abi, labels, refs, flags, n, ms, end, m) {
-        return end;
+    if takes_slot(sheets, news, table, m) {
+        table.push(Slot {
+            word: target_of(sheets, news, m),
+            mark: slot.mark,
+        });
     }
-    reading::put_slot(ts, ms, end, target_of(ws, lasts, n, m), k);
-    end + 1
 }
 
 // The number of the j-th of a class's methods: `own` declared ones from `first` on, then the added ones.
+#[tactic(auto, using(crate::proofs::AppendLaws::number_own, crate::proofs::AppendLaws::number_added))]
 fn method_number(first: u32, own: u32, j: u32) -> u32
     requires { (own ≤ method_limit - first) × (j < own + 1024) }
     ensures is { result ≡ method_number first own j }
@@ -322,176 +219,63 @@ fn method_number(first: u32, own: u32, j: u32) -> u32
 }
 
 // Appends class c's declared methods and the added ones.
-fn append_methods<'a>(
-    ws: &[u32],
-    text: &'a [u8],
-    abi: &[u32],
-    labels: &'a [u8],
-    refs: &[u32],
-    flags: &[u32],
-    lasts: &[u32],
-    n: u32,
-    c: u32,
-    ts: &mut [u32],
-    ms: &mut [u32],
-    end: u32,
-) -> u32
-    requires { (n ≤ 1024) × (end ≤ 1024) × (3584 ≤ length ts.old) × (3584 ≤ length ms.old) }
-    ensures is { entries_of ts.new ms.new result
-        ≡ fold (appending ws.now text.now abi.now labels.now refs.now flags.now lasts.now n) (entries_of ts.old ms.old end) (own_methods ws.now c ++ numbers method_limit n) }
-    ensures count { result ≤ 2560 }
+fn append_methods(sheets: Sheets, news: &News, c: u32, table: &mut Table<3584>)
+    requires { table.old.len ≤ 1024 }
+    ensures is { entries table.new ≡ fold (of_news append_from sheets.entry news.now None) (entries table.old)
+        (class_methods sheets.entry.set.now (of_sheets news_of sheets.entry news.now) c) }
+    ensures count { table.new.len ≤ 2560 }
 {
-    let first = class_sheet::class_first_method(ws, c);
-    let own = chain::method_count(ws, c);
-    let total = own + n;
-    let mut r: u32 = end;
-    let mut j: u32 = 0;
-    while j < total {
-        let m = method_number(first, own, j);
-        let k = reading::mark_of(Found::At(m));
-        r = append_mark(ws, text, abi, labels, refs, flags, lasts, n, k, ts, ms, r);
-        j += 1;
+    let first = class_sheet::class_first_method(sheets.set, c);
+    let own = chain::method_count(sheets.set, c);
+    let total = own + news.len();
+    for j in 0..total {
+        let mark = reading::mark_of(Some(method_number(first, own, j)));
+        append(sheets, news, Slot { word: 0, mark }, table);
     }
-    r
 }
 
-// Appends the methods of the first `count` marks.
-fn append_known<'a>(
-    ws: &[u32],
-    text: &'a [u8],
-    abi: &[u32],
-    labels: &'a [u8],
-    refs: &[u32],
-    flags: &[u32],
-    lasts: &[u32],
-    n: u32,
-    known: &[u32],
-    count: u32,
-    ts: &mut [u32],
-    ms: &mut [u32],
-    end: u32,
-) -> u32
-    requires { (end + count ≤ 3584) × (3584 ≤ length ts.old) × (3584 ≤ length ms.old) }
-    ensures is { entries_of ts.new ms.new result
-        ≡ fold (copying ws.now text.now abi.now labels.now refs.now flags.now lasts.now n) (entries_of ts.old ms.old end) (marks_in known.now count) }
-    ensures count { result ≤ end + count }
+// Appends the methods of the parent's slots.
+fn append_parent(sheets: Sheets, news: &News, parent: &Table<1024>, table: &mut Table<3584>)
+    requires { table.old.len ≤ 2560 }
+    ensures { entries table.new ≡ fold (of_news append_entry sheets.entry news.now) (entries table.old) (entries parent.now) }
 {
-    let mut r: u32 = end;
-    let mut i: u32 = 0;
-    while i < count {
-        let k = words::word_at(known, words::wide(i));
-        r = append_mark(ws, text, abi, labels, refs, flags, lasts, n, k, ts, ms, r);
-        i += 1;
+    for i in 0..parent.len {
+        append(sheets, news, parent.slot(i), table);
     }
-    r
 }
 
-// Appends class c's declared methods, the added ones, and those of the parent's slots.
-fn append_all<'a>(
-    ws: &[u32],
-    text: &'a [u8],
-    abi: &[u32],
-    labels: &'a [u8],
-    refs: &[u32],
-    flags: &[u32],
-    lasts: &[u32],
-    n: u32,
+// Fills the table with class c's, by the added methods, the parent's slots and the native view of them.
+fn compiler_table(
+    sheets: Sheets,
+    news: &News,
     c: u32,
-    known: &[u32],
-    count: u32,
-    ts: &mut [u32],
-    ms: &mut [u32],
-    end: u32,
-) -> u32
-    requires { (n ≤ 1024) × (count ≤ 1024) × (end ≤ 1024) × (3584 ≤ length ts.old) × (3584 ≤ length ms.old) }
-    ensures is { entries_of ts.new ms.new result ≡ fold (copying ws.now text.now abi.now labels.now refs.now flags.now lasts.now n)
-        (fold (appending ws.now text.now abi.now labels.now refs.now flags.now lasts.now n) (entries_of ts.old ms.old end) (own_methods ws.now c ++ numbers method_limit n))
-        (marks_in known.now count) }
-    ensures count { result ≤ 3584 }
+    parent: &Table<1024>,
+    view: &Table<1024>,
+    table: &mut Table<3584>,
+)
+    ensures { entries table.new ≡ fold (of_news append_entry sheets.entry news.now) (fold (of_news append_from sheets.entry news.now None)
+        (compiler_entries sheets.entry.set.now (of_sheets news_of sheets.entry news.now) c (entries view.now) 0 (compiler_targets sheets.entry.set.now c))
+        (class_methods sheets.entry.set.now (of_sheets news_of sheets.entry news.now) c)) (entries parent.now) }
 {
-    let r = append_methods(ws, text, abi, labels, refs, flags, lasts, n, c, ts, ms, end);
-    append_known(
-        ws, text, abi, labels, refs, flags, lasts, n, known, count, ts, ms, r,
-    )
+    compiler_entries(sheets, news, c, view, table);
+    append_methods(sheets, news, c, table);
+    append_parent(sheets, news, parent, table);
 }
 
-// Fills the arrays with class c's table, by the added methods, the native view and the marks of the parent's slots, and answers how many
-// slots it has.
-fn compiler_table<'a>(
-    ws: &[u32],
-    text: &'a [u8],
-    abi: &[u32],
-    labels: &'a [u8],
-    refs: &[u32],
-    flags: &[u32],
-    lasts: &[u32],
-    n: u32,
-    c: u32,
-    vs: &[u32],
-    vm: &[u32],
-    known: &[u32],
-    count: u32,
-    ts: &mut [u32],
-    ms: &mut [u32],
-) -> u32
-    requires { (n ≤ 1024) × (count ≤ 1024) × (3584 ≤ length ts.old) × (3584 ≤ length ms.old) }
-    ensures is { entries_of ts.new ms.new result ≡ fold (copying ws.now text.now abi.now labels.now refs.now flags.now lasts.now n)
-        (fold (appending ws.now text.now abi.now labels.now refs.now flags.now lasts.now n) (targeted ws.now text.now abi.now labels.now refs.now flags.now lasts.now n c (entries_of vs.now vm.now count))
-        (methods ws.now text.now abi.now labels.now refs.now flags.now lasts.now n c)) (marks_in known.now count) }
-    ensures count { result ≤ 3584 }
-{
-    let size = compiler_entries(ws, lasts, n, c, vs, vm, count, ts, ms);
-    append_all(
-        ws, text, abi, labels, refs, flags, lasts, n, c, known, count, ts, ms, size,
-    )
-}
-
-// Fills the arrays with the virtual table of class c, which has a compiler table, and with the methods that are added to it. What they hold past
-// the counts that are answered is the program's choice and means nothing; their lengths stay.
-pub fn prepare_generated<'a>(
-    ws: &[u32],
-    text: &'a [u8],
-    abi: &[u32],
-    labels: &'a [u8],
+// Fills the table with the virtual table of class c, which has a compiler table, and the list with the methods that are added to it.
+pub fn prepare_generated(
+    sheets: Sheets,
     area: &[u32],
     c: u32,
-    ts: &mut [u32; 3584],
-    ms: &mut [u32; 3584],
-    refs: &mut [u32; 1024],
-    flags: &mut [u32; 1024],
-    lasts: &mut [u32; 1024],
-) -> Prepared
-    ensures table { entries_of ts.new ms.new result.n ≡ compiler_table ws.now text.now abi.now labels.now area.now c }
-    ensures members { first_news ws.now text.now abi.now labels.now refs.new flags.new lasts.new result.added
-        ≡ added_methods ws.now text.now abi.now labels.now area.now c }
-    ensures counts { (result.n ≤ 3584) × (result.added ≤ 1024) }
-    ensures arrays { (length ts.new ≡ 3584) × (length ms.new ≡ 3584) × (length refs.new ≡ 1024) × (length flags.new ≡ 1024) × (length lasts.new ≡ 1024) }
+    table: &mut Table<3584>,
+    news: &mut News,
+)
+    ensures table { entries table.new ≡ of_sheets compiler_table sheets.entry area.now c }
+    ensures members { of_sheets news_of sheets.entry news.new ≡ of_sheets added_methods sheets.entry area.now c }
+    ensures count { length news.new ≤ 1024 }
 {
-    let mut vs = [0u32; 1024];
-    let mut vm = [0u32; 1024];
-    let mut known = [0u32; 1024];
-    let native = native_view::native_view(
-        ws, text, abi, labels, area, c, &mut vs, &mut vm, &mut known, refs, flags, lasts,
-    );
-    let n = compiler_table(
-        ws,
-        text,
-        abi,
-        labels,
-        refs,
-        flags,
-        lasts,
-        native.added,
-        c,
-        &vs,
-        &vm,
-        &known,
-        native.n,
-        ts,
-        ms,
-    );
-    Prepared {
-        n,
-        added: native.added,
-    }
+    let mut parent = Table::for_reading();
+    let mut view = Table::for_reading();
+    native_view::native_view(sheets, area, c, &mut parent, &mut view, news);
+    compiler_table(sheets, news, c, &parent, &view, table);
 }

@@ -1,14 +1,7 @@
 -- Forward, then back: the blocks of the new content are read as that content and zeros; without the static words, which are the sums, it is the old
 -- content again, whose blocks the first sheet was. Assumes nothing.
-use mathlib.Core.Path.{◌≡◌, refl, sym, ap, ◌∙◌}
-use mathlib.Core.Bool.{true, false}
-use mathlib.Core.List.{List, ◌++◌}
-use Prim.Native.Nat.{ℕ, ◌+◌, ◌*◌, ◌-◌, ◌/◌, ◌%◌, ◌^◌, ◌≤◌, ◌<◌}
-use native.Mathlib.Omega.{arith}
-use lib.ListN.{length, get_or, take, drop, replicate, get_or-eq_default}
-use lib.Seq.{take_at, length-take-le}
-use lib.Dec.{eqb, ltb}
-use borrow.Author.Tests.{eq-eqb, le-ltb, ltb-true, ltb-false}
+use Rattle.std.proofs.Common.{◌≡◌, refl, sym, ap, ◌∙◌, true, false, List, ◌++◌, ℕ, ◌+◌, ◌*◌, ◌-◌, ◌/◌, ◌%◌, ◌^◌, ◌≤◌, ◌<◌, arith, length, get_or, take, drop, replicate, take_at, length-take-le, eqb, ltb, eq-eqb, le-ltb, ltb-true, ltb-false}
+use lib.ListN.{get_or-eq_default}
 use Rattle.words.specs.Folds.{table}
 use Rattle.words.proofs.Bools.{by}
 use Rattle.words.proofs.FoldLaws.{all-if, length-table, get_d_table}

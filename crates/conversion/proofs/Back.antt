@@ -1,15 +1,8 @@
 -- Back, then forward: the blocks of the old content are read as that content and zeros; the sums are the static words that 23 and row 3 let pass, so
 -- that the new content is the one that was narrowed. Assumes nothing.
-use mathlib.Core.Path.{◌≡◌, refl, sym, ap, ◌∙◌}
-use mathlib.Core.Logic.{◌≢◌}
-use mathlib.Core.Bool.{true, false, not, ◌||◌, false≢true}
-use mathlib.Core.List.{List, [], ◌∷◌, ◌++◌}
-use Prim.Native.Nat.{ℕ, suc, ◌+◌, ◌*◌, ◌-◌, ◌/◌, ◌%◌, ◌^◌, ◌≤◌, ◌<◌}
-use native.Mathlib.Omega.{arith}
-use lib.ListN.{length, get_or, take, drop, replicate, get_or-eq_default}
-use lib.Seq.{take_at, take-suc, take_all}
-use lib.Dec.{eqb, ltb}
-use borrow.Author.Tests.{eqb-true, eqb-false, eq-eqb, le-leb, le-ltb, ltb-true, ltb-false, not-false}
+use Rattle.std.proofs.Common.{◌≡◌, refl, sym, ap, ◌∙◌, true, false, not, List, [], ◌∷◌, ◌++◌, ℕ, suc, ◌+◌, ◌*◌, ◌-◌, ◌/◌, ◌%◌, ◌^◌, ◌≤◌, ◌<◌, arith, length, get_or, take, drop, replicate, take_at, take-suc, take_all, eqb, ltb, eqb-true, le-leb, le-ltb, ltb-true, ltb-false}
+use lib.ListN.{get_or-eq_default}
+use borrow.Author.Tests.{eqb-false, not-false}
 use Rattle.words.specs.Rows.{Rows, no_rows, a_row, row_word}
 use Rattle.words.proofs.Bools.{by, and_both, and_4, passed}
 use Rattle.words.proofs.FoldLaws.{all-each, all-if}

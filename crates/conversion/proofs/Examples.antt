@@ -1,7 +1,6 @@
 -- An old sheet that is made a new one, computed on the definitions, so that `Converted` speaks of some sheet. `convert_judge` converts this one
 -- and more, both ways, with each row that refuses. Assumes nothing.
-use mathlib.Core.Path.{◌≡◌, refl}
-use mathlib.Core.List.{[], ◌∷◌}
+use Rattle.std.proofs.Common.{◌≡◌, refl, [], ◌∷◌}
 use Rattle.words.specs.Rows.{joined, cut}
 use Rattle.words.specs.Words.{byte_of, le_word}
 use Rattle.words.specs.Folds.{sum_of, all_of, table}

@@ -1,13 +1,7 @@
 -- Forward, of a sheet that rows 1 to 5 of the old form accept: the new content is storable, so that forward is its writing. Assumes nothing.
-use mathlib.Core.Path.{◌≡◌, refl, sym, ap, ◌∙◌}
-use mathlib.Core.Bool.{true, not, ◌&&◌, or-true}
-use mathlib.Core.List.{List, [], ◌++◌}
-use Prim.Native.Nat.{ℕ, ◌+◌, ◌*◌, ◌-◌, ◌/◌, ◌%◌, ◌≤◌, ◌<◌}
-use native.Mathlib.Omega.{arith}
-use lib.ListN.{length, get_or}
-use lib.Seq.{take_all}
-use lib.Dec.{eqb, ltb}
-use borrow.Author.Tests.{eqb-true, eqb-false, le-leb, ltb-true, ltb-false, not-false}
+use Rattle.std.proofs.Common.{◌≡◌, refl, sym, ap, ◌∙◌, true, not, ◌&&◌, List, [], ◌++◌, ℕ, ◌+◌, ◌*◌, ◌-◌, ◌/◌, ◌%◌, ◌≤◌, ◌<◌, arith, length, get_or, take_all, eqb, ltb, eqb-true, le-leb, ltb-true, ltb-false}
+use mathlib.Core.Bool.{or-true}
+use borrow.Author.Tests.{eqb-false, not-false}
 use Rattle.words.specs.Rows.{row_word}
 use Rattle.words.specs.Folds.{all_of}
 use Rattle.words.proofs.Bools.{by, and_both, passed}

@@ -1,11 +1,7 @@
 -- Words laid out from sections that differ in static words alone, and in what follows the content: rows 4 and 5 judge them alike, their texts are the same, and so are the sums of a
 -- class's static field widths. Assumes nothing.
-use mathlib.Core.Path.{◌≡◌, refl, sym, ap, ◌∙◌}
-use mathlib.Core.List.{List, [], ◌∷◌, Memᴰ}
-use Prim.Native.Nat.{ℕ, ◌≤◌, ◌<◌}
-use native.Mathlib.Omega.{arith}
-use lib.ListN.{length, get_or}
-use borrow.Author.Tests.{ltb-true}
+use Rattle.std.proofs.Common.{◌≡◌, refl, sym, ap, ◌∙◌, List, [], ◌∷◌, ℕ, ◌≤◌, ◌<◌, arith, length, get_or, ltb-true}
+use mathlib.Core.List.{Memᴰ}
 use Rattle.words.specs.Rows.{Rows, row_word}
 use Rattle.words.proofs.ListLaws.{numbers-within}
 use Rattle.text.specs.Text.{descriptor_start_word, descriptor_length_word}

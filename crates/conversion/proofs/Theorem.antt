@@ -1,23 +1,14 @@
 -- The theorems on converted sheets, together. Assumes nothing.
-use mathlib.Core.Path.{◌≡◌, refl, sym, ap, ◌∙◌}
-use mathlib.Core.Logic.{◌↔◌, ◌≢◌}
-use mathlib.Core.Bool.{Bool, true, false, cond, not}
-use mathlib.Core.List.{List, ◌++◌}
-use Prim.Native.Nat.{ℕ, ◌+◌, ◌*◌, ◌≤◌, ◌<◌}
-use native.Mathlib.Omega.{arith}
-use lib.ListN.{length, drop}
-use lib.Dec.{eqb, ltb}
-use borrow.Author.Tests.{eqb-true, eqb-false, ne_eqb, lt-ltb, le-ltb, ltb-true, ltb-false}
+use Rattle.std.proofs.Common.{◌≡◌, refl, sym, ap, ◌∙◌, ◌↔◌, ◌≢◌, true, false, not, List, ◌++◌, ℕ, ◌+◌, ◌*◌, ◌≤◌, ◌<◌, arith, length, drop, eqb, ltb, eqb-true, ne_eqb, lt-ltb, le-ltb, ltb-true, ltb-false}
+use borrow.Author.Tests.{eqb-false}
 use Rattle.words.specs.Folds.{all_of}
 use Rattle.words.proofs.Bools.{by, passed}
 use Rattle.words.specs.Words.{AreBytes}
 use Rattle.block.specs.Block.{block_count, sheet_words, check_ok, shape_ok, blocks_for, sheet_bytes}
-use Rattle.block.proofs.Laws.{length-content, least-blocks}
+use Rattle.block.proofs.Laws.{least-blocks}
 use Rattle.class_sheet.specs.ClassSheet as layout
 use Rattle.class_sheet.specs.ClassSheet.{block_limit, class_count, content_end, text_of}
-use Rattle.class_rules.specs.ClassRules.{class_records, class_form}
 use Rattle.class_rules.proofs.Laws as class
-use Rattle.set_rules.specs.SetRules.{class_refusal, class_descriptors}
 use Rattle.sheet.specs.Sheet.{block_refusal, sheet_refusal, class_rows, class_sheet_refusal, read_class_sheet}
 use Rattle.writer.specs.Writer as W
 use Rattle.writer.specs.Writer.{content_of, write_class_sheet}
@@ -27,7 +18,8 @@ use Rattle.writer.proofs.Blocks.{sheet-passed}
 use Rattle.convert.specs.Convert.{old_end, old_form, old_rows, old_sheet_refusal, judged, blocks_or_row, room_refusal, forward, widen_refusal, widen_sheet, drops_statics, narrowed, new_sheet_refusal, narrow_refusal, narrow_sheet}
 use Rattle.convert.proofs.Judging.{old-end}
 use Rattle.convert.proofs.Forms.{widened-front, widened-length, widened_word_lem, widened-statics, widened-after, narrowed-length}
-use Rattle.convert.proofs.Calls.{three, few-classes}
+use Rattle.convert.proofs.Calls.{three, few-classes, length-words}
+use Rattle.convert.proofs.Few.{at_most, records-few, class-few}
 use Rattle.conversion.specs.Converted.{sheet_made, Converted}
 use Rattle.conversion.proofs.Forward.{fitted, forward-fits, forward-blocks, forward-content, forward-length, forward_writing, widen-passed, no_row, roomed}
 use Rattle.conversion.proofs.Again.{made-is, forward-small, back-again}
@@ -36,10 +28,6 @@ use Rattle.conversion.proofs.Back.{four, fits, old-some, forward-again}
 blocks-made : (ws out : List ℕ) → (blocks_or_row 0 ws out).blocks ≡ blocks_for (length ws)
 unfolding blocks_or_row
 blocks-made ws out = refl
-
-length-words : (bs : List ℕ) → length (sheet_words bs) ≡ 127 * block_count bs
-unfolding sheet_words
-length-words bs = length-content bs (block_count bs)
 
 -- ---- forward
 
@@ -144,29 +132,20 @@ module _ (bs out : List ℕ) (accepted : (narrow_sheet bs out).refusal ≡ 0) wh
 
 -- ---- the rows of forward
 
-at_most : (b : Bool) (x y : ℕ) → x ≤ 5 → y ≤ 5 → cond b x y ≤ 5
-at_most true x y h k = h
-at_most false x y h k = k
-
-records-few : (ws text : List ℕ) → class_refusal ws text ≤ 5
-unfolding class_refusal
-records-few ws text =
-    at_most (not (class_records ws text)) 4 _ (omega arith) (at_most (not (class_descriptors ws text)) 5 0 (omega arith) (omega arith))
-
 old-few : (ws : List ℕ) → old_rows ws ≤ 5
 unfolding old_rows
-old-few ws = at_most (not (old_form ws)) 3 _ (omega arith) (records-few (judged ws) (text_of (judged ws)))
+old-few ws = at_most 5 (not (old_form ws)) 3 _ (omega arith) (records-few (judged ws) (text_of (judged ws)))
 
 blocks-few : (bs : List ℕ) (room limit : ℕ) → block_refusal bs room limit ≤ 5
 unfolding block_refusal
 blocks-few bs room limit =
-    at_most (not (shape_ok (length bs) room limit)) 1 _ (omega arith)
-    (at_most (not (all_of (block_count bs) (check_ok bs))) 2 0 (omega arith) (omega arith))
+    at_most 5 (not (shape_ok (length bs) room limit)) 1 _ (omega arith)
+    (at_most 5 (not (all_of (block_count bs) (check_ok bs))) 2 0 (omega arith) (omega arith))
 
 rows_few : (bs : List ℕ) → old_sheet_refusal bs ≤ 5
 unfolding old_sheet_refusal sheet_refusal
 rows_few bs =
-    at_most (eqb (block_refusal bs layout.sheet_words block_limit) 0) _ _ (old-few (sheet_words bs)) (blocks-few bs layout.sheet_words block_limit)
+    at_most 5 (eqb (block_refusal bs layout.sheet_words block_limit) 0) _ _ (old-few (sheet_words bs)) (blocks-few bs layout.sheet_words block_limit)
 
 module _ (bs out : List ℕ) where
   early : 1 ≤ old_sheet_refusal bs → (widen_sheet bs out).refusal ≡ old_sheet_refusal bs
@@ -203,14 +182,10 @@ most bs e =
 
 -- ---- the rows of back
 
-class-few : (ws : List ℕ) → class_rows ws ≤ 5
-unfolding class_rows
-class-few ws = at_most (not (class_form ws)) 3 _ (omega arith) (records-few ws (text_of ws))
-
 back_rows : (bs : List ℕ) → new_sheet_refusal bs ≤ 5
 unfolding class_sheet_refusal sheet_refusal
 back_rows bs =
-    at_most (eqb (block_refusal bs layout.sheet_words block_limit) 0) _ _ (class-few (sheet_words bs)) (blocks-few bs layout.sheet_words block_limit)
+    at_most 5 (eqb (block_refusal bs layout.sheet_words block_limit) 0) _ _ (class-few (sheet_words bs)) (blocks-few bs layout.sheet_words block_limit)
 
 module _ (bs out : List ℕ) where
   back_early : 1 ≤ new_sheet_refusal bs → (narrow_sheet bs out).refusal ≡ new_sheet_refusal bs

@@ -1,15 +1,14 @@
 -- The two calls as the code makes them: the words of one form stored word by word are the other form, and the rows in their order are the
 -- definition's. Assumes nothing.
 use mathlib.Core.Path.{◌≡◌, sym, ap, ◌∙◌}
-use mathlib.Core.Logic.{◌≢◌}
-use mathlib.Core.Bool.{Bool, true, false, not, ◌&&◌, and-true}
+use mathlib.Core.Bool.{true, false, not, ◌&&◌, and-true}
 use mathlib.Core.List.{List, ◌++◌}
 use Prim.Native.Nat.{ℕ, ◌+◌, ◌*◌, ◌≤◌, ◌<◌}
 use native.Mathlib.Omega.{arith}
 use lib.ListN.{length, get_or, take, drop, get_or-append}
 use lib.Seq.{take_at}
 use lib.Dec.{eqb, leb, ltb}
-use borrow.Author.Tests.{eq-eqb, ne_eqb, eqb-true, leb-true, not-true, not-false}
+use borrow.Author.Tests.{ne_eqb, eqb-true, leb-true, not-false}
 use Rattle.words.specs.Folds.{all_of, table, stores}
 use Rattle.words.proofs.Bools.{by, and_both, and_3, and_4, passed}
 use Rattle.words.proofs.FoldLaws.{all-ext, length-table, get_d_table, stores-is}
@@ -21,51 +20,24 @@ use Rattle.class_sheet.specs.ClassSheet.{block_limit, class_count, text_length, 
 use Rattle.class_sheet.proofs.Laws.{content-within}
 use Rattle.class_rules.specs.ClassRules.{class_limits, unlinked, statics_clean, fresh, all_fresh, class_form}
 use Rattle.class_rules.proofs.Laws as class
-use Rattle.set_rules.specs.SetRules.{class_refusal}
 use Rattle.sheet.specs.Sheet as R
-use Rattle.sheet.specs.declared.Read.{Read}
-use Rattle.sheet.specs.declared.Read.TheVariants.{Words, Refused}
+use Rattle.std.proofs.Common.{Result, Ok, Err}
+use Rattle.std.specs.Result.{IsErrAnd}
+use Rattle.std.proofs.lemmas.Result.{err_from_is_err_and}
+use Rattle.refusal.specs.Rows.{row}
+use Rattle.refusal.specs.declared.Refusal.{Refusal}
+use Rattle.refusal.proofs.Rows.{row_above}
+use Rattle.writer.specs.Writer as W
 use Rattle.sheet.specs.Sheet.{outcome, block_refusal, sheet_refusal, class_rows, class_sheet_refusal, read_sheet, read_class_sheet}
-use Rattle.sheet.proofs.Answers.{class-sheet_tells}
 use Rattle.writer.proofs.RoundTrip.{read_is}
 use Rattle.writer.proofs.Blocks.{sheet-passed}
-use Rattle.writer.proofs.Zeros.{zeros}
-use Rattle.linking.specs.Fields.{static_words}
 use Rattle.writer.specs.Writer.{Outcome}
-use Rattle.convert.specs.Convert.{old_end, old_text_at, judged, old_fits, old_form, old_rows, old_sheet_refusal, forward_statics, keeps_statics, drops_statics, blocks_or_row, forward, widen_refusal, widen_sheet, narrowed, narrow_refusal, narrow_sheet, new_sheet_refusal}
+use Rattle.convert.specs.Convert.{old_end, old_text_at, judged, old_fits, old_form, old_rows, old_sheet_refusal, forward_statics, drops_statics, blocks_or_row, forward, widen_refusal, widen_sheet, narrowed, narrow_refusal, narrow_sheet, new_sheet_refusal}
 use Rattle.convert.specs.Steps.{widened_word, widened_words, narrowed_word, fresh_rows, forward_words, put_words, widen_words, narrow_words}
 use Rattle.convert.proofs.Judging.{old-end}
 use Rattle.convert.proofs.Forms.{widened-count, widened-text, widened-statics, widened-table, narrowed-length, narrowed-table}
 
--- ---- the static words of one class
-
-module _ (ws text : List ℕ) (c : ℕ) {k : ℕ} (kind : k ≡ class_kind ws c) where
-  pub forward-sum : k ≡ 1 → {r : ℕ} → r ≡ static_words ws text c → r ≡ forward_statics ws text c
-  unfolding forward_statics
-  forward-sum h e = e ∙ simp (← kind, eq-eqb k 1 h)
-
-  pub forward-none : (k ≡ 1 → ⊥) → 0 ≡ forward_statics ws text c
-  unfolding forward_statics
-  forward-none n = simp (← kind, ne_eqb k 1 n)
-
-  pub keeps-other : (k ≡ 1 → ⊥) → true ≡ keeps_statics ws text c
-  unfolding keeps_statics
-  keeps-other n = simp (← kind, ne_eqb k 1 n)
-
-  pub keeps-sum : k ≡ 1 → {r s : ℕ} → r ≡ class_static_words ws c → s ≡ static_words ws text c → eqb r s ≡ keeps_statics ws text c
-  unfolding keeps_statics
-  keeps-sum h e f = rw (e, f) (simp (← kind, eq-eqb k 1 h))
-
 -- ---- rows 3 to 5 of words in the new form
-
-module _ (ws : List ℕ) {f : Bool} (test : f ≡ all_fresh ws) where
-  pub fresh_3 : not f ≡ true → 3 ≡ fresh_rows ws
-  unfolding fresh_rows
-  fresh_3 h = rw (← test, h)
-
-  pub fresh-rest : not f ≡ false → {t : List ℕ} {r : ℕ} → t ≡ text_of ws → r ≡ class_refusal ws t → r ≡ fresh_rows ws
-  unfolding fresh_rows
-  fresh-rest h e g = g ∙ rw (← test, h, e)
 
 pub sums_handed : (ws d : List ℕ) {t o : List ℕ} → t ≡ text_of ws → o ≡ stores (class_count ws) (λ i. forward_statics ws t (i + 1)) d
     → o ≡ stores (class_count ws) (λ i. forward_statics ws (text_of ws) (i + 1)) d
@@ -144,27 +116,20 @@ rows_fit ws e =
     let p = passed (not (old_fits ws && all_of (class_count ws) (λ i. unlinked (judged ws) (i + 1)))) 3 _ (omega arith) e in
     (and_both (old_fits ws) _ (not-false _ p.0)).0
 
-module _ (ws : List ℕ) {b : Bool} (test : b ≡ old_fits ws) where
-  pub rows_3 : not b ≡ true → 3 ≡ old_rows ws
-  unfolding old_rows old_form
-  rows_3 h = let e = sym test ∙ not-true _ h in rw e
+-- the words judged, as they were stored
+module _ (ws : List ℕ) (fitted : old_fits ws ≡ true) (zeros wide : List ℕ) (z : (i : ℕ) → get_or zeros i 0 ≡ 0) (room : 11684 ≤ length wide) {e : ℕ}
+    (end : e ≡ content_end ws) {o p : List ℕ} (stored : o ≡ stores (content_end ws) (widened_word ws zeros) wide) (part : p ≡ take e (drop 0 o)) where
+  here : p ≡ judged ws
+  here = judged-part ws fitted zeros wide z room end stored part
 
-  module _ (h : not b ≡ false) (zeros wide : List ℕ) (z : (i : ℕ) → get_or zeros i 0 ≡ 0) (room : 11684 ≤ length wide) {e : ℕ} (end : e ≡ content_end ws)
-      {o p : List ℕ} (stored : o ≡ stores (content_end ws) (widened_word ws zeros) wide) (part : p ≡ take e (drop 0 o)) where
-    fitted : old_fits ws ≡ true
-    fitted = sym test ∙ not-false _ h
+  pub part-text : text_length p ≤ 8192
+  part-text = rw here (judged-text ws fitted)
 
-    here : p ≡ judged ws
-    here = judged-part ws fitted zeros wide z room end stored part
+  pub rows-rest : {r : ℕ} → r ≡ fresh_rows p → r ≡ old_rows ws
+  rows-rest g = g ∙ ap fresh_rows here ∙ judged-rows ws fitted
 
-    pub part-text : text_length p ≤ 8192
-    part-text = rw here (judged-text ws fitted)
-
-    pub rows-rest : {r : ℕ} → r ≡ fresh_rows p → r ≡ old_rows ws
-    rows-rest g = g ∙ ap fresh_rows here ∙ judged-rows ws fitted
-
-    pub sums_rest : (d : List ℕ) {s : List ℕ} → s ≡ stores (class_count p) (λ i. forward_statics p (text_of p) (i + 1)) d → s ≡ forward_words ws d
-    sums_rest d g = forward_sums ws fitted d here g
+  pub sums_rest : (d : List ℕ) {s : List ℕ} → s ≡ stores (class_count p) (λ i. forward_statics p (text_of p) (i + 1)) d → s ≡ forward_words ws d
+  sums_rest d g = forward_sums ws fitted d here g
 
 pub part-words : (ws ss wide : List ℕ) → content_end ws ≤ 11684 → 11684 ≤ length wide → {e : ℕ} {o p : List ℕ}
     → o ≡ stores (content_end ws) (widened_word ws ss) wide → e ≡ content_end ws → p ≡ take e (drop 0 o) → p ≡ widened_words ws ss
@@ -173,28 +138,19 @@ part-words ws ss wide l h s e q = stored-part (content_end ws) (widened_word ws 
 pub words-short : (ws ss : List ℕ) → content_end ws ≤ 11684 → {p : List ℕ} → p ≡ widened_words ws ss → length p ≤ 11684
 words-short ws ss l e = rw e (omega (arith, length-table (content_end ws) (widened_word ws ss)))
 
-module _ (ws out : List ℕ) {row : ℕ} (rows : row ≡ old_rows ws) where
-  pub widen-row : (row ≡ 0 → ⊥) → ◌≡◌ {A = Outcome} (record { refusal = row; blocks = 0; memory = out }) (widen_words ws out)
-  unfolding widen_words blocks_or_row
-  widen-row n = rw (← rows) (simp (ne_eqb row 0 n))
+module _ (ws : List ℕ) (rows : 0 ≡ old_rows ws) where
+  pub widen-fits : content_end ws ≤ 11684
+  widen-fits = fits-array ws (rows_fit ws (sym rows))
 
-  pub widen-fits : row ≡ 0 → content_end ws ≤ 11684
-  widen-fits z = fits-array ws (rows_fit ws (sym rows ∙ z))
-
-  pub widen-written : row ≡ 0 → (d : List ℕ) → 64 ≤ length d → {s : List ℕ} {o : Outcome} → (row ≡ 0 → s ≡ forward_words ws d)
-      → o ≡ put_words (widened_words ws s) out → o ≡ widen_words ws out
+  pub widen-written : (d out : List ℕ) → 64 ≤ length d → {s : List ℕ} {o : Outcome} → s ≡ forward_words ws d → o ≡ put_words (widened_words ws s) out
+      → o ≡ widen_words ws out
   unfolding widen_words
-  widen-written z d l sums g =
-      g ∙ rw (forward-is ws (rows_fit ws (sym rows ∙ z)) d l (sums z), ← rows) (simp (eq-eqb row 0 z))
+  widen-written d out l sums g = g ∙ rw (forward-is ws (rows_fit ws (sym rows)) d l sums, ← rows)
 
-module _ (bs out : List ℕ) {row : ℕ} (first : row ≡ block_refusal bs layout.sheet_words block_limit) where
-  pub widen-early : (row ≡ 0 → ⊥) → ◌≡◌ {A = Outcome} (record { refusal = row; blocks = 0; memory = out }) (widen_sheet bs out)
-  unfolding widen_sheet widen_refusal old_sheet_refusal sheet_refusal blocks_or_row
-  widen-early n = rw (← first) (simp (ne_eqb row 0 n))
-
-  pub widen-rest : row ≡ 0 → {p : List ℕ} {o : Outcome} → p ≡ sheet_words bs → o ≡ widen_words p out → o ≡ widen_sheet bs out
-  unfolding widen_sheet widen_refusal old_sheet_refusal sheet_refusal widen_words
-  widen-rest z e g = g ∙ rw (e, ← first) (simp (eq-eqb row 0 z))
+pub widen-rest : (bs out : List ℕ) → 0 ≡ block_refusal bs layout.sheet_words block_limit → {p : List ℕ} {o : Outcome} → p ≡ sheet_words bs
+    → o ≡ widen_words p out → o ≡ widen_sheet bs out
+unfolding widen_sheet widen_refusal old_sheet_refusal sheet_refusal widen_words
+widen-rest bs out z e g = g ∙ rw (e, ← z)
 
 -- ---- back, of words that a reading accepted
 
@@ -220,22 +176,13 @@ module _ (ws : List ℕ) (form : class_form ws ≡ true) where
       → p ≡ take e (drop 0 o) → length p ≤ 11684
   short-part d l s e q = rw (narrowed-part d l s e q) (omega (arith, narrowed-length ws form-end, form-array))
 
-module _ (ws out : List ℕ) {b : Bool} (drops : b ≡ drops_statics ws) where
-  pub narrow_23 : b ≡ true → ◌≡◌ {A = Outcome} (record { refusal = 23; blocks = 0; memory = out }) (narrow_words ws out)
-  unfolding narrow_words blocks_or_row
-  narrow_23 h = simp (← drops, h)
-
-  pub narrow-written : b ≡ false → {q : List ℕ} {o : Outcome} → q ≡ narrowed ws → o ≡ put_words q out → o ≡ narrow_words ws out
-  unfolding narrow_words
-  narrow-written h e g = g ∙ rw e (simp (← drops, h))
-
-pub drops_is : (ws : List ℕ) {t : List ℕ} {b : Bool} → t ≡ text_of ws → b ≡ all_of (class_count ws) (λ i. keeps_statics ws t (i + 1)) → not b ≡ drops_statics ws
-unfolding drops_statics
-drops_is ws e g = rw (g, e)
+pub narrow-written : (ws out : List ℕ) → false ≡ drops_statics ws → {q : List ℕ} {o : Outcome} → q ≡ narrowed ws → o ≡ put_words q out → o ≡ narrow_words ws out
+unfolding narrow_words
+narrow-written ws out drops e g = g ∙ rw (e, ← drops)
 
 -- ---- what a reading answers
 
-length-words : (bs : List ℕ) → length (sheet_words bs) ≡ 127 * block_count bs
+pub length-words : (bs : List ℕ) → length (sheet_words bs) ≡ 127 * block_count bs
 unfolding sheet_words
 length-words bs = length-content bs (block_count bs)
 
@@ -248,34 +195,28 @@ unfolding class_rows class_sheet_refusal
 accepted-form bs room e = let p = passed (not (class_form (sheet_words bs))) 3 _ (omega arith) (sheet-passed class_rows bs room e).1 in not-false _ p.0
 
 module _ (bs d out : List ℕ) (room : length d ≡ layout.sheet_words) where
-  pub narrow-early : (a : Read) (m : List ℕ) {row : ℕ} → outcome a m ≡ read_class_sheet bs d → a ≡ Refused row
-      → ◌≡◌ {A = Outcome} (record { refusal = row; blocks = 0; memory = out }) (narrow_sheet bs out)
+  pub narrow-early : (r : Result ℕ Refusal) (k : Refusal) (m : List ℕ) → outcome (Err k) m ≡ read_class_sheet bs d → IsErrAnd r (λ e. e ≡ k)
+      → W.outcome r out ≡ narrow_sheet bs out
   unfolding narrow_sheet narrow_refusal blocks_or_row
-  narrow-early a m {row} got told =
-      let e : ◌≡◌ {A = R.Outcome} (record { refusal = row; words = 0; memory = m }) (read_class_sheet bs d) = rw told at got in
-      let r : (read_class_sheet bs d).refusal ≡ row = sym (ap (λ (x : R.Outcome). x.refusal) e) in
-      let w : (read_class_sheet bs d).words ≡ 0 = sym (ap (λ (x : R.Outcome). x.words) e) in
-      let n : row ≢ 0 = λ z. class-sheet_tells bs d (r ∙ z) w in
-      let q : new_sheet_refusal bs ≡ row = rw room at (sym (read-refusal bs d) ∙ r) in
-      rw q (simp (ne_eqb row 0 n))
+  narrow-early r k m got i =
+      let p = err_from_is_err_and r i in
+      let q : new_sheet_refusal bs ≡ row k = rw room at (sym (read-refusal bs d) ∙ sym (ap (λ (x : R.Outcome). x.refusal) got)) in
+      rw (p.1, p.2, q) (simp (ne_eqb (row k) 0 (λ z. omega (arith, z, row_above k))))
 
-  module _ (a : Read) (m : List ℕ) {n : ℕ} (got : outcome a m ≡ read_class_sheet bs d) (told : a ≡ Words n) where
-    e : ◌≡◌ {A = R.Outcome} (record { refusal = 0; words = n; memory = m }) (read_class_sheet bs d)
-    e = rw told at got
-
+  module _ (m : List ℕ) {n : ℕ} (got : outcome (Ok n) m ≡ read_class_sheet bs d) {p : List ℕ} (part : p ≡ take n (drop 0 m)) where
     accepted : new_sheet_refusal bs ≡ 0
-    accepted = rw room at (sym (read-refusal bs d) ∙ sym (ap (λ (x : R.Outcome). x.refusal) e))
+    accepted = rw room at (sym (read-refusal bs d) ∙ sym (ap (λ (x : R.Outcome). x.refusal) got))
 
-    pub read-words : {w : ℕ} {p : List ℕ} → w ≡ n → p ≡ take w (drop 0 m) → p ≡ sheet_words bs
-    read-words g h =
-        let a = e ∙ read_is bs d (rw (← room) at accepted) in
+    pub read-words : p ≡ sheet_words bs
+    read-words =
+        let a = got ∙ read_is bs d (rw (← room) at accepted) in
         let k : n ≡ 127 * block_count bs = ap (λ (x : R.Outcome). x.words) a in
         let l : m ≡ sheet_words bs ++ drop (127 * block_count bs) d = ap (λ (x : R.Outcome). x.memory) a in
-        h ∙ rw (g, k, l) (take_at (sheet_words bs) (drop (127 * block_count bs) d) (127 * block_count bs) (length-words bs))
+        part ∙ rw (k, l) (take_at (sheet_words bs) (drop (127 * block_count bs) d) (127 * block_count bs) (length-words bs))
 
-    pub read-form : {w : ℕ} {p : List ℕ} → w ≡ n → p ≡ take w (drop 0 m) → class_form p ≡ true
-    read-form g h = rw (read-words g h) (accepted-form bs layout.sheet_words accepted)
+    pub read-form : class_form p ≡ true
+    read-form = rw read-words (accepted-form bs layout.sheet_words accepted)
 
-    pub narrow_rest : {w : ℕ} {p : List ℕ} {o : Outcome} → w ≡ n → p ≡ take w (drop 0 m) → o ≡ narrow_words p out → o ≡ narrow_sheet bs out
+    pub narrow-rest : {o : Outcome} → o ≡ narrow_words p out → o ≡ narrow_sheet bs out
     unfolding narrow_sheet narrow_refusal narrow_words
-    narrow_rest g h f = f ∙ rw (read-words g h, accepted)
+    narrow-rest f = f ∙ rw (read-words, accepted)

@@ -1,4 +1,4 @@
 pub mod Calls
+pub mod Few
 pub mod Forms
 pub mod Judging
-pub mod Words

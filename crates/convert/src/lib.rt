@@ -2,47 +2,51 @@
 // judged before the first byte is written. The form cannot be seen from the bytes: the caller says it by the entry that it calls.
 #![tactic(auto)]
 
-ghost use Rattle.std.specs.Prelude.{◌≡◌, ◌+◌, ◌^◌, ◌≤◌, ◌<◌, length, true};
+ghost use Rattle.std.specs.Prelude.{◌≡◌, ◌+◌, ◌*◌, ◌^◌, ◌≤◌, ◌<◌, length, true};
+ghost use Rattle.refusal.specs.Rows.{row_of};
 ghost use Rattle.words.specs.Folds.{all_of, stores};
 ghost use Rattle.class_sheet.specs.ClassSheet.{text_length, class_count, content_end, text_of};
 ghost use Rattle.class_rules.specs.ClassRules.{class_form};
 ghost use Rattle.writer.specs.Writer.{outcome};
-ghost use Rattle.convert.specs.Convert.{old_end, old_fits, old_rows, forward_statics, keeps_statics, drops_statics, widen_sheet, narrow_sheet};
+ghost use Rattle.convert.specs.Convert.{old_end, old_text_at, old_fits, old_rows, forward_statics, keeps_statics, drops_statics, widen_sheet, narrow_sheet};
 ghost use Rattle.convert.specs.Steps.{widened_word, widened_words, narrowed_word, fresh_rows, forward_words, put_words, widen_words, narrow_words};
+
+use class_sheet::Kind;
+use refusal::Refusal;
 
 // The words of a class record of the old form.
 const OLD_WIDTH: usize = class_sheet::CLASS_WIDTH - 1;
 
 // Word j of the new form of these words, where the class of index i has the static words `statics[i]`.
+#[tactic(auto, unfolding(crate::specs::Steps::widened_word))]
 fn widened_word(ws: &[u32], statics: &[u32], j: usize) -> u32
     ensures { result ≡ widened_word ws.now statics.now j }
 {
     if j < class_sheet::COUNTS_WIDTH {
-        return words::word_at(ws, j);
+        return words::get_or(ws, j, 0);
     }
-    let classes = words::wide(class_sheet::class_count(ws));
+    let classes = class_sheet::class_count(ws) as usize;
     let at = j - class_sheet::COUNTS_WIDTH;
-    if class_sheet::methods_at(ws) <= j {
-        return words::word_at(ws, j - classes);
+    if class_sheet::CLASS_WIDTH * classes <= at {
+        return words::get_or(ws, j - classes, 0);
     }
     let i = at / class_sheet::CLASS_WIDTH;
     let k = at % class_sheet::CLASS_WIDTH;
     if k == OLD_WIDTH {
-        return words::word_at(statics, i);
+        return words::get_or(statics, i, 0);
     }
-    words::word_at(ws, class_sheet::COUNTS_WIDTH + OLD_WIDTH * i + k)
+    words::get_or(ws, class_sheet::COUNTS_WIDTH + OLD_WIDTH * i + k, 0)
 }
 
 // The new form of these words, into the front of `out`.
 fn widen(ws: &[u32], statics: &[u32], out: &mut [u32])
     ensures { out.new ≡ stores (content_end ws.now) (widened_word ws.now statics.now) out.old }
 {
-    let end = class_sheet::content_end(ws);
-    let mut j: usize = 0;
-    while j < end {
-        words::put_word(out, j, widened_word(ws, statics, j));
-        j += 1;
-    }
+    words::store_each(
+        out,
+        class_sheet::content_end(ws),
+        |j| widened_word(ws, statics, j),
+    );
 }
 
 // Where the content of the old form of these words ends: a word a class before that of the new form.
@@ -50,27 +54,28 @@ fn old_end(ws: &[u32]) -> usize
     ensures is { result ≡ old_end ws.now }
     ensures small { result < 2 ^ 42 }
 {
-    class_sheet::content_end(ws) - words::wide(class_sheet::class_count(ws))
+    class_sheet::content_end(ws) - class_sheet::class_count(ws) as usize
 }
 
 // Word j of the old form of these words.
+#[tactic(auto, unfolding(crate::specs::Steps::narrowed_word))]
 fn narrowed_word(ws: &[u32], j: usize) -> u32
-    requires { j < 2 ^ 42 }
     ensures { result ≡ narrowed_word ws.now j }
 {
     if j < class_sheet::COUNTS_WIDTH {
-        return words::word_at(ws, j);
+        return words::get_or(ws, j, 0);
     }
-    let classes = words::wide(class_sheet::class_count(ws));
+    let classes = class_sheet::class_count(ws) as usize;
     let at = j - class_sheet::COUNTS_WIDTH;
     if OLD_WIDTH * classes <= at {
-        return words::word_at(ws, j + classes);
+        return words::get_or(ws, j.saturating_add(classes), 0);
     }
     let i = at / OLD_WIDTH;
     let k = at % OLD_WIDTH;
-    words::word_at(
+    words::get_or(
         ws,
         class_sheet::COUNTS_WIDTH + class_sheet::CLASS_WIDTH * i + k,
+        0,
     )
 }
 
@@ -78,36 +83,34 @@ fn narrowed_word(ws: &[u32], j: usize) -> u32
 fn narrow(ws: &[u32], out: &mut [u32])
     ensures { out.new ≡ stores (old_end ws.now) (narrowed_word ws.now) out.old }
 {
-    let end = old_end(ws);
-    let mut j: usize = 0;
-    while j < end {
-        words::put_word(out, j, narrowed_word(ws, j));
-        j += 1;
-    }
+    words::store_each(out, old_end(ws), |j| narrowed_word(ws, j));
+}
+
+// The byte where the text of the old form of these words ends, counted from the first word.
+fn old_text_end(ws: &[u32]) -> usize
+    ensures is { result ≡ 4 * old_text_at ws.now + text_length ws.now }
+    ensures small { result < 2 ^ 44 }
+{
+    let text_at = class_sheet::text_at(ws) - class_sheet::class_count(ws) as usize;
+    4 * text_at + class_sheet::text_length(ws) as usize
 }
 
 // Row 3 of the old form but for the links: limits, the least blocks that hold the content, zeros after it.
+#[tactic(auto, unfolding(crate::specs::Convert::old_fits, block::specs::Block::least_fit))]
 fn old_fits(ws: &[u32]) -> bool
     ensures { result ≡ old_fits ws.now }
 {
-    if !class_rules::limits_ok(ws) {
-        return false;
-    }
     let end = old_end(ws);
     let n = ws.len();
-    if n < end {
-        return false;
-    }
-    let text_at = class_sheet::text_at(ws) - words::wide(class_sheet::class_count(ws));
-    let text_end = 4 * text_at + words::wide(class_sheet::text_length(ws));
-    (n < end + 127) & text::zero_rest(ws, text_end)
+    class_rules::limits_ok(ws) && end <= n && n < end + 127 && text::zero_rest(ws, old_text_end(ws))
 }
 
 // The static words that class c gets going forward: of a generated class the sum of its static field widths.
+#[tactic(auto, unfolding(crate::specs::Convert::forward_statics))]
 fn forward_statics(ws: &[u32], text: &[u8], c: u32) -> u32
     ensures { result ≡ forward_statics ws.now text.now c }
 {
-    if class_sheet::class_kind(ws, c) == class_sheet::GENERATED {
+    if class_sheet::has_kind(ws, c, Kind::Generated) {
         return field::static_words(ws, text, c);
     }
     0
@@ -118,18 +121,16 @@ fn put_statics(ws: &[u32], text: &[u8], statics: &mut [u32])
     ensures { statics.new ≡ stores (class_count ws.now) (λ i. forward_statics ws.now text.now (i + 1)) statics.old }
 {
     let n = class_sheet::class_count(ws);
-    let mut i: u32 = 0;
-    while i < n {
-        words::put_word(statics, words::wide(i), forward_statics(ws, text, i + 1));
-        i += 1;
+    for i in 0..n {
+        words::put(statics, i as usize, forward_statics(ws, text, i + 1));
     }
 }
 
-// Of words in the new form, made of an old sheet that fits: the static words of each class, into the front of `statics`, and the row of 3 to 5 that
-// refuses, or 0.
-fn forward_rows(ws: &[u32], statics: &mut [u32]) -> u32
+// Of words in the new form, made of an old sheet that fits: the static words of each class, into the front of `statics`, and rows 3 to 5.
+#[tactic(auto, unfolding(crate::specs::Steps::fresh_rows))]
+fn forward_rows(ws: &[u32], statics: &mut [u32]) -> Result<(), Refusal>
     requires { text_length ws.now ≤ 8192 }
-    ensures value { result ≡ fresh_rows ws.now }
+    ensures value { row_of result ≡ fresh_rows ws.now }
     ensures sums { statics.new ≡ stores (class_count ws.now) (λ i. forward_statics ws.now (text_of ws.now) (i + 1)) statics.old }
 {
     let mut text = [0u8; class_sheet::TEXT_LIMIT as usize];
@@ -137,136 +138,112 @@ fn forward_rows(ws: &[u32], statics: &mut [u32]) -> u32
     let part = text::name_at(&text, 0, class_sheet::text_length(ws));
     put_statics(ws, part, statics);
     if !class_rules::all_fresh(ws) {
-        return 3;
+        return Err(Refusal::Form);
     }
     set_rules::class_refusal(ws, part)
 }
 
-// The blocks of these words, where there is room for them, or 18.
-fn put_blocks(ws: &[u32], out: &mut [u8]) -> writer::Written
+// The blocks of these words, where there is room for them, and how many they are.
+#[tactic(auto, unfolding(crate::specs::Convert::blocks_or_row, crate::specs::Convert::room_refusal))]
+fn put_blocks(ws: &[u32], out: &mut [u8]) -> Result<u32, Refusal>
     requires { length ws.now ≤ 11684 }
     ensures { outcome result out.new ≡ put_words ws.now out.old }
 {
     let n = block::blocks_for(ws.len());
-    if out.len() < 512 * words::wide(n) {
-        return writer::Written::Refused(18);
+    if out.len() < 512 * n as usize {
+        return Err(Refusal::ShortBytes);
     }
     block::pack(ws, n, out);
-    writer::Written::Blocks(n)
+    Ok(n)
 }
 
-// Rows 3 to 5 for the words of an old sheet: the number that refuses, or 0, and then the static words of each class stand in front of `statics`.
-fn old_rows(ws: &[u32], statics: &mut [u32]) -> u32
-    ensures value { result ≡ old_rows ws.now }
-    ensures sums { result ≡ 0 → statics.new ≡ forward_words ws.now statics.old }
+// Rows 3 to 5 for the words of an old sheet; where none refuses, the static words of each class stand in front of `statics`.
+#[tactic(auto, unfolding(crate::specs::Convert::old_rows, crate::specs::Convert::old_form))]
+fn old_rows(ws: &[u32], statics: &mut [u32]) -> Result<(), Refusal>
+    ensures value { row_of result ≡ old_rows ws.now }
+    ensures sums { row_of result ≡ 0 → statics.new ≡ forward_words ws.now statics.old }
 {
     if !old_fits(ws) {
-        return 3;
+        return Err(Refusal::Form);
     }
     let none = [0u32; class_sheet::CLASS_LIMIT as usize];
     let mut wide = [0u32; class_sheet::SHEET_WORDS];
     widen(ws, &none, &mut wide);
-    forward_rows(
-        words::word_part(&wide, 0, class_sheet::content_end(ws)),
-        statics,
-    )
+    forward_rows(words::part(&wide, 0, class_sheet::content_end(ws)), statics)
 }
 
-// The blocks of the new form of these words, where there is room for them, or 18.
-fn put_widened(ws: &[u32], statics: &[u32], out: &mut [u8]) -> writer::Written
+// The blocks of the new form of these words, where there is room for them, and how many they are.
+fn put_widened(ws: &[u32], statics: &[u32], out: &mut [u8]) -> Result<u32, Refusal>
     requires { content_end ws.now ≤ 11684 }
     ensures { outcome result out.new ≡ put_words (widened_words ws.now statics.now) out.old }
 {
     let mut wide = [0u32; class_sheet::SHEET_WORDS];
     widen(ws, statics, &mut wide);
-    put_blocks(
-        words::word_part(&wide, 0, class_sheet::content_end(ws)),
-        out,
-    )
+    put_blocks(words::part(&wide, 0, class_sheet::content_end(ws)), out)
 }
 
 // Rows 3 to 5 and 18 for the words of an old sheet, and its blocks in the new form.
-fn widen_words(ws: &[u32], out: &mut [u8]) -> writer::Written
+#[tactic(auto, unfolding(crate::specs::Steps::widen_words, crate::specs::Convert::blocks_or_row))]
+fn widen_words(ws: &[u32], out: &mut [u8]) -> Result<u32, Refusal>
     ensures { outcome result out.new ≡ widen_words ws.now out.old }
 {
     let mut statics = [0u32; class_sheet::CLASS_LIMIT as usize];
-    let row = old_rows(ws, &mut statics);
-    if row != 0 {
-        return writer::Written::Refused(row);
-    }
+    old_rows(ws, &mut statics)?;
     put_widened(ws, &statics, out)
 }
 
 // Makes a class sheet of the new form of one of the old, as few blocks as hold it, which is the number answered. Every byte after them stays; a
 // refused call changes none.
-pub fn widen_class_sheet(bytes: &[u8], out: &mut [u8]) -> writer::Written
+pub fn widen_class_sheet(bytes: &[u8], out: &mut [u8]) -> Result<u32, Refusal>
     ensures { outcome result out.new ≡ widen_sheet bytes.now out.old }
 {
-    let row = sheet::block_refusal(bytes, class_sheet::SHEET_WORDS, class_sheet::BLOCK_LIMIT);
-    if row != 0 {
-        return writer::Written::Refused(row);
-    }
+    sheet::block_refusal(bytes, class_sheet::SHEET_WORDS, class_sheet::BLOCK_LIMIT)?;
     let n = block::block_count(bytes);
     let mut old = [0u32; class_sheet::SHEET_WORDS];
     block::unpack(bytes, n, &mut old);
-    widen_words(words::word_part(&old, 0, 127 * words::wide(n)), out)
+    widen_words(words::part(&old, 0, 127 * n as usize), out)
 }
 
 // Whether class c is no generated class, or one whose static words are the sum of its static field widths.
+#[tactic(auto, unfolding(crate::specs::Convert::keeps_statics))]
 fn keeps_statics(ws: &[u32], text: &[u8], c: u32) -> bool
     ensures { result ≡ keeps_statics ws.now text.now c }
 {
-    if class_sheet::class_kind(ws, c) != class_sheet::GENERATED {
-        return true;
-    }
-    class_sheet::class_static_words(ws, c) == field::static_words(ws, text, c)
-}
-
-// Whether this holds of each class.
-fn all_keep_statics(ws: &[u32], text: &[u8]) -> bool
-    ensures { result ≡ all_of (class_count ws.now) (λ i. keeps_statics ws.now text.now (i + 1)) }
-{
-    let n = class_sheet::class_count(ws);
-    let mut i: u32 = 0;
-    while i < n {
-        if !keeps_statics(ws, text, i + 1) {
-            return false;
-        }
-        i += 1;
-    }
-    true
+    !class_sheet::has_kind(ws, c, Kind::Generated)
+        || class_sheet::class_static_words(ws, c) == field::static_words(ws, text, c)
 }
 
 // Row 23: whether a generated class has static words that the old form would lose.
+#[tactic(auto, unfolding(crate::specs::Convert::drops_statics))]
 fn drops_statics(ws: &[u32]) -> bool
     requires { text_length ws.now ≤ 8192 }
     ensures { result ≡ drops_statics ws.now }
 {
     let mut text = [0u8; class_sheet::TEXT_LIMIT as usize];
     class_sheet::unpack_text(ws, &mut text);
-    !all_keep_statics(ws, text::name_at(&text, 0, class_sheet::text_length(ws)))
+    let part = text::name_at(&text, 0, class_sheet::text_length(ws));
+    !words::all_up_to(class_sheet::class_count(ws), |c| keeps_statics(ws, part, c))
 }
 
 // Rows 23 and 18 for the words of a class sheet that a reading accepted, and its blocks in the old form.
-fn narrow_words(ws: &[u32], out: &mut [u8]) -> writer::Written
+#[tactic(auto, unfolding(crate::specs::Steps::narrow_words, crate::specs::Convert::blocks_or_row))]
+fn narrow_words(ws: &[u32], out: &mut [u8]) -> Result<u32, Refusal>
     requires { class_form ws.now ≡ true }
     ensures { outcome result out.new ≡ narrow_words ws.now out.old }
 {
     if drops_statics(ws) {
-        return writer::Written::Refused(23);
+        return Err(Refusal::LostStatics);
     }
     let mut old = [0u32; class_sheet::SHEET_WORDS];
     narrow(ws, &mut old);
-    put_blocks(words::word_part(&old, 0, old_end(ws)), out)
+    put_blocks(words::part(&old, 0, old_end(ws)), out)
 }
 
 // Makes a class sheet of the old form of one of the new, as `widen_class_sheet` does the other way.
-pub fn narrow_class_sheet(bytes: &[u8], out: &mut [u8]) -> writer::Written
+pub fn narrow_class_sheet(bytes: &[u8], out: &mut [u8]) -> Result<u32, Refusal>
     ensures { outcome result out.new ≡ narrow_sheet bytes.now out.old }
 {
     let mut set = [0u32; class_sheet::SHEET_WORDS];
-    match sheet::read_class_sheet(bytes, &mut set) {
-        sheet::Read::Refused(row) => writer::Written::Refused(row),
-        sheet::Read::Words(n) => narrow_words(words::word_part(&set, 0, words::wide(n)), out),
-    }
+    let n = sheet::read_class_sheet(bytes, &mut set)?;
+    narrow_words(words::part(&set, 0, n as usize), out)
 }

@@ -7,186 +7,119 @@
 // Of a file its first 131,072 bytes count, more than any sheet has.
 #![tactic(auto)]
 
-ghost use Rattle.std.specs.Prelude.{◌≡◌, length};
-
-use std::io;
-use std::rt::{Env, Files};
-use words::{byte_at, part, wide};
-use writer::Written;
+use files::{front, weighed_sum};
+use refusal::Refusal;
+use std::{fmt, io};
+use words::part;
 
 // The bytes that a block takes.
 const BLOCK_BYTES: usize = 512;
 
-// Whether an argument names a sheet of the old form.
-fn is_old(path: &[u8]) -> bool {
-    text::same(part(path, 0, 3), b"old")
+// The most bytes that are lent: one block more than the largest sheet has.
+const MOST_BYTES: usize = 47616;
+
+// Which way a sheet is converted.
+#[derive(Clone, Copy)]
+enum Way {
+    Widen,
+    Narrow,
 }
 
-// The bytes to lend, as they are before the call: one block more than the largest sheet has.
-fn fresh_bytes() -> [u8; 47616]
-    ensures { 47616 ≡ length result }
-{
-    [7; 47616]
-}
-
-// The product modulo 2^32.
-fn product(a: usize, b: u32) -> u32 {
-    ((a as u64 % 4294967296) * (b as u64) % 4294967296) as u32
-}
-
-// The sum of each byte times its place from 1, modulo 2^32: it tells the bytes' order, too.
-fn weighed_sum(bytes: &[u8]) -> u32 {
-    let mut total: u32 = 0;
-    let mut i: usize = 0;
-    while i < bytes.len() {
-        total = total.wrapping_add(product(i + 1, byte_at(bytes, i) as u32));
-        i += 1;
+impl Way {
+    // The way for the sheet that an argument names.
+    fn of(path: &[u8]) -> Way {
+        if path.starts_with(b"old") {
+            Way::Widen
+        } else {
+            Way::Narrow
+        }
     }
-    total
-}
 
-// Whether each byte is 7.
-fn is_fresh(bytes: &[u8]) -> bool {
-    let mut fresh = true;
-    let mut i: usize = 0;
-    while i < bytes.len() {
-        fresh = fresh & (byte_at(bytes, i) == 7);
-        i += 1;
+    fn back(self) -> Way {
+        match self {
+            Way::Widen => Way::Narrow,
+            Way::Narrow => Way::Widen,
+        }
     }
-    fresh
-}
 
-// Converts a sheet of the old form, or one of the new.
-fn convert_sheet(old: bool, bytes: &[u8], out: &mut [u8]) -> Written {
-    if old {
-        return convert::widen_class_sheet(bytes, out);
+    fn convert(self, bytes: &[u8], out: &mut [u8]) -> Result<u32, Refusal> {
+        match self {
+            Way::Widen => convert::widen_class_sheet(bytes, out),
+            Way::Narrow => convert::narrow_class_sheet(bytes, out),
+        }
     }
-    convert::narrow_class_sheet(bytes, out)
 }
 
-// Converts it with the first n bytes lent, or all where there are fewer.
-fn convert_lent(old: bool, bytes: &[u8], out: &mut [u8], n: usize) -> Written {
-    if n < out.len() {
-        return convert_sheet(old, bytes, &mut out[..n]);
+impl fmt::Display for Way {
+    fn fmt<W: fmt::Write>(&self, f: &mut fmt::Formatter<W>) -> fmt::Result {
+        f.write_str(match self {
+            Way::Widen => "widened",
+            Way::Narrow => "narrowed",
+        })
     }
-    convert_sheet(old, bytes, out)
 }
 
-// Writes which way a sheet was converted.
-fn print_way(rt: &impl Print, old: bool) -> io::Result<()> {
-    if old {
-        rt.write_all(b" widened ")?;
-    } else {
-        rt.write_all(b" narrowed ")?;
-    }
-    Ok(())
-}
-
-// Writes ` widened N` or ` not widened R`, or the same of `narrowed`; answers the blocks, 0 where it is refused.
-fn print_answer(rt: &impl Print, old: bool, answer: Written) -> io::Result<u32> {
+// Writes ` widened N` or ` not widened R`, or the same of `narrowed`.
+fn print_answer(rt: &impl Print, way: Way, answer: Result<u32, Refusal>) -> io::Result<()> {
     match answer {
-        Written::Blocks(n) => {
-            print_way(rt, old)?;
-            rt.print(n)?;
-            Ok(n)
-        }
-        Written::Refused(row) => {
-            rt.write_all(b" not")?;
-            print_way(rt, old)?;
-            rt.print(row)?;
-            Ok(0)
-        }
+        Ok(n) => print!(rt; " {way} {n}"),
+        Err(row) => print!(rt; " not {way} {row}"),
     }
-}
-
-// Writes the weighed sum of lent bytes.
-fn print_sum(rt: &impl Print, bytes: &[u8]) -> io::Result<()> {
-    rt.write_all(b" ")?;
-    rt.print(weighed_sum(bytes))
 }
 
 // Converts a sheet with n bytes lent, and writes what came of it.
-fn print_room(rt: &impl Print, old: bool, bytes: &[u8], n: usize) -> io::Result<()> {
-    let mut out = fresh_bytes();
-    let answer = convert_lent(old, bytes, &mut out, n);
-    rt.write_all(b", lent ")?;
-    rt.print(n)?;
-    print_answer(rt, old, answer)?;
-    print_sum(rt, part(&out, 0, n))
+fn print_room(rt: &impl Print, way: Way, bytes: &[u8], n: usize) -> io::Result<()> {
+    let mut out = [7u8; MOST_BYTES];
+    let lent = front(&mut out, n);
+    let answer = way.convert(bytes, lent);
+    print!(rt; ", lent {n}")?;
+    print_answer(rt, way, answer)?;
+    print!(rt; " {}", weighed_sum(lent))
 }
 
-// Does so with about as many bytes as n blocks take.
-fn print_rooms(rt: &impl Print, old: bool, bytes: &[u8], n: u32) -> io::Result<()> {
-    let room = BLOCK_BYTES * wide(n);
+// Does so with about as many bytes as the blocks take.
+fn print_rooms(rt: &impl Print, way: Way, bytes: &[u8], room: usize) -> io::Result<()> {
     if room > 0 {
-        print_room(rt, old, bytes, room - 1)?;
+        print_room(rt, way, bytes, room - 1)?;
     }
-    print_room(rt, old, bytes, room)?;
-    print_room(rt, old, bytes, room + 1)
+    print_room(rt, way, bytes, room)?;
+    print_room(rt, way, bytes, room.saturating_add(1))
 }
 
 // Converts the blocks made of a sheet back, and writes whether its bytes came back.
-fn print_back(rt: &impl Print, old: bool, bytes: &[u8], made: &[u8]) -> io::Result<()> {
-    let mut out = fresh_bytes();
-    let n = bytes.len();
-    let answer = convert_sheet(!old, made, &mut out);
+fn print_back(rt: &impl Print, way: Way, bytes: &[u8], made: &[u8]) -> io::Result<()> {
+    let mut out = [7; MOST_BYTES];
+    let answer = way.convert(made, &mut out);
     rt.write_all(b", back")?;
-    print_answer(rt, !old, answer)?;
-    if text::same(part(&out, 0, n), bytes) & is_fresh(part(&out, n, out.len())) {
-        rt.write_all(b" same")?;
-    } else {
-        rt.write_all(b" other")?;
-    }
-    Ok(())
+    print_answer(rt, way, answer)?;
+    let same = out
+        .strip_prefix(bytes)
+        .is_some_and(|rest| rest.iter().all(|b| *b == 7));
+    print!(rt; " {}", if same { "same" } else { "other" })
 }
 
 // Converts the sheet in bytes, and writes its line.
 fn print_line(rt: &impl Print, path: &[u8], bytes: &[u8]) -> io::Result<()> {
-    let old = is_old(path);
-    let mut out = fresh_bytes();
-    let answer = convert_sheet(old, bytes, &mut out);
+    let way = Way::of(path);
+    let mut out = [7u8; MOST_BYTES];
+    let answer = way.convert(bytes, &mut out);
+    let room = BLOCK_BYTES * answer.unwrap_or(0) as usize;
     rt.write_all(path)?;
-    let n = print_answer(rt, old, answer)?;
-    print_sum(rt, &out)?;
-    print_rooms(rt, old, bytes, n)?;
-    if n > 0 {
-        print_back(rt, old, bytes, part(&out, 0, BLOCK_BYTES * wide(n)))?;
+    print_answer(rt, way, answer)?;
+    print!(rt; " {}", weighed_sum(&out))?;
+    print_rooms(rt, way, bytes, room)?;
+    if room > 0 {
+        print_back(rt, way.back(), bytes, part(&out, 0, room))?;
     }
     rt.write_all(b"\n")
 }
 
-// Room for the bytes of a file that count.
-fn file_bytes() -> [u8; 131072]
-    ensures { 131072 ≡ length result }
-{
-    [0; 131072]
-}
-
-// Converts the sheet in the file at a path.
-fn convert_path(rt: &(impl Print + Eprint + Files), path: &[u8]) -> io::Result<()> {
-    let mut bytes = file_bytes();
-    if let files::File::Bytes(n) = files::read_path(rt, path, &mut bytes) {
-        print_line(rt, path, part(&bytes, 0, n))?;
-    }
-    Ok(())
-}
-
-// Converts the sheet in the file that argument i names, and answers whether there is one. One that is too long is said so on standard error.
-fn convert_argument(rt: &(impl Print + Eprint + Files + Env), i: usize) -> io::Result<bool> {
-    let mut path = [0u8; 4096];
-    match files::take_argument(rt, b"convert_judge: argument", i, &mut path) {
-        files::Argument::Bytes(n) => convert_path(rt, part(&path, 0, n))?,
-        files::Argument::TooLong => {}
-        files::Argument::Missing => return Ok(false),
-    }
-    Ok(true)
-}
-
 fn main(rt: HostRuntime) -> io::Result<()> {
-    for i in 1..usize::MAX {
-        if !convert_argument(&rt, i)? {
-            break;
-        }
-    }
-    Ok(())
+    let what = b"convert_judge: argument";
+    files::each_file(
+        &rt,
+        what,
+        &mut [0; 131072],
+        |path, bytes| print_line(&rt, path, bytes),
+    )
 }

@@ -4,11 +4,10 @@
 // Of a file its first 524,288 bytes count. Places in a file are words, and a word past its end is 0.
 #![tactic(auto)]
 
-ghost use Rattle.std.specs.Prelude.{◌≡◌, ◌≤◌, length};
-
-use std::io;
-use std::rt::{Env, Files};
-use words::{byte_of, part, put_byte, put_word, wide, word_at, word_part};
+use files::{front, is_front};
+use refusal::Refusal;
+use std::{fmt, io};
+use words::{byte_of, get_or, part, put};
 
 // `LGTC`, and the version of the form.
 const MAGIC: u32 = 1129596748;
@@ -18,662 +17,492 @@ const VERSION: u32 = 3;
 // The place of what the file says of how it was made, after the header.
 const BODY: u32 = 15;
 
-// ---- places, lists, bytes and changes
+// The bytes of a file that count, and its words.
+const FILE_BYTES: usize = 524288;
 
-// The word at a place.
-fn word(f: &[u32], at: u32) -> u32 {
-    word_at(f, wide(at))
+const FILE_WORDS: usize = FILE_BYTES / 4;
+
+// Room for the class words and the ABI words of a case, for its area, and for its list of missing slots or one of stubs.
+const SET_WORDS: usize = 20480;
+
+const AREA_WORDS: usize = 8192;
+
+const LIST_WORDS: usize = 4096;
+
+// Room for the bytes of a reading or a descriptor, and for the words that a reading is lent.
+const MOST_BYTES: usize = 49152;
+
+const MOST_WORDS: usize = 12288;
+
+// ---- the words of a file, one after the other: lists, bytes and changes
+
+#[derive(Clone, Copy)]
+struct Reader<'a> {
+    words: &'a [u32],
+    at: u32,
 }
 
-// The place n words on.
-fn on(at: u32, n: u32) -> u32 {
-    at.wrapping_add(n)
-}
-
-// Stores the n words from a place on, from the word `to` on.
-fn fill_plain(f: &[u32], at: u32, n: u32, out: &mut [u32], to: u32) {
-    let mut k: u32 = 0;
-    while k < n {
-        put_word(out, wide(to) + wide(k), word(f, on(at, k)));
-        k += 1;
+impl Reader<'_> {
+    // The next word, 0 past the end.
+    fn word(&mut self) -> u32 {
+        let word = get_or(self.words, self.at as usize, 0);
+        self.at = self.at.wrapping_add(1);
+        word
     }
-}
 
-// Stores n words of which each is the one before it and a step, from the word `to` on.
-fn fill_run(first: u32, step: u32, n: u32, out: &mut [u32], to: u32) {
-    let mut w: u32 = first;
-    let mut k: u32 = 0;
-    while k < n {
-        put_word(out, wide(to) + wide(k), w);
-        w = w.wrapping_add(step);
-        k += 1;
-    }
-}
-
-// Stores the words of the segment at a place, from the word `to` on, and answers the place after it.
-fn read_segment(f: &[u32], at: u32, out: &mut [u32], to: u32) -> u32 {
-    let n = word(f, at) / 2;
-    let body = on(at, 1);
-    if word(f, at) % 2 == 0 {
-        fill_plain(f, body, n, out, to);
-        return on(body, n);
-    }
-    fill_run(word(f, body), word(f, on(body, 1)), n, out, to);
-    on(body, 2)
-}
-
-// Stores the words of the list at a place, and answers the place after it. Its length is the word at the place.
-fn read_list(f: &[u32], at: u32, out: &mut [u32]) -> u32 {
-    let n = word(f, at);
-    let mut place: u32 = on(at, 1);
-    let mut filled: u32 = 0;
-    while filled < n {
-        let k = word(f, place) / 2;
-        place = read_segment(f, place, out, filled);
-        if k == 0 {
-            return place;
+    // Stores the next n words, from the word `to` on.
+    fn plain(&mut self, n: u32, out: &mut [u32], to: u32) {
+        for k in 0..n {
+            put(out, to as usize + k as usize, self.word());
         }
-        if n - filled <= k {
-            return place;
+    }
+
+    // Stores n words of which each is the one before it and a step, from the word `to` on.
+    fn run(&mut self, n: u32, out: &mut [u32], to: u32) {
+        let mut word = self.word();
+        let step = self.word();
+        for k in 0..n {
+            put(out, to as usize + k as usize, word);
+            word = word.wrapping_add(step);
         }
-        filled += k;
     }
-    place
+
+    // Stores the words of the next segment, from the word `to` on, and answers how many it has.
+    fn segment(&mut self, out: &mut [u32], to: u32) -> u32 {
+        let head = self.word();
+        let n = head / 2;
+        if head % 2 == 0 {
+            self.plain(n, out, to);
+        } else {
+            self.run(n, out, to);
+        }
+        n
+    }
+
+    // Stores the words of the next list, and answers its length.
+    fn list(&mut self, out: &mut [u32]) -> u32 {
+        let n = self.word();
+        let mut filled: u32 = 0;
+        while filled < n {
+            let k = self.segment(out, filled);
+            if k == 0 {
+                break;
+            }
+            filled = filled.saturating_add(k);
+        }
+        n
+    }
+
+    // Stores the next n lists over each other.
+    fn lists(&mut self, n: u32, out: &mut [u32]) {
+        for _ in 0..n {
+            self.list(out);
+        }
+    }
+
+    // Makes the next changes.
+    fn changes(&mut self, out: &mut [u32]) {
+        for _ in 0..self.word() {
+            let place = self.word() as usize;
+            put(out, place, self.word());
+        }
+    }
 }
 
-// Stores the list that is k lists after the one at a place; answers the place after it.
-fn read_list_after(f: &[u32], at: u32, k: u32, out: &mut [u32]) -> u32 {
-    let mut place: u32 = read_list(f, at, out);
-    let mut i: u32 = 0;
-    while i < k {
-        place = read_list(f, place, out);
-        i += 1;
+// The first n bytes of words that hold four each, the lowest first, and zeros.
+fn unpack(words: &[u32], n: usize) -> [u8; MOST_BYTES] {
+    let mut bytes = [0; MOST_BYTES];
+    for (i, b) in front(&mut bytes, n).iter_mut().enumerate() {
+        *b = byte_of(get_or(words, i / 4, 0), i);
     }
-    place
+    bytes
 }
 
-// The place of the list that is k lists after the one at a place.
-fn list_place(f: &[u32], at: u32, k: u32, out: &mut [u32]) -> u32 {
-    if k == 0 {
-        return at;
+// Whether the answer is the Rust's: the row that refuses or 0, and what is answered or 0.
+fn is_answer<T: Into<u64> + Drop>(answer: Result<T, Refusal>, row: u32, first: u32) -> bool {
+    match answer {
+        Ok(n) => row == 0 && n.into() == u64::from(first),
+        Err(refusal) => row == refusal.into() && first == 0,
     }
-    read_list_after(f, at, k - 1, out)
-}
-
-// Stores n bytes of words that hold four each, the lowest first.
-fn unpack(words: &[u32], n: usize, out: &mut [u8]) {
-    let mut i: usize = 0;
-    while i < n {
-        put_byte(out, i, byte_of(word_at(words, i / 4), i));
-        i += 1;
-    }
-}
-
-// Makes the changes at a place, and answers the place after them.
-fn make_changes(f: &[u32], at: u32, out: &mut [u32]) -> u32 {
-    let n = word(f, at);
-    let mut place: u32 = on(at, 1);
-    let mut i: u32 = 0;
-    while i < n {
-        put_word(out, wide(word(f, place)), word(f, on(place, 1)));
-        place = on(place, 2);
-        i += 1;
-    }
-    place
-}
-
-// The sum of the words before the last, modulo 2^32, is the last.
-fn is_summed(f: &[u32]) -> bool {
-    let mut sum: u32 = 0;
-    let mut i: usize = 1;
-    while i < f.len() {
-        sum = sum.wrapping_add(word_at(f, i - 1));
-        i += 1;
-    }
-    sum == word_at(f, i - 1)
 }
 
 // ---- cases
 
-// What a call differs in, 0 for nothing.
-const ANSWER: u32 = 1;
+// What a call differs in.
+#[derive(Clone, Copy)]
+enum Difference {
+    Answer,
+    Set,
+    Area,
+    Missing,
+}
 
-const SET: u32 = 2;
+impl fmt::Display for Difference {
+    fn fmt<W: fmt::Write>(&self, f: &mut fmt::Formatter<W>) -> fmt::Result {
+        f.write_str(match self {
+            Difference::Answer => "the answer differs",
+            Difference::Set => "the class words differ",
+            Difference::Area => "the area differs",
+            Difference::Missing => "the list of missing slots differs",
+        })
+    }
+}
 
-const AREA: u32 = 3;
+// The words that calls write: class words, the area and the list of missing slots.
+#[derive(Drop)]
+struct Memory<'a> {
+    set: &'a mut [u32],
+    area: &'a mut [u32],
+    missing: &'a mut [u32],
+}
 
-const MISSING: u32 = 4;
+impl Memory<'_> {
+    // Makes the changes that are read next.
+    fn change(&mut self, reader: &mut Reader) {
+        reader.changes(self.set);
+        reader.changes(self.area);
+        reader.changes(self.missing);
+    }
 
-// Where reading goes on, how many calls there were, and the first that differs, with what it differs in.
+    // What differs from what the Rust left.
+    fn difference(&self, rust: &Memory) -> Option<Difference> {
+        if !is_front(self.set, rust.set) {
+            Some(Difference::Set)
+        } else if !is_front(self.area, rust.area) {
+            Some(Difference::Area)
+        } else if !is_front(self.missing, rust.missing) {
+            Some(Difference::Missing)
+        } else {
+            None
+        }
+    }
+}
+
+// What calls only read: the ABI words, and the lists of stubs.
+#[derive(Clone, Copy)]
+struct Given<'a> {
+    abi: &'a [u32],
+    stubs: Reader<'a>,
+}
+
+// The kinds of calls, a link and an ask by the numbers that replay has for them.
+#[derive(Clone, Copy)]
+enum Kind {
+    Link,
+    Ask,
+    Missing,
+}
+
+impl From<u32> for Kind {
+    fn from(kind: u32) -> Kind {
+        match kind {
+            0 => Kind::Link,
+            2 => Kind::Missing,
+            _ => Kind::Ask,
+        }
+    }
+}
+
+// A call: its kind, a class, an interface, the number of its list of stubs, and what the Rust answered.
+#[derive(Clone, Copy)]
+struct Call {
+    kind: Kind,
+    class: u32,
+    interface: u32,
+    stubs: u32,
+    answer: [u32; 3],
+}
+
+impl Call {
+    // The call that is read next.
+    fn read(reader: &mut Reader) -> Call {
+        Call {
+            kind: reader.word().into(),
+            class: reader.word(),
+            interface: reader.word(),
+            stubs: reader.word(),
+            answer: [reader.word(), reader.word(), reader.word()],
+        }
+    }
+
+    // Makes a link or an ask, and answers whether its answer is the Rust's.
+    fn replay(&self, given: Given, memory: &mut Memory) -> bool {
+        let mut room = [0; LIST_WORDS];
+        let mut lists = given.stubs;
+        lists.lists(self.stubs, &mut room);
+        let n = lists.list(&mut room);
+        let call = [self.kind as u32, self.class, self.interface, 0, n];
+        let mut answer = [0; 3];
+        replay::replay(
+            memory.set,
+            given.abi,
+            memory.area,
+            memory.missing,
+            &call,
+            part(&room, 0, n as usize),
+            &mut answer,
+        );
+        answer == self.answer
+    }
+
+    // Asks how many slots of the class count as missing.
+    fn ask_missing(&self, given: Given, memory: &Memory) -> bool {
+        let answer = missing::missing_slots(memory.set, given.abi, memory.missing, self.class);
+        let [row, first, second] = self.answer;
+        is_answer(answer, row, first) && second == 0
+    }
+
+    // Makes the call.
+    fn make(&self, given: Given, memory: &mut Memory) -> bool {
+        match self.kind {
+            Kind::Link | Kind::Ask => self.replay(given, memory),
+            Kind::Missing => self.ask_missing(given, memory),
+        }
+    }
+}
+
+// How many calls a case has, and the first that differs, with what it differs in.
 #[derive(Clone, Copy)]
 struct Seen {
-    at: u32,
     calls: u32,
-    call: u32,
-    what: u32,
+    differs: Option<(u32, Difference)>,
 }
 
-// Whether the answer to a question for missing slots is the stored one.
-fn is_missing(answer: missing::Missing, refusal: u32, first: u32) -> bool {
-    match answer {
-        missing::Missing::Count(n) => (refusal == 0) & (n == first),
-        missing::Missing::Refused(row) => (refusal == row) & (first == 0),
-    }
-}
-
-// Makes the link or ask at a place, with its stub list read from the lists at another, and answers whether its answer is the stored one.
-fn make_link_or_ask(
-    f: &[u32],
-    at: u32,
-    lists: u32,
-    set: &mut [u32],
-    abi: &[u32],
-    area: &mut [u32],
-    missing: &mut [u32],
-) -> bool {
-    let mut stubs = [0u32; 4096];
-    let place = list_place(f, lists, word(f, on(at, 3)), &mut stubs);
-    read_list(f, place, &mut stubs);
-    let call = [
-        word(f, at),
-        word(f, on(at, 1)),
-        word(f, on(at, 2)),
-        0,
-        word(f, place),
-    ];
-    let mut answers = [0u32; 3];
-    let lent = word_part(&stubs, 0, wide(word(f, place)));
-    replay::replay(set, abi, area, missing, &call, lent, &mut answers);
-    files::is_front(&answers, word_part(f, wide(on(at, 4)), 3))
-}
-
-// Makes the call at a place: a link (kind 0), an ask (1) or a question for missing slots.
-fn make_call(
-    f: &[u32],
-    at: u32,
-    lists: u32,
-    set: &mut [u32],
-    abi: &[u32],
-    area: &mut [u32],
-    missing: &mut [u32],
-) -> bool {
-    if word(f, at) != 2 {
-        return make_link_or_ask(f, at, lists, set, abi, area, missing);
-    }
-    let answer = missing::missing_slots(set, abi, missing, word(f, on(at, 1)));
-    is_missing(answer, word(f, on(at, 4)), word(f, on(at, 5))) & (word(f, on(at, 6)) == 0)
-}
-
-// What differs after a call, of which the answer is the stored one or not.
-fn difference(
-    same: bool,
-    set: &[u32],
-    area: &[u32],
-    missing: &[u32],
-    rust_set: &[u32],
-    rust_area: &[u32],
-    rust_missing: &[u32],
-) -> u32 {
-    if !same {
-        return ANSWER;
-    }
-    if !files::is_front(set, rust_set) {
-        return SET;
-    }
-    if !files::is_front(area, rust_area) {
-        return AREA;
-    }
-    if !files::is_front(missing, rust_missing) {
-        return MISSING;
-    }
-    0
-}
-
-// Makes the calls at a place in turn, beside the memory as the Rust left it.
-fn make_calls(
-    f: &[u32],
-    at: u32,
-    lists: u32,
-    set: &mut [u32],
-    abi: &[u32],
-    area: &mut [u32],
-    missing: &mut [u32],
-    rust_set: &mut [u32],
-    rust_area: &mut [u32],
-    rust_missing: &mut [u32],
-) -> Seen {
-    let n = word(f, at);
-    let mut place: u32 = on(at, 1);
-    let mut call: u32 = 0;
-    let mut what: u32 = 0;
-    let mut i: u32 = 0;
-    while i < n {
-        let same = make_call(f, place, lists, set, abi, area, missing);
-        place = make_changes(f, on(place, 7), rust_set);
-        place = make_changes(f, place, rust_area);
-        place = make_changes(f, place, rust_missing);
-        if what == 0 {
-            call = i;
-            what = difference(same, set, area, missing, rust_set, rust_area, rust_missing);
+// Makes the calls that are read next in turn, beside the memory as the Rust left it.
+fn make_calls(reader: &mut Reader, given: Given, memory: &mut Memory, rust: &mut Memory) -> Seen {
+    let calls = reader.word();
+    let mut differs = None;
+    for i in 0..calls {
+        let same = Call::read(reader).make(given, memory);
+        rust.change(reader);
+        if differs.is_none() {
+            let what = if same {
+                memory.difference(rust)
+            } else {
+                Some(Difference::Answer)
+            };
+            differs = what.map(|what| (i, what));
         }
-        i += 1;
     }
-    Seen {
-        at: place,
-        calls: n,
-        call,
-        what,
-    }
+    Seen { calls, differs }
 }
 
-// How many words of a list at a place there is room for.
-fn room(f: &[u32], at: u32, most: usize) -> usize
-    ensures { result ≤ most }
-{
-    let n = wide(word(f, at));
-    if most < n { most } else { n }
-}
-
-// Where the parts of a case are: its class words, area and list of missing slots, the stub lists and the calls.
-#[derive(Clone, Copy)]
-struct Places {
-    set: u32,
-    area: u32,
-    missing: u32,
-    lists: u32,
-    calls: u32,
-}
-
-// Makes the calls of a case on as many class words and words of the area and of the list as it lends.
-fn make_lent(
-    f: &[u32],
-    p: Places,
-    set: &mut [u32],
-    abi: &[u32],
-    area: &mut [u32],
-    missing: &mut [u32],
-    rust_set: &mut [u32],
-    rust_area: &mut [u32],
-    rust_missing: &mut [u32],
-) -> Seen {
-    let set_room = room(f, p.set, set.len());
-    let area_room = room(f, p.area, area.len());
-    let missing_room = room(f, p.missing, missing.len());
-    make_calls(
-        f,
-        p.calls,
-        p.lists,
-        &mut set[..set_room],
-        abi,
-        &mut area[..area_room],
-        &mut missing[..missing_room],
-        rust_set,
-        rust_area,
-        rust_missing,
-    )
-}
-
-// Replays the case at a place.
-fn replay_case(f: &[u32], at: u32) -> Seen {
-    let mut set = [0u32; 20480];
-    let mut rust_set = [0u32; 20480];
-    let mut abi = [0u32; 20480];
-    let mut area = [0u32; 8192];
-    let mut rust_area = [0u32; 8192];
-    let mut missing = [0u32; 4096];
-    let mut rust_missing = [0u32; 4096];
-    let mut stubs = [0u32; 4096];
-    let abi_at = read_list(f, at, &mut set);
-    let area_at = read_list(f, abi_at, &mut abi);
-    let missing_at = read_list(f, area_at, &mut area);
-    let count_at = read_list(f, missing_at, &mut missing);
-    read_list(f, at, &mut rust_set);
-    read_list(f, area_at, &mut rust_area);
-    read_list(f, missing_at, &mut rust_missing);
-    let lists = on(count_at, 1);
-    let places = Places {
-        set: at,
-        area: area_at,
-        missing: missing_at,
-        lists,
-        calls: list_place(f, lists, word(f, count_at), &mut stubs),
+// Replays the case that is read next, with as much memory lent as it tells.
+fn replay_case(reader: &mut Reader) -> Seen {
+    let mut set = [0; SET_WORDS];
+    let mut abi = [0; SET_WORDS];
+    let mut area = [0; AREA_WORDS];
+    let mut missing = [0; LIST_WORDS];
+    let set_room = reader.list(&mut set);
+    let abi_room = reader.list(&mut abi);
+    let area_room = reader.list(&mut area);
+    let missing_room = reader.list(&mut missing);
+    let stub_lists = reader.word();
+    let given = Given {
+        abi: part(&abi, 0, abi_room as usize),
+        stubs: *reader,
     };
-    make_lent(
-        f,
-        places,
-        &mut set,
-        word_part(&abi, 0, wide(word(f, abi_at))),
-        &mut area,
-        &mut missing,
-        &mut rust_set,
-        &mut rust_area,
-        &mut rust_missing,
-    )
+    reader.lists(stub_lists, &mut [0; LIST_WORDS]);
+    let (mut rust_set, mut rust_area, mut rust_missing) = (set, area, missing);
+    let mut rust = Memory {
+        set: &mut rust_set,
+        area: &mut rust_area,
+        missing: &mut rust_missing,
+    };
+    let mut memory = Memory {
+        set: front(&mut set, set_room as usize),
+        area: front(&mut area, area_room as usize),
+        missing: front(&mut missing, missing_room as usize),
+    };
+    make_calls(reader, given, &mut memory, &mut rust)
 }
 
 // ---- readings and descriptors
 
-// Word i that a reading lends, before it.
+// Word i that a reading is lent, before it.
 fn lent_word(i: u32) -> u32 {
     i ^ 1515870810
 }
 
-// The first n words that a reading lends.
-fn lend_words(out: &mut [u32], n: u32) {
-    let mut i: u32 = 0;
-    while i < n {
-        put_word(out, wide(i), lent_word(i));
-        i += 1;
-    }
-}
-
-// Word i after it, where the first `filled` are those of the sheet's blocks, without the block's last.
+// Word i after it, where the first `filled` are those of the sheet's blocks, without each block's last.
 fn read_word(packed: &[u32], filled: u32, i: u32) -> u32 {
     if i < filled {
-        return word_at(packed, wide(i) / 127 * 128 + wide(i) % 127);
-    }
-    lent_word(i)
-}
-
-// The first n words after it.
-fn read_words(packed: &[u32], filled: u32, out: &mut [u32], n: u32) {
-    let mut i: u32 = 0;
-    while i < n {
-        put_word(out, wide(i), read_word(packed, filled, i));
-        i += 1;
+        let i = i as usize;
+        get_or(packed, i / 127 * 128 + i % 127, 0)
+    } else {
+        lent_word(i)
     }
 }
 
-// Reads a sheet of this kind, 0 a class sheet.
-fn read_sheet(kind: u32, bytes: &[u8], lent: &mut [u32]) -> sheet::Read {
-    if kind == 0 {
-        return sheet::read_class_sheet(bytes, lent);
+// Replays the reading that is read next: of a class sheet (kind 0) or an ABI sheet. Answers whether it answers and leaves what it did in Rust.
+fn replay_reading(reader: &mut Reader) -> bool {
+    let kind = reader.word();
+    let lent = reader.word() as usize;
+    let n = reader.word() as usize;
+    let mut packed = [0; MOST_WORDS];
+    reader.list(&mut packed);
+    let row = reader.word();
+    let first = reader.word();
+    let mut words = [0; MOST_WORDS];
+    let lent = front(&mut words, lent);
+    for (word, i) in lent.iter_mut().zip(0..) {
+        *word = lent_word(i);
     }
-    sheet::read_abi_sheet(bytes, lent)
+    let bytes = unpack(&packed, n);
+    let bytes = part(&bytes, 0, n);
+    let answer = match kind {
+        0 => sheet::read_class_sheet(bytes, lent),
+        _ => sheet::read_abi_sheet(bytes, lent),
+    };
+    is_answer(answer, row, first)
+        && lent
+            .iter()
+            .zip(0..)
+            .all(|(word, i)| *word == read_word(&packed, first, i))
 }
 
-// Reads it with the first n words lent.
-fn read_lent(kind: u32, bytes: &[u8], words: &mut [u32], n: usize) -> sheet::Read {
-    if n < words.len() {
-        return read_sheet(kind, bytes, &mut words[..n]);
-    }
-    read_sheet(kind, bytes, words)
-}
-
-// Whether the reading's answer is the Rust's.
-fn is_read(answer: sheet::Read, refusal: u32, first: u32) -> bool {
-    match answer {
-        sheet::Read::Words(n) => (refusal == 0) & (n == first),
-        sheet::Read::Refused(row) => (refusal == row) & (first == 0),
-    }
-}
-
-// Whether the reading of the packed bytes, n of them, with so many words lent, answers and leaves what it did in Rust.
-fn is_reading(packed: &[u32], n: u32, kind: u32, lent: u32, refusal: u32, first: u32) -> bool {
-    let mut bytes = [0u8; 49152];
-    unpack(packed, wide(n), &mut bytes);
-    let mut words = [0u32; 12288];
-    let mut rust_words = [0u32; 12288];
-    lend_words(&mut words, lent);
-    read_words(packed, first, &mut rust_words, lent);
-    let answer = read_lent(kind, part(&bytes, 0, wide(n)), &mut words, wide(lent));
-    is_read(answer, refusal, first) & files::is_front(word_part(&words, 0, wide(lent)), &rust_words)
-}
-
-// What an item without calls comes to.
-fn no_calls(at: u32, same: bool) -> Seen {
-    let what = if same { 0 } else { ANSWER };
-    Seen {
-        at,
-        calls: 0,
-        call: 0,
-        what,
-    }
-}
-
-// Replays the reading at a place.
-fn replay_reading(f: &[u32], at: u32) -> Seen {
-    let mut packed = [0u32; 12288];
-    let end = read_list(f, on(at, 3), &mut packed);
-    let lent = word(f, on(at, 1));
-    let refusal = word(f, end);
-    let first = word(f, on(end, 1));
-    let same = is_reading(
-        &packed,
-        word(f, on(at, 2)),
-        word(f, at),
-        lent,
-        refusal,
-        first,
-    );
-    no_calls(on(end, 2), same)
-}
-
-// Whether the descriptor's answer is the Rust's.
-fn is_counted(answer: descriptor::DescriptorWords, refusal: u32, first: u32) -> bool {
-    match answer {
-        descriptor::DescriptorWords::Count(n) => (refusal == 0) & (n == first as u64),
-        descriptor::DescriptorWords::Refused => (refusal == 5) & (first == 0),
-    }
-}
-
-// Replays the descriptor at a place.
-fn replay_descriptor(f: &[u32], at: u32) -> Seen {
-    let mut packed = [0u32; 12288];
-    let end = read_list(f, on(at, 2), &mut packed);
-    let n = wide(word(f, on(at, 1)));
-    let mut bytes = [0u8; 49152];
-    unpack(&packed, n, &mut bytes);
-    let answer = descriptor::argument_words(part(&bytes, 0, n), word(f, at));
-    let same = is_counted(answer, word(f, end), word(f, on(end, 1)));
-    no_calls(on(end, 2), same)
+// Replays the descriptor that is read next, and answers whether its answer is the Rust's.
+fn replay_descriptor(reader: &mut Reader) -> bool {
+    let flags = reader.word();
+    let n = reader.word() as usize;
+    let mut packed = [0; MOST_WORDS];
+    reader.list(&mut packed);
+    let bytes = unpack(&packed, n);
+    let answer = descriptor::argument_words(part(&bytes, 0, n), flags);
+    is_answer(answer, reader.word(), reader.word())
 }
 
 // ---- a file
 
-// Writes a number, and what it is of.
-fn print_count(rt: &impl Print, n: u32, what: &[u8]) -> io::Result<()> {
-    rt.print(n)?;
-    rt.write_all(what)
-}
-
-// Writes what a call differs in.
-fn print_what(rt: &impl Print, call: u32, what: u32) -> io::Result<()> {
-    print_count(rt, call, b": ")?;
-    if what == ANSWER {
-        rt.write_all(b"the answer differs\n")?;
-    } else if what == SET {
-        rt.write_all(b"the class words differ\n")?;
-    } else if what == AREA {
-        rt.write_all(b"the area differs\n")?;
-    } else {
-        rt.write_all(b"the list of missing slots differs\n")?;
-    }
-    Ok(())
-}
-
-// Writes the line of item i of a kind, if it differs, and answers how many lines that is.
-fn print_seen(
-    rt: &impl Print,
-    path: &[u8],
-    kind: u32,
-    i: u32,
-    call: u32,
-    what: u32,
-) -> io::Result<u32> {
-    if what == 0 {
-        return Ok(0);
-    }
-    rt.write_all(path)?;
-    if kind == 0 {
-        rt.write_all(b": case ")?;
-        print_count(rt, i, b" call ")?;
-        print_what(rt, call, what)?;
-    } else if kind == 1 {
-        rt.write_all(b": reading ")?;
-        print_count(rt, i, b" differs\n")?;
-    } else {
-        rt.write_all(b": descriptor ")?;
-        print_count(rt, i, b" differs\n")?;
-    }
-    Ok(1)
-}
-
-// Replays the item at a place: a case (kind 0), a reading (1) or a descriptor.
-fn replay_item(f: &[u32], at: u32, kind: u32) -> Seen {
-    if kind == 0 {
-        return replay_case(f, at);
-    }
-    if kind == 1 {
-        return replay_reading(f, at);
-    }
-    replay_descriptor(f, at)
-}
-
-// Where reading goes on, how many calls there were, and how many items differ.
+// How many calls the cases had, and how many of them differ.
 #[derive(Clone, Copy)]
 struct Sum {
-    at: u32,
     calls: u32,
     differ: u32,
 }
 
-// Replays the n items of a kind at a place.
-fn replay_items(
+// Replays the n cases that are read next, and writes a line for each that differs.
+fn replay_cases(rt: &impl Print, path: &[u8], reader: &mut Reader, n: u32) -> io::Result<Sum> {
+    let mut sum = Sum {
+        calls: 0,
+        differ: 0,
+    };
+    for i in 0..n {
+        let seen = replay_case(reader);
+        sum.calls = sum.calls.wrapping_add(seen.calls);
+        if let Some((call, what)) = seen.differs {
+            rt.write_all(path)?;
+            print!(rt; ": case {i} call {call}: {what}\n")?;
+            sum.differ = sum.differ.wrapping_add(1);
+        }
+    }
+    Ok(sum)
+}
+
+// Replays the n readings or descriptors that are read next, and writes a line for each that differs; answers how many do.
+fn replay_items<F: Fn(&mut Reader) -> bool>(
     rt: &impl Print,
     path: &[u8],
-    f: &[u32],
-    at: u32,
-    kind: u32,
+    reader: &mut Reader,
     n: u32,
-) -> io::Result<Sum> {
-    let mut place: u32 = at;
-    let mut calls: u32 = 0;
+    item: &str,
+    replay: F,
+) -> io::Result<u32>
+    requires { F.IsAlwaysCallable replay }
+{
     let mut differ: u32 = 0;
-    let mut i: u32 = 0;
-    while i < n {
-        let s = replay_item(f, place, kind);
-        place = s.at;
-        calls = on(calls, s.calls);
-        differ = on(differ, print_seen(rt, path, kind, i, s.call, s.what)?);
-        i += 1;
+    for i in 0..n {
+        if !replay(reader) {
+            rt.write_all(path)?;
+            print!(rt; ": {item} {i} differs\n")?;
+            differ = differ.wrapping_add(1);
+        }
     }
-    Ok(Sum {
-        at: place,
-        calls,
-        differ,
-    })
+    Ok(differ)
 }
 
-// Writes what the file says of how it was made.
-fn print_made(rt: &impl Print, f: &[u32]) -> io::Result<()> {
-    let mut packed = [0u32; 64];
-    read_list(f, on(BODY, 1), &mut packed);
-    let mut bytes = [0u8; 256];
-    let n = wide(word(f, BODY));
-    unpack(&packed, n, &mut bytes);
-    rt.write_all(part(&bytes, 0, n))
-}
-
-// The place after what the file says of how it was made.
-fn items_place(f: &[u32]) -> u32 {
-    let mut packed = [0u32; 64];
-    read_list(f, on(BODY, 1), &mut packed)
+// Writes what the file says of how it was made, which is read next.
+fn print_made(rt: &impl Print, mut reader: Reader) -> io::Result<()> {
+    let n = reader.word() as usize;
+    let mut packed = [0; 64];
+    reader.list(&mut packed);
+    rt.write_all(part(&unpack(&packed, n), 0, n.min(256)))
 }
 
 // Whether the longest that the header tells of fit: class words, ABI words, area, stub list, bytes of a reading, words lent to a reading,
 // list of missing slots.
 fn fits(f: &[u32]) -> bool {
-    (word(f, 7) <= 20480)
-        & (word(f, 8) <= 20480)
-        & (word(f, 9) <= 8192)
-        & (word(f, 10) <= 4096)
-        & (word(f, 12) <= 49152)
-        & (word(f, 13) <= 12288)
-        & (word(f, 14) <= 4096)
+    let most = |i: usize| get_or(f, i, 0) as usize;
+    most(7) <= SET_WORDS
+        && most(8) <= SET_WORDS
+        && most(9) <= AREA_WORDS
+        && most(10) <= LIST_WORDS
+        && most(12) <= MOST_BYTES
+        && most(13) <= MOST_WORDS
+        && most(14) <= LIST_WORDS
+}
+
+// Whether the sum of the words before the last, modulo 2^32, is the last.
+fn is_summed(f: &[u32]) -> bool {
+    match f.split_last() {
+        Some((last, words)) => *last == words.iter().fold(0u32, |sum, w| sum.wrapping_add(*w)),
+        None => true,
+    }
 }
 
 // Whether this is a corpus of this form, whole.
 fn is_corpus(f: &[u32]) -> bool {
-    (word(f, 0) == MAGIC) & (word(f, 1) == VERSION) & fits(f) & is_summed(f)
-}
-
-// Says so where the last item does not end before the file's last word, its sum.
-fn print_end(rt: &impl Print, path: &[u8], f: &[u32], at: u32) -> io::Result<()> {
-    if wide(at) + 1 != f.len() {
-        rt.write_all(path)?;
-        rt.write_all(b": the items do not end at its end\n")?;
-    }
-    Ok(())
+    get_or(f, 0, 0) == MAGIC && get_or(f, 1, 0) == VERSION && fits(f) && is_summed(f)
 }
 
 // Replays a corpus, and writes its lines.
 fn print_corpus(rt: &impl Print, path: &[u8], f: &[u32]) -> io::Result<()> {
-    let cases = replay_items(rt, path, f, items_place(f), 0, word(f, 4))?;
-    let readings = replay_items(rt, path, f, cases.at, 1, word(f, 5))?;
-    let descriptors = replay_items(rt, path, f, readings.at, 2, word(f, 6))?;
-    print_end(rt, path, f, descriptors.at)?;
+    let made = Reader { words: f, at: BODY };
+    let mut reader = made;
+    reader.word();
+    reader.list(&mut []);
+    let [cases, readings, descriptors] = [get_or(f, 4, 0), get_or(f, 5, 0), get_or(f, 6, 0)];
+    let sum = replay_cases(rt, path, &mut reader, cases)?;
+    let unread = replay_items(rt, path, &mut reader, readings, "reading", replay_reading)?;
+    let uncounted = replay_items(
+        rt,
+        path,
+        &mut reader,
+        descriptors,
+        "descriptor",
+        replay_descriptor,
+    )?;
+    if reader.at as usize + 1 != f.len() {
+        rt.write_all(path)?;
+        rt.write_all(b": the items do not end at its end\n")?;
+    }
+    let differ = sum.differ.wrapping_add(unread.wrapping_add(uncounted));
     rt.write_all(path)?;
     rt.write_all(b" (")?;
-    print_made(rt, f)?;
-    rt.write_all(b"): ")?;
-    print_count(rt, word(f, 4), b" cases, ")?;
-    print_count(rt, cases.calls, b" calls, ")?;
-    print_count(rt, word(f, 5), b" readings, ")?;
-    print_count(rt, word(f, 6), b" descriptors, ")?;
-    print_count(
-        rt,
-        on(cases.differ, on(readings.differ, descriptors.differ)),
-        b" differ\n",
-    )?;
-    Ok(())
+    print_made(rt, made)?;
+    print!(rt;
+        "): {cases} cases, {} calls, {readings} readings, {descriptors} descriptors, {differ} differ\n",
+        sum.calls
+    )
 }
 
-// Replays the corpus in the words of a file.
-fn replay_words(rt: &impl Print, path: &[u8], f: &[u32]) -> io::Result<()> {
+// Replays the corpus in the bytes of a file.
+fn replay_file(rt: &impl Print, path: &[u8], bytes: &[u8]) -> io::Result<()> {
+    let mut words = [0; FILE_WORDS];
+    files::load_words(bytes, &mut words);
+    let f = part(&words, 0, bytes.len() / 4);
     if is_corpus(f) {
-        print_corpus(rt, path, f)?;
-    } else {
-        rt.write_all(path)?;
-        rt.write_all(b": no corpus\n")?;
+        return print_corpus(rt, path, f);
     }
-    Ok(())
-}
-
-// Room for the bytes of a file that count.
-fn file_bytes() -> [u8; 524288]
-    ensures { 524288 ≡ length result }
-{
-    [0; 524288]
-}
-
-// Replays the corpus in the file at a path.
-fn replay_path(rt: &(impl Print + Eprint + Files), path: &[u8]) -> io::Result<()> {
-    let mut bytes = file_bytes();
-    if let files::File::Bytes(n) = files::read_path(rt, path, &mut bytes) {
-        let mut words = [0u32; 131072];
-        files::load_words(part(&bytes, 0, n), &mut words);
-        replay_words(rt, path, word_part(&words, 0, n / 4))?;
-    }
-    Ok(())
-}
-
-// Replays the corpus that argument i names, and answers whether there is one. One that is too long is said so on standard error.
-fn replay_argument(rt: &(impl Print + Eprint + Files + Env), i: usize) -> io::Result<bool> {
-    let mut path = [0u8; 4096];
-    match files::take_argument(rt, b"corpus: argument", i, &mut path) {
-        files::Argument::Bytes(n) => replay_path(rt, part(&path, 0, n))?,
-        files::Argument::TooLong => {}
-        files::Argument::Missing => return Ok(false),
-    }
-    Ok(true)
+    rt.write_all(path)?;
+    rt.write_all(b": no corpus\n")
 }
 
 fn main(rt: HostRuntime) -> io::Result<()> {
-    for i in 1..usize::MAX {
-        if !replay_argument(&rt, i)? {
-            break;
-        }
-    }
-    Ok(())
+    files::each_file(
+        &rt,
+        b"corpus: argument",
+        &mut [0; FILE_BYTES],
+        |path, bytes| { replay_file(&rt, path, bytes) },
+    )
 }

@@ -68,10 +68,10 @@ field_complete (field t) = field-ends-at t
 
 -- ---- the return descriptor
 
-returned_runs : (q : FieldState) (s : List ℕ) → fold method_next (Returned q) s ≡ Returned (fold field_next q s)
+pub returned : (q : FieldState) (s : List ℕ) → fold method_next (Returned q) s ≡ Returned (fold field_next q s)
 unfolding fold method_next
-returned_runs q [] = refl
-returned_runs q (b ∷ s) = returned_runs (field_next q b) s
+returned q [] = refl
+returned q (b ∷ s) = returned (field_next q b) s
 
 abbrev method-ends : MethodState → List ℕ → Bool
 method-ends q s = method_done (fold method_next q s)
@@ -89,11 +89,11 @@ value_of s h = let r = whole_of s h in (value r.0, r.1)
 
 return_void : (s : List ℕ) → fold method_next Return (86 ∷ s) ≡ Returned (fold field_next Done s)
 unfolding fold method_next
-return_void s = returned_runs Done s
+return_void s = returned Done s
 
 return_value : (b : ℕ) (s : List ℕ) → eqb b 86 ≡ false → fold method_next Return (b ∷ s) ≡ Returned (fold field_next Open (b ∷ s))
 unfolding fold method_next
-return_value b s e = rw (e, fold) (returned_runs (field_next Open b) s)
+return_value b s e = rw (e, fold) (returned (field_next Open b) s)
 
 result-of : (s : List ℕ) → method-ends Return s ≡ true → Result-of s
 unfolding fold

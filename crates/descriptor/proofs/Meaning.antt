@@ -1,5 +1,5 @@
 -- The definitions are the Specification's: the proof of `Meaning`. Assumes nothing.
-use mathlib.Core.Path.{◌≡◌, refl, sym, ap}
+use mathlib.Core.Path.{◌≡◌, refl, ap}
 use mathlib.Core.List.{List}
 use Prim.Native.Nat.{ℕ, ◌≤◌}
 use native.Mathlib.Omega.{arith}
@@ -7,8 +7,9 @@ use Rattle.words.proofs.Bools.{by}
 use Rattle.descriptor.specs.Grammar.{MethodDescriptor, method_spelling}
 use Rattle.descriptor.specs.Meaning.{Meaning}
 use Rattle.descriptor.specs.Words.{argument_words, argument_limit, ValidDescriptor, is_method, counted, answer, argument_answer, Answer}
-use Rattle.descriptor.specs.declared.DescriptorWords.{DescriptorWords}
-use Rattle.descriptor.specs.declared.DescriptorWords.TheVariants.{Count, Refused}
+use Rattle.refusal.specs.declared.Refusal.{Refusal}
+use Rattle.refusal.proofs.Rows.{row_unique, row_above}
+use Rattle.std.specs.Prelude.{Result, Ok, Err}
 use Rattle.descriptor.proofs.Counts.{width_is, method-begins}
 use Rattle.descriptor.proofs.Limit.{valid_sound, valid_complete, static_more, short_within}
 use Rattle.descriptor.proofs.Machines.{field_sound, field_complete, method_sound, method_complete}
@@ -27,11 +28,11 @@ no_method s flags n = by (is_method flags s) (λ y. absurd (n (valid_sound s fla
 not-refused : (a : Answer) (n : ℕ) → a ≡ counted n → a.refusal ≡ 5 → ⊥
 not-refused a n e h = let z : a.refusal ≡ 0 = ap (λ (x : Answer). x.refusal) e in omega arith
 
-answers-unique : (a b : DescriptorWords) → answer a ≡ answer b → a ≡ b
-answers-unique (Count m) (Count n) e = ap Count (ap (λ (x : Answer). x.words) e)
-answers-unique (Count m) Refused e = absurd (not-refused (answer Refused) m (sym e) refl)
-answers-unique Refused (Count n) e = absurd (not-refused (answer Refused) n e refl)
-answers-unique Refused Refused e = refl
+answers-unique : (a b : Result ℕ Refusal) → answer a ≡ answer b → a ≡ b
+answers-unique (Ok m) (Ok n) e = ap Ok (ap (λ (x : Answer). x.words) e)
+answers-unique (Ok m) (Err r) e = absurd (omega (arith, row_above r, ap (λ (x : Answer). x.refusal) e))
+answers-unique (Err r) (Ok n) e = absurd (omega (arith, row_above r, ap (λ (x : Answer). x.refusal) e))
+answers-unique (Err r) (Err s) e = ap Err (row_unique r s (ap (λ (x : Answer). x.refusal) e))
 
 pub meaning : Meaning
 meaning =

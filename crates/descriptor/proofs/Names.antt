@@ -11,10 +11,10 @@ use lib.Seq.{drop-cons, drop-drop}
 use borrow.Author.Tests.{eqb-true}
 use Rattle.words.specs.Lists.{fold, some}
 use Rattle.words.proofs.Bools.{by}
-use Rattle.words.proofs.ListLaws.{fold_at}
+use Rattle.words.proofs.ListLaws.{fold_at, fold-at-turn}
 use Rattle.descriptor.specs.Bytes.{is_name_byte}
 use Rattle.descriptor.specs.Machine.{field_next, method_next}
-use Rattle.descriptor.specs.Names.{name_run, name_end, field_inside, method_inside, read_on}
+use Rattle.descriptor.specs.Names.{name_run, name_end, field_inside, method_inside}
 use Rattle.descriptor.specs.declared.FieldState.{FieldState}
 use Rattle.descriptor.specs.declared.FieldState.TheVariants.{Open, Start, Inside, Done, Bad}
 use Rattle.descriptor.specs.declared.MethodState.{MethodState}
@@ -23,21 +23,17 @@ use Rattle.descriptor.specs.declared.MethodState.TheVariants.{Begin, Parameters,
 -- ---- the run, a byte at a time
 
 module _ (s : List ℕ) (j : ℕ) {b : Bool} where
-  pub run-turn : j < length s → b ≡ is_name_byte (get_or s j 0) → b ≡ true → name_end s (j + 1) ≡ name_end s j
+  pub run_turn : j < length s → b ≡ is_name_byte (get_or s j 0) → b ≡ true → name_end s (j + 1) ≡ name_end s j
   unfolding name_end name_run
-  run-turn h e t = rw (drop-cons s j 0 h, ← e, t, add-one) (omega arith)
+  run_turn h e t = rw (drop-cons s j 0 h, ← e, t, add-one) (omega arith)
 
-  pub run-stop : j < length s → b ≡ is_name_byte (get_or s j 0) → b ≡ false → j ≡ name_end s j
+  pub run_stop : j < length s → b ≡ is_name_byte (get_or s j 0) → b ≡ false → j ≡ name_end s j
   unfolding name_end name_run
-  run-stop h e t = rw (drop-cons s j 0 h, ← e, t) (omega arith)
+  run_stop h e t = rw (drop-cons s j 0 h, ← e, t) (omega arith)
 
 pub run_end : (s : List ℕ) (j : ℕ) → length s ≤ j → j ≡ name_end s j
 unfolding name_end name_run
 run_end s j h = rw (drop_of_length-le s h) (omega arith)
-
-run_on : (s : List ℕ) (i : ℕ) → i ≤ name_end s i
-unfolding name_end
-run_on s i = omega arith
 
 -- ---- a machine that name bytes leave where it is may pass a run over
 
@@ -51,15 +47,7 @@ module _ {S : Type 0} (f : S → ℕ → S) (q : S) (stays : (b : ℕ) → is_na
   unfolding fold_at name_end
   fold_over s i = fold-run (drop i s) ∙ ap (fold f q) (drop-drop (name_run (drop i s)) i s)
 
-  read-over : (s : List ℕ) (i : ℕ) → fold_at f q s i ≡ fold_at f q s (read_on true s i)
-  unfolding read_on
-  read-over s i = fold_over s i
-
-read_next : {S : Type 0} (f : S → ℕ → S) (q : S) (s : List ℕ) (i : ℕ) → fold_at f q s i ≡ fold_at f q s (read_on false s i)
-unfolding read_on
-read_next f q s i = refl
-
--- ---- both machines do
+-- ---- the machine does
 
 semicolon : is_name_byte 59 ≡ false
 unfolding is_name_byte some
@@ -91,16 +79,15 @@ method-stays (Parameters Bad) e b h = absurd (false≢true e)
 method-stays Return e b h = absurd (false≢true e)
 method-stays (Returned q) e b h = ap Returned (field-stays q e b h)
 
-module _ (s : List ℕ) (i : ℕ) (t : Bool) {r : ℕ} where
-  pub field_on : (q : FieldState) → t ≡ field_inside q → r ≡ read_on t s i → fold_at field_next q s i ≡ fold_at field_next q s r
-  field_on q e h =
-      by t (λ k. rw (h, k) (read-over field_next q (field-stays q (sym e ∙ k)) s i)) (λ k. rw (h, k) (read_next field_next q s i))
+pub run-on : (s : List ℕ) (i : ℕ) → i ≤ name_end s i
+unfolding name_end
+run-on s i = omega arith
 
-  pub method_on : (q : MethodState) → t ≡ method_inside q → r ≡ read_on t s i → fold_at method_next q s i ≡ fold_at method_next q s r
-  method_on q e h =
-      by t (λ k. rw (h, k) (read-over method_next q (method-stays q (sym e ∙ k)) s i)) (λ k. rw (h, k) (read_next method_next q s i))
+-- a turn of the loop: the next byte is read, and inside an identifier the run behind it is passed over
+module _ (s : List ℕ) (i : ℕ) (q p : MethodState) {x : MethodState} where
+  pub read-turn : i < length s → p ≡ method_next q (get_or s i 0) → fold_at method_next q s i ≡ x → fold_at method_next p s (i + 1) ≡ x
+  read-turn h e f = sym (fold-at-turn method_next q s 0 i h refl e) ∙ f
 
-pub read_on_lem : (t : Bool) (s : List ℕ) (i : ℕ) {r : ℕ} → r ≡ read_on t s i → i ≤ r
-unfolding read_on
-read_on_lem true s i e = rw e (run_on s i)
-read_on_lem false s i e = omega arith
+  pub read-over : method_inside p ≡ true → i < length s → p ≡ method_next q (get_or s i 0) → fold_at method_next q s i ≡ x
+      → fold_at method_next p s (name_end s (i + 1)) ≡ x
+  read-over t h e f = sym (fold_over method_next p (method-stays p t) s (i + 1)) ∙ read-turn h e f

@@ -11,36 +11,34 @@ use lib.Seq.{drop-cons}
 use borrow.Author.Tests.{not-true, not-false}
 use Rattle.descriptor.specs.declared.FieldState.{FieldState}
 use Rattle.descriptor.specs.declared.MethodState.{MethodState}
-use Rattle.descriptor.specs.declared.MethodState.TheVariants.{Begin, Returned}
+use Rattle.descriptor.specs.declared.FieldState.TheVariants.{Open, Start, Inside, Done, Bad}
+use Rattle.descriptor.specs.declared.MethodState.TheVariants.{Begin, Parameters}
 use Rattle.descriptor.specs.Machine.{field_next, method_next, is_method_descriptor}
 use Rattle.descriptor.specs.Words.{receiver_words, argument_limit, begun_words, is_method, capped, capped_from, counted, refused}
 use Rattle.descriptor.specs.Words.{argument_answer}
 use Rattle.descriptor.proofs.Limit.{parts, short_within, capped-exact, capped-within}
 
--- ---- a step of the method machine in the return type
+-- ---- the method machine inside a type
 
-pub returned_next : {q : MethodState} {p r : FieldState} (b : ℕ) → r ≡ field_next p b → q ≡ Returned p → Returned r ≡ method_next q b
-unfolding method_next
-returned_next b e f = rw (e, f)
+-- among the parameters, where a type goes on
+pub inside_parameter : (q : FieldState) (b : ℕ) → (q ≡ Done → ⊥) → Parameters (field_next q b) ≡ method_next (Parameters q) b
+unfolding method_next field_next
+inside_parameter Open b n = refl
+inside_parameter Start b n = refl
+inside_parameter Inside b n = refl
+inside_parameter Done b n = absurd (n refl)
+inside_parameter Bad b n = refl
 
 -- ---- the words counted, from i on
 
-unfoldable pub capped_at : ℕ → MethodState → List ℕ → ℕ → ℕ
-capped_at n q s i = capped_from n q (drop i s)
+pub capped_turn : (n : ℕ) (q : MethodState) (s : List ℕ) (i : ℕ) {w m k : ℕ} {p : MethodState} → i < length s → w ≡ begun_words q (get_or s i 0)
+    → m ≡ capped n w → p ≡ method_next q (get_or s i 0) → capped_from n q (drop i s) ≡ k → capped_from m p (drop (i + 1) s) ≡ k
+unfolding capped_from
+capped_turn n q s i h f g r v = rw (g, f, r) (rw (drop-cons s i 0 h, ← add-one) at v)
 
-pub capped-start : (s : List ℕ) → capped_at 0 Begin s 0 ≡ capped_from 0 Begin s
-unfolding capped_at
-capped-start s = refl
-
-module _ (n : ℕ) (q : MethodState) (s : List ℕ) (i : ℕ) where
-  pub capped-turn : {x w m k : ℕ} {p : MethodState} → i < length s → x ≡ get_or s i 0 → w ≡ begun_words q x → m ≡ capped n w
-      → p ≡ method_next q x → capped_at n q s i ≡ k → capped_at m p s (i + 1) ≡ k
-  unfolding capped_at capped_from
-  capped-turn h e f g r v = rw (g, f, r, e) (rw (drop-cons s i 0 h, ← add-one) at v)
-
-  pub capped-end : {k : ℕ} → length s ≤ i → capped_at n q s i ≡ k → n ≡ k
-  unfolding capped_at capped_from
-  capped-end h v = rw (drop_of_length-le s h) at v
+pub capped_end : (n : ℕ) (q : MethodState) (s : List ℕ) (i : ℕ) {k : ℕ} → length s ≤ i → capped_from n q (drop i s) ≡ k → n ≡ k
+unfolding capped_from
+capped_end n q s i h v = rw (drop_of_length-le s h) at v
 
 -- ---- the answers
 
@@ -49,13 +47,13 @@ module _ (s : List ℕ) (flags : ℕ) where
   unfolding is_method
   no_grammar e t = rw (sym e ∙ not-true _ t)
 
-  pub short-method : {b : Bool} → b ≡ is_method_descriptor s → not b ≡ false → length s ≤ 127 → true ≡ is_method flags s
-  short-method e t l = sym (short_within s flags (sym e ∙ not-false _ t) l)
+  pub short_method : {b : Bool} → b ≡ is_method_descriptor s → not b ≡ false → length s ≤ 127 → true ≡ is_method flags s
+  short_method e t l = sym (short_within s flags (sym e ∙ not-false _ t) l)
 
-  pub counted-method : {b : Bool} {r p : ℕ} → b ≡ is_method_descriptor s → not b ≡ false → r ≡ receiver_words flags → p ≡ capped_from 0 Begin s
+  pub counted_method : {b : Bool} {r p : ℕ} → b ≡ is_method_descriptor s → not b ≡ false → r ≡ receiver_words flags → p ≡ capped_from 0 Begin s
       → leb (r + p) argument_limit ≡ is_method flags s
   unfolding is_method
-  counted-method e t f g = rw (f, g, sym e ∙ not-false _ t) (capped-within s (receiver_words flags))
+  counted_method e t f g = rw (f, g, sym e ∙ not-false _ t) (capped-within s (receiver_words flags))
 
   pub argument_refused : {b : Bool} → b ≡ is_method flags s → not b ≡ true → refused ≡ argument_answer s flags
   unfolding argument_answer

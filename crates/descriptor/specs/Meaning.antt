@@ -1,11 +1,11 @@
 -- What is claimed of the definitions that the contracts cite: they are the Specification's grammar and its count of words.
 -- proofs/Meaning.antt proves it. Assumes nothing.
-use Rattle.std.specs.Prelude.{◌≡◌, true, List, ◌↔◌, ℕ, ◌≤◌, length}
+use Rattle.std.specs.Prelude.{◌≡◌, true, List, ◌↔◌, ℕ, ◌≤◌, length, Result}
 use Rattle.descriptor.specs.Grammar.{FieldDescriptor, field_spelling, FieldDerivation, MethodDescriptor, method_spelling}
 use Rattle.descriptor.specs.Grammar.{MethodDerivation}
 use Rattle.descriptor.specs.Machine.{is_field_descriptor, is_method_descriptor}
 use Rattle.descriptor.specs.Words.{field_words, argument_words, argument_limit, ValidDescriptor, width, is_method, counted, answer, argument_answer}
-use Rattle.descriptor.specs.declared.DescriptorWords.{DescriptorWords}
+use Rattle.refusal.specs.declared.Refusal.{Refusal}
 
 pub record Meaning : Type 0 where
   -- bytes are accepted if and only if a derivation spells them
@@ -30,4 +30,4 @@ pub record Meaning : Type 0 where
       → argument_answer (method_spelling t) flags ≡ counted (argument_words t flags)
   pub argument_words_refused : (s : List ℕ) (flags : ℕ) → ((argument_answer s flags).refusal ≡ 5) ↔ (ValidDescriptor flags s → ⊥)
   -- different answers mean different things, so the contracts determine what the functions answer
-  pub answer_unique : (a b : DescriptorWords) → answer a ≡ answer b → a ≡ b
+  pub answer_unique : (a b : Result ℕ Refusal) → answer a ≡ answer b → a ≡ b

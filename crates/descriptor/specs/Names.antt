@@ -29,7 +29,3 @@ method_inside Begin = false
 method_inside (Parameters q) = field_inside q
 method_inside Return = false
 method_inside (Returned q) = field_inside q
-
--- where a machine reads on, for which i is next
-unfoldable pub read_on : Bool → List ℕ → ℕ → ℕ
-read_on inside s i = cond inside (name_end s i) i

@@ -1,14 +1,14 @@
 -- The words of fields and arguments: of a derivation, as the Specification counts them, and as the functions compute them from the
 -- bytes. Assumes nothing.
-use Rattle.std.specs.Prelude.{ℕ, ◌+◌, ◌-◌, ◌/◌, ◌%◌, ◌≤◌, ◌≡◌, Bool, false, not, ◌&&◌, ◌||◌, cond, List, [], ◌∷◌, eqb, leb, ltb, get_or}
+use Rattle.std.specs.Prelude.{ℕ, ◌+◌, ◌-◌, ◌/◌, ◌%◌, ◌≤◌, ◌≡◌, Bool, false, not, ◌&&◌, ◌||◌, cond, List, [], ◌∷◌, eqb, leb, ltb, get_or, Result, Ok, Err}
 use Rattle.descriptor.specs.Bytes.{byte}
 use Rattle.descriptor.specs.Grammar.{BaseType, B, C, D, F, I, J, S, Z, FieldType, base, object, array, FieldDescriptor, field}
 use Rattle.descriptor.specs.Grammar.{ParameterDescriptor, parameter, MethodDescriptor, method_spelling}
 use Rattle.descriptor.specs.Machine.{field_done, method_next, is_method_descriptor}
 use Rattle.descriptor.specs.declared.MethodState.{MethodState}
 use Rattle.descriptor.specs.declared.MethodState.TheVariants.{Begin, Parameters, Return, Returned}
-use Rattle.descriptor.specs.declared.DescriptorWords.{DescriptorWords}
-use Rattle.descriptor.specs.declared.DescriptorWords.TheVariants.{Count, Refused}
+use Rattle.refusal.specs.declared.Refusal.{Refusal}
+use Rattle.refusal.specs.Rows.{row}
 
 -- ---- the words of a derivation: "a parameter of type long or double contributes two units to the length and a parameter of any other type
 -- contributes one unit", and one is for this, the receiver, of an instance method (JVMS 4.3.3)
@@ -103,9 +103,9 @@ counted n = record { refusal = 0; words = n }
 abbrev pub refused : Answer
 refused = record { refusal = 5; words = 0 }
 
-abbrev pub answer : DescriptorWords → Answer
-answer (Count n) = counted n
-answer Refused = refused
+abbrev pub answer : Result ℕ Refusal → Answer
+answer (Ok n) = counted n
+answer (Err r) = record { refusal = row r; words = 0 }
 
 unfoldable pub argument_answer : List ℕ → ℕ → Answer
 argument_answer s flags = cond (is_method flags s) (counted (receiver_words flags + begun_from Begin s)) refused

@@ -2,7 +2,7 @@
 use Rattle.std.proofs.Common.{◌≡◌, ℕ, ◌+◌, ◌≤◌, List, length, take, drop, set, replicate, sym, ap, ◌∙◌, arith, take-append-drop, length-take-le, drop-drop, drop-set-lt}
 use Rattle.class_sheet.specs.ClassSheet.{field_limit}
 use Rattle.linking.specs.Set.{overlaid}
-use Rattle.field.specs.Numbers.{numbered, numbered_of}
+use Rattle.field.specs.Numbers.{numbering_of}
 use Rattle.field.specs.declared.Numbered.{Numbered}
 
 -- a turn that stores at i leaves what lies after it
@@ -19,6 +19,6 @@ front-over n l d h e f =
     (rw (← e) (sym k), rw (← e, k, ← f) (sym (take-append-drop n l)))
 
 -- what the code then answers
-pub answer-is : (xs : List ℕ) {l : List ℕ} {n w a : ℕ} → n ≡ length xs → l ≡ overlaid xs (replicate field_limit 0)
-    → ◌≡◌ {A = Numbered} (record { indices = l; n = n; words = w; added = a; row = 0 }) (numbered_of (numbered xs w a))
+pub answer-is : (xs : List ℕ) {l : List ℕ} {n w : ℕ} → n ≡ length xs → l ≡ overlaid xs (replicate field_limit 0)
+    → ◌≡◌ {A = Numbered} (record { indices = l; n = n; words = w }) (numbering_of xs w)
 answer-is xs e f = rw (e, f)

@@ -4,4 +4,3 @@ pub mod MovedLaws
 pub mod NumberLaws
 pub mod OutcomeLaws
 pub mod RuntimeLaws
-pub mod StaticLaws

@@ -1,27 +1,20 @@
 -- Laws of a generated class's fields: their words, fields that stand one after the other, and indices with the base added.
 -- Assumes nothing.
-use Rattle.std.proofs.Common.{◌≡◌, ℕ, zero, suc, ◌+◌, ◌-◌, ◌*◌, ◌^◌, ◌<◌, ◌≤◌, Bool, true, false, ◌||◌, eqb, List, [], ◌∷◌, ◌++◌, length, take, drop, set, replicate, sym, ◌∙◌, append_assoc, append-nil, add-one, arith, take-suc-set, le-ltb, lt-ltb, eqb-true}
-use Rattle.words.specs.Lists.{list_from, numbers}
+use Rattle.std.proofs.Common.{◌≡◌, ℕ, zero, suc, ◌+◌, ◌-◌, ◌*◌, ◌<◌, ◌≤◌, Bool, true, false, ◌||◌, eqb, List, [], ◌∷◌, ◌++◌, length, take, drop, set, replicate, refl, ap, sym, ◌∙◌, ◌%◌, ◌^◌, append_assoc, append-nil, add-one, arith, take-suc-set, le-ltb, lt-ltb, eqb-true}
+use Rattle.std.specs.List.{fold as list_fold, range_with_len}
+use Rattle.words.specs.Lists.{list_from, numbers, fold}
 use Rattle.words.proofs.Bools.{by, and_both}
 use Rattle.words.proofs.ListLaws.{rest_from, rest-start, rest-turn, rest_end}
 use Rattle.class_sheet.specs.ClassSheet.{class_first_field, class_field_count, field_descriptor, field_flags, field_index, field_limit}
 use Rattle.linking.specs.Chain.{list_count, own_fields, is_static}
-use Rattle.linking.specs.Fields.{field_width, instance_words, add_width, declared_words, stand_from, generated_refusal, moved_index, indices_plus, generated_indices}
-use Rattle.field.specs.Numbers.{Fits, Movable, numbered, refused, numbered_of, generated_fields}
+use Rattle.linking.specs.Fields.{instance_words, add_static, add_width, declared_words, stand_from, generated_refusal, moved_index, indices_plus, generated_indices}
+use Rattle.std.specs.Prelude.{Result, Ok, Err}
+use Rattle.field.specs.Numbers.{add_words, Movable, numbering_of, numbered_of, generated_fields}
 use Rattle.field.specs.declared.Numbered.{Numbered}
 use Rattle.field.proofs.FrontLaws.{front-over, answer-is}
 use Rattle.field.proofs.RuntimeLaws.{width_room}
 
 -- ---- one field
-
-module _ (ws text : List ℕ) (n f : ℕ) {b : Bool} (static : b ≡ is_static (field_flags ws f)) where
-  pub add-static : b ≡ true → n ≡ add_width ws text n f
-  unfolding add_width
-  add-static t = rw (← static, t)
-
-  pub add-instance : {w : ℕ} → b ≡ false → w ≡ field_width ws text f → n + w ≡ add_width ws text n f
-  unfolding add_width
-  add-instance t e = rw (← static, t, e)
 
 pub add-room : (ws text : List ℕ) (n f : ℕ) → add_width ws text n f ≤ n + 2
 unfolding add_width
@@ -29,17 +22,26 @@ add-room ws text n f =
     let r = width_room (field_descriptor ws text f) in
     by (is_static (field_flags ws f)) (λ t. rw t (omega arith)) (λ q. rw q (omega arith))
 
-module _ (ws : List ℕ) (base f : ℕ) {b : Bool} (static : b ≡ is_static (field_flags ws f)) {i : ℕ} (index : i ≡ field_index ws f) where
-  pub moved-static : b ≡ true → i ≡ moved_index ws base f
-  unfolding moved_index
-  moved-static t = rw (← static, t) index
+add-few : (ws text : List ℕ) (b : Bool) (n f : ℕ) → add_words ws text b n f ≤ n + 2
+unfolding add_static
+add-few ws text true n f =
+    let r = width_room (field_descriptor ws text f) in
+    by (is_static (field_flags ws f)) (λ t. rw t (omega arith)) (λ q. rw q (omega arith))
+add-few ws text false n f = add-room ws text n f
 
-  pub moved-instance : b ≡ false → base + i ≡ moved_index ws base f
-  unfolding moved_index
-  moved-instance t = rw (← static, t, index)
+-- a word stays as it is
+pub same_word : (n : ℕ) → n < 2 ^ 32 → n ≡ n % 2 ^ 32
+same_word n h = omega arith
 
-  pub moved-room : b ≡ false → Fits ws base f → base + i < 2 ^ 32
-  moved-room t h = let r : base + field_index ws f < 2 ^ 32 = h (sym static ∙ t) in omega arith
+-- a sum of few words does not wrap
+pub fold-wraps : (ws text : List ℕ) (b : Bool) (s : ℕ) (xs : List ℕ) → s + 2 * length xs < 2 ^ 32
+    → fold (λ n f. add_words ws text b n f % 2 ^ 32) s xs ≡ fold (add_words ws text b) s xs
+unfolding fold
+fold-wraps ws text b s [] h = refl
+fold-wraps ws text b s (x ∷ xs) h =
+    let r = add-few ws text b s x in
+    let e : add_words ws text b s x % 2 ^ 32 ≡ add_words ws text b s x = omega arith in
+    rw e (fold-wraps ws text b (add_words ws text b s x) xs (omega arith))
 
 -- ---- fields that stand one after the other
 
@@ -112,28 +114,31 @@ module _ (ws : List ℕ) (base : ℕ) where
   moved-end m n i l e = rw (e, rest_end (λ (k : ℕ). k) m n n (omega arith)) (sym (append-nil (take n l)))
 
   pub moved-done : (m n i : ℕ) (l xs : List ℕ) → i ≡ n → n ≤ length l → moved_at m n l i ≡ xs → drop i l ≡ drop i (replicate field_limit 0)
-      → ◌≡◌ {A = Numbered} (record { indices = l; n = n; words = 0; added = 0; row = 0 }) (numbered_of (numbered xs 0 0))
+      → ◌≡◌ {A = Numbered} (record { indices = l; n = n; words = 0 }) (numbering_of xs 0)
   moved-done m n i l xs e h f g =
       let y = front-over n l (replicate field_limit 0) h (moved-end m n i l e ∙ f) (rw e at g) in
       answer-is xs y.0 y.1
 
 -- ---- what the fields come to
 
-module _ (ws text : List ℕ) (c : ℕ) {t o : ℕ} (total : t ≡ instance_words ws c) (own : o ≡ declared_words ws text c) where
-  pub row_8 : t < o → refused 8 ≡ generated_fields ws text c
-  unfolding generated_fields generated_refusal
+module _ (ws text : List ℕ) (c : ℕ) {t o : ℕ} (total : t ≡ instance_words ws c)
+    (own : o ≡ fold (add_width ws text) 0 (own_fields ws c)) where
+  pub row_8 : t < o → ◌≡◌ {A = Result Numbered ℕ} (Err 8) (numbered_of (generated_fields ws text c))
+  unfolding generated_fields generated_refusal declared_words
   row_8 h = rw (← total, ← own, lt-ltb t o h)
 
   module _ (h : o ≤ t) {a : Bool} (absolute : a ≡ stand_from ws text (t - o) (own_fields ws c)) where
-    pub all_absolute : a ≡ true → numbered (indices_plus ws 0 (own_fields ws c)) 0 0 ≡ generated_fields ws text c
-    unfolding generated_fields generated_refusal generated_indices
-    all_absolute e = rw (← total, ← own, le-ltb t o h, ← absolute, e)
+    pub all_absolute : {f : Numbered} → a ≡ true → f ≡ numbering_of (indices_plus ws 0 (own_fields ws c)) 0
+        → ◌≡◌ {A = Result Numbered ℕ} (Ok f) (numbered_of (generated_fields ws text c))
+    unfolding generated_fields generated_refusal generated_indices declared_words
+    all_absolute e f = rw (f, ← total, ← own, le-ltb t o h, ← absolute, e)
 
     module _ {r : Bool} (relative : r ≡ stand_from ws text 0 (own_fields ws c)) (n : a ≡ false) where
-      pub all-relative : r ≡ true → numbered (indices_plus ws (t - o) (own_fields ws c)) 0 0 ≡ generated_fields ws text c
-      unfolding generated_fields generated_refusal generated_indices
-      all-relative e = rw (← total, ← own, le-ltb t o h, ← absolute, n, ← relative, e)
+      pub all-relative : {f : Numbered} → r ≡ true → f ≡ numbering_of (indices_plus ws (t - o) (own_fields ws c)) 0
+          → ◌≡◌ {A = Result Numbered ℕ} (Ok f) (numbered_of (generated_fields ws text c))
+      unfolding generated_fields generated_refusal generated_indices declared_words
+      all-relative e f = rw (f, ← total, ← own, le-ltb t o h, ← absolute, n, ← relative, e)
 
-      pub row_9 : r ≡ false → refused 9 ≡ generated_fields ws text c
-      unfolding generated_fields generated_refusal
+      pub row_9 : r ≡ false → ◌≡◌ {A = Result Numbered ℕ} (Err 9) (numbered_of (generated_fields ws text c))
+      unfolding generated_fields generated_refusal declared_words
       row_9 e = rw (← total, ← own, le-ltb t o h, ← absolute, n, ← relative, e)

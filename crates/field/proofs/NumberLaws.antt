@@ -1,51 +1,22 @@
 -- Laws of a built class's fields: what a field's index is, the indices of all, and what the fields come to. Assumes nothing.
-use Rattle.std.proofs.Common.{◌≡◌, ℕ, ◌+◌, ◌<◌, ◌≤◌, max, Bool, true, false, ◌||◌, eqb, ltb, List, [], ◌∷◌, ◌++◌, length, take, drop, set, replicate, sym, ap, ◌∙◌, add-one, arith, take-suc-set, eq-eqb, ne_eqb}
-use Rattle.words.specs.Lists.{fold, and_then}
-use Rattle.words.specs.declared.Found.{Found}
-use Rattle.words.specs.declared.Found.TheVariants.{At, Nothing}
+use Rattle.std.proofs.Common.{◌≡◌, ℕ, ◌+◌, ◌<◌, ◌≤◌, true, false, ◌||◌, eqb, ltb, List, [], ◌∷◌, ◌++◌, length, take, drop, set, replicate, sym, ap, ◌∙◌, add-one, arith, take-suc-set}
+use Rattle.std.specs.Option.{option_and_then}
+use Rattle.std.specs.Prelude.{Option}
+use Rattle.std.specs.Prelude.{Result, Ok, Err}
 use Rattle.words.proofs.Bools.{by}
 use Rattle.words.proofs.ListLaws.{by-found, fold_from, fold_start, fold-turn, fold_end}
 use Rattle.class_sheet.specs.ClassSheet.{class_first_field, class_field_count, field_name, field_descriptor, field_flags, field_limit}
-use Rattle.linking.specs.Chain.{on_found, list_count, own_fields, parent_of, chain, is_static}
-use Rattle.linking.specs.Abi.{fixed_field_index, fixed_field, given_words}
-use Rattle.linking.specs.Fields.{below_zero, field_width, instance_words, own_runtime, runtime_words, Numbering, number_instance, number_field, number_fields, added_fields, raised, built_words, too_many_words}
-use Rattle.field.specs.Numbers.{counting, first_numbering, Holds, words_from, refused, numbered_of, fields_by}
+use Rattle.linking.specs.Chain.{on_found, list_count, own_fields, is_static}
+use Rattle.linking.specs.Abi.{fixed_field, given_words}
+use Rattle.linking.specs.Fields.{Numbering, number_field, number_fields, added_fields, raised, built_words, too_many_words}
+use Rattle.field.specs.Numbers.{counting, first_numbering, Holds, words_from, numbered_of, fields_by}
 use Rattle.field.specs.declared.Counters.{Counters}
 use Rattle.field.specs.declared.Numbered.{Numbered}
 use Rattle.field.proofs.FrontLaws.{front-over, answer-is}
-use Rattle.field.proofs.RuntimeLaws.{runtime-room}
 
--- ---- one instance field
+-- ---- all fields: what the numbering after turn i of the n fields from m on comes to
 
-module _ (abi : List ℕ) (own fixed : Found) (w : ℕ) (k : Counters) where
-  pub instance-fixed : (g : ℕ) {i r : ℕ} → fixed ≡ At g → i ≡ fixed_field_index abi g → r ≡ max k.running (i + w)
-      → ◌≡◌ {A = Numbering} (record { indices = i ∷ []; statics = k.statics; runtime = k.runtime; running = r }) (number_instance abi own fixed w (counting [] k))
-  instance-fixed g e f h = rw (e, h, f)
-
-  module _ (free : fixed ≡ Nothing) {g : ℕ} (given : g ≡ on_found own (given_words abi) 0) where
-    pub instance-running : g ≡ 0
-        → ◌≡◌ {A = Numbering} (record { indices = k.running ∷ []; statics = k.statics; runtime = k.runtime; running = k.running + w }) (number_instance abi own fixed w (counting [] k))
-    instance-running z = rw (free, ← given, eq-eqb g 0 z)
-
-    pub instance-runtime : {i : ℕ} → (g ≡ 0 → ⊥) → i ≡ below_zero k.runtime
-        → ◌≡◌ {A = Numbering} (record { indices = i ∷ []; statics = k.statics; runtime = k.runtime + w; running = k.running }) (number_instance abi own fixed w (counting [] k))
-    instance-runtime n e = rw (free, ← given, ne_eqb g 0 n, e)
-
--- ---- any field
-
-module _ (ws text abi labels : List ℕ) (own : Found) where
-  module _ (f : ℕ) (k : Counters) {b : Bool} (static : b ≡ is_static (field_flags ws f)) {w : ℕ} (wide : w ≡ field_width ws text f) where
-    pub field-static : b ≡ true
-        → ◌≡◌ {A = Numbering} (record { indices = k.statics ∷ []; statics = k.statics + w; runtime = k.runtime; running = k.running }) (number_field ws text abi labels own (counting [] k) f)
-    unfolding number_field
-    field-static t = rw (← static, t, wide)
-
-    pub field-instance : {x : Found} {n : Numbering} → b ≡ false
-        → x ≡ and_then own (fixed_field abi labels (field_name ws text f) (field_descriptor ws text f)) → n ≡ number_instance abi own x w (counting [] k)
-        → n ≡ number_field ws text abi labels own (counting [] k) f
-    unfolding number_field
-    field-instance t e h = rw (← static, t, ← e, ← wide) h
-
+module _ (ws text abi labels : List ℕ) (own : Option ℕ) where
   -- an index goes after those before it
   abbrev after : List ℕ → Numbering → Numbering
   after xs n = record { indices = xs ++ n.indices; statics = n.statics; runtime = n.runtime; running = n.running }
@@ -57,10 +28,8 @@ module _ (ws text abi labels : List ℕ) (own : Found) where
       by (is_static (field_flags ws f)) (λ t. rw t)
       (λ t.
       rw t
-      (by-found (and_then own (fixed_field abi labels (field_name ws text f) (field_descriptor ws text f))) (λ g q. rw q)
+      (by-found (option_and_then (fixed_field abi labels (field_name ws text f) (field_descriptor ws text f)) own) (λ g q. rw q)
       (λ q. rw q (by (eqb (on_found own (given_words abi) 0) 0) (λ z. rw z) (λ z. rw z)))))
-
-  -- ---- all fields: what the numbering after turn i of the n fields from m on comes to
 
   unfoldable pub number_at : ℕ → ℕ → List ℕ → Counters → ℕ → Numbering
   number_at m n l k i = fold_from (λ j. j) (number_field ws text abi labels own) (counting (take i l) k) m n i
@@ -94,28 +63,9 @@ module _ (ws text abi labels : List ℕ) (own : Found) where
       let y = front-over n l d h x (rw e at g) in
       (ap (λ (s : List ℕ). counting s k) (sym x) ∙ w, sym q ∙ y.0, y.1)
 
--- ---- what they count from
-
-module _ (ws text : List ℕ) (c : ℕ) {p r : ℕ} (parent : p ≡ parent_of ws c) (ends : r ≡ fold (own_runtime ws text) 0 (chain ws p)) where
-  runtime-is : r ≡ runtime_words ws text (parent_of ws c)
-  unfolding runtime_words
-  runtime-is = rw (← parent) ends
-
-  pub first-room : r ≤ 2147483649
-  first-room = omega (arith, runtime-is, runtime-room ws text (parent_of ws c))
-
-  pub first_root : p ≡ 0 → ◌≡◌ {A = Numbering} (record { indices = []; statics = 0; runtime = r; running = 0 }) (first_numbering ws text c)
-  unfolding first_numbering
-  first_root z = rw (runtime-is, ← parent, eq-eqb p 0 z)
-
-  pub first_child : {w : ℕ} → (p ≡ 0 → ⊥) → w ≡ instance_words ws p
-      → ◌≡◌ {A = Numbering} (record { indices = []; statics = 0; runtime = r; running = w }) (first_numbering ws text c)
-  unfolding first_numbering
-  first_child n e = rw (runtime-is, ← parent, ne_eqb p 0 n, e)
-
 -- ---- what the fields come to
 
-module _ (ws text abi labels : List ℕ) (own : Found) (c : ℕ) {n : ℕ} (k : Counters) (l : List ℕ)
+module _ (ws text abi labels : List ℕ) (own : Option ℕ) (c : ℕ) {n : ℕ} (k : Counters) (l : List ℕ)
     (holds : Holds (number_fields ws text abi labels own c) n k l (replicate field_limit 0)) {gs : List ℕ} (added : gs ≡ added_fields ws text abi labels own c)
     {w : ℕ} (words : w ≡ words_from abi labels own k.running gs) where
   words_are : w ≡ built_words ws text abi labels own c
@@ -130,12 +80,12 @@ module _ (ws text abi labels : List ℕ) (own : Found) (c : ℕ) {n : ℕ} (k : 
       let e : k.runtime ≡ (number_fields ws text abi labels own c).runtime = ap (λ (n : Numbering). n.runtime) holds.0 in
       rw (← words_are, ← e)
 
-  pub row_10 : {r : Numbered} → r ≡ numbered_of (refused 10) → (ltb 65535 w || ltb 65535 k.runtime) ≡ true
-      → r ≡ numbered_of (fields_by ws text abi labels own c)
+  pub row_10 : (ltb 65535 w || ltb 65535 k.runtime) ≡ true → ◌≡◌ {A = Result Numbered ℕ} (Err 10) (numbered_of (fields_by ws text abi labels own c))
   unfolding fields_by
-  row_10 e t = rw (many_are, t) e
+  row_10 t = rw (many_are, t)
 
-  pub built-is : {m : ℕ} → (ltb 65535 w || ltb 65535 k.runtime) ≡ false → m ≡ n
-      → ◌≡◌ {A = Numbered} (record { indices = l; n = m; words = w; added = length gs; row = 0 }) (numbered_of (fields_by ws text abi labels own c))
+  pub built_is : {m : ℕ} → (ltb 65535 w || ltb 65535 k.runtime) ≡ false → m ≡ n
+      → ◌≡◌ {A = Result Numbered ℕ} (Ok (record { indices = l; n = m; words = w })) (numbered_of (fields_by ws text abi labels own c))
   unfolding fields_by
-  built-is t e = rw (many_are, t, ← added, ← words_are) (answer-is (number_fields ws text abi labels own c).indices (e ∙ holds.1) holds.2)
+  built_is t e =
+      rw (many_are, t, ← words_are) (ap Ok (answer-is (number_fields ws text abi labels own c).indices (e ∙ holds.1) holds.2))

@@ -1,54 +1,48 @@
--- What a caller has of the answer, by its row: for a built class, and for a generated one. Assumes nothing.
-use Rattle.std.proofs.Common.{◌≡◌, ℕ, true, false, eqb, List, length, sym, ap, ◌∙◌, arith, eqb-true}
-use borrow.Author.Tests.{eqb-false}
+-- What a caller has of the answer: for a built class, and for a generated one. Assumes nothing.
+use Rattle.std.proofs.Common.{◌≡◌, ℕ, true, false, eqb, List, eqb-true}
+use Rattle.std.specs.Prelude.{Result, Ok, Err}
 use Rattle.words.proofs.Bools.{by}
 use Rattle.linking.specs.Abi.{class_abi}
 use Rattle.linking.specs.Fields.{number_fields, built_words, too_many_words, generated_refusal, generated_indices}
-use Rattle.field.specs.Numbers.{added_to, Outcome, numbered, refused, numbered_of, fields_by, built_fields, generated_fields}
+use Rattle.field.specs.Numbers.{numbering_of, numbered_of, fields_by, built_fields, generated_fields}
 use Rattle.field.specs.declared.Numbered.{Numbered}
 
-row_of : {r s : Numbered} → r ≡ s → r.row ≡ s.row
-row_of e = ap (λ (x : Numbered). x.row) e
-
-module _ (ws text abi labels : List ℕ) (c : ℕ) {r : Numbered} (is : r ≡ numbered_of (built_fields ws text abi labels c)) where
-  abbrev many : Type 0
-  many = too_many_words ws text abi labels (class_abi ws text abi labels c) c ≡ true
-
-  abbrev accepted : Outcome
+module _ (ws text abi labels : List ℕ) (c : ℕ) where
+  abbrev accepted : Numbered
   accepted =
-      numbered (number_fields ws text abi labels (class_abi ws text abi labels c) c).indices (built_words ws text abi labels (class_abi ws text abi labels c) c)
-      (length (added_to ws text abi labels c))
+      numbering_of (number_fields ws text abi labels (class_abi ws text abi labels c) c).indices
+      (built_words ws text abi labels (class_abi ws text abi labels c) c)
 
-  pub built-accepted : r.row ≡ 0 → (too_many_words ws text abi labels (class_abi ws text abi labels c) c ≡ false) × (r ≡ numbered_of accepted)
+  pub built-accepted : {f : Numbered} → ◌≡◌ {A = Result Numbered ℕ} (Ok f) (numbered_of (built_fields ws text abi labels c))
+      → (too_many_words ws text abi labels (class_abi ws text abi labels c) c ≡ false) × (f ≡ accepted)
   unfolding fields_by
-  built-accepted z =
+  built-accepted {f = f} is =
       by (too_many_words ws text abi labels (class_abi ws text abi labels c) c)
-      (λ t.
-      let e : r ≡ numbered_of (refused 10) = rw t at is in
-      let o : ◌≡◌ {A = ℕ} 10 0 = sym (row_of e) ∙ z in
-      absurd (omega arith))
-      (λ t. (t, rw t at is))
+      (λ t. let e : ◌≡◌ {A = Result Numbered ℕ} (Ok f) (Err 10) = rw t at is in cc)
+      (λ t. let e : ◌≡◌ {A = Result Numbered ℕ} (Ok f) (Ok accepted) = rw t at is in (t, cc))
 
-  pub built-refused : (r.row ≡ 0 → ⊥) → many × (r.row ≡ 10)
+  pub built-refused : {n : ℕ} → ◌≡◌ {A = Result Numbered ℕ} (Err n) (numbered_of (built_fields ws text abi labels c))
+      → (too_many_words ws text abi labels (class_abi ws text abi labels c) c ≡ true) × (n ≡ 10)
   unfolding fields_by
-  built-refused n =
+  built-refused {n = n} is =
       by (too_many_words ws text abi labels (class_abi ws text abi labels c) c)
-      (λ t. let e : r ≡ numbered_of (refused 10) = rw t at is in (t, row_of e))
-      (λ t. let e : r ≡ numbered_of accepted = rw t at is in absurd (n (row_of e)))
+      (λ t. let e : ◌≡◌ {A = Result Numbered ℕ} (Err n) (Err 10) = rw t at is in (t, cc))
+      (λ t. let e : ◌≡◌ {A = Result Numbered ℕ} (Err n) (Ok accepted) = rw t at is in cc)
 
-module _ (ws text : List ℕ) (c : ℕ) {r : Numbered} (is : r ≡ numbered_of (generated_fields ws text c)) where
-  pub generated-accepted : r.row ≡ 0 → (generated_refusal ws text c ≡ 0) × (r ≡ numbered_of (numbered (generated_indices ws text c) 0 0))
+module _ (ws text : List ℕ) (c : ℕ) where
+  pub generated-accepted : {f : Numbered} → ◌≡◌ {A = Result Numbered ℕ} (Ok f) (numbered_of (generated_fields ws text c))
+      → (generated_refusal ws text c ≡ 0) × (f ≡ numbering_of (generated_indices ws text c) 0)
   unfolding generated_fields
-  generated-accepted z =
+  generated-accepted {f = f} is =
       by (eqb (generated_refusal ws text c) 0)
-      (λ t. (eqb-true (generated_refusal ws text c) 0 t, rw t at is))
       (λ t.
-      let e : r ≡ numbered_of (refused (generated_refusal ws text c)) = rw t at is in
-      absurd (eqb-false (generated_refusal ws text c) 0 t (sym (row_of e) ∙ z)))
+      let e : ◌≡◌ {A = Result Numbered ℕ} (Ok f) (Ok (numbering_of (generated_indices ws text c) 0)) = rw t at is in
+      (eqb-true (generated_refusal ws text c) 0 t, cc))
+      (λ t. let e : ◌≡◌ {A = Result Numbered ℕ} (Ok f) (Err (generated_refusal ws text c)) = rw t at is in cc)
 
-  pub generated-refused : (r.row ≡ 0 → ⊥) → r.row ≡ generated_refusal ws text c
+  pub generated-refused : {n : ℕ} → ◌≡◌ {A = Result Numbered ℕ} (Err n) (numbered_of (generated_fields ws text c)) → n ≡ generated_refusal ws text c
   unfolding generated_fields
-  generated-refused n =
+  generated-refused {n = n} is =
       by (eqb (generated_refusal ws text c) 0)
-      (λ t. let e : r ≡ numbered_of (numbered (generated_indices ws text c) 0 0) = rw t at is in absurd (n (row_of e)))
-      (λ t. let e : r ≡ numbered_of (refused (generated_refusal ws text c)) = rw t at is in row_of e)
+      (λ t. let e : ◌≡◌ {A = Result Numbered ℕ} (Err n) (Ok (numbering_of (generated_indices ws text c) 0)) = rw t at is in cc)
+      (λ t. let e : ◌≡◌ {A = Result Numbered ℕ} (Err n) (Err (generated_refusal ws text c)) = rw t at is in cc)

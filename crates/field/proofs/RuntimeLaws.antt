@@ -1,6 +1,5 @@
 -- Laws of runtime words: an index read as signed, where a field's runtime words end, and the count along the chain. Assumes nothing.
-use Rattle.std.proofs.Common.{◌≡◌, ℕ, ◌+◌, ◌-◌, ◌%◌, ◌^◌, ◌<◌, ◌≤◌, Bool, true, false, not, ◌&&◌, ◌||◌, eqb, List, [], ◌∷◌, get_or, sym, ◌∙◌, arith, le-leb, leb-true}
-use borrow.Author.Tests.{lt-leb}
+use Rattle.std.proofs.Common.{◌≡◌, ℕ, ◌+◌, ◌-◌, ◌<◌, ◌≤◌, Bool, true, false, not, ◌&&◌, ◌||◌, eqb, List, [], ◌∷◌, get_or, sym, ◌∙◌, arith, leb-true}
 use Rattle.words.specs.Lists.{fold}
 use Rattle.words.proofs.Bools.{by, and_both}
 use Rattle.words.proofs.ListLaws.{largest_room}
@@ -22,18 +21,12 @@ width_room s =
 
 -- ---- signed
 
-pub signed_below : (i r : ℕ) → 2147483648 ≤ i → i < 2 ^ 32 → r < 2 ^ 32 → (r + i) % 2 ^ 32 ≡ 0 → Negative r ≡ signed_of i
-signed_below i r h k l e = let q : r ≡ magnitude i = omega arith in rw (le-leb 2147483648 i h, q)
-
-pub signed_above : (i : ℕ) → i < 2147483648 → Nonnegative i ≡ signed_of i
-signed_above i h = rw (lt-leb 2147483648 i h)
-
-pub negative_is : (i m : ℕ) → signed_of i ≡ Negative m → (is_negative i ≡ true) × (m ≡ magnitude i)
+negative_is : (i m : ℕ) → signed_of i ≡ Negative m → (is_negative i ≡ true) × (m ≡ magnitude i)
 negative_is i m e =
     by (is_negative i) (λ t. let q : Negative (magnitude i) ≡ Negative m = rw t at e in (t, cc))
     (λ f. let q : Nonnegative i ≡ Negative m = rw f at e in let o : ◌≡◌ {A = ℕ} 0 1 = cc in absurd (omega arith))
 
-pub nonnegative_is : (i m : ℕ) → signed_of i ≡ Nonnegative m → is_negative i ≡ false
+nonnegative_is : (i m : ℕ) → signed_of i ≡ Nonnegative m → is_negative i ≡ false
 nonnegative_is i m e =
     by (is_negative i)
     (λ t. let q : Negative (magnitude i) ≡ Nonnegative m = rw t at e in let o : ◌≡◌ {A = ℕ} 0 1 = cc in absurd (omega arith)) (λ f. f)
@@ -41,9 +34,9 @@ nonnegative_is i m e =
 -- ---- where a field's runtime words end
 
 module _ (ws text : List ℕ) (f : ℕ) {b : Bool} (static : b ≡ is_static (field_flags ws f)) where
-  pub end-static : b ≡ true → 0 ≡ runtime_end ws text f
+  pub end_static : b ≡ true → 0 ≡ runtime_end ws text f
   unfolding runtime_end
-  end-static t = rw (← static, t)
+  end_static t = rw (← static, t)
 
   module _ (instance : b ≡ false) {i : ℕ} (index : i ≡ field_index ws f) {s : Signed} (read : s ≡ signed_of i) where
     pub end_negative : (m : ℕ) {w : ℕ} → s ≡ Negative m → w ≡ field_width ws text f → m - 1 + w ≡ runtime_end ws text f
@@ -55,14 +48,6 @@ module _ (ws text : List ℕ) (f : ℕ) {b : Bool} (static : b ≡ is_static (fi
     pub end_nonnegative : (m : ℕ) → s ≡ Nonnegative m → 0 ≡ runtime_end ws text f
     unfolding runtime_end
     end_nonnegative m e = rw (← static, instance, ← index, nonnegative_is i m (sym read ∙ e))
-
--- what the code takes 1 from
-pub magnitude-room : (i m : ℕ) {s : Signed} → s ≡ signed_of i → s ≡ Negative m → i < 2 ^ 32 → (1 ≤ m) × (m ≤ 2147483648)
-magnitude-room i m e t h =
-    let n = negative_is i m (sym e ∙ t) in
-    let l : 2147483648 ≤ i = leb-true _ _ n.0 in
-    let q = n.1 in
-    (omega arith, omega arith)
 
 pub runtime-end-room : (ws text : List ℕ) (f : ℕ) → runtime_end ws text f ≤ 2147483649
 unfolding runtime_end
@@ -86,17 +71,17 @@ module _ (ws text : List ℕ) where
   fold-room [] n h = h
   fold-room (c ∷ cs) n h = fold-room cs (own_runtime ws text n c) (own-runtime-room n c h)
 
-  pub runtime-room : (c : ℕ) → runtime_words ws text c ≤ 2147483649
+  pub runtime_room : (c : ℕ) → runtime_words ws text c ≤ 2147483649
   unfolding runtime_words
-  runtime-room c = fold-room (chain ws c) 0 (omega arith)
+  runtime_room c = fold-room (chain ws c) 0 (omega arith)
 
-  pub runtime-none : (c n : ℕ) → c ≡ 0 → n ≡ fold (own_runtime ws text) n (chain ws c)
+  pub runtime_none : (c n : ℕ) → c ≡ 0 → n ≡ fold (own_runtime ws text) n (chain ws c)
   unfolding fold
-  runtime-none c n e = rw (chain-none ws c e)
+  runtime_none c n e = rw (chain-none ws c e)
 
-  pub runtime-up : (c n : ℕ) {p o r : ℕ} → 0 < c → p ≡ parent_of ws c → o ≡ own_runtime ws text n c → r ≡ fold (own_runtime ws text) o (chain ws p)
+  pub runtime_up : (c n : ℕ) {p o r : ℕ} → 0 < c → p ≡ parent_of ws c → o ≡ own_runtime ws text n c → r ≡ fold (own_runtime ws text) o (chain ws p)
       → r ≡ fold (own_runtime ws text) n (chain ws c)
   unfolding fold
-  runtime-up c n {r = r} h e f g =
+  runtime_up c n {r = r} h e f g =
       let q : r ≡ fold (own_runtime ws text) (own_runtime ws text n c) (chain ws (parent_of ws c)) = rw (f, e) at g in
       rw (chain_more ws c h) q

@@ -1,14 +1,16 @@
 -- What a class's fields come to, as the code has it: their indices and the instance words, or the row that refuses them. Assumes nothing.
-use Rattle.std.specs.Prelude.{◌≡◌, ℕ, ◌+◌, ◌-◌, ◌^◌, ◌<◌, Bool, false, cond, not, ◌&&◌, List, [], ◌∷◌, length, replicate, ◌==◌, slice_index}
+use Rattle.std.specs.Prelude.{◌≡◌, ℕ, ◌+◌, ◌-◌, ◌^◌, ◌<◌, Bool, true, false, cond, not, ◌&&◌, List, [], ◌∷◌, length, replicate, ◌==◌, slice_index, Result, Ok, Err}
 use Rattle.abi_sheet.specs.AbiSheet.{abi_field_limit}
-use Rattle.words.specs.Folds.{stores}
-use Rattle.words.specs.Lists.{and_then}
-use Rattle.words.specs.declared.Found.{Found}
+use Rattle.std.specs.Option.{option_and_then}
+use Rattle.std.specs.Prelude.{Option}
 use Rattle.class_sheet.specs.ClassSheet.{class_first_field, class_field_count, field_name, field_descriptor, field_flags, field_index, field_limit}
 use Rattle.linking.specs.Chain.{on_found, list_count, parent_of, is_static}
 use Rattle.linking.specs.Abi.{fixed_field_index, fixed_field, given_words, class_abi, field_is}
-use Rattle.linking.specs.Fields.{is_negative, magnitude, instance_words, runtime_words, Numbering, number_fields, declares_field, added_fields, raised, built_words, too_many_words, generated_refusal, generated_indices}
+use Rattle.linking.specs.Fields.{is_negative, magnitude, instance_words, runtime_words, Numbering, number_fields, declares_field, added_fields, raised, built_words, too_many_words, add_static, add_width, generated_refusal, generated_indices}
 use Rattle.linking.specs.Set.{overlaid}
+use Rattle.growth.specs.declared.news.Member.{Member}
+use Rattle.refusal.specs.declared.Refusal.{Refusal}
+use Rattle.refusal.specs.Rows.{row}
 use Rattle.field.specs.declared.Signed.{Signed}
 use Rattle.field.specs.declared.Signed.TheVariants.{Nonnegative, Negative}
 use Rattle.field.specs.declared.Counters.{Counters}
@@ -42,8 +44,8 @@ abbrev pub own_count : List ℕ → ℕ → ℕ
 own_count ws c = list_count (class_first_field ws c) (class_field_count ws c) field_limit
 
 -- the ABI field of a field's name and descriptor, by the class's ABI entry
-abbrev pub fixed_by : List ℕ → List ℕ → List ℕ → List ℕ → Found → ℕ → Found
-fixed_by ws text abi labels own f = and_then own (fixed_field abi labels (field_name ws text f) (field_descriptor ws text f))
+abbrev pub fixed_by : List ℕ → List ℕ → List ℕ → List ℕ → Option ℕ → ℕ → Option ℕ
+fixed_by ws text abi labels own f = option_and_then (fixed_field abi labels (field_name ws text f) (field_descriptor ws text f)) own
 
 -- numbering came to N, of n indices: the code has its counters k, and the array l, which was d, with its indices in front
 abbrev pub Holds : Numbering → ℕ → Counters → List ℕ → List ℕ → Type 0
@@ -55,6 +57,11 @@ Fits ws base f = is_static (field_flags ws f) ≡ false → base + field_index w
 
 abbrev pub Movable : List ℕ → ℕ → ℕ → Type 0
 Movable ws c base = (i : ℕ) → i < own_count ws c → Fits ws base (class_first_field ws c + i)
+
+-- words, with those of a field that is static, or that is not
+abbrev pub add_words : List ℕ → List ℕ → Bool → ℕ → ℕ → ℕ
+add_words ws text true = add_static ws text
+add_words ws text false = add_width ws text
 
 -- ---- the ABI fields that are added
 
@@ -70,40 +77,45 @@ undeclared ws text abi labels c g = cond (declares_field ws text abi labels c g)
 abbrev pub Small : List ℕ → Type 0
 Small gs = (i : ℕ) → slice_index gs i < abi_field_limit
 
--- arrays with ABI fields gs in front, as new members: what names each, from 1,024 on, its flags, 2, and its fixed index; the rest stays
-abbrev pub names_over : List ℕ → List ℕ → List ℕ
-names_over gs refs = stores (length gs) (λ i. 1024 + slice_index gs i) refs
+-- ABI field g as a new member: what names it, from 1,024 on, its flags, 2, and its fixed index; and so each of a list
+abbrev pub field_member : List ℕ → ℕ → Member
+field_member abi g = record { names = 1024 + g; flags = 2; last = fixed_field_index abi g }
 
-abbrev pub flags_over : List ℕ → List ℕ → List ℕ
-flags_over gs flags = stores (length gs) (λ _. 2) flags
-
-abbrev pub indices_over : List ℕ → List ℕ → List ℕ → List ℕ
-indices_over abi gs lasts = stores (length gs) (λ i. fixed_field_index abi (slice_index gs i)) lasts
+unfoldable pub members_of : List ℕ → List ℕ → List Member
+members_of abi [] = []
+members_of abi (g ∷ gs) = field_member abi g ∷ members_of abi gs
 
 -- "Instance words are the ABI's if given, else that word": the running word after the declared fields, raised by those that are added
-unfoldable pub words_from : List ℕ → List ℕ → Found → ℕ → List ℕ → ℕ
+unfoldable pub words_from : List ℕ → List ℕ → Option ℕ → ℕ → List ℕ → ℕ
 words_from abi labels own running gs =
     cond (on_found own (given_words abi) 0 == 0) (raised abi labels running gs) (on_found own (given_words abi) 0 - 1)
 
 -- ---- what the fields come to
 
--- the class's indices, its instance words and how many ABI fields are added; or the row
+-- the class's indices and its instance words; or the row
 pub data Outcome : Type 0 where
-  numbered : List ℕ → ℕ → ℕ → Outcome
+  numbered : List ℕ → ℕ → Outcome
   refused : ℕ → Outcome
 
--- what the code answers of it: the indices and zeros after them, their count, the instance words and the added fields; or the row and zeros
-abbrev pub numbered_of : Outcome → Numbered
-numbered_of (numbered is words added) =
-    record { indices = overlaid is (replicate field_limit 0); n = length is; words = words; added = added; row = 0 }
-numbered_of (refused row) = record { indices = replicate field_limit 0; n = 0; words = 0; added = 0; row = row }
+-- what the code answers of it: the indices and zeros after them, their count, and the instance words; or the row
+abbrev pub numbering_of : List ℕ → ℕ → Numbered
+numbering_of is words = record { indices = overlaid is (replicate field_limit 0); n = length is; words = words }
+
+abbrev pub numbered_of : Outcome → Result Numbered ℕ
+numbered_of (numbered is words) = Ok (numbering_of is words)
+numbered_of (refused row) = Err row
+
+-- an answer with the number of the row that refuses
+abbrev pub by_row : {A : Type 0} → Result A Refusal → Result A ℕ
+by_row (Ok x) = Ok x
+by_row (Err refusal) = Err (row refusal)
 
 -- a built class whose ABI entry is `own`; row 10: "built: instance words, or chain runtime words, would exceed 65,535"
-unfoldable pub fields_by : List ℕ → List ℕ → List ℕ → List ℕ → Found → ℕ → Outcome
+unfoldable pub fields_by : List ℕ → List ℕ → List ℕ → List ℕ → Option ℕ → ℕ → Outcome
 fields_by ws text abi labels own c =
     cond (too_many_words ws text abi labels own c)
     (refused 10)
-    (numbered (number_fields ws text abi labels own c).indices (built_words ws text abi labels own c) (length (added_fields ws text abi labels own c)))
+    (numbered (number_fields ws text abi labels own c).indices (built_words ws text abi labels own c))
 
 abbrev pub built_fields : List ℕ → List ℕ → List ℕ → List ℕ → ℕ → Outcome
 built_fields ws text abi labels c = fields_by ws text abi labels (class_abi ws text abi labels c) c
@@ -111,4 +123,4 @@ built_fields ws text abi labels c = fields_by ws text abi labels (class_abi ws t
 -- rows 8 and 9; a generated class keeps its instance words, so none are written, and adds no fields
 unfoldable pub generated_fields : List ℕ → List ℕ → ℕ → Outcome
 generated_fields ws text c =
-    cond (generated_refusal ws text c == 0) (numbered (generated_indices ws text c) 0 0) (refused (generated_refusal ws text c))
+    cond (generated_refusal ws text c == 0) (numbered (generated_indices ws text c) 0) (refused (generated_refusal ws text c))

@@ -2,19 +2,23 @@
 // words and static words, and the ABI fields that are added to it.
 #![tactic(auto)]
 
-ghost use Rattle.std.specs.Prelude.{◌≡◌, ◌+◌, ◌-◌, ◌^◌, ◌<◌, ◌≤◌, max, ◌||◌, [], ◌∷◌, ◌++◌, length, take, ◌==◌};
-ghost use Rattle.abi_sheet.specs.AbiSheet.{abi_field_limit};
+ghost use Rattle.std.specs.Prelude.{◌≡◌, ◌+◌, ◌-◌, ◌%◌, ◌^◌, ◌<◌, ◌≤◌, max, ◌||◌, [], ◌∷◌, ◌++◌, length, take, ◌==◌};
+ghost use Rattle.abi_sheet.specs.AbiSheet.{abi_field_limit, abi_field_descriptor};
+ghost use Rattle.descriptor.specs.Words.{width};
 ghost use Rattle.words.specs.Lists.{fold};
 ghost use Rattle.class_sheet.specs.ClassSheet.{field_flags, field_index, field_limit};
 ghost use Rattle.linking.specs.Chain.{on_found, own_fields, chain, is_static};
-ghost use Rattle.linking.specs.Abi.{given_words};
+ghost use Rattle.linking.specs.Abi.{given_words, fixed_field_index};
 ghost use Rattle.linking.specs.Fields.{below_zero, field_width, instance_words, runtime_end, own_runtime, number_instance, number_field, number_fields};
-ghost use Rattle.linking.specs.Fields.{declares_field, added_fields, raised, add_width, declared_words, add_static, static_words, stand_from, moved_index, indices_plus};
+ghost use Rattle.linking.specs.Fields.{declares_field, added_fields, raised, static_words, stand_from, moved_index, indices_plus};
 ghost use Rattle.field.specs.Numbers.{signed_of, counting, first_numbering, declared_by, own_count, fixed_by, Holds, Fits, Movable, undeclared};
-ghost use Rattle.field.specs.Numbers.{Small, names_over, flags_over, indices_over, words_from, added_to};
-ghost use Rattle.field.specs.Numbers.{numbered, refused, numbered_of, fields_by, built_fields, generated_fields};
+ghost use Rattle.field.specs.Numbers.{Small, members_of, words_from, added_to};
+ghost use Rattle.field.specs.Numbers.{by_row, numbering_of, numbered_of, fields_by, add_words, built_fields, generated_fields};
+ghost use Rattle.linking.specs.Sheets.{of_sheets};
 
-use words::Found;
+use growth::{Member, News};
+use linking::Sheets;
+use refusal::Refusal;
 
 // A u32 read as signed: a number from zero on, or the magnitude of one below zero.
 #[derive(Clone, Copy)]
@@ -32,15 +36,12 @@ struct Counters {
     running: u32,
 }
 
-// What a class's fields come to: the indices of its own fields, the first n, its instance words, and how many ABI fields are added to it; or
-// the row that refuses them. What is not answered is 0.
+// What a class's fields come to: the indices of its own fields, the first n, with zeros after them, and its instance words.
 #[derive(Drop)]
 pub struct Numbered {
     pub indices: [u32; class_sheet::FIELD_LIMIT as usize],
     pub n: u32,
     pub words: u32,
-    pub added: u32,
-    pub row: u32,
 }
 
 // The u32 as signed: negative from 2^31 on.
@@ -48,7 +49,7 @@ fn as_signed(i: u32) -> Signed
     ensures { result ≡ signed_of i }
 {
     if 2147483648 <= i {
-        return Signed::Negative(std::num::wrapping_sub_u32(0, i));
+        return Signed::Negative(0u32.wrapping_sub(i));
     }
     Signed::Nonnegative(i)
 }
@@ -58,17 +59,18 @@ fn below_zero(runtime: u32) -> u32
     requires { runtime + 1 < 2 ^ 32 }
     ensures { result ≡ below_zero runtime }
 {
-    std::num::wrapping_sub_u32(0, runtime + 1)
+    0u32.wrapping_sub(runtime + 1)
 }
 
 // Whether field f is static.
 fn is_static(ws: &[u32], f: u32) -> bool
     ensures { result ≡ is_static (field_flags ws.now f) }
 {
-    class_sheet::field_flags(ws, f) / 8 % 2 == 1
+    class_sheet::is_static(class_sheet::field_flags(ws, f))
 }
 
 // How many words field f takes.
+#[tactic(auto, using(crate::proofs::RuntimeLaws::width_room))]
 fn field_width(ws: &[u32], text: &[u8], f: u32) -> u32
     ensures is { result ≡ field_width ws.now text.now f }
     ensures small { result ≤ 2 }
@@ -80,11 +82,11 @@ fn field_width(ws: &[u32], text: &[u8], f: u32) -> u32
 fn instance_words(ws: &[u32], c: u32) -> u32
     ensures { result ≡ instance_words ws.now c }
 {
-    let n = class_sheet::class_instance_words(ws, c);
-    if n < 65535 { n } else { 65535 }
+    class_sheet::class_instance_words(ws, c).min(65535)
 }
 
-// Where the runtime words of field f end: its index's magnitude minus 1 plus its width; 0 where it has none.
+// Where the runtime words of field f end: of an index below zero its magnitude minus 1 plus its width; else 0.
+#[tactic(auto, using(crate::proofs::RuntimeLaws::end_static, crate::proofs::RuntimeLaws::end_negative, crate::proofs::RuntimeLaws::end_nonnegative))]
 fn runtime_end(ws: &[u32], text: &[u8], f: u32) -> u32
     ensures { result ≡ runtime_end ws.now text.now f }
 {
@@ -102,17 +104,14 @@ fn own_runtime(ws: &[u32], text: &[u8], c: u32, before: u32) -> u32
     ensures { result ≡ own_runtime ws.now text.now before c }
 {
     let first = class_sheet::class_first_field(ws, c);
-    let n = chain::field_count(ws, c);
-    let mut end: u32 = before;
-    let mut i: u32 = 0;
-    while i < n {
-        end = abi::larger(end, runtime_end(ws, text, first + i));
-        i += 1;
-    }
-    end
+    (first..first + chain::field_count(ws, c)).fold(
+        before,
+        |end, f| end.max(runtime_end(ws, text, f)),
+    )
 }
 
 // The same over class c and its ancestors.
+#[tactic(auto, using(crate::proofs::RuntimeLaws::runtime_none, crate::proofs::RuntimeLaws::runtime_up))]
 fn runtime_words(ws: &[u32], text: &[u8], c: u32, before: u32) -> u32
     ensures { result ≡ fold (own_runtime ws.now text.now) before (chain ws.now c) }
 {
@@ -128,255 +127,212 @@ fn runtime_words(ws: &[u32], text: &[u8], c: u32, before: u32) -> u32
 }
 
 // The instance words plus 1 that the ABI entry gives, 0 for none.
-fn own_given(abi: &[u32], own: Found) -> u32
+fn own_given(abi: &[u32], own: Option<u32>) -> u32
     ensures { result ≡ on_found own (given_words abi.now) 0 }
 {
-    match own {
-        Found::At(a) => abi::given_words(abi, a),
-        Found::Nothing => 0,
-    }
+    own.map_or(0, |a| abi::given_words(abi, a))
 }
 
 // The ABI field of field f's name and descriptor.
-fn fixed_of(ws: &[u32], text: &[u8], abi: &[u32], labels: &[u8], own: Found, f: u32) -> Found
-    ensures { result ≡ fixed_by ws.now text.now abi.now labels.now own f }
+fn fixed_of(sheets: Sheets, own: Option<u32>, f: u32) -> Option<u32>
+    ensures { result ≡ of_sheets fixed_by sheets.entry own f }
 {
-    match own {
-        Found::At(a) => abi::fixed_field(
-            abi,
-            labels,
-            class_sheet::field_name(ws, text, f),
-            class_sheet::field_descriptor(ws, text, f),
-            a,
-        ),
-        Found::Nothing => Found::Nothing,
-    }
+    let signature = class_sheet::field_signature(sheets.set, sheets.text, f);
+    abi::fixed_field(sheets.abi, sheets.labels, signature, own?)
 }
 
 // The index of an instance field of w words: the fixed one; else below zero, if the ABI gives instance words; else the running word.
-fn number_instance(abi: &[u32], own: Found, fixed: Found, w: u32, k: Counters) -> Counters
+#[tactic(auto, unfolding(linking::specs::Abi::fixed_field_index))]
+fn number_instance(
+    abi: &[u32],
+    own: Option<u32>,
+    fixed: Option<u32>,
+    w: u32,
+    k: Counters,
+) -> Counters
     requires { (w ≤ 2) × (k.runtime ≤ 2147484673) × (k.running ≤ 66559) }
     ensures is { counting (result.index ∷ []) result ≡ number_instance abi.now own fixed w (counting [] k) }
     ensures small { (result.statics ≡ k.statics) × (result.runtime ≤ k.runtime + 2) × (result.running ≤ max 4097 (k.running + 2)) }
 {
-    match fixed {
-        Found::At(g) => {
-            let i = abi::fixed_field_index(abi, g);
-            Counters {
-                index: i,
-                statics: k.statics,
-                runtime: k.runtime,
-                running: abi::larger(k.running, i + w),
-            }
-        }
-        Found::Nothing => {
-            if own_given(abi, own) == 0 {
-                return Counters {
-                    index: k.running,
-                    statics: k.statics,
-                    runtime: k.runtime,
-                    running: k.running + w,
-                };
-            }
-            Counters {
-                index: below_zero(k.runtime),
-                statics: k.statics,
-                runtime: k.runtime + w,
-                running: k.running,
-            }
-        }
+    if let Some(g) = fixed {
+        let index = abi::fixed_field_index(abi, g);
+        return Counters {
+            index,
+            running: k.running.max(index + w),
+            ..k
+        };
+    }
+    if own_given(abi, own) == 0 {
+        return Counters {
+            index: k.running,
+            running: k.running + w,
+            ..k
+        };
+    }
+    Counters {
+        index: below_zero(k.runtime),
+        runtime: k.runtime + w,
+        ..k
     }
 }
 
 // The index of field f, and what the next ones count from.
-fn number_field(
-    ws: &[u32],
-    text: &[u8],
-    abi: &[u32],
-    labels: &[u8],
-    own: Found,
-    f: u32,
-    k: Counters,
-) -> Counters
+#[tactic(auto, unfolding(linking::specs::Fields::number_field))]
+fn number_field(sheets: Sheets, own: Option<u32>, f: u32, k: Counters) -> Counters
     requires { (k.statics ≤ 1024) × (k.runtime ≤ 2147484673) × (k.running ≤ 66559) }
-    ensures is { counting (result.index ∷ []) result ≡ number_field ws.now text.now abi.now labels.now own (counting [] k) f }
+    ensures is { counting (result.index ∷ []) result ≡ of_sheets number_field sheets.entry own (counting [] k) f }
     ensures small { (result.statics ≤ k.statics + 2) × (result.runtime ≤ k.runtime + 2) × (result.running ≤ max 4097 (k.running + 2)) }
 {
-    let w = field_width(ws, text, f);
-    if is_static(ws, f) {
+    let w = field_width(sheets.set, sheets.text, f);
+    if is_static(sheets.set, f) {
         return Counters {
             index: k.statics,
             statics: k.statics + w,
-            runtime: k.runtime,
-            running: k.running,
+            ..k
         };
     }
-    number_instance(abi, own, fixed_of(ws, text, abi, labels, own, f), w, k)
+    number_instance(sheets.abi, own, fixed_of(sheets, own, f), w, k)
 }
 
 // What class c's own fields count from: no static words, the runtime words of its parent's chain, and its parent's instance words.
+#[tactic(auto, using(crate::proofs::RuntimeLaws::runtime_room), unfolding(crate::specs::Numbers::first_numbering, linking::specs::Fields::runtime_words))]
 fn first_counters(ws: &[u32], text: &[u8], c: u32) -> Counters
     ensures is { counting [] result ≡ first_numbering ws.now text.now c }
     ensures small { (result.statics ≡ 0) × (result.runtime ≤ 2147483649) × (result.running ≤ 65535) }
 {
     let parent = chain::parent_of(ws, c);
-    let runtime = runtime_words(ws, text, parent, 0);
-    if parent == 0 {
-        return Counters {
-            index: 0,
-            statics: 0,
-            runtime,
-            running: 0,
-        };
-    }
+    let running = if parent == 0 {
+        0
+    } else {
+        instance_words(ws, parent)
+    };
     Counters {
         index: 0,
         statics: 0,
-        runtime,
-        running: instance_words(ws, parent),
+        runtime: runtime_words(ws, text, parent, 0),
+        running,
     }
 }
 
 // Stores the indices of class c's own fields, and answers the counters after them.
 fn number_fields(
-    ws: &[u32],
-    text: &[u8],
-    abi: &[u32],
-    labels: &[u8],
-    own: Found,
+    sheets: Sheets,
+    own: Option<u32>,
     c: u32,
-    indices: &mut [u32],
+    indices: &mut [u32; class_sheet::FIELD_LIMIT as usize],
 ) -> Counters
-    requires { field_limit ≤ length indices.old }
-    ensures { Holds (number_fields ws.now text.now abi.now labels.now own c)
-        (own_count ws.now c) result indices.new indices.old }
+    ensures { Holds (of_sheets number_fields sheets.entry own c)
+        (own_count sheets.entry.set.now c) result indices.new indices.old }
 {
-    let first = class_sheet::class_first_field(ws, c);
-    let n = chain::field_count(ws, c);
-    let mut k = first_counters(ws, text, c);
-    let mut i: u32 = 0;
-    while i < n {
-        k = number_field(ws, text, abi, labels, own, first + i, k);
-        words::put_word(indices, words::wide(i), k.index);
-        i += 1;
+    let first = class_sheet::class_first_field(sheets.set, c);
+    let n = chain::field_count(sheets.set, c);
+    let mut k = first_counters(sheets.set, sheets.text, c);
+    for i in 0..n {
+        k = number_field(sheets, own, first + i, k);
+        words::put(indices, i as usize, k.index);
     }
     k
 }
 
 // Whether field f is an instance field of ABI field g's name and descriptor.
-fn declares(ws: &[u32], text: &[u8], abi: &[u32], labels: &[u8], f: u32, g: u32) -> bool
-    ensures { result ≡ declared_by ws.now text.now abi.now labels.now g f }
+#[tactic(auto, unfolding(crate::specs::Numbers::declared_by))]
+fn declares(sheets: Sheets, f: u32, g: u32) -> bool
+    ensures { result ≡ of_sheets declared_by sheets.entry g f }
 {
-    !is_static(ws, f)
+    !is_static(sheets.set, f)
         & abi::field_is(
-            abi,
-            labels,
+            sheets.abi,
+            sheets.labels,
             g,
-            class_sheet::field_name(ws, text, f),
-            class_sheet::field_descriptor(ws, text, f),
+            class_sheet::field_signature(sheets.set, sheets.text, f),
         )
 }
 
 // Whether an instance field of class c matches ABI field g.
-fn declares_field(ws: &[u32], text: &[u8], abi: &[u32], labels: &[u8], c: u32, g: u32) -> bool
-    ensures { result ≡ declares_field ws.now text.now abi.now labels.now c g }
+fn declares_field(sheets: Sheets, c: u32, g: u32) -> bool
+    ensures { result ≡ of_sheets declares_field sheets.entry c g }
 {
-    let first = class_sheet::class_first_field(ws, c);
-    let n = chain::field_count(ws, c);
-    let mut i: u32 = 0;
-    while i < n {
-        if declares(ws, text, abi, labels, first + i, g) {
-            return true;
-        }
-        i += 1;
-    }
-    false
+    let first = class_sheet::class_first_field(sheets.set, c);
+    words::some_in(first, first + chain::field_count(sheets.set, c), |f| {
+        declares(sheets, f, g)
+    })
 }
 
 // Stores ABI field g after the first k, unless an instance field of class c matches it, and answers how many there are.
+#[tactic(auto, using(crate::proofs::AddedLaws::keep_one))]
 fn keep_field(
-    ws: &[u32],
-    text: &[u8],
-    abi: &[u32],
-    labels: &[u8],
+    sheets: Sheets,
     c: u32,
     g: u32,
-    gs: &mut [u32],
+    gs: &mut [u32; abi_sheet::FIELD_LIMIT as usize],
     k: u32,
 ) -> u32
-    requires { (k < abi_field_limit) × (abi_field_limit ≤ length gs.old) }
-    ensures is { take result gs.new ≡ take k gs.old ++ undeclared ws.now text.now abi.now labels.now c g }
+    requires { k < abi_field_limit }
+    ensures is { take result gs.new ≡ take k gs.old ++ of_sheets undeclared sheets.entry c g }
     ensures count { result ≤ k + 1 }
 {
-    if declares_field(ws, text, abi, labels, c, g) {
+    if declares_field(sheets, c, g) {
         return k;
     }
-    words::put_word(gs, words::wide(k), g);
+    words::put(gs, k as usize, g);
     k + 1
 }
 
 // Stores the fields of ABI class a that no instance field of class c matches, and answers how many there are.
 fn keep_fields(
-    ws: &[u32],
-    text: &[u8],
-    abi: &[u32],
-    labels: &[u8],
+    sheets: Sheets,
     a: u32,
     c: u32,
-    gs: &mut [u32],
+    gs: &mut [u32; abi_sheet::FIELD_LIMIT as usize],
 ) -> u32
-    requires { abi_field_limit ≤ length gs.old }
-    ensures is { take result gs.new ≡ added_fields ws.now text.now abi.now labels.now (Found.At a) c }
+    ensures is { take result gs.new ≡ of_sheets added_fields sheets.entry (Some a) c }
     ensures count { result ≤ abi_field_limit }
 {
-    let first = abi_sheet::class_first_field(abi, a);
-    let n = abi::field_count(abi, a);
+    let first = abi_sheet::class_first_field(sheets.abi, a);
+    let n = abi::field_count(sheets.abi, a);
     let mut k: u32 = 0;
-    let mut i: u32 = 0;
-    while i < n {
-        k = keep_field(ws, text, abi, labels, c, first + i, gs, k);
-        i += 1;
+    for i in 0..n {
+        k = keep_field(sheets, c, first + i, gs, k);
     }
     k
 }
 
 // The same of the class's ABI entry.
+#[tactic(auto, unfolding(linking::specs::Fields::added_fields))]
 fn added(
-    ws: &[u32],
-    text: &[u8],
-    abi: &[u32],
-    labels: &[u8],
-    own: Found,
+    sheets: Sheets,
+    own: Option<u32>,
     c: u32,
-    gs: &mut [u32],
+    gs: &mut [u32; abi_sheet::FIELD_LIMIT as usize],
 ) -> u32
-    requires { abi_field_limit ≤ length gs.old }
-    ensures is { take result gs.new ≡ added_fields ws.now text.now abi.now labels.now own c }
+    ensures is { take result gs.new ≡ of_sheets added_fields sheets.entry own c }
     ensures count { result ≤ abi_field_limit }
 {
     match own {
-        Found::At(a) => keep_fields(ws, text, abi, labels, a, c, gs),
-        Found::Nothing => 0,
+        Some(a) => keep_fields(sheets, a, c, gs),
+        None => 0,
     }
+}
+
+// Where the words of ABI field g end.
+#[tactic(auto, using(crate::proofs::RuntimeLaws::width_room), unfolding(linking::specs::Abi::fixed_field_index))]
+fn field_end(abi: &[u32], labels: &[u8], g: u32) -> u32
+    ensures { result ≡ fixed_field_index abi.now g + width (abi_field_descriptor abi.now labels.now g) }
+{
+    abi::fixed_field_index(abi, g) + descriptor::width(abi_sheet::field_descriptor(abi, labels, g))
 }
 
 // The running word, raised to the end of each of the ABI fields.
 fn raised(abi: &[u32], labels: &[u8], running: u32, gs: &[u32]) -> u32
     ensures { result ≡ raised abi.now labels.now running gs.now }
 {
-    let mut word = running;
-    let mut i: usize = 0;
-    while i < gs.len() {
-        let g = words::word_at(gs, i);
-        let w = descriptor::width(abi_sheet::field_descriptor(abi, labels, g));
-        word = abi::larger(word, abi::fixed_field_index(abi, g) + w);
-        i += 1;
-    }
-    word
+    gs.iter()
+        .fold(running, |word, g| word.max(field_end(abi, labels, *g)))
 }
 
 // The instance words of a class whose declared fields leave this running word, and to which ABI fields gs are added: the ABI's if given.
-fn built_words(abi: &[u32], labels: &[u8], own: Found, running: u32, gs: &[u32]) -> u32
+#[tactic(auto, unfolding(crate::specs::Numbers::words_from, linking::specs::Fields::raised))]
+fn built_words(abi: &[u32], labels: &[u8], own: Option<u32>, running: u32, gs: &[u32]) -> u32
     ensures { result ≡ words_from abi.now labels.now own running gs.now }
 {
     let given = own_given(abi, own);
@@ -386,144 +342,82 @@ fn built_words(abi: &[u32], labels: &[u8], own: Found, running: u32, gs: &[u32])
     raised(abi, labels, running, gs)
 }
 
-// No indices, and the row that refuses them.
-fn refusal(row: u32) -> Numbered
-    ensures { result ≡ numbered_of (refused row) }
-{
-    Numbered {
-        indices: [0; class_sheet::FIELD_LIMIT as usize],
-        n: 0,
-        words: 0,
-        added: 0,
-        row,
-    }
-}
-
 // The fields of built class c, whose ABI entry is `own` and to which ABI fields gs are added, or row 10.
-fn number_built(
-    ws: &[u32],
-    text: &[u8],
-    abi: &[u32],
-    labels: &[u8],
-    own: Found,
-    c: u32,
-    gs: &[u32],
-) -> Numbered
-    requires { gs.now ≡ added_fields ws.now text.now abi.now labels.now own c }
-    ensures { result ≡ numbered_of (fields_by ws.now text.now abi.now labels.now own c) }
+fn number_built(sheets: Sheets, own: Option<u32>, c: u32, gs: &[u32]) -> Result<Numbered, Refusal>
+    requires { gs.now ≡ of_sheets added_fields sheets own c }
+    ensures { by_row result ≡ numbered_of (of_sheets fields_by sheets.entry own c) }
 {
     let mut indices = [0u32; class_sheet::FIELD_LIMIT as usize];
-    let k = number_fields(ws, text, abi, labels, own, c, &mut indices);
-    let words = built_words(abi, labels, own, k.running, gs);
+    let k = number_fields(sheets, own, c, &mut indices);
+    let words = built_words(sheets.abi, sheets.labels, own, k.running, gs);
     if (65535 < words) | (65535 < k.runtime) {
-        return refusal(10);
+        return Err(Refusal::ManyWords);
     }
-    let added = gs.len() as u32;
-    Numbered {
+    Ok(Numbered {
         indices,
-        n: chain::field_count(ws, c),
+        n: chain::field_count(sheets.set, c),
         words,
-        added,
-        row: 0,
+    })
+}
+
+// Adds each ABI field as a new member: what names it, from 1,024 on, its flags, 2, and its fixed index.
+fn put_fields(abi: &[u32], gs: &[u32], news: &mut News)
+    requires { (Small gs.now) × (length news.old + length gs.now ≤ 1024) }
+    ensures { news.new ≡ news.old ++ members_of abi.now gs.now }
+{
+    for g in gs {
+        news.push(Member {
+            names: 1024 + *g,
+            flags: 2,
+            last: abi::fixed_field_index(abi, *g),
+        });
     }
 }
 
-// Stores what names each ABI field, from 1,024 on, its flags, 2, and its fixed index.
-fn put_fields(abi: &[u32], gs: &[u32], refs: &mut [u32], flags: &mut [u32], lasts: &mut [u32])
-    requires { Small gs.now }
-    ensures refs { refs.new ≡ names_over gs.now refs.old }
-    ensures flags { flags.new ≡ flags_over gs.now flags.old }
-    ensures lasts { lasts.new ≡ indices_over abi.now gs.now lasts.old }
+// The fields of built class c, or row 10. The new members are then the ABI fields that no instance field of the class matches, also where the
+// row refuses.
+pub fn built_fields(sheets: Sheets, c: u32, news: &mut News) -> Result<Numbered, Refusal>
+    ensures is { by_row result ≡ numbered_of (of_sheets built_fields sheets.entry c) }
+    ensures news { news.new ≡ members_of sheets.entry.abi.now (of_sheets added_to sheets.entry c) }
 {
-    let mut i: usize = 0;
-    while i < gs.len() {
-        let g = words::word_at(gs, i);
-        words::put_word(refs, i, 1024 + g);
-        words::put_word(flags, i, 2);
-        words::put_word(lasts, i, abi::fixed_field_index(abi, g));
-        i += 1;
-    }
-}
-
-// The fields of built class c, or row 10. Fills the front of the arrays with the ABI fields that no instance field of the class matches, as
-// new members, also where the row refuses; what lies after them stays.
-pub fn built_fields(
-    ws: &[u32],
-    text: &[u8],
-    abi: &[u32],
-    labels: &[u8],
-    c: u32,
-    refs: &mut [u32; 1024],
-    flags: &mut [u32; 1024],
-    lasts: &mut [u32; 1024],
-) -> Numbered
-    ensures is { result ≡ numbered_of (built_fields ws.now text.now abi.now labels.now c) }
-    ensures refs { refs.new ≡ names_over (added_to ws.now text.now abi.now labels.now c) refs.old }
-    ensures flags { flags.new ≡ flags_over (added_to ws.now text.now abi.now labels.now c) flags.old }
-    ensures lasts { lasts.new
-        ≡ indices_over abi.now (added_to ws.now text.now abi.now labels.now c) lasts.old }
-    ensures arrays { (length refs.new ≡ 1024) × (length flags.new ≡ 1024) × (length lasts.new ≡ 1024) }
-{
-    let own = abi::class_abi(ws, text, abi, labels, c);
+    let own = abi::class_abi(sheets, c);
     let mut gs = [0u32; abi_sheet::FIELD_LIMIT as usize];
-    let n = added(ws, text, abi, labels, own, c, &mut gs);
-    let fields = words::word_part(&gs, 0, words::wide(n));
-    put_fields(abi, fields, refs, flags, lasts);
-    number_built(ws, text, abi, labels, own, c, fields)
+    let n = added(sheets, own, c, &mut gs);
+    let fields = words::part(&gs, 0, n as usize);
+    news.clear();
+    put_fields(sheets.abi, fields, news);
+    number_built(sheets, own, c, fields)
 }
 
-// The words with those of field f, if it is an instance field.
-fn add_width(ws: &[u32], text: &[u8], n: u32, f: u32) -> u32
-    requires { n ≤ 66559 }
-    ensures is { result ≡ add_width ws.now text.now n f }
-    ensures small { result ≤ n + 2 }
+// The words with those of field f, if it is static, or if it is not.
+#[tactic(auto, using(crate::proofs::MovedLaws::same_word), unfolding(linking::specs::Fields::add_static, linking::specs::Fields::add_width))]
+fn add_words(ws: &[u32], text: &[u8], statics: bool, n: u32, f: u32) -> u32
+    ensures { result ≡ add_words ws.now text.now statics n f % 2 ^ 32 }
 {
-    if is_static(ws, f) {
-        return n;
+    if is_static(ws, f) == statics {
+        n.wrapping_add(field_width(ws, text, f))
+    } else {
+        n
     }
-    n + field_width(ws, text, f)
 }
 
-// How many words class c's own instance fields take.
-fn declared_words(ws: &[u32], text: &[u8], c: u32) -> u32
-    ensures { result ≡ declared_words ws.now text.now c }
+// How many words class c's own fields take that are static, or that are not.
+fn own_words(ws: &[u32], text: &[u8], statics: bool, c: u32) -> u32
+    ensures { result ≡ fold (add_words ws.now text.now statics) 0 (own_fields ws.now c) }
 {
     let first = class_sheet::class_first_field(ws, c);
-    let n = chain::field_count(ws, c);
-    let mut sum: u32 = 0;
-    let mut i: u32 = 0;
-    while i < n {
-        sum = add_width(ws, text, sum, first + i);
-        i += 1;
-    }
-    sum
-}
-
-// The words with those of field f, if it is static.
-fn add_static(ws: &[u32], text: &[u8], sum: u32, f: u32) -> u32
-    requires { sum ≤ 1024 }
-    ensures is { result ≡ add_static ws.now text.now sum f }
-    ensures small { result ≤ sum + 2 }
-{
-    if is_static(ws, f) {
-        return sum + field_width(ws, text, f);
-    }
-    sum
+    (first..first + chain::field_count(ws, c)).fold(
+        0,
+        |sum, f| add_words(ws, text, statics, sum, f),
+    )
 }
 
 // How many words class c's own static fields take: at most 1,024, whatever the words are.
+#[tactic(auto, unfolding(linking::specs::Fields::static_words))]
 pub fn static_words(ws: &[u32], text: &[u8], c: u32) -> u32
     ensures { result ≡ static_words ws.now text.now c }
 {
-    let first = class_sheet::class_first_field(ws, c);
-    let n = chain::field_count(ws, c);
-    let mut sum: u32 = 0;
-    let mut i: u32 = 0;
-    while i < n {
-        sum = add_static(ws, text, sum, first + i);
-        i += 1;
-    }
-    sum
+    own_words(ws, text, true, c)
 }
 
 // Whether field f is static or has index `at`.
@@ -541,18 +435,17 @@ fn stand_from(ws: &[u32], text: &[u8], c: u32, from: u32) -> bool
     let first = class_sheet::class_first_field(ws, c);
     let n = chain::field_count(ws, c);
     let mut at: u32 = from;
-    let mut i: u32 = 0;
-    while i < n {
+    for i in 0..n {
         if !stands_at(ws, first + i, at) {
             return false;
         }
-        at = add_width(ws, text, at, first + i);
-        i += 1;
+        at = add_words(ws, text, false, at, first + i);
     }
     true
 }
 
 // The index of field f, with the base added if it is an instance field.
+#[tactic(auto, unfolding(linking::specs::Fields::moved_index))]
 fn moved_index(ws: &[u32], base: u32, f: u32) -> u32
     requires { Fits ws.now base f }
     ensures { result ≡ moved_index ws.now base f }
@@ -567,40 +460,36 @@ fn moved_index(ws: &[u32], base: u32, f: u32) -> u32
 // The indices of class c's own fields, with the base added to those of its instance fields.
 fn moved(ws: &[u32], c: u32, base: u32) -> Numbered
     requires { Movable ws.now c base }
-    ensures { result ≡ numbered_of (numbered (indices_plus ws.now base (own_fields ws.now c)) 0 0) }
+    ensures { result ≡ numbering_of (indices_plus ws.now base (own_fields ws.now c)) 0 }
 {
     let first = class_sheet::class_first_field(ws, c);
     let n = chain::field_count(ws, c);
     let mut indices = [0u32; class_sheet::FIELD_LIMIT as usize];
-    let mut i: u32 = 0;
-    while i < n {
+    for i in 0..n {
         let index = moved_index(ws, base, first + i);
-        words::put_word(&mut indices, words::wide(i), index);
-        i += 1;
+        words::put(&mut indices, i as usize, index);
     }
     Numbered {
         indices,
         n,
         words: 0,
-        added: 0,
-        row: 0,
     }
 }
 
 // The fields of generated class c: where all are absolute, nothing is written; where all are relative, the base is added; else rows 8 and 9.
-pub fn generated_fields(ws: &[u32], text: &[u8], c: u32) -> Numbered
-    ensures { result ≡ numbered_of (generated_fields ws.now text.now c) }
+pub fn generated_fields(ws: &[u32], text: &[u8], c: u32) -> Result<Numbered, Refusal>
+    ensures { by_row result ≡ numbered_of (generated_fields ws.now text.now c) }
 {
     let total = instance_words(ws, c);
-    let own = declared_words(ws, text, c);
+    let own = own_words(ws, text, false, c);
     if total < own {
-        return refusal(8);
+        return Err(Refusal::FewWords);
     }
     if stand_from(ws, text, c, total - own) {
-        return moved(ws, c, 0);
+        return Ok(moved(ws, c, 0));
     }
     if stand_from(ws, text, c, 0) {
-        return moved(ws, c, total - own);
+        return Ok(moved(ws, c, total - own));
     }
-    refusal(9)
+    Err(Refusal::MixedIndices)
 }

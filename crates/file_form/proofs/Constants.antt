@@ -9,7 +9,7 @@ use lib.Dec.{eqb, leb}
 use borrow.Author.Tests.{eqb-true, eqb-false, ne_eqb, leb-true, not-true}
 use Rattle.words.proofs.Bools.{by, and_both}
 use Rattle.words.specs.Words.{AreBytes}
-use Rattle.class_form.specs.declared.Step.TheVariants.{To}
+use Rattle.std.specs.Prelude.{Ok}
 use Rattle.class_form.specs.Form.{u2, u4, is_tag, is_wide, places, body_size, tag_ok, after_constant}
 use Rattle.file_form.specs.Grammar.{u2_bytes, u4_bytes, Constant, Utf8, Integer, Float, Long, Double, Class, String, Fieldref, Methodref}
 use Rattle.file_form.specs.Grammar.{InterfaceMethodref, NameAndType, tag_of, info_of, constant_spelling, entries_of}
@@ -49,7 +49,7 @@ size_is (InterfaceMethodref c n) a = refl
 size_is (NameAndType n d) a = refl
 
 pub constant-taken : {bs : List ℕ} {p q : ℕ} (c : Constant) (count i : ℕ) → i + entries_of c ≤ count → Spelled bs p (constant_spelling c) q
-    → after_constant bs count i p ≡ To q
+    → after_constant bs count i p ≡ Ok q
 unfolding after_constant constant_spelling
 constant-taken {bs} {p} {q} c count i h a =
     let m = split (tag_of c ∷ []) (info_of c) a in
@@ -163,7 +163,7 @@ module _ (bs : List ℕ) (bytes : AreBytes bs) where
     pub spelled : Spelled bs p (constant_spelling constant) q
     pub fits : i + entries_of constant ≤ count
 
-  pub constant-read : (count i p q : ℕ) → i < count → after_constant bs count i p ≡ To q → Read count i p q
+  pub constant-read : (count i p q : ℕ) → i < count → after_constant bs count i p ≡ Ok q → Read count i p q
   unfolding constant_spelling tag_ok
   constant-read count i p q h e =
       let c = constant_to bs count i p q e in

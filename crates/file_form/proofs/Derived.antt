@@ -1,23 +1,21 @@
 -- The form is the Specification's: of an accepted file each part is what a structure spells, and what a structure spells is accepted. Assumes nothing.
-use mathlib.Core.Path.{◌≡◌, refl, sym, ap, ◌∙◌}
+use mathlib.Core.Path.{◌≡◌, refl, ap, ◌∙◌}
 use mathlib.Core.Bool.{true}
 use mathlib.Core.List.{List, ◌++◌}
 use Prim.Native.Nat.{ℕ, ◌≤◌}
 use native.Mathlib.Omega.{arith}
 use lib.ListN.{length}
-use lib.Seq.{take-length}
 use lib.Dec.{eqb, leb}
 use borrow.Author.Tests.{eqb-true, eq-eqb, leb-true, le-leb}
 use Rattle.words.proofs.Bools.{by, and_3}
 use Rattle.words.specs.Words.{AreBytes}
-use Rattle.class_form.specs.declared.Step.{Step}
-use Rattle.class_form.specs.declared.Step.TheVariants.{To, Stop}
-use Rattle.class_form.specs.Form.{u2, u4, pool_count, after_pool, after_head, after_file, version_ok, end_refusal, form_refusal}
+use Rattle.std.specs.Prelude.{Ok, Err}
+use Rattle.class_form.specs.Form.{Step, u2, u4, pool_count, after_pool, after_head, after_file, version_ok, end_refusal, form_refusal}
 use Rattle.file_form.specs.Grammar.{u2_bytes, u4_bytes, counted, attribute_spelling, member_spelling, pool_spelling, ClassFile, file_spelling, Holds}
 use Rattle.file_form.specs.Grammar.{Derivation}
 use Rattle.file_form.specs.Derived.{Derived}
-use Rattle.file_form.proofs.Outcome.{on_to, stop-same, stop_to, Outcome, goes, met, early}
-use Rattle.file_form.proofs.File.{file}
+use Rattle.class_form.proofs.Laws.{step_to}
+use Rattle.refusal.proofs.Rows.{row_above}
 use Rattle.file_form.proofs.Spelled.{Spelled, join, split, begins-at, whole, all_of, spelled-u2, spelled-u4, some-u2, some-u4}
 use Rattle.file_form.proofs.Pool.{Constants, pool-taken, PoolOf, pool-read}
 use Rattle.file_form.proofs.Formed.{head-taken, body-taken, HeadAt, BodyAt, head_read_lem, body-read, head-count}
@@ -30,7 +28,7 @@ record Accepted (bs : List ℕ) : Type 0 where
   magic : u4 bs 0 ≡ 0xCAFEBABE
   oldest : 45 ≤ u2 bs 6
   newest : u2 bs 6 ≤ 48
-  ends : after_file bs ≡ To (length bs)
+  ends : after_file bs ≡ Ok (length bs)
 
 version-passed : (bs : List ℕ) → version_ok bs ≡ true → (u4 bs 0 ≡ 0xCAFEBABE) × (45 ≤ u2 bs 6) × (u2 bs 6 ≤ 48)
 unfolding version_ok
@@ -42,13 +40,9 @@ version-right : (bs : List ℕ) → u4 bs 0 ≡ 0xCAFEBABE → 45 ≤ u2 bs 6 �
 unfolding version_ok
 version-right bs m o n = rw (eq-eqb (u4 bs 0) 0xCAFEBABE m, le-leb 45 (u2 bs 6) o, le-leb (u2 bs 6) 48 n)
 
-end-accepted : (bs : List ℕ) → 8 ≤ length bs → (s : Step) → Outcome bs 8 after_file → after_file bs ≡ s → end_refusal bs s ≡ 0 → s ≡ To (length bs)
-end-accepted bs eight (To p) o e z =
-    by (eqb p (length bs)) (λ t. ap To (eqb-true p (length bs) t)) (λ t. absurd (omega (arith, rw t at z)))
-end-accepted bs eight (Stop row) (goes q low there held before) e z = stop_to (sym e ∙ held bs refl)
-end-accepted bs eight (Stop row) (met q low there held before) e z = absurd (omega (arith, stop-same (sym (held bs refl) ∙ e), z))
-end-accepted bs eight (Stop row) (early before) e z =
-    let k = before (length bs) eight (omega arith) in absurd (omega (arith, stop-same (sym k ∙ ap after_file (take-length bs) ∙ e), z))
+end-accepted : (bs : List ℕ) (s : Step) → end_refusal bs s ≡ 0 → s ≡ Ok (length bs)
+end-accepted bs (Ok p) z = by (eqb p (length bs)) (λ t. ap Ok (eqb-true p (length bs) t)) (λ t. absurd (omega (arith, rw t at z)))
+end-accepted bs (Err r) z = absurd (omega (arith, row_above r, z))
 
 accepted : (bs : List ℕ) → form_refusal bs ≡ 0 → Accepted bs
 unfolding form_refusal
@@ -64,12 +58,12 @@ accepted bs z =
       magic = p.0;
       oldest = p.1;
       newest = p.2;
-      ends = end-accepted bs eight (after_file bs) (file bs) refl (rw (t, v) at z);
+      ends = end-accepted bs (after_file bs) (rw (t, v) at z);
     })
     (λ v. absurd (omega (arith, rw (t, v) at z))))
     (λ t. absurd (omega (arith, rw t at z)))
 
-accept : (bs : List ℕ) → 8 ≤ length bs → version_ok bs ≡ true → after_file bs ≡ To (length bs) → form_refusal bs ≡ 0
+accept : (bs : List ℕ) → 8 ≤ length bs → version_ok bs ≡ true → after_file bs ≡ Ok (length bs) → form_refusal bs ≡ 0
 unfolding form_refusal
 accept bs h v e = rw (le-leb 8 (length bs) h, v, e, eq-eqb (length bs) (length bs) refl)
 
@@ -99,7 +93,7 @@ pub record Laid (bs : List ℕ) (f : ClassFile) : Type 0 where
   pub pool-end : ℕ
   pub head-end : ℕ
   pub version : version_ok bs ≡ true
-  pub pool-ends : after_pool bs ≡ To pool-end
+  pub pool-ends : after_pool bs ≡ Ok pool-end
   pub has : Constants bs (pool_count bs) 1 10 f.pool pool-end
   pub head : Spelled bs pool-end (head_of f) head-end
   pub body : Spelled bs head-end (body_of f) (length bs)
@@ -122,11 +116,11 @@ laid bs f holds a =
       body = b.right;
     }
 
-pub head-ends : (bs : List ℕ) (f : ClassFile) → Holds f → (l : Laid bs f) → after_head bs l.pool-end ≡ To l.head-end
+pub head-ends : (bs : List ℕ) (f : ClassFile) → Holds f → (l : Laid bs f) → after_head bs l.pool-end ≡ Ok l.head-end
 head-ends bs f holds l =
     head-taken bs f.pool l.pool-end l.has f.flags f.this f.super f.interfaces holds.this holds.super l.head
 
-file-ends : (bs : List ℕ) (f : ClassFile) → Holds f → Laid bs f → after_file bs ≡ To (length bs)
+file-ends : (bs : List ℕ) (f : ClassFile) → Holds f → Laid bs f → after_file bs ≡ Ok (length bs)
 unfolding after_file
 file-ends bs f holds l =
     rw (l.pool-ends, head-ends bs f holds l)
@@ -177,8 +171,8 @@ sound : (bs : List ℕ) → AreBytes bs → form_refusal bs ≡ 0 → Derivation
 unfolding after_file
 sound bs bytes z =
     let a = accepted bs z in
-    let p = on_to (after_pool bs) _ (length bs) a.ends in
-    let h = on_to (after_head bs p.0) _ (length bs) p.2 in
+    let p = step_to (after_pool bs) _ a.ends in
+    let h = step_to (after_head bs p.0) _ p.2 in
     let pool = pool-read bs bytes p.0 (head-count bs bytes p.0 h.0 h.1) p.1 in
     put_together bs p.0 h.0 pool bytes a
     (head_read_lem bs pool.pool p.0 pool.has bytes p.0 h.0 h.1)

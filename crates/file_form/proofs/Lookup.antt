@@ -9,22 +9,23 @@ use lib.ListN.{length, get_or, take}
 use lib.Dec.{eqb, leb, ltb}
 use borrow.Author.Tests.{eqb-true, ltb-true, lt-ltb}
 use Rattle.words.proofs.Bools.{by, and_both}
-use Rattle.class_form.specs.declared.Step.{Step}
-use Rattle.class_form.specs.declared.Step.TheVariants.{To, Stop}
-use Rattle.class_form.specs.Form.{u2, on_step, taken, is_wide, places, body_size, after_constant, after_constants, pool_count, after_pool, constant_from}
+use Rattle.std.specs.Prelude.{Ok, Err}
+use Rattle.refusal.specs.declared.Refusal.TheVariants.{WrongPool}
+use Rattle.class_form.specs.Form.{Step, u2, ◌>>=◌, taken, is_wide, places, body_size, after_constant, after_constants, pool_count, after_pool, constant_from}
 use Rattle.class_form.specs.Form.{constant_at, tagged_at, utf8_at, class_at}
-use Rattle.file_form.proofs.Outcome.{agree_less, agree_at, agree-u2, taken_to, on_to, ended}
+use Rattle.class_form.proofs.Laws.{places_few, step_to, taken_to}
+use Rattle.file_form.proofs.Outcome.{agree_less, agree_at, agree-u2, ended}
 use Rattle.file_form.proofs.Items.{constant, constant_to, constants}
 
 -- the constant of index i found at r, with its end inside the pool, which ends at e; or none
 pub data Lookup (bs : List ℕ) (e i : ℕ) (s : Step) : Type 0 where
-  found : (r q : ℕ) → s ≡ To r → after_constant bs (pool_count bs) i r ≡ To q → q ≤ e → Lookup bs e i s
-  none : s ≡ Stop 22 → Lookup bs e i s
+  found : (r q : ℕ) → s ≡ Ok r → after_constant bs (pool_count bs) i r ≡ Ok q → q ≤ e → Lookup bs e i s
+  none : s ≡ Err WrongPool → Lookup bs e i s
 
 module _ (bs : List ℕ) (e : ℕ) where
   -- the constants of index j on, at p, are the rest of the pool
   pub record Rest (k j p : ℕ) : Type 0 where
-    pub taken_to_end : after_constants bs (pool_count bs) k j p ≡ To e
+    pub taken_to_end : after_constants bs (pool_count bs) k j p ≡ Ok e
     pub all : pool_count bs ≤ j + k
     pub there : p ≤ length bs
 
@@ -32,19 +33,15 @@ module _ (bs : List ℕ) (e : ℕ) where
   pub record First (j p : ℕ) : Type 0 where
     pub next : ℕ
     pub steps : ℕ
-    pub is : after_constant bs (pool_count bs) j p ≡ To next
+    pub is : after_constant bs (pool_count bs) j p ≡ Ok next
     pub rest : Rest steps (j + places (get_or bs p 0)) next
     pub within : next ≤ e
-
-  places-some : (t : ℕ) → 1 ≤ places t
-  unfolding places
-  places-some t = by (is_wide t) (λ h. rw h (omega arith)) (λ h. rw h (omega arith))
 
   first_of : (k j p : ℕ) → Rest k j p → j < pool_count bs → First j p
   unfolding after_constants
   first_of zero j p r h = absurd (omega (arith, r.all))
   first_of (suc k) j p r h =
-      let a = on_to (after_constant bs (pool_count bs) j p) _ e (rw (lt-ltb j (pool_count bs) h) at r.taken_to_end) in
+      let a = step_to (after_constant bs (pool_count bs) j p) _ (rw (lt-ltb j (pool_count bs) h) at r.taken_to_end) in
       let c = constant_to bs (pool_count bs) j p a.0 a.1 in
       let q = ended bs a.0 e (λ cs. after_constants cs (pool_count bs) k (j + places (get_or bs p 0)) a.0) c.there
       (constants bs (pool_count bs) k (j + places (get_or bs p 0)) a.0 c.there) a.2 in
@@ -52,14 +49,14 @@ module _ (bs : List ℕ) (e : ℕ) where
         next = a.0;
         steps = k;
         is = a.1;
-        rest = record { taken_to_end = a.2; all = omega (arith, r.all, places-some (get_or bs p 0)); there = c.there };
+        rest = record { taken_to_end = a.2; all = omega (arith, r.all, places_few (get_or bs p 0)); there = c.there };
         within = q.0;
       }
 
   -- ---- the walk to constant i
 
   module _ (i : ℕ) (inside : i < pool_count bs) where
-    here : (k j p : ℕ) → Rest k j p → Lookup bs e i (cond (eqb j i) (To p) (Stop 22))
+    here : (k j p : ℕ) → Rest k j p → Lookup bs e i (cond (eqb j i) (Ok p) (Err WrongPool))
     here k j p r =
         by (eqb j i)
         (λ t.
@@ -101,20 +98,20 @@ module _ (bs : List ℕ) (e : ℕ) where
 
 -- a lookup finds a place or is 22
 pub data Settled (s : Step) : Type 0 where
-  found_at : (r : ℕ) → s ≡ To r → Settled s
-  refused : s ≡ Stop 22 → Settled s
+  found_at : (r : ℕ) → s ≡ Ok r → Settled s
+  refused : s ≡ Err WrongPool → Settled s
 
 -- the constant has the tag, too
 pub data Tagged (bs : List ℕ) (e t i : ℕ) (s : Step) : Type 0 where
-  tagged : (r : ℕ) → s ≡ To r → get_or bs r 0 ≡ t → r + 1 + body_size bs t (r + 1) ≤ e → Tagged bs e t i s
-  untagged : s ≡ Stop 22 → Tagged bs e t i s
+  tagged : (r : ℕ) → s ≡ Ok r → get_or bs r 0 ≡ t → r + 1 + body_size bs t (r + 1) ≤ e → Tagged bs e t i s
+  untagged : s ≡ Err WrongPool → Tagged bs e t i s
 
-module _ (bs : List ℕ) (e : ℕ) (pool-ends : after_pool bs ≡ To e) where
+module _ (bs : List ℕ) (e : ℕ) (pool-ends : after_pool bs ≡ Ok e) where
   pub start : Rest bs e (pool_count bs) 1 10
   unfolding after_pool
   start =
-      let a = on_to (taken bs 8 2) _ e pool-ends in
-      let b = taken_to bs 8 2 a.0 a.1 in
+      let a = step_to (taken bs 8 2) _ pool-ends in
+      let b = taken_to bs 8 2 a.1 in
       record { taken_to_end = rw b.0 at a.2; all = omega arith; there = omega (arith, b.1) }
 
   pub pool-end : (10 ≤ e) × (e ≤ length bs)
@@ -131,7 +128,7 @@ module _ (bs : List ℕ) (e : ℕ) (pool-ends : after_pool bs ≡ To e) where
       (λ t. rw t (walk bs e i (ltb-true i (pool_count bs) (and_both (leb 1 i) (ltb i (pool_count bs)) t).1) i (pool_count bs) 1 10 start))
       (λ t. rw t (none refl))
 
-  tag_is : (t i : ℕ) (s : Step) → Lookup bs e i s → Tagged bs e t i (on_step s (λ p. cond (eqb (get_or bs p 0) t) (To p) (Stop 22)))
+  tag_is : (t i : ℕ) (s : Step) → Lookup bs e i s → Tagged bs e t i (s >>= (λ p. cond (eqb (get_or bs p 0) t) (Ok p) (Err WrongPool)))
   tag_is t i s (found r q at taken within) =
       let c = constant_to bs (pool_count bs) i r q taken in
       by (eqb (get_or bs r 0) t)
@@ -153,7 +150,7 @@ module _ (bs : List ℕ) (e : ℕ) (pool-ends : after_pool bs ≡ To e) where
   unfolding utf8_at
   utf8_settled i = tagged_settled 1 i (tagged_at bs 1 i) (tagged_is 1 i)
 
-  class-settles : (s : Step) → Settled s → Settled (on_step s (λ p. utf8_at bs (u2 bs (p + 1))))
+  class-settles : (s : Step) → Settled s → Settled (s >>= (λ p. utf8_at bs (u2 bs (p + 1))))
   class-settles s (found_at r at) = rw at (utf8_settled (u2 bs (r + 1)))
   class-settles s (refused at) = rw at (refused refl)
 
@@ -178,7 +175,7 @@ module _ (bs : List ℕ) (e : ℕ) (pool-ends : after_pool bs ≡ To e) where
         (λ t. rw (count_same, t))
 
     tag_same : (t i : ℕ) (s : Step) → Lookup bs e i s
-        → on_step s (λ p. cond (eqb (get_or cs p 0) t) (To p) (Stop 22)) ≡ on_step s (λ p. cond (eqb (get_or bs p 0) t) (To p) (Stop 22))
+        → (s >>= (λ p. cond (eqb (get_or cs p 0) t) (Ok p) (Err WrongPool))) ≡ (s >>= (λ p. cond (eqb (get_or bs p 0) t) (Ok p) (Err WrongPool)))
     tag_same t i s (found r q at taken within) =
         let c = constant_to bs (pool_count bs) i r q taken in rw (at, agree_at bs cs e r (omega (arith, c.end)) agree)
     tag_same t i s (none at) = rw at
@@ -192,7 +189,7 @@ module _ (bs : List ℕ) (e : ℕ) (pool-ends : after_pool bs ≡ To e) where
     utf8-same i = tagged-same 1 i
 
     class-name : (i : ℕ) (s : Step) → Tagged bs e 7 i s
-        → on_step s (λ p. utf8_at cs (u2 cs (p + 1))) ≡ on_step s (λ p. utf8_at bs (u2 bs (p + 1)))
+        → (s >>= (λ p. utf8_at cs (u2 cs (p + 1)))) ≡ (s >>= (λ p. utf8_at bs (u2 bs (p + 1))))
     unfolding body_size is_wide
     class-name i s (tagged r at g within) = rw (at, agree-u2 bs cs e (r + 1) (omega arith) agree, utf8-same (u2 bs (r + 1)))
     class-name i s (untagged at) = rw at

@@ -9,9 +9,11 @@ use lib.Seq.{take-take, take-length, get_or-take, length-take-le}
 use lib.Dec.{leb}
 use borrow.Author.Tests.{leb-true, leb-false, le-leb, lt-leb}
 use Rattle.words.proofs.Bools.{by}
-use Rattle.class_form.specs.declared.Step.{Step}
-use Rattle.class_form.specs.declared.Step.TheVariants.{To, Stop}
-use Rattle.class_form.specs.Form.{u2, u4, on_step, taken, after_each, after_counted}
+use Rattle.std.specs.Prelude.{Ok, Err}
+use Rattle.refusal.specs.declared.Refusal.{Refusal}
+use Rattle.refusal.specs.declared.Refusal.TheVariants.{WrongEnd, WrongPool}
+use Rattle.class_form.specs.Form.{Step, u2, u4, ◌>>=◌, taken, after_each, after_counted}
+use Rattle.class_form.proofs.Laws.{ok_same, not_ok, taken_to}
 
 -- ---- bytes that agree in the first q
 
@@ -38,35 +40,12 @@ abbrev pub Held : List ℕ → (List ℕ → Step) → ℕ → Step → Type 0
 Held bs f q s = (cs : List ℕ) → take q cs ≡ take q bs → f cs ≡ s
 
 abbrev pub Before : List ℕ → ℕ → (List ℕ → Step) → ℕ → Type 0
-Before bs p f q = (n : ℕ) → p ≤ n → n < q → f (take n bs) ≡ Stop 21
+Before bs p f q = (n : ℕ) → p ≤ n → n < q → f (take n bs) ≡ Err WrongEnd
 
 pub data Outcome (bs : List ℕ) (p : ℕ) (f : List ℕ → Step) : Type 0 where
-  goes : (q : ℕ) → p ≤ q → q ≤ length bs → Held bs f q (To q) → Before bs p f q → Outcome bs p f
-  met : (q : ℕ) → p ≤ q → q ≤ length bs → Held bs f q (Stop 22) → Before bs p f q → Outcome bs p f
+  goes : (q : ℕ) → p ≤ q → q ≤ length bs → Held bs f q (Ok q) → Before bs p f q → Outcome bs p f
+  met : (q : ℕ) → p ≤ q → q ≤ length bs → Held bs f q (Err WrongPool) → Before bs p f q → Outcome bs p f
   early : Before bs p f (length bs + 1) → Outcome bs p f
-
--- ---- steps told apart
-
-pub to_same : {q r : ℕ} → To q ≡ To r → q ≡ r
-to_same e = cc
-
-pub stop-same : {q r : ℕ} → Stop q ≡ Stop r → q ≡ r
-stop-same e = cc
-
-pub stop_to : {X : Type 0} {q row : ℕ} → Stop row ≡ To q → X
-stop_to e = absurd (omega (arith, zero_one e))
-  where
-    zero_one : {q row : ℕ} → Stop row ≡ To q → ◌≡◌ {A = ℕ} 0 1
-    zero_one e = cc
-
-pub on_to : (s : Step) (g : ℕ → Step) (q : ℕ) → on_step s g ≡ To q → (r : ℕ) × (s ≡ To r) × (g r ≡ To q)
-on_to (To r) g q e = (r, refl, e)
-on_to (Stop row) g q e = stop_to e
-
-pub taken_to : (bs : List ℕ) (p n q : ℕ) → taken bs p n ≡ To q → (q ≡ p + n) × (p + n ≤ length bs)
-unfolding taken
-taken_to bs p n q e =
-    by (leb (p + n) (length bs)) (λ t. (to_same (sym (rw t at e)), leb-true (p + n) (length bs) t)) (λ t. stop_to (rw t at e))
 
 module _ (bs : List ℕ) where
   -- only the bytes before p count for which step is taken there
@@ -78,54 +57,54 @@ module _ (bs : List ℕ) where
   swap p f g same (early before) = early (λ n h l. same (take n bs) (take-take p n bs h) ∙ before n h l)
 
   -- a step to p itself, and one that 22 stops
-  pub stays : (p : ℕ) → p ≤ length bs → Outcome bs p (λ cs. To p)
+  pub stays : (p : ℕ) → p ≤ length bs → Outcome bs p (λ cs. Ok p)
   stays p there = goes p (omega arith) there (λ cs e. refl) (λ n h l. absurd (omega arith))
 
-  pub stopped : (p : ℕ) → p ≤ length bs → Outcome bs p (λ cs. Stop 22)
+  pub stopped : (p : ℕ) → p ≤ length bs → Outcome bs p (λ cs. Err WrongPool)
   stopped p there = met p (omega arith) there (λ cs e. refl) (λ n h l. absurd (omega arith))
 
   -- a step that went to q ends before the last byte, and only the bytes before q count
-  pub ended : (p q : ℕ) (f : List ℕ → Step) → p ≤ length bs → Outcome bs p f → f bs ≡ To q → (p ≤ q) × (q ≤ length bs) × Held bs f q (To q)
+  pub ended : (p q : ℕ) (f : List ℕ → Step) → p ≤ length bs → Outcome bs p f → f bs ≡ Ok q → (p ≤ q) × (q ≤ length bs) × Held bs f q (Ok q)
   ended p q f there (goes r low there₁ held before) e =
-      let k = to_same (sym (held bs refl) ∙ e) in (omega arith, omega arith, rw k at held)
-  ended p q f there (met r low there₁ held before) e = stop_to (sym (held bs refl) ∙ e)
+      let k = ok_same (sym (held bs refl) ∙ e) in (omega arith, omega arith, rw k at held)
+  ended p q f there (met r low there₁ held before) e = not_ok (sym (held bs refl) ∙ e)
   ended p q f there (early before) e =
-      stop_to (sym (before (length bs) there (omega arith)) ∙ ap f (take-length bs) ∙ e)
+      not_ok (sym (before (length bs) there (omega arith)) ∙ ap f (take-length bs) ∙ e)
 
   -- ---- one step, then another from where it ends
 
   module _ (p : ℕ) (f : List ℕ → Step) (g : List ℕ → ℕ → Step) where
     abbrev both : List ℕ → Step
-    both cs = on_step (f cs) (g cs)
+    both cs = f cs >>= g cs
 
     -- the first has gone to q
-    there-then : (q : ℕ) (s : Step) (cs : List ℕ) → f cs ≡ To q → g cs q ≡ s → both cs ≡ s
+    there-then : (q : ℕ) (s : Step) (cs : List ℕ) → f cs ≡ Ok q → g cs q ≡ s → both cs ≡ s
     there-then q s cs e k = rw e k
 
-    first_stops : (row : ℕ) (cs : List ℕ) → f cs ≡ Stop row → both cs ≡ Stop row
-    first_stops row cs e = rw e
+    first_stops : (r : Refusal) (cs : List ℕ) → f cs ≡ Err r → both cs ≡ Err r
+    first_stops r cs e = rw e
 
-    before-both : (q r : ℕ) → Held bs f q (To q) → Before bs p f q → Before bs q (λ cs. g cs q) r → Before bs p both r
+    before-both : (q r : ℕ) → Held bs f q (Ok q) → Before bs p f q → Before bs q (λ cs. g cs q) r → Before bs p both r
     before-both q r held before after n h l =
         by (leb q n)
         (λ t.
-        let k = leb-true q n t in there-then q (Stop 21) (take n bs) (held (take n bs) (take-take q n bs k)) (after n k l))
-        (λ t. first_stops 21 (take n bs) (before n h (leb-false q n t)))
+        let k = leb-true q n t in there-then q (Err WrongEnd) (take n bs) (held (take n bs) (take-take q n bs k)) (after n k l))
+        (λ t. first_stops WrongEnd (take n bs) (before n h (leb-false q n t)))
 
-    second : (q : ℕ) → p ≤ q → Held bs f q (To q) → Before bs p f q → Outcome bs q (λ cs. g cs q) → Outcome bs p both
+    second : (q : ℕ) → p ≤ q → Held bs f q (Ok q) → Before bs p f q → Outcome bs q (λ cs. g cs q) → Outcome bs p both
     second q low held before (goes r on there after between) =
-        goes r (omega arith) there (λ cs e. there-then q (To r) cs (held cs (agree_less bs cs q r on e)) (after cs e))
+        goes r (omega arith) there (λ cs e. there-then q (Ok r) cs (held cs (agree_less bs cs q r on e)) (after cs e))
         (before-both q r held before between)
     second q low held before (met r on there after between) =
-        met r (omega arith) there (λ cs e. there-then q (Stop 22) cs (held cs (agree_less bs cs q r on e)) (after cs e))
+        met r (omega arith) there (λ cs e. there-then q (Err WrongPool) cs (held cs (agree_less bs cs q r on e)) (after cs e))
         (before-both q r held before between)
     second q low held before (early between) = early (before-both q (length bs + 1) held before between)
 
-    pub and_then : Outcome bs p f → ((q : ℕ) → p ≤ q → q ≤ length bs → f bs ≡ To q → Outcome bs q (λ cs. g cs q)) → Outcome bs p both
-    and_then (goes q low there held before) next = second q low held before (next q low there (held bs refl))
-    and_then (met q low there held before) next =
-        met q low there (λ cs e. first_stops 22 cs (held cs e)) (λ n h l. first_stops 21 (take n bs) (before n h l))
-    and_then (early before) next = early (λ n h l. first_stops 21 (take n bs) (before n h l))
+    pub then_on : Outcome bs p f → ((q : ℕ) → p ≤ q → q ≤ length bs → f bs ≡ Ok q → Outcome bs q (λ cs. g cs q)) → Outcome bs p both
+    then_on (goes q low there held before) next = second q low held before (next q low there (held bs refl))
+    then_on (met q low there held before) next =
+        met q low there (λ cs e. first_stops WrongPool cs (held cs e)) (λ n h l. first_stops WrongEnd (take n bs) (before n h l))
+    then_on (early before) next = early (λ n h l. first_stops WrongEnd (take n bs) (before n h l))
 
   -- ---- an item of n bytes
 
@@ -152,16 +131,16 @@ module _ (bs : List ℕ) where
   unfolding after_each
   each base item one zero p low there = stays p there
   each base item one (suc n) p low there =
-      and_then p (λ cs. item cs p) (λ cs. after_each (item cs) n) (one p low there)
+      then_on p (λ cs. item cs p) (λ cs. after_each (item cs) n) (one p low there)
       (λ q on there₁ e. each base item one n q (omega arith) there₁)
 
   pub counted : (base : ℕ) (item : List ℕ → ℕ → Step) → ((q : ℕ) → base ≤ q → q ≤ length bs → Outcome bs q (λ cs. item cs q)) → (p : ℕ)
       → base ≤ p → Outcome bs p (λ cs. after_counted cs (item cs) p)
   unfolding after_counted
   counted base item one p low =
-      and_then p (λ cs. taken cs p 2) (λ cs. after_each (item cs) (u2 cs p)) (takes p 2)
+      then_on p (λ cs. taken cs p 2) (λ cs. after_each (item cs) (u2 cs p)) (takes p 2)
       (λ q on there e.
-      let k = taken_to bs p 2 q e in
+      let k = taken_to bs p 2 e in
       swap q (λ cs. after_each (item cs) (u2 bs p) q) (λ cs. after_each (item cs) (u2 cs p) q)
       (λ cs a. ap (λ (n : ℕ). after_each (item cs) n q) (agree-u2 bs cs q p (omega arith) a))
       (each base item one (u2 bs p) q (omega arith) there))

@@ -10,13 +10,13 @@ use lib.Dec.{eqb, leb, ltb}
 use borrow.Author.Tests.{eqb-true, eq-eqb, ne_eqb, ltb-true, ltb-false, lt-ltb, le-ltb, le-leb}
 use Rattle.words.proofs.Bools.{by, and_both}
 use Rattle.words.specs.Words.{AreBytes}
-use Rattle.class_form.specs.declared.Step.{Step}
-use Rattle.class_form.specs.declared.Step.TheVariants.{To, Stop}
-use Rattle.class_form.specs.Form.{u2, taken, places, after_constant, after_constants, pool_count, after_pool, constant_from, constant_at, tagged_at, utf8_at, class_at}
+use Rattle.std.specs.Prelude.{Ok, Err}
+use Rattle.refusal.specs.declared.Refusal.TheVariants.{WrongPool}
+use Rattle.class_form.specs.Form.{Step, u2, taken, places, after_constant, after_constants, pool_count, after_pool, constant_from, constant_at, tagged_at, utf8_at, class_at}
 use Rattle.file_form.specs.Grammar.{u2_bytes, each, Constant, Utf8, Integer, Float, Long, Double, Class, String, Fieldref, Methodref}
 use Rattle.file_form.specs.Grammar.{InterfaceMethodref, NameAndType, tag_of, info_of, constant_spelling, entries_of, pool_entries, pool_spelling}
 use Rattle.file_form.specs.Grammar.{Stands, here, there, IsUtf8, IsClassInfo}
-use Rattle.file_form.proofs.Outcome.{on_to, to_same, stop_to, taken_to}
+use Rattle.class_form.proofs.Laws.{ok_same, not_ok, step_to, taken_to}
 use Rattle.file_form.proofs.Spelled.{Spelled, nothing, join, split, ends_at, begins-at, first_byte, spelled-taken, spelled-u2, some-u2}
 use Rattle.file_form.proofs.Constants.{constant-taken, spelled-entries, constant-read}
 
@@ -44,7 +44,7 @@ pub record Constants (bs : List ℕ) (count j p : ℕ) (cs : List Constant) (q :
 pub record Next (bs : List ℕ) (count j p : ℕ) (c : Constant) (cs : List Constant) (q : ℕ) : Type 0 where
   pub place : ℕ
   pub spelled : Spelled bs p (constant_spelling c) place
-  pub taken : after_constant bs count j p ≡ To place
+  pub taken : after_constant bs count j p ≡ Ok place
   pub index : j + places (get_or bs p 0) ≡ j + entries_of c
   pub low : j < count
   pub others : Constants bs count (j + entries_of c) place cs q
@@ -64,11 +64,11 @@ next {bs} {count} {j} {p} {q} c cs a =
 
 -- all are taken
 pub constants-taken : {bs : List ℕ} {count q : ℕ} (cs : List Constant) (k j p : ℕ) → count ≤ j + k → Constants bs count j p cs q
-    → after_constants bs count k j p ≡ To q
+    → after_constants bs count k j p ≡ Ok q
 unfolding after_constants each pool_entries
-constants-taken [] zero j p h a = ap To (omega (arith, a.spelled.end))
+constants-taken [] zero j p h a = ap Ok (omega (arith, a.spelled.end))
 constants-taken {count = count} [] (suc k) j p h a =
-    rw (le-ltb j count (omega (arith, a.last))) (ap To (omega (arith, a.spelled.end)))
+    rw (le-ltb j count (omega (arith, a.last))) (ap Ok (omega (arith, a.spelled.end)))
 constants-taken (c ∷ cs) zero j p h a = let n = next c cs a in absurd (omega (arith, n.low))
 constants-taken {count = count} (c ∷ cs) (suc k) j p h a =
     let n = next c cs a in
@@ -76,16 +76,16 @@ constants-taken {count = count} (c ∷ cs) (suc k) j p h a =
     (constants-taken cs k (j + entries_of c) n.place (omega (arith, some-entries c)) n.others)
 
 -- and what was taken are constants
-pub constants-read : (bs : List ℕ) → AreBytes bs → (count k j p q : ℕ) → p ≤ length bs → j ≤ count → count ≤ j + k → after_constants bs count k j p ≡ To q
+pub constants-read : (bs : List ℕ) → AreBytes bs → (count k j p q : ℕ) → p ≤ length bs → j ≤ count → count ≤ j + k → after_constants bs count k j p ≡ Ok q
     → (cs : List Constant) × Constants bs count j p cs q
 unfolding after_constants each pool_entries
 constants-read bs bytes count zero j p q fit h g e =
-    ([], record { spelled = ends_at (to_same e) (nothing bs p fit); last = omega arith })
+    ([], record { spelled = ends_at (ok_same e) (nothing bs p fit); last = omega arith })
 constants-read bs bytes count (suc k) j p q fit h g e =
     by (ltb j count)
     (λ t.
     let low = ltb-true j count t in
-    let a = on_to (after_constant bs count j p) _ q (rw t at e) in
+    let a = step_to (after_constant bs count j p) _ (rw t at e) in
     let r = constant-read bs bytes count j p a.0 low a.1 in
     let f : j + places (get_or bs p 0) ≡ j + entries_of r.constant = ap (λ (n : ℕ). j + n) (spelled-entries r.constant r.spelled) in
     let rest =
@@ -93,7 +93,7 @@ constants-read bs bytes count (suc k) j p q fit h g e =
     (omega (arith, some-entries r.constant)) (ap (λ (n : ℕ). after_constants bs count k n a.0) (sym f) ∙ a.2) in
     let cs = rest.0 in
     (r.constant ∷ cs, record { spelled = join {t = each constant_spelling cs} r.spelled rest.1.spelled; last = omega (arith, rest.1.last) }))
-    (λ t. ([], record { spelled = ends_at (to_same (rw t at e)) (nothing bs p fit); last = omega (arith, ltb-false j count t) }))
+    (λ t. ([], record { spelled = ends_at (ok_same (rw t at e)) (nothing bs p fit); last = omega (arith, ltb-false j count t) }))
 
 -- ---- a constant by its index
 
@@ -101,7 +101,7 @@ constants-read bs bytes count (suc k) j p q fit h g e =
 pub record FoundAt (bs : List ℕ) (c : Constant) (s : Step) : Type 0 where
   pub place : ℕ
   pub end : ℕ
-  pub at : s ≡ To place
+  pub at : s ≡ Ok place
   pub spelled : Spelled bs place (constant_spelling c) end
 
 pub stands-low : {c : Constant} {i j : ℕ} {cs : List Constant} → Stands c i j cs → j ≤ i
@@ -114,7 +114,7 @@ stands_high {c} (here) = omega (arith, some-entries c)
 stands_high (there {d = d} s) = omega (arith, stands_high s)
 
 -- the walk stands at constant i
-arrived : (bs : List ℕ) (i n j p : ℕ) → j ≡ i → constant_from bs i n j p ≡ To p
+arrived : (bs : List ℕ) (i n j p : ℕ) → j ≡ i → constant_from bs i n j p ≡ Ok p
 unfolding constant_from
 arrived bs i zero j p e = rw (eq-eqb j i e)
 arrived bs i (suc n) j p e = rw (le-ltb j i (omega arith), eq-eqb j i e)
@@ -139,20 +139,20 @@ pub record Stood (bs : List ℕ) (i j : ℕ) (cs : List Constant) (r : ℕ) : Ty
   pub spelled : Spelled bs r (constant_spelling constant) end
 
 stood-here : {bs : List ℕ} {i j p q r : ℕ} (cs : List Constant) → Constants bs (pool_count bs) j p cs q → i < pool_count bs
-    → cond (eqb j i) (To p) (Stop 22) ≡ To r → Stood bs i j cs r
+    → cond (eqb j i) (Ok p) (Err WrongPool) ≡ Ok r → Stood bs i j cs r
 unfolding pool_entries
-stood-here {bs} {i} {j} [] a h e = stop_to (rw (ne_eqb j i (λ f. omega (arith, a.last))) at e)
+stood-here {bs} {i} {j} [] a h e = not_ok (rw (ne_eqb j i (λ f. omega (arith, a.last))) at e)
 stood-here {bs} {i} {j} {p} {q} {r} (c ∷ cs) a h e =
     by (eqb j i)
     (λ t.
     let k = eqb-true j i t in
     let m = next c cs a in
-    let f : p ≡ r = to_same (rw t at e) in
+    let f : p ≡ r = ok_same (rw t at e) in
     record { constant = c; end = m.place; stands = rw k here; spelled = begins-at f m.spelled })
-    (λ t. stop_to (rw t at e))
+    (λ t. not_ok (rw t at e))
 
 walk-stands : {bs : List ℕ} {i p q r : ℕ} (cs : List Constant) (n j : ℕ) → Constants bs (pool_count bs) j p cs q → i < pool_count bs
-    → constant_from bs i n j p ≡ To r → Stood bs i j cs r
+    → constant_from bs i n j p ≡ Ok r → Stood bs i j cs r
 unfolding constant_from pool_entries
 walk-stands cs zero j a h e = stood-here cs a h e
 walk-stands {i = i} [] (suc n) j a h e = stood-here [] a h (rw (le-ltb j i (omega (arith, a.last))) at e)
@@ -201,24 +201,24 @@ class-index {bs} {p} n a =
     let e : p + 1 ≡ m.mid = omega (arith, m.left.end) in ap (u2 bs) e ∙ (spelled-u2 n m.right).0
 
 -- a class that was found shows that the pool has indices
-constant-count : (bs : List ℕ) (i r : ℕ) → constant_at bs i ≡ To r → 1 ≤ pool_count bs
+constant-count : (bs : List ℕ) (i r : ℕ) → constant_at bs i ≡ Ok r → 1 ≤ pool_count bs
 unfolding constant_at
 constant-count bs i r f =
     by (leb 1 i && ltb i (pool_count bs))
     (λ t. omega (arith, ltb-true i (pool_count bs) (and_both (leb 1 i) (ltb i (pool_count bs)) t).1))
-    (λ t. stop_to (rw t at f))
+    (λ t. not_ok (rw t at f))
 
-pub number_of_classes : (bs : List ℕ) (i r : ℕ) → class_at bs i ≡ To r → 1 ≤ pool_count bs
+pub number_of_classes : (bs : List ℕ) (i r : ℕ) → class_at bs i ≡ Ok r → 1 ≤ pool_count bs
 unfolding class_at tagged_at
 number_of_classes bs i r f =
-    let a = on_to (tagged_at bs 7 i) _ r f in
-    let b = on_to (constant_at bs i) _ a.0 a.1 in
+    let a = step_to (tagged_at bs 7 i) _ f in
+    let b = step_to (constant_at bs i) _ a.1 in
     constant-count bs i b.0 b.1
 
 -- ---- the pool from its count on
 
 pub pool-taken : {bs : List ℕ} {e : ℕ} (cs : List Constant) → Spelled bs 8 (pool_spelling cs) e
-    → (after_pool bs ≡ To e) × Constants bs (pool_count bs) 1 10 cs e
+    → (after_pool bs ≡ Ok e) × Constants bs (pool_count bs) 1 10 cs e
 unfolding after_pool pool_count pool_spelling u2_bytes
 pool-taken {bs} {e} cs a =
     let m = split (u2_bytes (1 + pool_entries cs)) (each constant_spelling cs) a in
@@ -231,11 +231,11 @@ pub record PoolOf (bs : List ℕ) (e : ℕ) : Type 0 where
   pub spelled : Spelled bs 8 (pool_spelling pool) e
   pub has : Constants bs (pool_count bs) 1 10 pool e
 
-pub pool-read : (bs : List ℕ) → AreBytes bs → (e : ℕ) → 1 ≤ pool_count bs → after_pool bs ≡ To e → PoolOf bs e
+pub pool-read : (bs : List ℕ) → AreBytes bs → (e : ℕ) → 1 ≤ pool_count bs → after_pool bs ≡ Ok e → PoolOf bs e
 unfolding after_pool pool_count pool_spelling
 pool-read bs bytes e some f =
-    let a = on_to (taken bs 8 2) _ e f in
-    let k = taken_to bs 8 2 a.0 a.1 in
+    let a = step_to (taken bs 8 2) _ f in
+    let k = taken_to bs 8 2 a.1 in
     let c = constants-read bs bytes (u2 bs 8) (u2 bs 8) 1 10 e (omega (arith, k.1)) some (omega arith) (rw k.0 at a.2) in
     record { pool = c.0; spelled = rw (← c.1.last) (join (some-u2 bs bytes 8 k.1) c.1.spelled); has = c.1 }
 
@@ -248,12 +248,12 @@ module _ (bs : List ℕ) (pool : List Constant) (e : ℕ) (has : Constants bs (p
       rw (le-leb 1 i (stands-low s), lt-ltb i (pool_count bs) (omega (arith, stands_high s, has.last)))
       (stands-walk i s has (omega arith))
 
-  constant-stands : (i r : ℕ) → constant_at bs i ≡ To r → Stood bs i 1 pool r
+  constant-stands : (i r : ℕ) → constant_at bs i ≡ Ok r → Stood bs i 1 pool r
   unfolding constant_at
   constant-stands i r f =
       by (leb 1 i && ltb i (pool_count bs))
       (λ t. walk-stands pool i 1 has (ltb-true i (pool_count bs) (and_both (leb 1 i) (ltb i (pool_count bs)) t).1) (rw t at f))
-      (λ t. stop_to (rw t at f))
+      (λ t. not_ok (rw t at f))
 
   tagged-found : {c : Constant} {i : ℕ} → Stands c i 1 pool → FoundAt bs c (tagged_at bs (tag_of c) i)
   unfolding tagged_at constant_spelling
@@ -270,16 +270,16 @@ module _ (bs : List ℕ) (pool : List Constant) (e : ℕ) (has : Constants bs (p
     stood : Stood bs i 1 pool r
     tag : tag_of stood.constant ≡ t
 
-  tagged-stands : (t i r : ℕ) → tagged_at bs t i ≡ To r → Tagged t i r
+  tagged-stands : (t i r : ℕ) → tagged_at bs t i ≡ Ok r → Tagged t i r
   unfolding tagged_at constant_spelling
   tagged-stands t i r f =
-      let a = on_to (constant_at bs i) _ r f in
+      let a = step_to (constant_at bs i) _ f in
       by (eqb (get_or bs a.0 0) t)
       (λ h.
-      let k : a.0 ≡ r = to_same (rw h at a.2) in
-      let w = constant-stands i r (a.1 ∙ ap To k) in
+      let k : a.0 ≡ r = ok_same (rw h at a.2) in
+      let w = constant-stands i r (a.1 ∙ ap Ok k) in
       record { stood = w; tag = sym (first_byte w.spelled) ∙ ap (λ (x : ℕ). get_or bs x 0) (sym k) ∙ eqb-true (get_or bs a.0 0) t h })
-      (λ h. stop_to (rw h at a.2))
+      (λ h. not_ok (rw h at a.2))
 
   pub utf8-found : {s : List ℕ} {i : ℕ} → IsUtf8 pool i s → FoundAt bs (Utf8 s) (utf8_at bs i)
   unfolding utf8_at tag_of
@@ -292,7 +292,7 @@ module _ (bs : List ℕ) (pool : List Constant) (e : ℕ) (has : Constants bs (p
     pub end : ℕ
     pub spelled : Spelled bs r (constant_spelling (Utf8 bytes)) end
 
-  pub utf8-stands : (i r : ℕ) → utf8_at bs i ≡ To r → Utf8At i r
+  pub utf8-stands : (i r : ℕ) → utf8_at bs i ≡ Ok r → Utf8At i r
   unfolding utf8_at
   utf8-stands i r f =
       let w = tagged-stands 1 i r f in
@@ -317,10 +317,10 @@ module _ (bs : List ℕ) (pool : List Constant) (e : ℕ) (has : Constants bs (p
     pub end : ℕ
     pub spelled : Spelled bs r (constant_spelling (Utf8 bytes)) end
 
-  pub class-stands : (i r : ℕ) → class_at bs i ≡ To r → ClassAt i r
+  pub class-stands : (i r : ℕ) → class_at bs i ≡ Ok r → ClassAt i r
   unfolding class_at
   class-stands i r f =
-      let a = on_to (tagged_at bs 7 i) _ r f in
+      let a = step_to (tagged_at bs 7 i) _ f in
       let w = tagged-stands 7 i a.0 a.1 in
       let n = class_of w.stood.constant w.tag in
       let spelled : Spelled bs a.0 (constant_spelling (Class n.0)) w.stood.end = rw n.1 at w.stood.spelled in

@@ -8,7 +8,7 @@ use lib.ListN.{length, get_or, take, drop, length-append, length-drop, length-ta
 use lib.Seq.{drop-drop, drop-cons, get_or-drop, drop-append_seam, drop-length}
 use borrow.Author.Tests.{le-leb}
 use Rattle.words.specs.Words.{AreBytes}
-use Rattle.class_form.specs.declared.Step.TheVariants.{To}
+use Rattle.std.specs.Prelude.{Ok}
 use Rattle.class_form.specs.Form.{u2, u4, taken}
 use Rattle.file_form.specs.Grammar.{u2_bytes, u4_bytes}
 
@@ -78,10 +78,10 @@ first_byte {bs} {s} {b} {p} {q} a = ap (λ (i : ℕ). get_or bs i 0) (none p) �
     none : (p : ℕ) → p ≡ p + 0
     none p = omega arith
 
-pub spelled-taken : {bs s : List ℕ} {p q : ℕ} → Spelled bs p s q → taken bs p (length s) ≡ To q
+pub spelled-taken : {bs s : List ℕ} {p q : ℕ} → Spelled bs p s q → taken bs p (length s) ≡ Ok q
 unfolding taken
 spelled-taken {bs} {s} {p} {q} a =
-    rw (le-leb (p + length s) (length bs) (omega (arith, a.end, a.there))) (ap To (sym a.end))
+    rw (le-leb (p + length s) (length bs) (omega (arith, a.end, a.there))) (ap Ok (sym a.end))
 
 -- ---- numbers
 

@@ -12,9 +12,9 @@ use borrow.Author.Tests.{eqb-true, eqb-false, eq-eqb, ne_eqb, leb-true, leb-fals
 use Rattle.words.proofs.Bools.{by}
 use Rattle.words.proofs.Bytes.{all-bytes, append-bytes}
 use Rattle.words.specs.Words.{AreBytes}
-use Rattle.class_form.specs.declared.Step.{Step}
-use Rattle.class_form.specs.declared.Step.TheVariants.{To, Stop}
-use Rattle.class_form.specs.Form.{after_file, version_ok, end_refusal, form_refusal}
+use Rattle.std.specs.Prelude.{Ok, Err}
+use Rattle.refusal.specs.declared.Refusal.TheVariants.{WrongEnd, WrongPool}
+use Rattle.class_form.specs.Form.{Step, after_file, version_ok, end_refusal, form_refusal}
 use Rattle.file_form.specs.FrontToBack.{MetAt, EndsEarly, Open, Continues, Alone, FrontToBack}
 use Rattle.file_form.proofs.Outcome.{agree_less, agree-u2, agree-u4, agree-length, Held, Before, Outcome, goes, met, early}
 use Rattle.file_form.proofs.File.{file}
@@ -72,14 +72,14 @@ module _ (bs : List ℕ) (eight : 8 ≤ length bs) where
         by (leb 8 n)
         (λ t.
         let g = leb-true 8 n t in
-        right (take n bs) (Stop 21) (omega (arith, length-take-le n bs (omega arith))) (version-same bs (take n bs) (take-take 8 n bs g) ∙ v)
+        right (take n bs) (Err WrongEnd) (omega (arith, length-take-le n bs (omega arith))) (version-same bs (take n bs) (take-take 8 n bs g) ∙ v)
         (before n g h))
         (λ t. front-few n (leb-false 8 n t))
 
-    accepts : (cs : List ℕ) (q : ℕ) → q ≡ length cs → end_refusal cs (To q) ≡ 0
+    accepts : (cs : List ℕ) (q : ℕ) → q ≡ length cs → end_refusal cs (Ok q) ≡ 0
     accepts cs q e = rw (eq-eqb q (length cs) e)
 
-    continues : (cs : List ℕ) (q : ℕ) → q < length cs → end_refusal cs (To q) ≡ 21
+    continues : (cs : List ℕ) (q : ℕ) → q < length cs → end_refusal cs (Ok q) ≡ 21
     continues cs q h = rw (ne_eqb q (length cs) (λ e. omega arith))
 
     right-verdict : Outcome bs 8 after_file → Verdict bs
@@ -87,29 +87,29 @@ module _ (bs : List ℕ) (eight : 8 ≤ length bs) where
         by (eqb q (length bs))
         (λ t.
         let e = eqb-true q (length bs) t in
-        accepted (judged q (To q) low there held bs refl ∙ accepts bs q e)
+        accepted (judged q (Ok q) low there held bs refl ∙ accepts bs q e)
         (record {
           front = λ n h. front-short q (omega arith) before n (omega arith);
           more =
               λ b rest.
-              judged q (To q) low there held (bs ++ (b ∷ rest)) (take-append-le q bs (b ∷ rest) there)
+              judged q (Ok q) low there held (bs ++ (b ∷ rest)) (take-append-le q bs (b ∷ rest) there)
               ∙ continues (bs ++ (b ∷ rest)) q (omega (arith, length-append bs (b ∷ rest)));
         }))
         (λ t.
         let e = eqb-false q (length bs) t in
         let less : q < length bs = omega arith in
-        ended (judged q (To q) low there held bs refl ∙ continues bs q less)
+        ended (judged q (Ok q) low there held bs refl ∙ continues bs q less)
         (inr (
           q,
           less,
-          judged q (To q) low there held (take q bs) (take-take q q bs (omega arith))
+          judged q (Ok q) low there held (take q bs) (take-take q q bs (omega arith))
               ∙ accepts (take q bs) q (sym (length-take-le q bs there)),
         )))
     right-verdict (met q low there held before) =
-        pool-met (judged q (Stop 22) low there held bs refl) q
+        pool-met (judged q (Err WrongPool) low there held bs refl) q
         (record {
           there = there;
-          held = judged q (Stop 22) low there held;
+          held = judged q (Err WrongPool) low there held;
           before = front-short q (omega arith) before;
         })
     right-verdict (early before) =
@@ -186,12 +186,12 @@ module _ (bs : List ℕ) (small : AreBytes bs) (ends : EndsEarly bs) where
   after-eight : version_ok cs ≡ true → Outcome cs 8 after_file → Open bs
   after-eight v (goes q low there held before) =
       up_to q
-      (judged cs eight v q (To q) low there held (take q cs) (take-take q q cs (omega arith))
+      (judged cs eight v q (Ok q) low there held (take q cs) (take-take q q cs (omega arith))
       ∙ accepts cs eight v (take q cs) q (sym (length-take-le q cs there)))
   after-eight v (met q low there held before) =
-      by_row 22 (λ z. omega arith) (judged cs eight v q (Stop 22) low there held cs refl)
+      by_row 22 (λ z. omega arith) (judged cs eight v q (Err WrongPool) low there held cs refl)
   after-eight v (early before) =
-      let stop : after_file cs ≡ Stop 21 = sym (ap after_file (take-length cs)) ∙ before (length cs) eight (omega arith) in
+      let stop : after_file cs ≡ Err WrongEnd = sym (ap after_file (take-length cs)) ∙ before (length cs) eight (omega arith) in
       let few = (longest.1 cs (append-bytes bs zs small (zero-bytes many))).ends stop in
       absurd (omega (arith, few, length-cs))
 

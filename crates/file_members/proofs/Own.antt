@@ -8,7 +8,7 @@ use lib.ListN.{length, get_or, drop}
 use lib.Seq.{take-append_seam}
 use borrow.Author.Tests.{eq-eqb, ne_eqb}
 use Rattle.text.specs.Text.{name_at}
-use Rattle.class_form.specs.declared.Step.TheVariants.{To}
+use Rattle.std.specs.Prelude.{Ok}
 use Rattle.class_form.specs.Form.{u2, pool_count}
 use Rattle.class_form.specs.Parts.{member_at}
 use Rattle.class_members.specs.Members.{head_place, fields_place, methods_place, places_from, member_places, field_places, method_places, string_at}
@@ -23,7 +23,7 @@ use Rattle.file_members.specs.Own.{IsMember, AreMembers, no_members, a_member, O
 
 -- ---- strings
 
-string_is : {bs : List ℕ} {r q : ℕ} (s : List ℕ) → Spelled bs r (constant_spelling (Utf8 s)) q → string_at bs (To r) ≡ s
+string_is : {bs : List ℕ} {r q : ℕ} (s : List ℕ) → Spelled bs r (constant_spelling (Utf8 s)) q → string_at bs (Ok r) ≡ s
 unfolding constant_spelling tag_of info_of name_at
 string_is {bs} {r} {q} s a =
     let m = split (1 ∷ []) (u2_bytes (length s) ++ s) a in

@@ -1,9 +1,18 @@
 -- What the growth of a list leaves in the class words, where there is room for it, and else nothing. Assumes nothing.
-use Rattle.std.specs.Prelude.{ℕ, ◌+◌, ◌*◌, ◌-◌, ◌≤◌, Bool, cond, not, ◌&&◌, List, ◌++◌, length, take, drop, leb}
+use Rattle.std.specs.Prelude.{ℕ, ◌+◌, ◌*◌, ◌-◌, ◌≤◌, Bool, cond, not, ◌&&◌, Option, Some, None, List, ◌++◌, length, take, drop, leb}
 use Rattle.words.specs.Words.{inside}
-use Rattle.class_sheet.specs.ClassSheet.{member_width, text_limit, sheet_words, text_length, text_at, text_of, method_count, field_count, class_first_method, class_method_count, class_first_field, class_field_count, put_method_count, put_field_count, put_text_length, put_class_first_method, put_class_method_count, put_class_first_field, put_class_field_count}
+use Rattle.class_sheet.specs.ClassSheet.{member_width, text_limit, sheet_words, text_length, text_at, text_of, methods_at, fields_at, interfaces_at, method_count, field_count, class_first_method, class_method_count, class_first_field, class_field_count, put_method_count, put_field_count, put_text_length, put_class_first_method, put_class_method_count, put_class_first_field, put_class_field_count}
 use Rattle.linking.specs.Compiler.{New}
-use Rattle.linking.specs.Set.{new_records, new_text, packed, grown_methods, grown_fields, section_full, grown_end}
+use Rattle.growth.specs.declared.Section.{Section}
+use Rattle.growth.specs.declared.Grown.{Grown}
+use Rattle.linking.specs.Set.{write_at, new_records, new_text, packed, grown_methods, grown_fields, section_full, grown_end}
+
+-- elements laid over a list from place k on, where there is room for them, and else nothing (the program's choice), and where they end
+unfoldable pub laid : List ℕ → ℕ → List ℕ → List ℕ
+laid l k xs = cond (leb (k + length xs) (length l)) (write_at l k xs) l
+
+unfoldable pub laid_end : List ℕ → ℕ → List ℕ → ℕ
+laid_end l k xs = cond (leb (k + length xs) (length l)) (k + length xs) k
 
 -- the list of `own` from `first` on lies in its section of `count`; neither row 14 nor row 15 refuses; and the grown content has at most
 -- as many words as a class sheet can have
@@ -46,3 +55,38 @@ pub record Room (ws : List ℕ) (end from own : ℕ) (new : List New) : Type 0 w
   pub bytes : text_length ws + length (new_text new) ≤ text_limit
   pub most : grown_end ws own new ≤ sheet_words
   pub fits : grown_end ws own new ≤ length ws
+
+-- ---- a class's list as the code has it, and what it is once its records, and the new ones, stand at its section's end
+
+abbrev pub methods_of : List ℕ → ℕ → Section
+methods_of ws c =
+    record {
+      count = method_count ws;
+      first = class_first_method ws c;
+      own = class_method_count ws c;
+      at = methods_at ws;
+      end = fields_at ws;
+    }
+
+abbrev pub fields_of : List ℕ → ℕ → Section
+fields_of ws c =
+    record {
+      count = field_count ws;
+      first = class_first_field ws c;
+      own = class_field_count ws c;
+      at = fields_at ws;
+      end = interfaces_at ws;
+    }
+
+pub record Placed (ws : List ℕ) (list : Section) : Type 0 where
+  pub before : list.at + member_width * list.count ≤ list.end
+  pub sections : list.end ≤ text_at ws
+
+abbrev pub grown_list : List ℕ → Section → List New → Grown
+grown_list ws list new = record { members = list.own + length new; bytes = text_length ws + length (new_text new) }
+
+unfoldable pub appended : List ℕ → Section → List New → Option Grown × List ℕ
+appended ws list new =
+    cond (can_grow ws list.count list.first list.own new)
+    (Some (grown_list ws list new), write_at ws list.end (tail_of ws list.end (list.at + member_width * list.first) list.own new))
+    (None, ws)

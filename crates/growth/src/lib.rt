@@ -2,408 +2,353 @@
 // section's end and the new names in the text.
 #![tactic(auto)]
 
-ghost use Rattle.std.specs.Prelude.{◌≡◌, ◌+◌, ◌*◌, ◌<◌, ◌≤◌, ◌^◌, ◌++◌, length};
+ghost use Rattle.std.specs.Prelude.{◌≡◌, ◌+◌, ◌*◌, ◌<◌, ◌≤◌, ◌^◌, ◌++◌, length, leb};
 ghost use Rattle.words.specs.Words.{words_for};
 ghost use Rattle.class_sheet.specs.ClassSheet.{member_width, text_limit, sheet_words, text_length, text_of, member_words};
 ghost use Rattle.linking.specs.Set.{write_at, put_indices, new_records, new_text, packed, section_full, grown_end};
-ghost use Rattle.growth.specs.News.{new_count, ref_name, ref_descriptor, news, named};
-ghost use Rattle.growth.specs.Growth.{can_grow, methods_grown, fields_grown, tail_of, methods_counted, fields_counted, Room};
+ghost use Rattle.growth.specs.News.{ref_name, ref_descriptor, news_of};
+ghost use Rattle.growth.specs.Growth.{laid, laid_end, can_grow, methods_grown, fields_grown, tail_of, methods_of, fields_of, methods_counted, fields_counted, appended, Placed, Room};
+ghost use Rattle.linking.specs.Sheets.{of_sheets};
 
 use class_sheet::MEMBER_WIDTH;
+use linking::Sheets;
+pub use news::{Member, News};
+use text::Signature;
+
+mod news;
 
 // Where, among what names a new member, the ABI slots begin, after the methods of the class sheet, and the ABI fields after them.
 const SLOTS: u32 = class_sheet::METHOD_LIMIT;
 
 const FIELDS: u32 = SLOTS + abi_sheet::SLOT_LIMIT;
 
-// The name of what r names: a part of the class text, or of the ABI text.
-pub fn ref_name<'a>(ws: &[u32], text: &'a [u8], abi: &[u32], labels: &'a [u8], r: u32) -> &'a [u8]
-    ensures is { result.now ≡ ref_name ws.now text.now abi.now labels.now r }
-    ensures small { length result.now < 2 ^ 32 }
-{
-    if r < SLOTS {
-        return class_sheet::method_name(ws, text, r);
-    }
-    if r < FIELDS {
-        return abi_sheet::slot_name(abi, labels, r - SLOTS);
-    }
-    abi_sheet::field_name(abi, labels, r - FIELDS)
-}
-
-// The descriptor of what r names, likewise.
-pub fn ref_descriptor<'a>(
-    ws: &[u32],
+// The name and descriptor of what r names, by the lists of both sheets.
+#[tactic(auto, unfolding(crate::specs::News::ref_name, crate::specs::News::ref_descriptor))]
+fn signature_of<'a>(
+    set: &[u32],
     text: &'a [u8],
     abi: &[u32],
     labels: &'a [u8],
     r: u32,
-) -> &'a [u8]
-    ensures is { result.now ≡ ref_descriptor ws.now text.now abi.now labels.now r }
-    ensures small { length result.now < 2 ^ 32 }
+) -> Signature<'a>
+    ensures name { result.name.now ≡ ref_name set.now text.now abi.now labels.now r }
+    ensures descriptor { result.descriptor.now ≡ ref_descriptor set.now text.now abi.now labels.now r }
+    ensures small { (length result.name.now < 2 ^ 32) × (length result.descriptor.now < 2 ^ 32) }
 {
     if r < SLOTS {
-        return class_sheet::method_descriptor(ws, text, r);
+        return class_sheet::method_signature(set, text, r);
     }
     if r < FIELDS {
-        return abi_sheet::slot_descriptor(abi, labels, r - SLOTS);
+        return abi_sheet::slot_signature(abi, labels, r - SLOTS);
     }
-    abi_sheet::field_descriptor(abi, labels, r - FIELDS)
+    Signature {
+        name: abi_sheet::field_name(abi, labels, r - FIELDS),
+        descriptor: abi_sheet::field_descriptor(abi, labels, r - FIELDS),
+    }
 }
 
-// How many new members there are, at most 1,024.
-fn new_count(refs: &[u32]) -> u32
-    ensures is { result ≡ new_count refs.now }
-    ensures small { result < 1025 }
+// The name and descriptor of what r names: parts of the class text, or of the ABI text.
+pub fn ref_signature<'a>(sheets: Sheets<'a>, r: u32) -> Signature<'a>
+    ensures name { result.name.now ≡ of_sheets ref_name sheets.entry r }
+    ensures descriptor { result.descriptor.now ≡ of_sheets ref_descriptor sheets.entry r }
+    ensures small { (length result.name.now < 2 ^ 32) × (length result.descriptor.now < 2 ^ 32) }
 {
-    let n = refs.len();
-    if n < 1024 {
-        return n as u32;
-    }
-    1024
+    signature_of(sheets.set, sheets.text, sheets.abi, sheets.labels, r)
 }
 
 // How many bytes the names and descriptors of the new members have.
-pub fn new_text_length<'a>(
-    ws: &[u32],
-    text: &'a [u8],
-    abi: &[u32],
-    labels: &'a [u8],
-    refs: &[u32],
-) -> usize
-    ensures is { result ≡ length (new_text (named ws.now text.now abi.now labels.now refs.now)) }
+pub fn new_text_length(sheets: Sheets, news: &News) -> usize
+    ensures is { result ≡ length (new_text (of_sheets news_of sheets.entry news.now)) }
     ensures small { result < 2 ^ 44 }
 {
-    let n = words::wide(new_count(refs));
     let mut sum: usize = 0;
-    let mut i: usize = 0;
-    while i < n {
-        let r = words::word_at(refs, i);
-        let name = ref_name(ws, text, abi, labels, r);
-        let descriptor = ref_descriptor(ws, text, abi, labels, r);
-        sum += name.len() + descriptor.len();
-        i += 1;
+    for new in news.members() {
+        let own = ref_signature(sheets, new.names);
+        sum += own.name.len() + own.descriptor.len();
     }
     sum
 }
 
-// Row 14: whether a section of `count`, of which a list of `own` grows, or the text, would exceed its limit.
-pub fn section_full<'a>(
-    ws: &[u32],
-    count: u32,
-    own: u32,
-    text: &'a [u8],
-    abi: &[u32],
-    labels: &'a [u8],
-    refs: &[u32],
-) -> bool
-    ensures { result ≡ section_full ws.now count own (named ws.now text.now abi.now labels.now refs.now) }
+// How many bytes the text has with the new names in it.
+fn grown_text(sheets: Sheets, news: &News) -> usize
+    ensures is { result ≡ text_length sheets.entry.set.now + length (new_text (of_sheets news_of sheets.entry news.now)) }
+    ensures small { result < 2 ^ 45 }
 {
-    let members = words::wide(count) + (words::wide(own) + words::wide(new_count(refs)));
-    let bytes = words::wide(class_sheet::text_length(ws))
-        + new_text_length(ws, text, abi, labels, refs);
-    ((class_sheet::MEMBER_LIMIT as usize) < members) | ((class_sheet::TEXT_LIMIT as usize) < bytes)
+    (class_sheet::text_length(sheets.set) as usize) + new_text_length(sheets, news)
+}
+
+// Row 14: whether a section of `count`, of which a list of `own` grows, or the text, would exceed its limit.
+#[tactic(auto, using(crate::proofs::GrowthLaws::full_is))]
+pub fn section_full(sheets: Sheets, count: u32, own: u32, news: &News) -> bool
+    ensures { result ≡ section_full sheets.entry.set.now count own (of_sheets news_of sheets.entry news.now) }
+{
+    let members = (count as usize) + ((own as usize) + (news.len() as usize));
+    ((class_sheet::MEMBER_LIMIT as usize) < members)
+        | ((class_sheet::TEXT_LIMIT as usize) < grown_text(sheets, news))
 }
 
 // How many words the content has once a list of `own` has grown.
-pub fn grown_end<'a>(
-    ws: &[u32],
-    own: u32,
-    text: &'a [u8],
-    abi: &[u32],
-    labels: &'a [u8],
-    refs: &[u32],
-) -> usize
-    ensures { result ≡ grown_end ws.now own (named ws.now text.now abi.now labels.now refs.now) }
+#[tactic(auto, using(crate::proofs::GrowthLaws::end_is))]
+pub fn grown_end(sheets: Sheets, own: u32, news: &News) -> usize
+    ensures { result ≡ grown_end sheets.entry.set.now own (of_sheets news_of sheets.entry news.now) }
 {
-    let members = words::wide(own) + words::wide(new_count(refs));
-    let bytes = words::wide(class_sheet::text_length(ws))
-        + new_text_length(ws, text, abi, labels, refs);
-    class_sheet::text_at(ws) + MEMBER_WIDTH * members + (bytes + 3) / 4
+    let members = (own as usize) + (news.len() as usize);
+    class_sheet::text_at(sheets.set) + MEMBER_WIDTH * members + (grown_text(sheets, news) + 3) / 4
 }
 
 // Whether a list of `own` from `first` on, in a section of `count`, can grow.
-fn can_grow<'a>(
-    ws: &[u32],
-    count: u32,
-    first: u32,
-    own: u32,
-    text: &'a [u8],
-    abi: &[u32],
-    labels: &'a [u8],
-    refs: &[u32],
-) -> bool
-    ensures { result ≡ can_grow ws.now count first own (named ws.now text.now abi.now labels.now refs.now) }
+#[tactic(auto, unfolding(crate::specs::Growth::can_grow))]
+fn can_grow(sheets: Sheets, count: u32, first: u32, own: u32, news: &News) -> bool
+    ensures { result ≡ can_grow sheets.entry.set.now count first own (of_sheets news_of sheets.entry news.now) }
 {
-    let end = grown_end(ws, own, text, abi, labels, refs);
+    let end = grown_end(sheets, own, news);
     words::is_inside(first, own, count)
-        & !section_full(ws, count, own, text, abi, labels, refs)
+        & !section_full(sheets, count, own, news)
         & (end <= class_sheet::SHEET_WORDS)
-        & (end <= ws.len())
+        & (end <= sheets.set.len())
 }
 
 // Stores the indices of the field records from `first` on, in words whose field section begins at `at`.
 pub fn put_indices(set: &mut [u32], at: usize, first: u32, indices: &[u32])
     ensures { set.new ≡ put_indices at first indices.now set.old }
 {
-    let n = set.len();
-    if n <= at {
-        return;
-    }
-    let room = n - at;
-    let mut p: usize = MEMBER_WIDTH * words::wide(first) + class_sheet::FIELD_INDEX;
-    let mut j: usize = 0;
-    while j < indices.len() {
-        if room <= p {
-            return;
-        }
-        words::put_word(set, at + p, words::word_at(indices, j));
-        p += MEMBER_WIDTH;
-        j += 1;
+    for j in 0..indices.len() {
+        let place = MEMBER_WIDTH * ((first as usize) + j) + class_sheet::FIELD_INDEX;
+        words::put(set, at.saturating_add(place), indices[j]);
     }
 }
 
-// Copies bytes to the place `at` of others.
-fn put_part(bytes: &mut [u8], at: usize, part: &[u8])
-    requires { at + length part.now ≤ length bytes.old }
-    ensures { bytes.new ≡ write_at bytes.old at part.now }
+// Two strings, one after the other, from `at` on, where there is room for them, and else nothing; answers where they end, or `at`. A call of
+// its own, by whose arguments the compiler sees that the lists do not overlap: the library asks for memcpy, and not for memmove.
+#[inline(never)]
+#[tactic(auto, using(crate::proofs::GrowthLaws::strings_laid, crate::proofs::GrowthLaws::strings_end, crate::proofs::GrowthLaws::strings_none, crate::proofs::GrowthLaws::strings_stay))]
+pub fn put_strings(text: &mut [u8], at: usize, first: &[u8], second: &[u8]) -> usize
+    ensures is { text.new ≡ laid text.old at (first.now ++ second.now) }
+    ensures end { result ≡ laid_end text.old at (first.now ++ second.now) }
 {
-    let mut j: usize = 0;
-    while j < part.len() {
-        words::put_byte(bytes, at + j, words::byte_at(part, j));
-        j += 1;
+    let n = first.len() + second.len();
+    if (text.len() < n) || (text.len() - n < at) {
+        return at;
     }
+    let middle = at + first.len();
+    let end = middle + second.len();
+    text[at..middle].copy_from_slice(first);
+    text[middle..end].copy_from_slice(second);
+    end
 }
 
-// The name and then the descriptor of what r names, and where they end.
-fn put_name<'a>(
-    bytes: &mut [u8],
-    at: usize,
-    ws: &[u32],
-    text: &'a [u8],
-    abi: &[u32],
-    labels: &'a [u8],
-    r: u32,
-) -> usize
-    requires { at + length (ref_name ws.now text.now abi.now labels.now r ++ ref_descriptor ws.now text.now abi.now labels.now r) ≤ length bytes.old }
-    ensures is { bytes.new ≡ write_at bytes.old at (ref_name ws.now text.now abi.now labels.now r ++ ref_descriptor ws.now text.now abi.now labels.now r) }
-    ensures next { result ≡ at + length (ref_name ws.now text.now abi.now labels.now r ++ ref_descriptor ws.now text.now abi.now labels.now r) }
-{
-    let name = ref_name(ws, text, abi, labels, r);
-    let descriptor = ref_descriptor(ws, text, abi, labels, r);
-    let next = at + name.len();
-    put_part(bytes, at, name);
-    put_part(bytes, next, descriptor);
-    next + descriptor.len()
-}
-
-// The names and descriptors of the new members, one after the other.
-fn put_names<'a>(
-    bytes: &mut [u8],
-    at: usize,
-    ws: &[u32],
-    text: &'a [u8],
-    abi: &[u32],
-    labels: &'a [u8],
-    refs: &[u32],
-)
-    requires { at + length (new_text (named ws.now text.now abi.now labels.now refs.now)) ≤ length bytes.old }
-    ensures { bytes.new ≡ write_at bytes.old at (new_text (named ws.now text.now abi.now labels.now refs.now)) }
-{
-    let n = words::wide(new_count(refs));
-    let mut next: usize = at;
-    let mut i: usize = 0;
-    while i < n {
-        next = put_name(bytes, next, ws, text, abi, labels, words::word_at(refs, i));
-        i += 1;
-    }
-}
-
-// The record of a new member.
-fn put_record(
+// The record of a member whose name begins at byte `start` of the text, and its descriptor at byte `from`, where there is room for it, and
+// else nothing.
+#[tactic(auto, using(crate::proofs::GrowthLaws::member_laid, crate::proofs::GrowthLaws::member_none))]
+pub fn put_record(
     out: &mut [u32],
     at: usize,
     start: u32,
     name: u32,
+    from: u32,
     descriptor: u32,
     flags: u32,
     last: u32,
 )
-    requires { (at + member_width ≤ length out.old) × (start + (name + descriptor) < 2 ^ 32) }
-    ensures { out.new ≡ write_at out.old at (member_words start name (start + name) descriptor flags last) }
+    ensures { out.new ≡ laid out.old at (member_words start name from descriptor flags last) }
 {
+    if (out.len() < MEMBER_WIDTH) || (out.len() - MEMBER_WIDTH < at) {
+        return;
+    }
     let end = at + MEMBER_WIDTH;
     class_sheet::put_member(
         &mut out[at..end],
         start,
         name,
-        start + name,
+        from,
         descriptor,
         flags,
         last,
     );
 }
 
-// The records of the new members, whose names begin at byte `start` of the text.
-fn put_records<'a>(
-    out: &mut [u32],
-    at: usize,
-    start: u32,
-    ws: &[u32],
-    text: &'a [u8],
-    abi: &[u32],
-    labels: &'a [u8],
-    refs: &[u32],
-    flags: &[u32],
-    lasts: &[u32],
-)
-    requires { (at + member_width * new_count refs.now ≤ length out.old) × (start + length (new_text (named ws.now text.now abi.now labels.now refs.now)) ≤ text_limit) }
-    ensures { out.new ≡ write_at out.old at (new_records start (news ws.now text.now abi.now labels.now refs.now flags.now lasts.now)) }
+// Bytes as words, four a word, lowest first, zeros after the last, where there is room for them, and else nothing.
+pub fn put_packed(out: &mut [u32], at: usize, bytes: &[u8])
+    ensures { out.new ≡ laid out.old at (packed bytes.now) }
 {
-    let n = words::wide(new_count(refs));
-    let mut next: u32 = start;
-    let mut i: usize = 0;
-    while i < n {
-        let r = words::word_at(refs, i);
-        let name = ref_name(ws, text, abi, labels, r).len() as u32;
-        let descriptor = ref_descriptor(ws, text, abi, labels, r).len() as u32;
-        let flag = words::word_at(flags, i);
-        let last = words::word_at(lasts, i);
-        put_record(
-            out,
-            at + MEMBER_WIDTH * i,
-            next,
-            name,
-            descriptor,
-            flag,
-            last,
-        );
-        next += name + descriptor;
-        i += 1;
+    let n = bytes.len().div_ceil(4);
+    if (out.len() < n) || (out.len() - n < at) {
+        return;
+    }
+    for i in 0..n {
+        words::put(out, at + i, words::le_word(bytes, 4 * i));
     }
 }
 
-// Bytes as words, four a word, lowest first.
-fn put_packed(out: &mut [u32], at: usize, bytes: &[u8])
-    requires { (at + words_for (length bytes.now) ≤ length out.old) × (length bytes.now ≤ text_limit) }
-    ensures { out.new ≡ write_at out.old at (packed bytes.now) }
+// The names and descriptors of the new members, one after the other.
+fn put_names(bytes: &mut [u8], at: usize, sheets: Sheets, news: &News)
+    requires { at + length (new_text (of_sheets news_of sheets news.now)) ≤ length bytes.old }
+    ensures { bytes.new ≡ write_at bytes.old at (new_text (of_sheets news_of sheets.entry news.now)) }
 {
-    let n = (bytes.len() + 3) / 4;
-    let mut i: usize = 0;
-    while i < n {
-        words::put_word(out, at + i, words::le_word(bytes, 4 * i));
-        i += 1;
+    let mut next: usize = at;
+    for new in news.members() {
+        let own = ref_signature(sheets, new.names);
+        next = put_strings(bytes, next, own.name, own.descriptor);
+    }
+}
+
+// The records of the new members, whose names begin at byte `start` of the text.
+fn put_records(out: &mut [u32], at: usize, start: u32, sheets: Sheets, news: &News)
+    requires { (at + member_width * length news.now ≤ length out.old) × (start + length (new_text (of_sheets news_of sheets news.now)) ≤ text_limit) }
+    ensures { out.new ≡ write_at out.old at (new_records start (of_sheets news_of sheets.entry news.now)) }
+{
+    let mut next: u32 = start;
+    let mut place: usize = at;
+    for new in news.members() {
+        let own = ref_signature(sheets, new.names);
+        let name = own.name.len() as u32;
+        let descriptor = own.descriptor.len() as u32;
+        put_record(
+            out,
+            place,
+            next,
+            name,
+            next + name,
+            descriptor,
+            new.flags,
+            new.last,
+        );
+        place += MEMBER_WIDTH;
+        next += name + descriptor;
     }
 }
 
 // The text with the names and descriptors of the new members after it.
-fn put_text<'a>(
-    bytes: &mut [u8],
-    ws: &[u32],
-    text: &'a [u8],
-    abi: &[u32],
-    labels: &'a [u8],
-    refs: &[u32],
-)
-    requires { text_length ws.now + length (new_text (named ws.now text.now abi.now labels.now refs.now)) ≤ length bytes.old }
-    ensures { bytes.new ≡ write_at bytes.old 0 (text_of ws.now ++ new_text (named ws.now text.now abi.now labels.now refs.now)) }
+#[tactic(auto, using(crate::proofs::GrowthLaws::text_put))]
+fn put_text(bytes: &mut [u8], sheets: Sheets, news: &News)
+    requires { text_length sheets.set.now + length (new_text (of_sheets news_of sheets news.now)) ≤ length bytes.old }
+    ensures { bytes.new ≡ write_at bytes.old 0 (text_of sheets.entry.set.now ++ new_text (of_sheets news_of sheets.entry news.now)) }
 {
-    class_sheet::unpack_text(ws, bytes);
+    class_sheet::unpack_text(sheets.set, bytes);
     put_names(
         bytes,
-        words::wide(class_sheet::text_length(ws)),
-        ws,
-        text,
-        abi,
-        labels,
-        refs,
+        class_sheet::text_length(sheets.set) as usize,
+        sheets,
+        news,
     );
 }
 
 // The words from the grown section's end on.
-fn put_tail<'a>(
-    out: &mut [u32],
-    end: usize,
-    from: usize,
-    own: u32,
-    ws: &[u32],
-    text: &'a [u8],
-    abi: &[u32],
-    labels: &'a [u8],
-    refs: &[u32],
-    flags: &[u32],
-    lasts: &[u32],
-)
-    requires { (Room ws.now end from own (named ws.now text.now abi.now labels.now refs.now)) × (sheet_words ≤ length out.old) }
-    ensures { out.new ≡ write_at out.old 0 (tail_of ws.now end from own (news ws.now text.now abi.now labels.now refs.now flags.now lasts.now)) }
+fn put_tail(out: &mut [u32], end: usize, from: usize, own: u32, sheets: Sheets, news: &News)
+    requires { (Room sheets.set.now end from own (of_sheets news_of sheets news.now)) × (sheet_words ≤ length out.old) }
+    ensures { out.new ≡ write_at out.old 0 (tail_of sheets.entry.set.now end from own (of_sheets news_of sheets.entry news.now)) }
 {
-    let kept = MEMBER_WIDTH * words::wide(own);
-    let grown = kept + MEMBER_WIDTH * words::wide(new_count(refs));
-    let rest = class_sheet::text_at(ws) - end;
-    words::copy_words(ws, from, kept, out, 0);
-    put_records(
+    let kept = MEMBER_WIDTH * (own as usize);
+    let grown = kept + MEMBER_WIDTH * (news.len() as usize);
+    let rest = class_sheet::text_at(sheets.set) - end;
+    let start = class_sheet::text_length(sheets.set);
+    words::copy(sheets.set, from, kept, out, 0);
+    put_records(out, kept, start, sheets, news);
+    words::copy(sheets.set, end, rest, out, grown);
+    let mut bytes = [0u8; class_sheet::TEXT_LIMIT as usize];
+    put_text(&mut bytes, sheets, news);
+    put_packed(
         out,
-        kept,
-        class_sheet::text_length(ws),
-        ws,
+        grown + rest,
+        words::part(&bytes, 0, grown_text(sheets, news)),
+    );
+}
+
+// A section of `count` methods or fields, from word `at` on, which ends at word `end`, and a class's list in it: `own` from `first` on.
+#[derive(Clone, Copy)]
+struct Section {
+    count: u32,
+    first: u32,
+    own: u32,
+    at: usize,
+    end: usize,
+}
+
+fn methods_of(set: &[u32], c: u32) -> Section
+    ensures { result ≡ methods_of set.now c }
+{
+    Section {
+        count: class_sheet::method_count(set),
+        first: class_sheet::class_first_method(set, c),
+        own: class_sheet::class_method_count(set, c),
+        at: class_sheet::methods_at(set),
+        end: class_sheet::fields_at(set),
+    }
+}
+
+fn fields_of(set: &[u32], c: u32) -> Section
+    ensures { result ≡ fields_of set.now c }
+{
+    Section {
+        count: class_sheet::field_count(set),
+        first: class_sheet::class_first_field(set, c),
+        own: class_sheet::class_field_count(set, c),
+        at: class_sheet::fields_at(set),
+        end: class_sheet::interfaces_at(set),
+    }
+}
+
+// How many records a grown list has, and how many bytes the text.
+#[derive(Clone, Copy)]
+struct Grown {
+    members: u32,
+    bytes: u32,
+}
+
+// Copies the list's records to the end of their section, with the new ones after them, and the new names to the text's end, where there is
+// room, and else nothing.
+fn append<'a>(
+    set: &mut [u32],
+    list: Section,
+    text: &'a [u8],
+    abi: &'a [u32],
+    labels: &'a [u8],
+    news: &News,
+) -> Option<Grown>
+    requires { Placed set.old list }
+    ensures { (result, set.new) ≡ appended set.old list (news_of set.old text.now abi.now labels.now news.now) }
+{
+    let sheets = Sheets {
+        set,
         text,
         abi,
         labels,
-        refs,
-        flags,
-        lasts,
-    );
-    words::copy_words(ws, end, rest, out, grown);
-    let mut bytes = [0u8; class_sheet::TEXT_LIMIT as usize];
-    put_text(&mut bytes, ws, text, abi, labels, refs);
-    let n = words::wide(class_sheet::text_length(ws))
-        + new_text_length(ws, text, abi, labels, refs);
-    put_packed(out, grown + rest, words::part(&bytes, 0, n));
-}
-
-// The content with the list's records, which begin at `from`, and the new ones inserted at the section's end, and the new names.
-fn insert<'a>(
-    set: &mut [u32],
-    end: usize,
-    from: usize,
-    own: u32,
-    text: &'a [u8],
-    abi: &[u32],
-    labels: &'a [u8],
-    refs: &[u32],
-    flags: &[u32],
-    lasts: &[u32],
-)
-    requires { Room set.old end from own (named set.old text.now abi.now labels.now refs.now) }
-    ensures { set.new ≡ write_at set.old end (tail_of set.old end from own (news set.old text.now abi.now labels.now refs.now flags.now lasts.now)) }
-{
+    };
+    if !can_grow(sheets, list.count, list.first, list.own, news) {
+        return None;
+    }
+    let members = list.own + news.len();
+    let bytes = grown_text(sheets, news) as u32;
+    let from = list.at + MEMBER_WIDTH * (list.first as usize);
+    let n = grown_end(sheets, list.own, news) - list.end;
     let mut tail = [0u32; class_sheet::SHEET_WORDS];
-    put_tail(
-        &mut tail, end, from, own, set, text, abi, labels, refs, flags, lasts,
-    );
-    let n = grown_end(set, own, text, abi, labels, refs) - end;
-    words::copy_words(&tail, 0, n, set, end);
+    put_tail(&mut tail, list.end, from, list.own, sheets, news);
+    words::copy(&tail, 0, n, set, list.end);
+    Some(Grown { members, bytes })
 }
 
-// The counts of a grown method section and of the text, and class c's list: `members` from `count` on.
-fn put_method_counts(set: &mut [u32], c: u32, count: u32, members: u32, bytes: u32)
-    requires { count + members < 2 ^ 32 }
-    ensures { set.new ≡ methods_counted set.old c count members bytes }
+// The counts of a grown method section and of the text, and class c's list, from `count` on.
+#[tactic(auto, unfolding(crate::specs::Growth::methods_counted))]
+fn put_method_counts(set: &mut [u32], c: u32, count: u32, grown: Grown)
+    requires { count + grown.members < 2 ^ 32 }
+    ensures { set.new ≡ methods_counted set.old c count grown.members grown.bytes }
 {
-    class_sheet::put_method_count(set, count + members);
-    class_sheet::put_text_length(set, bytes);
+    class_sheet::put_method_count(set, count + grown.members);
+    class_sheet::put_text_length(set, grown.bytes);
     class_sheet::put_class_first_method(set, c, count);
-    class_sheet::put_class_method_count(set, c, members);
+    class_sheet::put_class_method_count(set, c, grown.members);
 }
 
-// The counts of a grown field section and of the text, and class c's list: `members` from `count` on.
-fn put_field_counts(set: &mut [u32], c: u32, count: u32, members: u32, bytes: u32)
-    requires { count + members < 2 ^ 32 }
-    ensures { set.new ≡ fields_counted set.old c count members bytes }
+// The same of a field section.
+#[tactic(auto, unfolding(crate::specs::Growth::fields_counted))]
+fn put_field_counts(set: &mut [u32], c: u32, count: u32, grown: Grown)
+    requires { count + grown.members < 2 ^ 32 }
+    ensures { set.new ≡ fields_counted set.old c count grown.members grown.bytes }
 {
-    class_sheet::put_field_count(set, count + members);
-    class_sheet::put_text_length(set, bytes);
+    class_sheet::put_field_count(set, count + grown.members);
+    class_sheet::put_text_length(set, grown.bytes);
     class_sheet::put_class_first_field(set, c, count);
-    class_sheet::put_class_field_count(set, c, members);
+    class_sheet::put_class_field_count(set, c, grown.members);
 }
 
 // Copies class c's methods to the end of their section, with the new ones after them, where there is room, and else nothing.
@@ -411,27 +356,16 @@ pub fn grow_methods<'a>(
     set: &mut [u32],
     c: u32,
     text: &'a [u8],
-    abi: &[u32],
+    abi: &'a [u32],
     labels: &'a [u8],
-    refs: &[u32],
-    flags: &[u32],
-    lasts: &[u32],
+    news: &News,
 )
-    ensures { set.new ≡ methods_grown set.old c (news set.old text.now abi.now labels.now refs.now flags.now lasts.now) }
+    ensures { set.new ≡ methods_grown set.old c (news_of set.old text.now abi.now labels.now news.now) }
 {
-    let count = class_sheet::method_count(set);
-    let first = class_sheet::class_first_method(set, c);
-    let own = class_sheet::class_method_count(set, c);
-    if !can_grow(set, count, first, own, text, abi, labels, refs) {
-        return;
+    let list = methods_of(set, c);
+    if let Some(grown) = append(set, list, text, abi, labels, news) {
+        put_method_counts(set, c, list.count, grown);
     }
-    let members = own + new_count(refs);
-    let bytes = words::wide(class_sheet::text_length(set))
-        + new_text_length(set, text, abi, labels, refs);
-    let end = class_sheet::fields_at(set);
-    let from = class_sheet::methods_at(set) + MEMBER_WIDTH * words::wide(first);
-    insert(set, end, from, own, text, abi, labels, refs, flags, lasts);
-    put_method_counts(set, c, count, members, bytes as u32);
 }
 
 // Copies class c's fields to the end of their section, with the new indices and the new fields, where there is room, and else nothing.
@@ -440,27 +374,16 @@ pub fn grow_fields<'a>(
     c: u32,
     indices: &[u32],
     text: &'a [u8],
-    abi: &[u32],
+    abi: &'a [u32],
     labels: &'a [u8],
-    refs: &[u32],
-    flags: &[u32],
-    lasts: &[u32],
+    news: &News,
 )
-    ensures { set.new ≡ fields_grown set.old c indices.now (news set.old text.now abi.now labels.now refs.now flags.now lasts.now) }
+    ensures { set.new ≡ fields_grown set.old c indices.now (news_of set.old text.now abi.now labels.now news.now) }
 {
-    let count = class_sheet::field_count(set);
-    let first = class_sheet::class_first_field(set, c);
-    let own = class_sheet::class_field_count(set, c);
-    if !can_grow(set, count, first, own, text, abi, labels, refs) {
-        return;
+    let list = fields_of(set, c);
+    if let Some(grown) = append(set, list, text, abi, labels, news) {
+        let copied = list.end + MEMBER_WIDTH * (list.own as usize);
+        put_indices(&mut set[list.end..copied], 0, 0, indices);
+        put_field_counts(set, c, list.count, grown);
     }
-    let members = own + new_count(refs);
-    let bytes = words::wide(class_sheet::text_length(set))
-        + new_text_length(set, text, abi, labels, refs);
-    let end = class_sheet::interfaces_at(set);
-    let from = class_sheet::fields_at(set) + MEMBER_WIDTH * words::wide(first);
-    insert(set, end, from, own, text, abi, labels, refs, flags, lasts);
-    let copied = end + MEMBER_WIDTH * words::wide(own);
-    put_indices(&mut set[end..copied], 0, 0, indices);
-    put_field_counts(set, c, count, members, bytes as u32);
 }

@@ -1,14 +1,7 @@
 -- Numbers fall along a chain, so that it has no more classes than its first one's number (`chain_length`), which by row 6 is at most the count, and that by
 -- row 3 at most 64. Assumes nothing.
-use mathlib.Core.Path.{◌≡◌, refl}
-use mathlib.Core.Logic.{◌≢◌, ⊎_elim}
-use mathlib.Core.Bool.{Bool, true, false, cond, not, ◌&&◌, ◌||◌}
-use mathlib.Core.List.{List, [], ◌∷◌}
-use Prim.Native.Nat.{ℕ, ◌*◌, ◌/◌, ◌≤◌}
-use native.Mathlib.Omega.{arith}
-use lib.ListN.{length}
-use lib.Dec.{eqb, ltb}
-use borrow.Author.Tests.{eqb-true, eqb-false, ltb-false}
+use Rattle.std.proofs.Common.{◌≡◌, refl, ◌≢◌, ⊎_elim, Bool, true, false, cond, not, ◌&&◌, ◌||◌, List, [], ◌∷◌, ℕ, ◌*◌, ◌/◌, ◌≤◌, arith, length, eqb, ltb, eqb-true, ltb-false}
+use borrow.Author.Tests.{eqb-false}
 use Rattle.words.specs.Lists.{list_from}
 use Rattle.words.proofs.Bools.{or-neither}
 use Rattle.class_sheet.specs.ClassSheet.{class_width, class_count, text_of}
@@ -17,6 +10,7 @@ use Rattle.class_rules.specs.ClassRules.{class_records}
 use Rattle.abi_rules.specs.AbiRules.{abi_records}
 use Rattle.set_rules.specs.SetRules.{set_fits, class_descriptors, abi_descriptors, records_refusal, set_refusal}
 use Rattle.set_rules.proofs.Valid.{valid_exactly}
+use Rattle.convert.proofs.Few.{at_most}
 use Rattle.linking.specs.Chain.{parent_of, chain}
 use Rattle.linking.specs.Link.{no_class, is_linked, bad_array, bad_class, Outcome, refused_call, LinkOutcome, refused_link, link_def}
 use Rattle.linking.specs.Ask.{bad_ask, ask_def}
@@ -31,21 +25,14 @@ unfolding no_class
 class-short ws c few h d l =
     let among = ltb-false (class_count ws) c (or-neither (eqb c 0) (ltb (class_count ws) c) h).1 in omega (arith, chain_length ws d)
 
-few-classes : (ws abi : List ℕ) → set_refusal ws abi ≡ 0 → class_count ws ≤ 64
-few-classes ws abi e = ((valid_exactly ws abi).0 e).0.number_of_classes
-
 -- ---- rows 3 to 6 of a call
-
-at_most : (b : Bool) (x y : ℕ) → x ≤ 5 → y ≤ 5 → cond b x y ≤ 5
-at_most true x y h k = h
-at_most false x y h k = k
 
 set-rows : (ws abi : List ℕ) → set_refusal ws abi ≤ 5
 unfolding set_refusal records_refusal
 set-rows ws abi =
-    at_most (not (set_fits ws abi)) 3 _ (omega arith)
-    (at_most (not (class_records ws (text_of ws) && abi_records abi (abi_text_of abi))) 4 _ (omega arith)
-    (at_most (not (class_descriptors ws (text_of ws) && abi_descriptors abi (abi_text_of abi))) 5 0 (omega arith) (omega arith)))
+    at_most 5 (not (set_fits ws abi)) 3 _ (omega arith)
+    (at_most 5 (not (class_records ws (text_of ws) && abi_records abi (abi_text_of abi))) 4 _ (omega arith)
+    (at_most 5 (not (class_descriptors ws (text_of ws) && abi_descriptors abi (abi_text_of abi))) 5 0 (omega arith) (omega arith)))
 
 -- a number from 1 to 6 has not passed
 refused : (row : ℕ) → row ≢ 0 → row ≤ 6 → Passed row → ⊥
@@ -65,7 +52,7 @@ link-short ws abi c area stubs missing p =
     let q = both-passed number (λ n. refused_link n ws area missing) (λ n. refl) (set_refusal ws abi) _ (bad_class ws (text_of ws) c) _ refl (set-rows ws abi) p in
     let a = or-neither (no_class ws c || is_linked ws c || (not (eqb (parent_of ws c) 0) && not (is_linked ws (parent_of ws c)))) (bad_array ws (text_of ws) c) q.1 in
     let b = or-neither (no_class ws c || is_linked ws c) (not (eqb (parent_of ws c) 0) && not (is_linked ws (parent_of ws c))) a.0 in
-    class-short ws c (few-classes ws abi q.0) (or-neither (no_class ws c) (is_linked ws c) b.0).0
+    class-short ws c (((valid_exactly ws abi).0 q.0).0.number_of_classes) (or-neither (no_class ws c) (is_linked ws c) b.0).0
 
 ask-short : (ws abi : List ℕ) (c i : ℕ) (area stubs : List ℕ) → Passed (ask_def ws abi c i area stubs).refusal → Short ws c × Short ws i
 unfolding ask_def bad_ask
@@ -75,7 +62,7 @@ ask-short ws abi c i area stubs p =
     let a = or-neither (no_class ws c || no_class ws i || not (is_linked ws c)) (not (is_linked ws i)) q.1 in
     let b = or-neither (no_class ws c || no_class ws i) (not (is_linked ws c)) a.0 in
     let d = or-neither (no_class ws c) (no_class ws i) b.0 in
-    let few = few-classes ws abi q.0 in
+    let few = ((valid_exactly ws abi).0 q.0).0.number_of_classes in
     (class-short ws c few d.0, class-short ws i few d.1)
 
 -- ---- THE THEOREM

@@ -1,21 +1,12 @@
 -- Refused calls do no harm (specs/Harmless.antt). Assumes nothing.
-use mathlib.Core.Path.{◌≡◌, refl, sym, ap, subst}
-use mathlib.Core.Logic.{◌≢◌, ◌⊎◌, inl, inr}
-use mathlib.Core.Bool.{Bool, true, false, cond, not, ◌&&◌, ◌||◌}
-use mathlib.Core.List.{List, [], ◌∷◌, ◌++◌}
-use Prim.Native.Nat.{ℕ, ◌+◌, ◌*◌, ◌≤◌}
-use native.Mathlib.Omega.{arith}
-use lib.ListN.{length, get_or, drop}
-use lib.Dec.{eqb, ltb}
+use Rattle.std.proofs.Common.{◌≡◌, refl, sym, ap, subst, ◌≢◌, ◌⊎◌, inl, inr, Bool, true, false, cond, not, ◌&&◌, ◌||◌, List, [], ◌∷◌, ◌++◌, ℕ, ◌+◌, ◌*◌, ◌≤◌, arith, length, get_or, drop, eqb, ltb, Option, Some, None}
 use Rattle.words.specs.Folds.{all_of}
-use Rattle.words.specs.declared.Found.{Found}
-use Rattle.words.specs.declared.Found.TheVariants.{At, Nothing}
-use Rattle.block.specs.Block.{block_count, check_ok, shape_ok}
+use Rattle.block.specs.Block.{block_count, check_ok, shape_ok, sheet_words}
 use Rattle.class_sheet.specs.ClassSheet.{block_limit, is_built_kind, is_generated, is_packaged, class_kind, class_flags, class_compiler_table, text_of, method_name, method_descriptor}
 use Rattle.abi_sheet.specs.AbiSheet.{abi_block_limit, abi_text_of}
 use Rattle.class_rules.specs.ClassRules.{class_form, class_records}
 use Rattle.abi_rules.specs.AbiRules.{abi_form, abi_records}
-use Rattle.set_rules.specs.SetRules.{class_descriptors, abi_descriptors, class_refusal, abi_refusal, set_fits, records_refusal, set_refusal}
+use Rattle.set_rules.specs.SetRules.{class_descriptors, abi_descriptors, abi_refusal, set_fits, records_refusal, set_refusal}
 use Rattle.descriptor.specs.Words as descriptor
 use Rattle.descriptor.specs.Words.{is_method, argument_answer}
 use Rattle.references.specs.References as references
@@ -26,8 +17,8 @@ use Rattle.writer.specs.Writer as writer
 use Rattle.writer.specs.Writer.{write_refusal, write_class_sheet}
 use Rattle.renumber.specs.Renumber as renumber
 use Rattle.renumber.specs.Renumber.{renumber_refusal, renumber_def}
+use Rattle.convert.proofs.Few.{at_most, class-few}
 use Rattle.convert.specs.Convert.{blocks_or_row, forward, narrowed, widen_refusal, widen_sheet, narrow_refusal, narrow_sheet}
-use Rattle.block.specs.Block.{sheet_words}
 use Rattle.linking.specs.Chain.{is_interface, eligible, on_found, own_fields}
 use Rattle.linking.specs.Abi.{class_abi}
 use Rattle.linking.specs.Packages.{bad_packages}
@@ -172,14 +163,14 @@ within-set Q three four five ws abi =
 -- ---- rows 8 to 13, of a plan
 
 module _ (Q : ℕ → Type 0) (all : (n : ℕ) → 3 ≤ n → n ≤ 15 → Q n) (ws text abi labels area : List ℕ) where
-  put-row : (fixed slot : Found) (m : ℕ) (T : List Entry) → Table Q (put_method ws text fixed slot m T)
+  put-row : (fixed slot : Option ℕ) (m : ℕ) (T : List Entry) → Table Q (put_method ws text fixed slot m T)
   unfolding put_method
-  put-row (At i) slot m T =
+  put-row (Some i) slot m T =
       table-either Q (on_found slot (λ j. not (eqb j i)) false) (refused 11) _ (no_table 11 (λ h. all 11 (omega arith) (omega arith)))
       (table-either Q (entry_is_other ws text (method_name ws text m) (method_descriptor ws text m) (get_or T i empty)) (refused 12) _
       (no_table 12 (λ h. all 12 (omega arith) (omega arith))) (a-table _))
-  put-row Nothing (At j) m T = a-table _
-  put-row Nothing Nothing m T = a-table _
+  put-row None (Some j) m T = a-table _
+  put-row None None m T = a-table _
 
   add_row : (abis : List ℕ) (m : ℕ) (T : List Entry) → Table Q (add_method ws text abi labels abis m T)
   unfolding add_method
@@ -283,18 +274,18 @@ module _ (Q : ℕ → Type 0) (three : Q 3) (four : Q 4) (five : Q 5) (six : Q 6
 
 module _ (Q : ℕ → Type 0) (three : Q 3) (four : Q 4) (five : Q 5) (six : Q 6) (seven : Q 7) (fifteen : Q 15) (sixteen : Q 16)
     (ws abi : List ℕ) (c i : ℕ) (area stubs : List ℕ) where
-  entry_row : (e : Entry) (m k : Found) (b : Built) → Table Q b → Table Q (cons_entry (dispatch_entry ws e m k) b)
-  entry_row e (At m) (At k) (built T) p = a-table _
-  entry_row e (At m) (At k) (refused n) p = p
-  entry_row e (At m) Nothing b p = no_table 16 (λ h. sixteen)
-  entry_row e Nothing k (built T) p = a-table _
-  entry_row e Nothing k (refused n) p = p
+  entry_row : (e : Entry) (m k : Option ℕ) (b : Built) → Table Q b → Table Q (cons_entry (dispatch_entry ws e m k) b)
+  entry_row e (Some m) (Some k) (built T) p = a-table _
+  entry_row e (Some m) (Some k) (refused n) p = p
+  entry_row e (Some m) None b p = no_table 16 (λ h. sixteen)
+  entry_row e None k (built T) p = a-table _
+  entry_row e None k (refused n) p = p
 
   entries-row : (T : List Entry) → Table Q (dispatch_entries ws (text_of ws) c T)
   unfolding dispatch_entries
   entries-row [] = a-table _
   entries-row (e ∷ T) =
-      entry_row e e.method (on_found e.method (implementation ws (text_of ws) c) Nothing) (dispatch_entries ws (text_of ws) c T) (entries-row T)
+      entry_row e e.method (on_found e.method (implementation ws (text_of ws) c) None) (dispatch_entries ws (text_of ws) c T) (entries-row T)
 
   abbrev ask_row : Outcome → ℕ
   ask_row o = o.refusal
@@ -337,10 +328,6 @@ module _ (Q : ℕ → Type 0) (three : Q 3) (four : Q 4) (five : Q 5) (six : Q 6
 
 -- ---- the numbers of a reading
 
-at_most : (most : ℕ) (b : Bool) (x y : ℕ) → x ≤ most → y ≤ most → cond b x y ≤ most
-at_most most true x y h k = h
-at_most most false x y h k = k
-
 sheet-few : (most limit : ℕ) (rows : List ℕ → ℕ) (bs : List ℕ) (room : ℕ) → 2 ≤ most → ((ws : List ℕ) → rows ws ≤ most)
     → sheet_refusal limit rows bs room ≤ most
 unfolding sheet_refusal block_refusal
@@ -356,12 +343,6 @@ read-few most refusal bs ws h = chosen (eqb (refusal bs (length ws)) 0)
         (record { refusal = refusal bs (length ws); words = 0; memory = ws })).refusal ≤ most
     chosen true = omega arith
     chosen false = h
-
-class-few : (ws : List ℕ) → class_rows ws ≤ 5
-unfolding class_rows class_refusal
-class-few ws =
-    at_most 5 (not (class_form ws)) 3 _ (omega arith)
-    (at_most 5 (not (class_records ws (text_of ws))) 4 _ (omega arith) (at_most 5 (not (class_descriptors ws (text_of ws))) 5 0 (omega arith) (omega arith)))
 
 loose_few : (ws : List ℕ) → loose_rows ws ≤ 3
 unfolding loose_rows

@@ -3,145 +3,66 @@
 // go into a small lent array, which is always written: zeros if the call is refused.
 #![tactic(auto)]
 
-ghost use Rattle.std.specs.Prelude.{◌≡◌, List, [], ℕ};
+ghost use Rattle.std.specs.Prelude.{◌≡◌, [], ◌∷◌, MatchResult, replicate};
+ghost use Rattle.refusal.specs.Rows.{row_of};
 ghost use Rattle.linking.specs.Link.{link_def};
 ghost use Rattle.linking.specs.Ask.{ask_def};
 ghost use Rattle.linking.specs.Missing.{missing_def};
-ghost use Rattle.missing.specs.Lists.{answered};
-ghost use Rattle.area.specs.Area.{outcome};
 ghost use Rattle.sheet.specs.Sheet.{read_class_sheet, read_abi_sheet, read_unordered_sheet};
-ghost use Rattle.sheet.specs.Sheet as readings;
 ghost use Rattle.renumber.specs.Renumber.{renumber_def};
-ghost use Rattle.renumber.specs.Renumber as renumberings;
 ghost use Rattle.writer.specs.Writer.{write_class_sheet};
-ghost use Rattle.writer.specs.Writer as writings;
 ghost use Rattle.convert.specs.Convert.{widen_sheet, narrow_sheet};
 ghost use Rattle.descriptor.specs.Words.{argument_answer};
 ghost use Rattle.references.specs.References.{read_references, count_references};
-ghost use Rattle.references.specs.References as bitmaps;
 ghost use Rattle.class_members.specs.Members.{read_class_file, class_file_head};
-ghost use Rattle.class_members.specs.Members as files;
 ghost use Rattle.lgt_linker.specs.Exported.{called, linked_by, counted_by, read_by, written_by, renumbered_by, arguments_by, compared_by, compare_names, references_by, file_by};
 
 use area::Answer;
-use class_members::FileRead;
-use descriptor::DescriptorWords;
-use missing::Missing;
-use references::References;
-use renumber::Renumbered;
-use sheet::Read;
-use writer::Written;
+use class_members::FileHead;
+use refusal::Refusal;
 
-// Hands out a link's or an ask's answer.
-fn give_call(a: Answer, answer: &mut [u32; 2]) -> u32
-    ensures { (ws area : List ℕ) → called result answer.new ws area ≡ outcome a ws area }
+// Hands out an answer's words, zeros where the call is refused, and returns the refusal's number, 0 if it is accepted.
+fn give<T: Copy, const N: usize>(
+    answer: Result<[T; N], Refusal>,
+    zero: T,
+    words: &mut [T; N],
+) -> u32
+    ensures row { result ≡ row_of answer }
+    ensures words { MatchResult answer (λ given. words.new ≡ given) (λ _. words.new ≡ replicate N zero) }
 {
-    match a {
-        Answer::Done(first, second) => {
-            *answer = [first, second];
-            0
-        }
-        Answer::Refused(row) => {
-            *answer = [0, 0];
-            row
-        }
+    *words = answer.unwrap_or([zero; N]);
+    match answer {
+        Ok(_) => 0,
+        Err(refusal) => u32::from(refusal),
     }
 }
 
-// Hands out the answer of a question for missing slots.
-fn give_missing(a: Missing, answer: &mut [u32; 1]) -> u32
-    ensures { counted_by result answer.new ≡ answered a }
+// An answer of one word.
+fn word<T: Copy>(n: T) -> [T; 1]
+    ensures { result ≡ n ∷ [] }
 {
-    match a {
-        Missing::Count(n) => {
-            *answer = [n];
-            0
-        }
-        Missing::Refused(row) => {
-            *answer = [0];
-            row
-        }
-    }
+    [n]
 }
 
-// Hands out a reading's answer.
-fn give_read(a: Read, answer: &mut [u32; 1]) -> u32
-    ensures { (ws : List ℕ) → read_by result answer.new ws ≡ readings.outcome a ws }
+// A link's or an ask's two words.
+fn call_words(answer: Answer) -> [u32; 2]
+    ensures { result ≡ answer.first ∷ answer.second ∷ [] }
 {
-    match a {
-        Read::Words(n) => {
-            *answer = [n];
-            0
-        }
-        Read::Refused(row) => {
-            *answer = [0];
-            row
-        }
-    }
+    [answer.first, answer.second]
 }
 
-// Hands out the answer of a writing or a conversion.
-fn give_written(a: Written, answer: &mut [u32; 1]) -> u32
-    ensures { (bs : List ℕ) → written_by result answer.new bs ≡ writings.outcome a bs }
+// A class file's six words.
+fn file_words(head: FileHead) -> [u32; 6]
+    ensures { result ≡ head.name ∷ head.parent ∷ head.flags ∷ head.fields ∷ head.methods ∷ head.text ∷ [] }
 {
-    match a {
-        Written::Blocks(n) => {
-            *answer = [n];
-            0
-        }
-        Written::Refused(row) => {
-            *answer = [0];
-            row
-        }
-    }
-}
-
-// Hands out a renumbering's answer.
-fn give_renumbered(a: Renumbered, answer: &mut [u32; 1]) -> u32
-    ensures { (ws order : List ℕ) → renumbered_by result answer.new ws order ≡ renumberings.outcome a ws order }
-{
-    match a {
-        Renumbered::Classes(n) => {
-            *answer = [n];
-            0
-        }
-        Renumbered::Refused(row) => {
-            *answer = [0];
-            row
-        }
-    }
-}
-
-// Hands out the answer of a bitmap's reader.
-fn give_references(a: References, answer: &mut [u32; 1]) -> u32
-    ensures { (list : List ℕ) → references_by result answer.new list ≡ bitmaps.outcome a list }
-{
-    match a {
-        References::Count(n) => {
-            *answer = [n];
-            0
-        }
-        References::Refused(row) => {
-            *answer = [0];
-            row
-        }
-    }
-}
-
-// Hands out the answer of a class file's reader.
-fn give_file(a: FileRead, answer: &mut [u32; 6]) -> u32
-    ensures { (fields methods text : List ℕ) → file_by result answer.new fields methods text ≡ files.file_outcome a fields methods text }
-{
-    match a {
-        FileRead::Members(h) => {
-            *answer = [h.name, h.parent, h.flags, h.fields, h.methods, h.text];
-            0
-        }
-        FileRead::Refused(row) => {
-            *answer = [0, 0, 0, 0, 0, 0];
-            row
-        }
-    }
+    [
+        head.name,
+        head.parent,
+        head.flags,
+        head.fields,
+        head.methods,
+        head.text,
+    ]
 }
 
 // `sheet::read_class_sheet`: the answer word is the number of words filled.
@@ -153,7 +74,7 @@ pub extern "C" fn lgt_read_class_sheet(
 ) -> u32
     ensures { read_by result answer.new words.new ≡ read_class_sheet bytes.now words.old }
 {
-    give_read(sheet::read_class_sheet(bytes, words), answer)
+    give(sheet::read_class_sheet(bytes, words).map(word), 0, answer)
 }
 
 // `sheet::read_abi_sheet`: the answer word is the number of words filled.
@@ -161,7 +82,7 @@ pub extern "C" fn lgt_read_class_sheet(
 pub extern "C" fn lgt_read_abi_sheet(bytes: &[u8], words: &mut [u32], answer: &mut [u32; 1]) -> u32
     ensures { read_by result answer.new words.new ≡ read_abi_sheet bytes.now words.old }
 {
-    give_read(sheet::read_abi_sheet(bytes, words), answer)
+    give(sheet::read_abi_sheet(bytes, words).map(word), 0, answer)
 }
 
 // `writer::write_class_sheet`: the answer word is the number of blocks written; the set is only read.
@@ -169,7 +90,7 @@ pub extern "C" fn lgt_read_abi_sheet(bytes: &[u8], words: &mut [u32], answer: &m
 pub extern "C" fn lgt_write_class_sheet(set: &[u32], bytes: &mut [u8], answer: &mut [u32; 1]) -> u32
     ensures { written_by result answer.new bytes.new ≡ write_class_sheet set.now bytes.old }
 {
-    give_written(writer::write_class_sheet(set, bytes), answer)
+    give(writer::write_class_sheet(set, bytes).map(word), 0, answer)
 }
 
 // `convert::widen_class_sheet`: the answer word is the number of blocks written; the old sheet is only read.
@@ -177,7 +98,7 @@ pub extern "C" fn lgt_write_class_sheet(set: &[u32], bytes: &mut [u8], answer: &
 pub extern "C" fn lgt_widen_class_sheet(bytes: &[u8], out: &mut [u8], answer: &mut [u32; 1]) -> u32
     ensures { written_by result answer.new out.new ≡ widen_sheet bytes.now out.old }
 {
-    give_written(convert::widen_class_sheet(bytes, out), answer)
+    give(convert::widen_class_sheet(bytes, out).map(word), 0, answer)
 }
 
 // `convert::narrow_class_sheet`: the answer word is the number of blocks written; the new sheet is only read.
@@ -185,7 +106,7 @@ pub extern "C" fn lgt_widen_class_sheet(bytes: &[u8], out: &mut [u8], answer: &m
 pub extern "C" fn lgt_narrow_class_sheet(bytes: &[u8], out: &mut [u8], answer: &mut [u32; 1]) -> u32
     ensures { written_by result answer.new out.new ≡ narrow_sheet bytes.now out.old }
 {
-    give_written(convert::narrow_class_sheet(bytes, out), answer)
+    give(convert::narrow_class_sheet(bytes, out).map(word), 0, answer)
 }
 
 // `sheet::read_unordered_sheet`: the answer word is the number of words filled.
@@ -197,7 +118,11 @@ pub extern "C" fn lgt_read_unordered_sheet(
 ) -> u32
     ensures { read_by result answer.new words.new ≡ read_unordered_sheet bytes.now words.old }
 {
-    give_read(sheet::read_unordered_sheet(bytes, words), answer)
+    give(
+        sheet::read_unordered_sheet(bytes, words).map(word),
+        0,
+        answer,
+    )
 }
 
 // `renumber::renumber_classes`: the answer word is the number of classes.
@@ -209,7 +134,7 @@ pub extern "C" fn lgt_renumber_classes(
 ) -> u32
     ensures { renumbered_by result answer.new set.new order.new ≡ renumber_def set.old order.old }
 {
-    give_renumbered(renumber::renumber_classes(set, order), answer)
+    give(renumber::renumber_classes(set, order).map(word), 0, answer)
 }
 
 // `link::link`: the answer words are the table's place and its slots.
@@ -226,7 +151,8 @@ pub extern "C" fn lgt_link(
     ensures { linked_by result answer.new set.new area.new missing.new
         ≡ link_def set.old abi.now class area.old stubs.now missing.old }
 {
-    give_call(link::link(set, abi, class, area, stubs, missing), answer)
+    let linked = link::link(set, abi, class, area, stubs, missing).map(call_words);
+    give(linked, 0, answer)
 }
 
 // `missing::missing_slots`: the answer word is the count.
@@ -240,7 +166,11 @@ pub extern "C" fn lgt_missing_slots(
 ) -> u32
     ensures { counted_by result answer.new ≡ missing_def set.now abi.now missing.now class }
 {
-    give_missing(missing::missing_slots(set, abi, missing, class), answer)
+    give(
+        missing::missing_slots(set, abi, missing, class).map(word),
+        0,
+        answer,
+    )
 }
 
 // `ask::interface_dispatch_table`: the answer words are the interface table's place and the nodes read; the set is only read.
@@ -256,10 +186,8 @@ pub extern "C" fn lgt_interface_dispatch_table(
 ) -> u32
     ensures { called result answer.new set.now area.new ≡ ask_def set.now abi.now class interface area.old stubs.now }
 {
-    give_call(
-        ask::interface_dispatch_table(set, abi, class, interface, area, stubs),
-        answer,
-    )
+    let table = ask::interface_dispatch_table(set, abi, class, interface, area, stubs);
+    give(table.map(call_words), 0, answer)
 }
 
 // `descriptor::argument_words`: the answer word is their number.
@@ -267,26 +195,22 @@ pub extern "C" fn lgt_interface_dispatch_table(
 pub extern "C" fn lgt_argument_words(descriptor: &[u8], flags: u32, answer: &mut [u64; 1]) -> u32
     ensures { arguments_by result answer.new ≡ argument_answer descriptor.now flags }
 {
-    match descriptor::argument_words(descriptor, flags) {
-        DescriptorWords::Count(n) => {
-            *answer = [n];
-            0
-        }
-        DescriptorWords::Refused => {
-            *answer = [0];
-            5
-        }
-    }
+    give(
+        descriptor::argument_words(descriptor, flags).map(word),
+        0,
+        answer,
+    )
 }
 
 // `text::compare`: the answer words are 1 for the same names and 0 for others, and the pairs of bytes read. Nothing is refused. The papers give no numbers for
 // same and other: 1 and 0 are our choice.
 #[unsafe(no_mangle)]
+#[tactic(auto, unfolding(crate::specs::Exported::compare_names))]
 pub extern "C" fn lgt_compare_names(a: &[u8], b: &[u8], answer: &mut [u64; 2]) -> u32
     ensures { compared_by result answer.new ≡ compare_names a.now b.now }
 {
     let c = text::compare(a, b);
-    *answer = [if c.same { 1 } else { 0 }, c.pairs as u64];
+    *answer = [u64::from(c.same), c.pairs as u64];
     0
 }
 
@@ -300,7 +224,11 @@ pub extern "C" fn lgt_reference_words(
 ) -> u32
     ensures { references_by result answer.new list.new ≡ read_references bitmap.now words list.old }
 {
-    give_references(references::reference_words(bitmap, words, list), answer)
+    give(
+        references::reference_words(bitmap, words, list).map(word),
+        0,
+        answer,
+    )
 }
 
 // `references::reference_count`: the answer word is the count.
@@ -308,7 +236,11 @@ pub extern "C" fn lgt_reference_words(
 pub extern "C" fn lgt_reference_count(bitmap: &[u8], words: u32, answer: &mut [u32; 1]) -> u32
     ensures { references_by result answer.new [] ≡ count_references bitmap.now words }
 {
-    give_references(references::reference_count(bitmap, words), answer)
+    give(
+        references::reference_count(bitmap, words).map(word),
+        0,
+        answer,
+    )
 }
 
 // `class_file::read_class_file`: the answer words are the lengths of the class's and of the parent's name, the flags, and how many fields,
@@ -324,10 +256,8 @@ pub extern "C" fn lgt_read_class_file(
 ) -> u32
     ensures { file_by result answer.new fields.new methods.new text.new ≡ read_class_file bytes.now targets.now fields.old methods.old text.old }
 {
-    give_file(
-        class_file::read_class_file(bytes, targets, fields, methods, text),
-        answer,
-    )
+    let head = class_file::read_class_file(bytes, targets, fields, methods, text);
+    give(head.map(file_words), 0, answer)
 }
 
 // `class_file::class_file_head`: the same words without lists.
@@ -335,5 +265,9 @@ pub extern "C" fn lgt_read_class_file(
 pub extern "C" fn lgt_class_file_head(bytes: &[u8], answer: &mut [u32; 6]) -> u32
     ensures { file_by result answer.new [] [] [] ≡ class_file_head bytes.now }
 {
-    give_file(class_file::class_file_head(bytes), answer)
+    give(
+        class_file::class_file_head(bytes).map(file_words),
+        0,
+        answer,
+    )
 }

@@ -8,7 +8,7 @@ use native.Mathlib.Omega.{arith}
 use lib.ListN.{length}
 use lib.Dec.{eqb, ltb}
 use borrow.Author.Tests.{eqb-true, eqb-false, ltb-true, ltb-false}
-use Rattle.words.specs.declared.Found.TheVariants.{At}
+use Rattle.std.specs.Prelude.{Some}
 use Rattle.words.proofs.Bools.{by}
 use Rattle.words.proofs.ListLaws.{by-found, found-by}
 use Rattle.class_sheet.specs.ClassSheet.{class_width, first_method_word, method_count_word, first_field_word, field_count_word, slot_count_word, class_count, method_count, field_count, content_end, class_name_length, class_first_method, class_method_count, class_first_field, class_slot_count, method_name_length, method_descriptor_length, class_word}
@@ -61,16 +61,16 @@ valid-bounded ws v = record {
 -- ---- what Reading finds, and what an ABI entry fixes, is short
 
 module _ (ws text abi labels : List ℕ) (b : Bounded ws) (v : ValidAbi abi) where
-  pub read_short : (c i w m : ℕ) → c ≤ class_count ws → (read_entry ws text abi labels c i w).method ≡ At m → ShortMethod ws m
+  pub read_short : (c i w m : ℕ) → c ≤ class_count ws → (read_entry ws text abi labels c i w).method ≡ Some m → ShortMethod ws m
   read_short c i w m h e = b.method m (read-room ws text abi labels b.list c i w m h e)
 
   short-slot : (s : ℕ) → s < abi_slot_count abi → ShortSlot abi s
   short-slot s h = let x = v.slot s h in (x.name.short, x.descriptor.short)
 
-  slot-short : (i a s d : ℕ) → class_abi ws text abi labels d ≡ At a → slot_at abi i a ≡ At s → ShortSlot abi s
+  slot-short : (i a s d : ℕ) → class_abi ws text abi labels d ≡ Some a → slot_at abi i a ≡ Some s → ShortSlot abi s
   slot-short i a s d e f = short-slot s (slot-room ws text abi labels (λ a k. (v.class a k).slots) i a s d e f)
 
-  own-slot-short : (i d s : ℕ) → own_slot ws text abi labels i d ≡ At s → ShortSlot abi s
+  own-slot-short : (i d s : ℕ) → own_slot ws text abi labels i d ≡ Some s → ShortSlot abi s
   unfolding own_slot
   own-slot-short i d s e =
       by-found (class_abi ws text abi labels d) (λ a q. slot-short i a s d q (rw q at e)) (λ q. not_found (rw q at e))

@@ -55,13 +55,3 @@ decimal-one n h = rw (lt-ltb _ _ h)
 pub decimal-more : (n : ℕ) → 10 ≤ n → decimal n ≡ decimal (n / 10) ++ ((48 + n % 10) ∷ [])
 unfolding decimal digits
 decimal-more n h = rw (le-ltb _ _ h) (ap (λ (l : List ℕ). l ++ ((48 + n % 10) ∷ [])) (digits-bound n (suc (n / 10)) (n / 10) (omega arith) (omega arith)))
-
--- one digit is put, or the digits before the last one and then that
-pub put_digit : (p : List ℕ × ℕ) (n : ℕ) {q : List ℕ × ℕ} {b : ℕ} → n < 10 → b ≡ 48 + n → q ≡ put_byte p b → q ≡ put p (decimal n)
-unfolding put fold
-put_digit p n h e g = g ∙ rw (e, decimal-one n h)
-
-pub put-digits : (p : List ℕ × ℕ) (n : ℕ) {q r : List ℕ × ℕ} {b : ℕ} → 10 ≤ n → q ≡ put p (decimal (n / 10)) → b ≡ 48 + n % 10 → r ≡ put_byte q b
-    → r ≡ put p (decimal n)
-put-digits p n {b = b} h f e g =
-    rw (decimal-more n h) (then p (decimal (n / 10)) ((48 + n % 10) ∷ []) f (put_one _ (48 + n % 10) (g ∙ rw e)))

@@ -7,8 +7,8 @@ use lib.ListN.{length, get_or, drop, length-append, length-take}
 use lib.Dec.{ltb}
 use borrow.Author.Tests.{ltb-false}
 use Rattle.words.specs.Lists.{list_from}
-use Rattle.words.specs.declared.Found.{Found}
-use Rattle.words.specs.declared.Found.TheVariants.{At, Nothing}
+use Rattle.std.specs.Prelude.{Option}
+use Rattle.std.specs.Prelude.{Some, None}
 use Rattle.words.proofs.Bools.{by}
 use Rattle.words.proofs.ListLaws.{by-found}
 use Rattle.text.specs.Text.{name_at}
@@ -82,17 +82,17 @@ class-refused-few c row h k =
 module _ (ws text abi labels : List ℕ) (c : ℕ) where
   pub record Short : Type 0 where
     pub name : class_name_length ws c ≤ 255
-    pub method : (i w m : ℕ) → (read_entry ws text abi labels c i w).method ≡ At m → (method_name_length ws m ≤ 255) × (method_descriptor_length ws m ≤ 255)
-    pub slot : (i s : ℕ) → fixed_slot ws text abi labels c i ≡ At s → (abi_slot_name_length abi s ≤ 255) × (abi_slot_descriptor_length abi s ≤ 255)
+    pub method : (i w m : ℕ) → (read_entry ws text abi labels c i w).method ≡ Some m → (method_name_length ws m ≤ 255) × (method_descriptor_length ws m ≤ 255)
+    pub slot : (i s : ℕ) → fixed_slot ws text abi labels c i ≡ Some s → (abi_slot_name_length abi s ≤ 255) × (abi_slot_descriptor_length abi s ≤ 255)
 
   module _ (short : Short) where
-    shows-few : (i w : ℕ) (f : Found) → (read_entry ws text abi labels c i w).method ≡ f
+    shows-few : (i w : ℕ) (f : Option ℕ) → (read_entry ws text abi labels c i w).method ≡ f
         → (length (slot_name ws text abi labels c i f) ≤ 255) × (length (slot_descriptor ws text abi labels c i f) ≤ 255)
     unfolding slot_name slot_descriptor
-    shows-few i w (At m) e =
+    shows-few i w (Some m) e =
         let s = short.method i w m e in
         (name-few text _ (method_name_length ws m) s.0, name-few text _ (method_descriptor_length ws m) s.1)
-    shows-few i w Nothing e =
+    shows-few i w None e =
         by-found (fixed_slot ws text abi labels c i)
         (λ s f.
         let p = short.slot i s f in

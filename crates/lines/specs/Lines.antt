@@ -2,9 +2,10 @@
 -- the class that declares the slot's method. Assumes nothing.
 use Rattle.std.specs.Prelude.{ℕ, ◌+◌, List, [], ◌∷◌, ◌++◌, Bool, cond, ◌||◌, ltb}
 use Prim.Native.String.{String}
-use Rattle.words.specs.Lists.{and_then, first_found}
-use Rattle.words.specs.declared.Found.{Found}
-use Rattle.words.specs.declared.Found.TheVariants.{At, Nothing}
+use Rattle.words.specs.Lists.{first_found}
+use Rattle.std.specs.Option.{option_and_then}
+use Rattle.std.specs.Prelude.{Option}
+use Rattle.std.specs.Prelude.{Some, None}
 use Rattle.descriptor.specs.Bytes.{text}
 use Rattle.class_sheet.specs.ClassSheet.{class_count, text_of, text_length, class_name, class_instance_words, class_slot_count, method_name, method_descriptor, class_limit, text_limit}
 use Rattle.abi_sheet.specs.AbiSheet.{abi_text_of, abi_text_length, abi_slot_name, abi_slot_descriptor, abi_text_limit}
@@ -43,48 +44,55 @@ unfoldable pub slot_line : ℕ → List ℕ → List ℕ → ℕ → ℕ → Lis
 slot_line i name descriptor target class =
     decimal i ++ (column name ++ (column descriptor ++ (numbered " " target ++ (numbered " " class ++ line_end))))
 
+-- the end of a refusal's line
+abbrev pub refused : ℕ → List ℕ
+refused row = numbered " refused " row ++ line_end
+
 -- "A refusal prints `class N refused R`"
 unfoldable pub class_refused : ℕ → ℕ → List ℕ
-class_refused c row = numbered "class " c ++ (numbered " refused " row ++ line_end)
+class_refused c row = numbered "class " c ++ refused row
 
 -- "a bad sheet `abi refused R` or `classes refused R`"
 unfoldable pub sheet_refused : List ℕ → ℕ → List ℕ
-sheet_refused sheet row = sheet ++ (numbered " refused " row ++ line_end)
+sheet_refused sheet row = sheet ++ refused row
 
 -- ---- names: "A slot's name comes from the class text, or from the ABI text if unknown but fixed (nearest chain class), else `-` for both."
 
 module _ (ws text abi labels : List ℕ) where
   -- the slot record that a class's ABI entry has for index i
-  unfoldable pub own_slot : ℕ → ℕ → Found
-  own_slot i c = and_then (class_abi ws text abi labels c) (slot_at abi i)
+  unfoldable pub own_slot : ℕ → ℕ → Option ℕ
+  own_slot i c = option_and_then (slot_at abi i) (class_abi ws text abi labels c)
 
   -- the nearest chain class's whose entry fixes that index
-  unfoldable pub fixed_slot : ℕ → ℕ → Found
+  unfoldable pub fixed_slot : ℕ → ℕ → Option ℕ
   fixed_slot c i = first_found (own_slot i) (chain ws c)
 
-  abbrev pub name_of : Found → Found → List ℕ
-  name_of (At m) fixed = method_name ws text m
-  name_of Nothing (At s) = abi_slot_name abi labels s
-  name_of Nothing Nothing = []
+  abbrev pub name_of : Option ℕ → Option ℕ → List ℕ
+  name_of (Some m) fixed = method_name ws text m
+  name_of None (Some s) = abi_slot_name abi labels s
+  name_of None None = []
 
-  abbrev pub descriptor_of : Found → Found → List ℕ
-  descriptor_of (At m) fixed = method_descriptor ws text m
-  descriptor_of Nothing (At s) = abi_slot_descriptor abi labels s
-  descriptor_of Nothing Nothing = []
+  abbrev pub descriptor_of : Option ℕ → Option ℕ → List ℕ
+  descriptor_of (Some m) fixed = method_descriptor ws text m
+  descriptor_of None (Some s) = abi_slot_descriptor abi labels s
+  descriptor_of None None = []
 
   -- of slot i of class c's table, where Reading finds this method
-  unfoldable pub slot_name : ℕ → ℕ → Found → List ℕ
+  unfoldable pub slot_name : ℕ → ℕ → Option ℕ → List ℕ
   slot_name c i method = name_of method (fixed_slot c i)
 
-  unfoldable pub slot_descriptor : ℕ → ℕ → Found → List ℕ
+  unfoldable pub slot_descriptor : ℕ → ℕ → Option ℕ → List ℕ
   slot_descriptor c i method = descriptor_of method (fixed_slot c i)
 
   -- ---- a linked class
 
+  -- the line of slot i, which holds this entry, whose method this class declares
+  abbrev pub entry_line : ℕ → ℕ → Entry → ℕ → List ℕ
+  entry_line c i e class = slot_line i (slot_name c i e.method) (slot_descriptor c i e.method) e.word class
+
   -- the class is the one that declares the method that Reading finds at the slot's word
   unfoldable pub slot_text : ℕ → ℕ → Entry → List ℕ
-  slot_text c i e =
-      slot_line i (slot_name c i e.method) (slot_descriptor c i e.method) e.word (declaring_class (read_declared ws text abi labels c i e.word))
+  slot_text c i e = entry_line c i e (declaring_class (read_declared ws text abi labels c i e.word))
 
   -- the lines of a table's slots from index i on
   unfoldable pub slot_texts : ℕ → ℕ → List Entry → List ℕ

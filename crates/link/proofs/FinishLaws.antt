@@ -1,43 +1,13 @@
 -- Laws of a link's last rows, 14 and 15. Assumes nothing.
-use mathlib.Core.Path.{◌≡◌, sym, ◌∙◌}
+use mathlib.Core.Path.{◌≡◌}
 use mathlib.Core.Bool.{Bool, true, false, ◌||◌}
-use mathlib.Core.List.{List, []}
+use mathlib.Core.List.{List}
 use Prim.Native.Nat.{ℕ}
 use native.Mathlib.Omega.{arith}
 use Rattle.words.proofs.Bools.{by, or-neither}
-use Rattle.class_sheet.specs.ClassSheet.{class_kind, is_built_kind, method_count, field_count, class_method_count, class_field_count}
 use Rattle.linking.specs.Counts.{missing_short}
-use Rattle.linking.specs.Link.{Plan, is_none, lists_full, set_short, no_room}
-use Rattle.growth.specs.News.{news, named}
-use Rattle.growth.proofs.GrowthLaws.{full-same, end_same}
-use Rattle.link.specs.Stored.{members_plan, room_row}
-use Rattle.link.proofs.StoreLaws.{news-is}
-
-module _ (ws text abi labels refs flags lasts : List ℕ) where
-  none-same : is_none (named ws text abi labels refs) ≡ is_none (news ws text abi labels refs flags lasts)
-  none-same = news-is ws text abi labels refs [] [] ∙ sym (news-is ws text abi labels refs flags lasts)
-
-  -- rows 14 and 15 ask for the names alone
-  names-full : (c : ℕ) → lists_full ws c (members_plan ws c (named ws text abi labels refs))
-      ≡ lists_full ws c (members_plan ws c (news ws text abi labels refs flags lasts))
-  unfolding lists_full
-  names-full c =
-      by (is_built_kind (class_kind ws c))
-      (λ q. rw q (rw (none-same, full-same ws text abi labels refs flags lasts (field_count ws) (class_field_count ws c))))
-      (λ q. rw q (rw (none-same, full-same ws text abi labels refs flags lasts (method_count ws) (class_method_count ws c))))
-
-  names-short : (c : ℕ) → set_short ws c (members_plan ws c (named ws text abi labels refs))
-      ≡ set_short ws c (members_plan ws c (news ws text abi labels refs flags lasts))
-  unfolding set_short
-  names-short c =
-      by (is_built_kind (class_kind ws c))
-      (λ q. rw q (rw (none-same, end_same ws text abi labels refs flags lasts (class_field_count ws c))))
-      (λ q. rw q (rw (none-same, end_same ws text abi labels refs flags lasts (class_method_count ws c))))
-
-  pub names-room : (c : ℕ) (area stubs missing : List ℕ) (n : ℕ) → room_row ws c (members_plan ws c (named ws text abi labels refs)) area stubs missing n
-      ≡ room_row ws c (members_plan ws c (news ws text abi labels refs flags lasts)) area stubs missing n
-  unfolding room_row
-  names-room c area stubs missing n = rw (names-full c, names-short c)
+use Rattle.linking.specs.Link.{Plan, lists_full, set_short, no_room}
+use Rattle.link.specs.Stored.{room_row}
 
 -- ---- the rows, as the code judges them
 

@@ -1,18 +1,24 @@
 -- What a link stores in the class words, as the code goes: what grows, then the record, then the indices; its last rows, and what it answers. Assumes
 -- nothing.
-use Rattle.std.specs.Prelude.{ℕ, ◌≡◌, true, false, cond, ◌||◌, List, []}
-use Rattle.class_sheet.specs.ClassSheet.{text_of, class_first_field, fields_at}
+use Rattle.std.specs.Prelude.{ℕ, ◌≡◌, true, false, cond, ◌||◌, List, [], Result, Ok, Err}
+use Rattle.class_sheet.specs.ClassSheet.{text_of, class_first_field, fields_at, class_kind, is_built_kind, method_count, field_count, class_method_count, class_field_count}
 use Rattle.abi_sheet.specs.AbiSheet.{abi_text_of}
 use Rattle.set_rules.specs.SetRules.{set_fits, set_refusal}
 use Rattle.linking.specs.Compiler.{New}
 use Rattle.linking.specs.Set.{put_indices}
 use Rattle.linking.specs.Packages.{bad_packages}
 use Rattle.linking.specs.Counts.{missing_short}
-use Rattle.linking.specs.Link.{Plan, is_none, linked_record, lists_full, set_short, no_room, bad_class, bad_area, LinkOutcome}
+use Rattle.linking.specs.Link.{Plan, is_none, linked_record, lists_full, set_short, no_room, bad_class, bad_area, plan, link_def, refused_link, LinkOutcome}
 use Rattle.growth.specs.Growth.{methods_grown, fields_grown}
 use Rattle.area.specs.Area.{outcome}
 use Rattle.area.specs.declared.Answer.{Answer}
-use Rattle.plan.specs.Plans.{methods_of, fields_of}
+use Rattle.plan.specs.Plans.{methods_of, fields_of, Plans}
+use Rattle.field.specs.declared.Numbered.{Numbered}
+use Rattle.reading.specs.declared.table.Table.{Table}
+use Rattle.reading.specs.Tables.{entries}
+use Rattle.link.specs.declared.Section.{Section}
+use Rattle.refusal.specs.declared.Refusal.{Refusal}
+use Rattle.refusal.specs.Rows.{row}
 
 -- a plan by its new members alone: what row 14 and the set's part of row 15 ask for
 abbrev pub members_plan : List ℕ → ℕ → List New → Plan
@@ -37,6 +43,14 @@ stored ws c place slots words statics indices methods fields =
 abbrev pub stored_news : List ℕ → ℕ → ℕ → ℕ → ℕ → ℕ → List ℕ → List New → List ℕ
 stored_news ws c place slots words statics indices new = stored ws c place slots words statics indices (methods_of ws c new) (fields_of ws c new)
 
+-- ---- what grows where members are added: fields of a built class, any other's methods
+
+unfoldable pub growing : List ℕ → ℕ → Section
+growing ws c =
+    cond (is_built_kind (class_kind ws c))
+    (record { count = field_count ws; own = class_field_count ws c })
+    (record { count = method_count ws; own = class_method_count ws c })
+
 -- ---- rows 14 and 15 of a plan whose table has n slots: the number that refuses it, or 0
 
 unfoldable pub room_row : List ℕ → ℕ → Plan → List ℕ → List ℕ → List ℕ → ℕ → ℕ
@@ -45,7 +59,7 @@ room_row ws c p area stubs missing n =
 
 -- ---- what a link answers and leaves
 
-abbrev pub link_outcome : Answer → List ℕ → List ℕ → List ℕ → LinkOutcome
+abbrev pub link_outcome : Result Answer Refusal → List ℕ → List ℕ → List ℕ → LinkOutcome
 link_outcome r ws area missing = record { outcome = outcome r ws area; missing = missing }
 
 -- row 3 accepts the sheets, and the texts are theirs
@@ -66,3 +80,13 @@ pub record Accepted (ws abi : List ℕ) (c : ℕ) (area text labels : List ℕ) 
   pub class : bad_class ws (text_of ws) c ≡ false
   pub tables : bad_area ws area ≡ false
   pub packages : bad_packages ws (text_of ws) abi (abi_text_of abi) c ≡ false
+
+-- a plan with its table and new members, which rows 14 and 15 do not refuse
+pub record Roomy (ws text abi labels : List ℕ) (c : ℕ) (area stubs missing : List ℕ) (f : Numbered) (t : Table 3584) (new : List New) : Type 0 where
+  pub planned : Plans plan ws text abi labels area c (Ok f) (entries t) new
+  pub room : 0 ≡ room_row ws c (members_plan ws c new) area stubs missing t.len
+
+-- what rows 8 to 15 say: a plan, or a row that refuses the link
+abbrev pub Judged : List ℕ → List ℕ → List ℕ → List ℕ → ℕ → List ℕ → List ℕ → List ℕ → Result Numbered Refusal → Table 3584 → List New → Type 0
+Judged ws text abi labels c area stubs missing (Ok f) t new = Roomy ws text abi labels c area stubs missing f t new
+Judged ws text abi labels c area stubs missing (Err r) t new = refused_link (row r) ws area missing ≡ link_def ws abi c area stubs missing

@@ -3,72 +3,76 @@
 
 ghost use Rattle.std.specs.Prelude.{◌≡◌};
 ghost use Rattle.linking.specs.Link.{new_statics, linked_record, lists_full, set_short, link_def};
-ghost use Rattle.linking.specs.Chain.{parent_of};
-ghost use Rattle.reading.specs.Arrays.{entries_of};
-ghost use Rattle.growth.specs.News.{news, named};
-ghost use Rattle.plan.specs.Plans.{marks_in};
-ghost use Rattle.missing.specs.Lists.{counted};
-ghost use Rattle.link.specs.Stored.{link_outcome, members_plan, numbered, with_methods, stored_news, room_row, Fitting, Texts, Accepted};
+ghost use Rattle.growth.specs.News.{news_of};
+ghost use Rattle.refusal.specs.Rows.{row_of};
+ghost use Rattle.link.specs.Stored.{link_outcome, members_plan, numbered, with_methods, stored_news, growing, room_row, Fitting, Texts, Accepted, Judged};
+ghost use Rattle.linking.specs.Sheets.{of_sheets};
 
 use area::Answer;
+use class_sheet::Kind;
+use field::Numbered;
+use growth::News;
+use linking::Sheets;
+use reading::Table;
+use refusal::Refusal;
 
 // The static words that a link gives class c, unless it is generated.
 fn new_statics(set: &[u32], text: &[u8], c: u32) -> u32
     ensures { result ≡ new_statics set.now text.now c }
 {
-    if class_sheet::is_built_kind(class_sheet::class_kind(set, c)) {
+    if class_sheet::is_built(set, c) {
         return field::static_words(set, text, c);
     }
     0
 }
 
-// Stores what a link answers in class c's record: its place and slot count and, unless the class is generated, its instance words and static
-// words.
-fn record_link(set: &mut [u32], c: u32, place: u32, slots: u32, words: u32, statics: u32)
-    ensures { set.new ≡ linked_record set.old c place slots words statics }
-{
-    let kind = class_sheet::class_kind(set, c);
-    class_sheet::put_class_table_place(set, c, place);
-    class_sheet::put_class_slot_count(set, c, slots);
-    if kind != class_sheet::GENERATED {
-        class_sheet::put_class_instance_words(set, c, words);
-        class_sheet::put_class_static_words(set, c, statics);
-    }
-}
-
-// Stores the record, and the indices of the class's own fields.
-fn store_indices(
-    set: &mut [u32],
-    c: u32,
+// What a link leaves in a class's record: the place of its table and how many slots it has, its instance words and its static words.
+#[derive(Clone, Copy)]
+struct Linked {
     place: u32,
     slots: u32,
     words: u32,
     statics: u32,
-    indices: &[u32],
-)
-    ensures { set.new ≡ numbered set.old c place slots words statics indices.now }
+}
+
+// Stores place and slot count in class c's record and, unless the class is generated, the instance words and static words.
+fn record_link(set: &mut [u32], c: u32, linked: Linked)
+    ensures { set.new ≡ linked_record set.old c linked.place linked.slots linked.words linked.statics }
+{
+    let generated = class_sheet::has_kind(set, c, Kind::Generated);
+    class_sheet::put_class_table_place(set, c, linked.place);
+    class_sheet::put_class_slot_count(set, c, linked.slots);
+    if !generated {
+        class_sheet::put_class_instance_words(set, c, linked.words);
+        class_sheet::put_class_static_words(set, c, linked.statics);
+    }
+}
+
+// Stores the record, and the indices of the class's own fields.
+#[tactic(auto, using(crate::proofs::StoreLaws::indices_stored))]
+fn store_indices(set: &mut [u32], c: u32, linked: Linked, indices: &[u32])
+    ensures { set.new ≡ numbered set.old c linked.place linked.slots linked.words linked.statics indices.now }
 {
     let at = class_sheet::fields_at(set);
     let first = class_sheet::class_first_field(set, c);
-    record_link(set, c, place, slots, words, statics);
+    record_link(set, c, linked);
     growth::put_indices(set, at, first, indices);
 }
 
 // Adds the new methods, if there are any.
+#[tactic(auto, using(crate::proofs::StoreLaws::methods_none, crate::proofs::StoreLaws::methods_some))]
 fn store_methods<'a>(
     set: &mut [u32],
     c: u32,
     text: &'a [u8],
-    abi: &[u32],
+    abi: &'a [u32],
     labels: &'a [u8],
-    refs: &[u32],
-    flags: &[u32],
-    lasts: &[u32],
+    news: &News,
 )
-    ensures { set.new ≡ with_methods set.old c (news set.old text.now abi.now labels.now refs.now flags.now lasts.now) }
+    ensures { set.new ≡ with_methods set.old c (news_of set.old text.now abi.now labels.now news.now) }
 {
-    if refs.len() != 0 {
-        growth::grow_methods(set, c, text, abi, labels, refs, flags, lasts);
+    if news.len() != 0 {
+        growth::grow_methods(set, c, text, abi, labels, news);
     }
 }
 
@@ -77,152 +81,146 @@ fn store_methods<'a>(
 fn store_link<'a>(
     set: &mut [u32],
     c: u32,
-    place: u32,
-    slots: u32,
-    words: u32,
+    linked: Linked,
     indices: &[u32],
     text: &'a [u8],
-    abi: &[u32],
+    abi: &'a [u32],
     labels: &'a [u8],
-    refs: &[u32],
-    flags: &[u32],
-    lasts: &[u32],
+    news: &News,
 )
-    ensures { set.new
-        ≡ stored_news set.old c place slots words (new_statics set.old text.now c) indices.now (news set.old text.now abi.now labels.now refs.now flags.now lasts.now) }
+    ensures { set.new ≡ stored_news set.old c linked.place linked.slots linked.words linked.statics indices.now
+        (news_of set.old text.now abi.now labels.now news.now) }
 {
-    let statics = new_statics(set, text, c);
-    if class_sheet::is_built_kind(class_sheet::class_kind(set, c)) & (refs.len() != 0) {
-        growth::grow_fields(set, c, indices, text, abi, labels, refs, flags, lasts);
-        record_link(set, c, place, slots, words, statics);
+    if class_sheet::is_built(set, c) & (news.len() != 0) {
+        growth::grow_fields(set, c, indices, text, abi, labels, news);
+        record_link(set, c, linked);
         return;
     }
-    store_methods(set, c, text, abi, labels, refs, flags, lasts);
-    store_indices(set, c, place, slots, words, statics, indices);
+    store_methods(set, c, text, abi, labels, news);
+    store_indices(set, c, linked, indices);
+}
+
+// The section that grows where members are added, fields of a built class or methods of any other: how many records it has, and how many of
+// them are the class's own.
+#[derive(Clone, Copy)]
+struct Section {
+    count: u32,
+    own: u32,
+}
+
+// That of class c.
+#[tactic(auto, unfolding(crate::specs::Stored::growing))]
+fn growing(sheets: Sheets, c: u32) -> Section
+    ensures { result ≡ growing sheets.entry.set.now c }
+{
+    if class_sheet::is_built(sheets.set, c) {
+        return Section {
+            count: class_sheet::field_count(sheets.set),
+            own: class_sheet::class_field_count(sheets.set, c),
+        };
+    }
+    Section {
+        count: class_sheet::method_count(sheets.set),
+        own: class_sheet::class_method_count(sheets.set, c),
+    }
 }
 
 // Row 14: whether the list that grows, or the text, would exceed its limit.
-fn lists_full<'a>(
-    ws: &[u32],
-    c: u32,
-    text: &'a [u8],
-    abi: &[u32],
-    labels: &'a [u8],
-    refs: &[u32],
-) -> bool
-    ensures { result ≡ lists_full ws.now c (members_plan ws.now c (named ws.now text.now abi.now labels.now refs.now)) }
+#[tactic(auto, using(crate::proofs::StoreLaws::full_is))]
+fn lists_full(sheets: Sheets, c: u32, news: &News) -> bool
+    ensures { result ≡ lists_full sheets.entry.set.now c (members_plan sheets.entry.set.now c (of_sheets news_of sheets.entry news.now)) }
 {
-    if refs.len() == 0 {
-        return false;
-    }
-    if class_sheet::is_built_kind(class_sheet::class_kind(ws, c)) {
-        let count = class_sheet::field_count(ws);
-        let own = class_sheet::class_field_count(ws, c);
-        return growth::section_full(ws, count, own, text, abi, labels, refs);
-    }
-    let count = class_sheet::method_count(ws);
-    let own = class_sheet::class_method_count(ws, c);
-    growth::section_full(ws, count, own, text, abi, labels, refs)
+    let list = growing(sheets, c);
+    (news.len() != 0) & growth::section_full(sheets, list.count, list.own, news)
 }
 
 // Row 15, of the set: whether its slice has too few words for the grown sections.
-fn set_short<'a>(
-    ws: &[u32],
-    c: u32,
-    text: &'a [u8],
-    abi: &[u32],
-    labels: &'a [u8],
-    refs: &[u32],
-) -> bool
-    ensures { result ≡ set_short ws.now c (members_plan ws.now c (named ws.now text.now abi.now labels.now refs.now)) }
+#[tactic(auto, using(crate::proofs::StoreLaws::short_is))]
+fn set_short(sheets: Sheets, c: u32, news: &News) -> bool
+    ensures { result ≡ set_short sheets.entry.set.now c (members_plan sheets.entry.set.now c (of_sheets news_of sheets.entry news.now)) }
 {
-    if refs.len() == 0 {
-        return false;
-    }
-    if class_sheet::is_built_kind(class_sheet::class_kind(ws, c)) {
-        let own = class_sheet::class_field_count(ws, c);
-        return ws.len() < growth::grown_end(ws, own, text, abi, labels, refs);
-    }
-    let own = class_sheet::class_method_count(ws, c);
-    ws.len() < growth::grown_end(ws, own, text, abi, labels, refs)
+    let list = growing(sheets, c);
+    (news.len() != 0) & (sheets.set.len() < growth::grown_end(sheets, list.own, news))
 }
 
-// Rows 14 and 15 of a link with these new members and a table of n slots: the number that refuses it, or 0.
-fn room_row<'a>(
-    ws: &[u32],
+// Rows 14 and 15 of a link with these new members and a table of n slots.
+fn room_row(
+    sheets: Sheets,
     c: u32,
-    text: &'a [u8],
-    abi: &[u32],
-    labels: &'a [u8],
-    refs: &[u32],
+    news: &News,
     area: &[u32],
     stubs: &[u32],
     missing: &[u32],
-    n: u32,
-) -> u32
-    ensures { result ≡ room_row ws.now c (members_plan ws.now c (named ws.now text.now abi.now labels.now refs.now))
+    n: usize,
+) -> Result<(), Refusal>
+    ensures { row_of result ≡ room_row sheets.entry.set.now c (members_plan sheets.entry.set.now c (of_sheets news_of sheets.entry news.now))
         area.now stubs.now missing.now n }
 {
-    if lists_full(ws, c, text, abi, labels, refs) {
-        return 14;
+    if lists_full(sheets, c, news) {
+        return Err(Refusal::FullLists);
     }
-    let short = set_short(ws, c, text, abi, labels, refs);
-    if area::no_room(area, stubs, n) | short | missing::is_short(ws, missing) {
-        return 15;
+    let short = set_short(sheets, c, news);
+    if area::no_room(area, stubs, n) | short | missing::is_short(sheets.set, missing) {
+        return Err(Refusal::ShortMemory);
     }
-    0
+    Ok(())
 }
 
-// Counts the missing slots of class c, whose table of n slots is in the array, into the list.
-fn count_table(set: &[u32], c: u32, slots: &[u32; 3584], n: u32, missing: &mut [u32])
-    ensures { missing.new ≡ counted missing.old c (parent_of set.now c) (entries_of slots.now (marks_in slots.now) n) }
+// Rows 8 to 15 of a set, a class and an area that rows 3 to 7 and 26 accept: what the link comes to, with its table and new members.
+fn judge(
+    sheets: Sheets,
+    c: u32,
+    area: &[u32],
+    stubs: &[u32],
+    missing: &[u32],
+    table: &mut Table<3584>,
+    news: &mut News,
+) -> Result<Numbered, Refusal>
+    requires { Accepted sheets.set.now sheets.abi.now c area.now sheets.text.now sheets.labels.now }
+    ensures { of_sheets Judged sheets.entry c area.now stubs.now missing.now result table.new (of_sheets news_of sheets.entry news.new) }
 {
-    let marks = words::word_part(slots, plan::MARKS, plan::MARKS);
-    missing::count_class(missing, c, chain::parent_of(set, c), slots, marks, n);
+    let fields = plan::plan_link(sheets, area, c, table, news)?;
+    room_row(sheets, c, news, area, stubs, missing, table.len as usize)?;
+    Ok(fields)
 }
 
-// Rows 8 to 15 and the effect, of a set, a class and an area that rows 3 to 7 and 26 accept, and the sheets' texts. Nothing is written before the
-// last refusal.
+// The same rows and the effect, of the sheets' texts. Nothing is written before the last refusal.
 fn link_planned<'a>(
     set: &mut [u32],
     c: u32,
     text: &'a [u8],
-    abi: &[u32],
+    abi: &'a [u32],
     labels: &'a [u8],
     area: &mut [u32],
     stubs: &[u32],
     missing: &mut [u32],
-) -> Answer
+) -> Result<Answer, Refusal>
     requires { Accepted set.old abi.now c area.old text.now labels.now }
     ensures { link_outcome result set.new area.new missing.new ≡ link_def set.old abi.now c area.old stubs.now missing.old }
 {
-    let mut slots = [0u32; 3584];
-    let mut refs = [0u32; 1024];
-    let mut flags = [0u32; 1024];
-    let mut lasts = [0u32; 1024];
-    let p = plan::plan_link(
-        set, text, abi, labels, area, c, &mut slots, &mut refs, &mut flags, &mut lasts,
-    );
-    if p.row != 0 {
-        return Answer::Refused(p.row);
-    }
-    let n = words::wide(p.added);
-    let names = words::word_part(&refs, 0, n);
-    let row = room_row(set, c, text, abi, labels, names, area, stubs, missing, p.n);
-    if row != 0 {
-        return Answer::Refused(row);
-    }
-    count_table(set, c, &slots, p.n, missing);
-    let place = words::word_at(area, 0);
-    area::write_table(area, c, &slots, p.n, stubs);
-    let own = p.indices;
-    let indices = words::word_part(&own, 0, words::wide(p.own));
-    let bits = words::word_part(&flags, 0, n);
-    let ends = words::word_part(&lasts, 0, n);
-    store_link(
-        set, c, place, p.n, p.instance, indices, text, abi, labels, names, bits, ends,
-    );
-    Answer::Done(place, p.n)
+    let mut table = Table::for_building();
+    let mut news = News::new();
+    let sheets = Sheets {
+        set,
+        text,
+        abi,
+        labels,
+    };
+    let fields = judge(sheets, c, area, stubs, missing, &mut table, &mut news)?;
+    let linked = Linked {
+        place: words::get_or(area, 0, 0),
+        slots: table.len,
+        words: fields.words,
+        statics: new_statics(set, text, c),
+    };
+    missing::count_class(missing, c, chain::parent_of(set, c), &table);
+    area::write_table(area, c, &table.words[..table.len as usize], stubs);
+    let indices = words::part(&fields.indices, 0, fields.n as usize);
+    store_link(set, c, linked, indices, text, abi, labels, &news);
+    Ok(Answer {
+        first: linked.place,
+        second: linked.slots,
+    })
 }
 
 // Rows 6, 7, 26 and 8 to 15, and the effect, of sheets that rows 3 to 5 accept, and their texts.
@@ -230,23 +228,31 @@ fn link_read<'a>(
     set: &mut [u32],
     c: u32,
     text: &'a [u8],
-    abi: &[u32],
+    abi: &'a [u32],
     labels: &'a [u8],
     area: &mut [u32],
     stubs: &[u32],
     missing: &mut [u32],
-) -> Answer
+) -> Result<Answer, Refusal>
     requires { Texts set.old abi.now text.now labels.now }
     ensures { link_outcome result set.new area.new missing.new ≡ link_def set.old abi.now c area.old stubs.now missing.old }
 {
     if call_rules::bad_class(set, text, c) {
-        return Answer::Refused(6);
+        return Err(Refusal::Class);
     }
     if call_rules::bad_area(set, area) {
-        return Answer::Refused(7);
+        return Err(Refusal::Area);
     }
-    if packages::bad_packages(set, text, abi, labels, c) {
-        return Answer::Refused(26);
+    if packages::bad_packages(
+        Sheets {
+            set,
+            text,
+            abi,
+            labels,
+        },
+        c,
+    ) {
+        return Err(Refusal::MixedPackages);
     }
     link_planned(set, c, text, abi, labels, area, stubs, missing)
 }
@@ -256,19 +262,16 @@ fn link_fitting<'a>(
     set: &mut [u32],
     c: u32,
     text: &'a [u8],
-    abi: &[u32],
+    abi: &'a [u32],
     labels: &'a [u8],
     area: &mut [u32],
     stubs: &[u32],
     missing: &mut [u32],
-) -> Answer
+) -> Result<Answer, Refusal>
     requires { Fitting set.old abi.now text.now labels.now }
     ensures { link_outcome result set.new area.new missing.new ≡ link_def set.old abi.now c area.old stubs.now missing.old }
 {
-    let row = set_rules::records_refusal(set, text, abi, labels);
-    if row != 0 {
-        return Answer::Refused(row);
-    }
+    set_rules::records_refusal(set, text, abi, labels)?;
     link_read(set, c, text, abi, labels, area, stubs, missing)
 }
 
@@ -284,11 +287,11 @@ pub fn link(
     area: &mut [u32],
     stubs: &[u32],
     missing: &mut [u32],
-) -> Answer
+) -> Result<Answer, Refusal>
     ensures { link_outcome result set.new area.new missing.new ≡ link_def set.old abi.now class area.old stubs.now missing.old }
 {
     if !set_rules::set_fits(set, abi) {
-        return Answer::Refused(3);
+        return Err(Refusal::Form);
     }
     let mut bytes = [0u8; class_sheet::TEXT_LIMIT as usize];
     class_sheet::unpack_text(set, &mut bytes);

@@ -9,7 +9,7 @@ use lib.Dec.{eqb}
 use borrow.Author.Tests.{eqb-true}
 use Rattle.class_sheet.specs.ClassSheet.{class_limit}
 use Rattle.words.specs.Lists.{all_found}
-use Rattle.words.specs.declared.Found.TheVariants.{At}
+use Rattle.std.specs.Prelude.{Some}
 use Rattle.words.proofs.ListLaws.{find-passes, all-found-length, largest_member}
 use Rattle.linking.specs.Chain.{chain}
 use Rattle.linking.specs.Abi.{abi_slots, slot_index, slot_at, class_size, class_abi, chain_abi, minimum_size}
@@ -22,7 +22,7 @@ chain-abi-whole ws text abi labels c h =
     take_all class_limit (all_found (class_abi ws text abi labels) (chain ws c))
     (omega (arith, all-found-length (class_abi ws text abi labels) (chain ws c), chain_length ws c))
 
-pub slot-at-is : (abi : List ℕ) (a i s : ℕ) → slot_at abi i a ≡ At s → slot_index abi s ≡ i
+pub slot-at-is : (abi : List ℕ) (a i s : ℕ) → slot_at abi i a ≡ Some s → slot_index abi s ≡ i
 unfolding slot_at
 slot-at-is abi a i s e = eqb-true _ _ (find-passes (λ k. eqb (slot_index abi k) i) (abi_slots abi a) s e)
 

@@ -10,9 +10,10 @@ use native.Mathlib.Omega.{arith}
 use lib.ListN.{length, get_or, take}
 use lib.Dec.{eqb, leb, ltb}
 use borrow.Author.Tests.{eqb-true, ltb-true}
-use Rattle.words.specs.Lists.{list_from, numbers, and_then, find, first_found, cons_found, all_found}
-use Rattle.words.specs.declared.Found.{Found}
-use Rattle.words.specs.declared.Found.TheVariants.{At, Nothing}
+use Rattle.words.specs.Lists.{list_from, numbers, find, first_found, cons_found, all_found}
+use Rattle.std.specs.Option.{option_and_then}
+use Rattle.std.specs.Prelude.{Option}
+use Rattle.std.specs.Prelude.{Some, None}
 use Rattle.words.proofs.Bools.{by, and_both}
 use Rattle.words.proofs.ListLaws.{by-found, found-by, find-passes, find-member, find-within, numbers-within}
 use Rattle.text.specs.Text.{same_bytes}
@@ -35,7 +36,7 @@ EachNew R xs = (j : ℕ) → j < length xs → R (get_or xs j no_new)
 
 -- each method that a table knows
 abbrev EachKnown : (ℕ → Type 0) → List Entry → Type 0
-EachKnown S view = (i m : ℕ) → (get_or view i empty).method ≡ At m → S m
+EachKnown S view = (i m : ℕ) → (get_or view i empty).method ≡ Some m → S m
 
 pub none-new : (R : New → Type 0) → EachNew R []
 none-new R j h = absurd (omega arith)
@@ -44,24 +45,24 @@ more-new : (R : New → Type 0) (x : New) (xs : List New) → R x → EachNew R 
 more-new R x xs p q zero h = p
 more-new R x xs p q (suc j) h = q j (omega arith)
 
-pub not_found : {X : Type 0} {m : ℕ} → Nothing ≡ At m → X
+pub not_found : {X : Type 0} {m : ℕ} → None ≡ Some m → X
 not_found e = absurd (let z : ◌≡◌ {A = ℕ} 0 1 = cc in omega arith)
 
 -- what is found along a list that is itself found
-found-cons : {P : Type 0} (f : Found) (g : ℕ → Found) (rest : List ℕ) (s : ℕ) → ((a : ℕ) → f ≡ At a → g a ≡ At s → P)
-    → (first_found g rest ≡ At s → P) → first_found g (cons_found f rest) ≡ At s → P
+found-cons : {P : Type 0} (f : Option ℕ) (g : ℕ → Option ℕ) (rest : List ℕ) (s : ℕ) → ((a : ℕ) → f ≡ Some a → g a ≡ Some s → P)
+    → (first_found g rest ≡ Some s → P) → first_found g (cons_found f rest) ≡ Some s → P
 unfolding first_found
-found-cons (At a) g rest s h k e = by-found (g a) (λ n p. h a refl (p ∙ (rw p at e))) (λ p. k (rw p at e))
-found-cons Nothing g rest s h k e = k e
+found-cons (Some a) g rest s h k e = by-found (g a) (λ n p. h a refl (p ∙ (rw p at e))) (λ p. k (rw p at e))
+found-cons None g rest s h k e = k e
 
-found_all : {P : Type 0} (f g : ℕ → Found) (xs : List ℕ) (s : ℕ) → ((x a : ℕ) → f x ≡ At a → g a ≡ At s → P)
-    → first_found g (all_found f xs) ≡ At s → P
+found_all : {P : Type 0} (f g : ℕ → Option ℕ) (xs : List ℕ) (s : ℕ) → ((x a : ℕ) → f x ≡ Some a → g a ≡ Some s → P)
+    → first_found g (all_found f xs) ≡ Some s → P
 unfolding all_found first_found
 found_all f g [] s h e = not_found e
 found_all f g (x ∷ xs) s h e = found-cons (f x) g (all_found f xs) s (h x) (found_all f g xs s h) e
 
 -- a class's ABI entry is a class of the ABI sheet
-pub class-abi-room : (ws text abi labels : List ℕ) (c a : ℕ) → class_abi ws text abi labels c ≡ At a → a < abi_class_count abi
+pub class-abi-room : (ws text abi labels : List ℕ) (c a : ℕ) → class_abi ws text abi labels c ≡ Some a → a < abi_class_count abi
 unfolding class_abi abi_named
 class-abi-room ws text abi labels c a e =
     omega (arith, find-within (λ k. same_bytes (abi_class_name abi labels k) (class_name ws text c)) 0 (abi_class_count abi) a e)
@@ -78,14 +79,14 @@ module _ (ws text abi labels : List ℕ) (lists : (d : ℕ) → IsClass ws d →
         lists d k,
       )
 
-  fixed-room : (i d m : ℕ) → IsClass ws d → own_fixed ws text abi labels i d ≡ At m → m < method_count ws
+  fixed-room : (i d m : ℕ) → IsClass ws d → own_fixed ws text abi labels i d ≡ Some m → m < method_count ws
   unfolding own_fixed
   fixed-room i d m k e =
-      by-found (and_then (class_abi ws text abi labels d) (slot_at abi i))
+      by-found (option_and_then (slot_at abi i) (class_abi ws text abi labels d))
       (λ s q. own_room d m k (own-method-member ws text _ _ d m (rw q at e)))
       (λ q. not_found (rw q at e))
 
-  pub read-room : (c i w m : ℕ) → c ≤ class_count ws → (read_entry ws text abi labels c i w).method ≡ At m → m < method_count ws
+  pub read-room : (c i w m : ℕ) → c ≤ class_count ws → (read_entry ws text abi labels c i w).method ≡ Some m → m < method_count ws
   unfolding read_entry find_by_target find_by_index
   read-room c i w m h e =
       by-found (find_by_target ws c w)
@@ -108,7 +109,7 @@ listed-room abi slots a s n t =
     )
 
 pub slot-room : (ws text abi labels : List ℕ) → ((a : ℕ) → a < abi_class_count abi → abi_class_first_slot abi a + abi_class_slot_count abi a ≤ abi_slot_count abi)
-    → (i a s d : ℕ) → class_abi ws text abi labels d ≡ At a → slot_at abi i a ≡ At s → s < abi_slot_count abi
+    → (i a s d : ℕ) → class_abi ws text abi labels d ≡ Some a → slot_at abi i a ≡ Some s → s < abi_slot_count abi
 unfolding slot_at
 slot-room ws text abi labels slots i a s d e f =
     listed-room abi slots a s (class-abi-room ws text abi labels d a e) (find-member (λ k. eqb (slot_index abi k) i) (abi_slots abi a) s f)
@@ -123,7 +124,7 @@ module _ (ws text abi labels : List ℕ)
   unfolding add_named
   named c x xs p q = by (is_declared ws text c x) (λ e. rw e q) (λ e. rw e (more-new R x xs p q))
 
-  source-room : (c i s : ℕ) → first_found (slot_at abi i) (signature_sources ws text abi labels c) ≡ At s → s < abi_slot_count abi
+  source-room : (c i s : ℕ) → first_found (slot_at abi i) (signature_sources ws text abi labels c) ≡ Some s → s < abi_slot_count abi
   unfolding signature_sources
   source-room c i s e =
       found-cons (class_abi ws text abi labels c) (slot_at abi i) (all_found (λ k. class_abi ws text abi labels (interface_word ws k)) (own_interfaces ws c)) s
@@ -132,7 +133,7 @@ module _ (ws text abi labels : List ℕ)
       (λ k a q r. slot-room ws text abi labels slots i a s (interface_word ws k) q r) g)
       e
 
-  from : (c i target : ℕ) (found : Found) (xs : List New) → ((m : ℕ) → found ≡ At m → Source m) → EachNew R xs
+  from : (c i target : ℕ) (found : Option ℕ) (xs : List New) → ((m : ℕ) → found ≡ Some m → Source m) → EachNew R xs
       → EachNew R (add_from ws text abi labels c i target found xs)
   from c i target found xs f h =
       by-found found
@@ -211,7 +212,7 @@ abstract_receiver flags =
 
 -- ---- of any number: what stays in a native view is held by a class of the set, or has the signature of an ABI slot
 
-found_take : {P : Type 0} (f : ℕ → Found) (n : ℕ) (xs : List ℕ) (s : ℕ) → (first_found f xs ≡ At s → P) → first_found f (take n xs) ≡ At s → P
+found_take : {P : Type 0} (f : ℕ → Option ℕ) (n : ℕ) (xs : List ℕ) (s : ℕ) → (first_found f xs ≡ Some s → P) → first_found f (take n xs) ≡ Some s → P
 unfolding first_found
 found_take f zero xs s h e = not_found e
 found_take f (suc n) [] s h e = not_found e
@@ -249,7 +250,7 @@ module _ (ws abi : List ℕ) (v : Valid ws) (w : ValidAbi abi) where
 
   -- its index is fixed: a slot of that ABI class has its signature
   signed-within : (m a k : ℕ) → a < abi_class_count abi
-      → vtable_index abi labels (method_name ws text m) (method_descriptor ws text m) a ≡ At k → Within m
+      → vtable_index abi labels (method_name ws text m) (method_descriptor ws text m) a ≡ Some k → Within m
   unfolding vtable_index slot_is
   signed-within m a k h e =
       by-found (find (λ s. slot_is abi labels s (method_name ws text m) (method_descriptor ws text m)) (abi_slots abi a))
@@ -260,7 +261,7 @@ module _ (ws abi : List ℕ) (v : Valid ws) (w : ValidAbi abi) where
       rw (sym (same-is (abi_slot_descriptor abi labels s) (method_descriptor ws text m) r.1)) (slot-within s (method_flags ws m) n))
       (λ q. not_found (rw q at e))
 
-  fixed-within : (m d k : ℕ) → fixed_of ws text abi labels (chain_abi ws text abi labels d) m ≡ At k → Within m
+  fixed-within : (m d k : ℕ) → fixed_of ws text abi labels (chain_abi ws text abi labels d) m ≡ Some k → Within m
   unfolding fixed_of fixed_index chain_abi
   fixed-within m d k e =
       found_take (vtable_index abi labels (method_name ws text m) (method_descriptor ws text m)) class_limit
@@ -270,7 +271,7 @@ module _ (ws abi : List ℕ) (v : Valid ws) (w : ValidAbi abi) where
       e
 
   -- a native view knows what it has not emptied
-  kept-within : (d i : ℕ) (x : Entry) (m : ℕ) → x.method ≡ At m → is_emptied ws text abi labels (chain_abi ws text abi labels d) i x ≡ false → Within m
+  kept-within : (d i : ℕ) (x : Entry) (m : ℕ) → x.method ≡ Some m → is_emptied ws text abi labels (chain_abi ws text abi labels d) i x ≡ false → Within m
   unfolding is_emptied
   kept-within d i x m q e =
       let f : (not (eqb (owner_state ws m) 3)

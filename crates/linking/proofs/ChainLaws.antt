@@ -11,8 +11,8 @@ use lib.ListN.{length, get_or}
 use lib.Dec.{eqb, ltb}
 use borrow.Author.Tests.{lt-ltb, ltb-true}
 use Rattle.words.specs.Lists.{numbers, first_found, all_found}
-use Rattle.words.specs.declared.Found.{Found}
-use Rattle.words.specs.declared.Found.TheVariants.{At, Nothing}
+use Rattle.std.specs.Prelude.{Option}
+use Rattle.std.specs.Prelude.{Some, None}
 use Rattle.words.proofs.Bools.{by}
 use Rattle.class_sheet.specs.ClassSheet.{method_limit, field_limit, interface_limit, class_parent, class_first_field, class_field_count, class_first_interface, class_interface_count, method_target}
 use Rattle.linking.specs.Chain.{list_count, own_methods, own_fields, own_interfaces, parent_of, chain_of, chain, method_is, own_target, find_by_target, own_method}
@@ -89,16 +89,16 @@ chain-within ws c d h = within-chain-of ws c c d h
 
 -- ---- searches along the chain
 
-module _ (f : ℕ → Found) (ws : List ℕ) (c : ℕ) where
-  pub along-none : c ≡ 0 → first_found f (chain ws c) ≡ Nothing
+module _ (f : ℕ → Option ℕ) (ws : List ℕ) (c : ℕ) where
+  pub along-none : c ≡ 0 → first_found f (chain ws c) ≡ None
   unfolding first_found
   along-none e = rw (chain-none ws c e)
 
-  pub along-hit : (m : ℕ) → 0 < c → f c ≡ At m → first_found f (chain ws c) ≡ At m
+  pub along-hit : (m : ℕ) → 0 < c → f c ≡ Some m → first_found f (chain ws c) ≡ Some m
   unfolding first_found
   along-hit m h e = rw (chain_more ws c h, e)
 
-  pub along-up : 0 < c → f c ≡ Nothing → first_found f (chain ws c) ≡ first_found f (chain ws (parent_of ws c))
+  pub along-up : 0 < c → f c ≡ None → first_found f (chain ws c) ≡ first_found f (chain ws (parent_of ws c))
   unfolding first_found
   along-up h e = rw (chain_more ws c h, e)
 
@@ -106,16 +106,16 @@ module _ (f : ℕ → Found) (ws : List ℕ) (c : ℕ) where
   unfolding all_found
   all_none e = rw (chain-none ws c e)
 
-  pub all-hit : (m : ℕ) → 0 < c → f c ≡ At m → all_found f (chain ws c) ≡ m ∷ all_found f (chain ws (parent_of ws c))
+  pub all-hit : (m : ℕ) → 0 < c → f c ≡ Some m → all_found f (chain ws c) ≡ m ∷ all_found f (chain ws (parent_of ws c))
   unfolding all_found
   all-hit m h e = rw (chain_more ws c h, e)
 
-  pub all_up : 0 < c → f c ≡ Nothing → all_found f (chain ws c) ≡ all_found f (chain ws (parent_of ws c))
+  pub all_up : 0 < c → f c ≡ None → all_found f (chain ws c) ≡ all_found f (chain ws (parent_of ws c))
   unfolding all_found
   all_up h e = rw (chain_more ws c h, e)
 
 module _ (ws : List ℕ) (c t : ℕ) where
-  pub target_none : c ≡ 0 → find_by_target ws c t ≡ Nothing
+  pub target_none : c ≡ 0 → find_by_target ws c t ≡ None
   unfolding find_by_target
   target_none e = along-none (own_target ws t) ws c e
 
@@ -157,26 +157,26 @@ module _ (ws : List ℕ) (c : ℕ) where
 -- ---- what is found
 
 module _ (ws : List ℕ) (t c m : ℕ) where
-  pub own-target-member : own_target ws t c ≡ At m → Memᴰ m (own_methods ws c)
+  pub own-target-member : own_target ws t c ≡ Some m → Memᴰ m (own_methods ws c)
   unfolding own_target
   own-target-member e = find-member (λ k. eqb (method_target ws k) t) (own_methods ws c) m e
 
-  pub own-target-room : own_target ws t c ≡ At m → m < method_limit
+  pub own-target-room : own_target ws t c ≡ Some m → m < method_limit
   own-target-room e = own-method-room ws c m (own-target-member e)
 
-pub target_room : (ws : List ℕ) (c t m : ℕ) → find_by_target ws c t ≡ At m → m < method_limit
+pub target_room : (ws : List ℕ) (c t m : ℕ) → find_by_target ws c t ≡ Some m → m < method_limit
 unfolding find_by_target
 target_room ws c t m e = found-by (own_target ws t) (chain ws c) m (λ d k q. own-target-room ws t d m q) e
 
 module _ (ws text name descriptor : List ℕ) (c m : ℕ) where
-  pub own-method-member : own_method ws text name descriptor c ≡ At m → Memᴰ m (own_methods ws c)
+  pub own-method-member : own_method ws text name descriptor c ≡ Some m → Memᴰ m (own_methods ws c)
   unfolding own_method
   own-method-member e = find-member (λ k. method_is ws text k name descriptor) (own_methods ws c) m e
 
   -- it has the signature
-  pub own-method-is : own_method ws text name descriptor c ≡ At m → method_is ws text m name descriptor ≡ true
+  pub own-method-is : own_method ws text name descriptor c ≡ Some m → method_is ws text m name descriptor ≡ true
   unfolding own_method
   own-method-is e = find-passes (λ k. method_is ws text k name descriptor) (own_methods ws c) m e
 
-  pub found-method-room : own_method ws text name descriptor c ≡ At m → m < method_limit
+  pub found-method-room : own_method ws text name descriptor c ≡ Some m → m < method_limit
   found-method-room e = own-method-room ws c m (own-method-member e)

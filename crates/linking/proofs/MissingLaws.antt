@@ -11,8 +11,8 @@ use lib.ListN.{length, get_or, take, drop, get_or-eq_default}
 use lib.Seq.{get_or-drop, drop_at}
 use lib.Dec.{eqb, ltb}
 use borrow.Author.Tests.{ne_eqb, ltb-true, ltb-false}
-use Rattle.words.specs.declared.Found.{Found}
-use Rattle.words.specs.declared.Found.TheVariants.{At, Nothing}
+use Rattle.std.specs.Prelude.{Option}
+use Rattle.std.specs.Prelude.{Some, None}
 use Rattle.words.proofs.Bools.{by}
 use Rattle.words.proofs.Lists.{part_at, part_ext}
 use Rattle.words.proofs.ListLaws.{length-list-from, get_d_list_from}
@@ -62,9 +62,9 @@ unfolding bits_of
 bits-ext f g h [] = refl
 bits-ext f g h (e ∷ T) = rw (found-ext e.source, bits-ext f g h T)
   where
-    found-ext : (s : Found) → on_found s f false ≡ on_found s g false
-    found-ext (At j) = h j
-    found-ext Nothing = refl
+    found-ext : (s : Option ℕ) → on_found s f false ≡ on_found s g false
+    found-ext (Some j) = h j
+    found-ext None = refl
 
 pub length-bits : (f : ℕ → Bool) (T : List Entry) → length (bits_of f T) ≡ length T
 unfolding bits_of

@@ -6,7 +6,7 @@ use lib.ListN.{get_or, drop, length-take}
 use lib.Dec.{eqb}
 use mathlib.Core.Bool.{◌||◌}
 use Rattle.words.specs.Lists.{first_found}
-use Rattle.words.specs.declared.Found.{Found}
+use Rattle.std.specs.Prelude.{Option}
 use Rattle.words.proofs.Bools.{by}
 use Rattle.words.proofs.Bytes.{all-bytes, append-bytes}
 use Rattle.words.proofs.ListLaws.{by-found}
@@ -45,7 +45,7 @@ unfolding add_named
 named-bytes ws text c x xs n d h = by (is_declared ws text c x) (λ e. rw e h) (λ e. rw e (more_bytes x xs n d h))
 
 module _ (ws text abi labels : List ℕ) (t : AreBytes text) (l : AreBytes labels) where
-  from_bytes : (c i target : ℕ) (method : Found) (xs : List New) → AreBytes (new_text xs)
+  from_bytes : (c i target : ℕ) (method : Option ℕ) (xs : List New) → AreBytes (new_text xs)
       → AreBytes (new_text (add_from ws text abi labels c i target method xs))
   from_bytes c i target method xs h =
       by-found method

@@ -6,28 +6,29 @@ use mathlib.Core.List.{List, [], ◌∷◌, ◌++◌, Memᴰ}
 use Prim.Native.Nat.{ℕ, zero, suc, ◌+◌, ◌<◌}
 use native.Mathlib.Omega.{arith}
 use lib.ListN.{length, get_or, set, replicate}
-use Rattle.words.specs.Lists.{list_from, or_else, find, first_found, position, fold, keep, some}
-use Rattle.words.specs.declared.Found.{Found}
-use Rattle.words.specs.declared.Found.TheVariants.{At, Nothing}
+use Rattle.words.specs.Lists.{list_from, find, first_found, position, fold, keep, some}
+use Rattle.std.specs.Option.{option_or}
+use Rattle.std.specs.Prelude.{Option}
+use Rattle.std.specs.Prelude.{Some, None}
 use Rattle.words.proofs.Bools.{by}
 
 -- ---- what is found on both sides
 
-pub data Both (R : ℕ → ℕ → Type 0) : Found → Found → Type 0 where
-  both : {m k : ℕ} → R m k → Both R (At m) (At k)
-  neither : Both R Nothing Nothing
+pub data Both (R : ℕ → ℕ → Type 0) : Option ℕ → Option ℕ → Type 0 where
+  both : {m k : ℕ} → R m k → Both R (Some m) (Some k)
+  neither : Both R None None
 
 module _ {R : ℕ → ℕ → Type 0} where
-  pub by_both : {X : Type 0} {f g : Found} → Both R f g → ((m k : ℕ) → f ≡ At m → g ≡ At k → R m k → X) → (f ≡ Nothing → g ≡ Nothing → X) → X
+  pub by_both : {X : Type 0} {f g : Option ℕ} → Both R f g → ((m k : ℕ) → f ≡ Some m → g ≡ Some k → R m k → X) → (f ≡ None → g ≡ None → X) → X
   by_both (both {m} {k} h) found none = found m k refl refl h
   by_both neither found none = none refl refl
 
-  pub both-or : {f g f' g' : Found} → Both R f f' → Both R g g' → Both R (or_else f g) (or_else f' g')
+  pub both-or : {f g f' g' : Option ℕ} → Both R f f' → Both R g g' → Both R (option_or f g) (option_or f' g')
   both-or (both h) j = both h
   both-or neither j = j
 
   -- a relation that says less
-  pub both_less : {S : ℕ → ℕ → Type 0} → ((m k : ℕ) → R m k → S m k) → {f g : Found} → Both R f g → Both S f g
+  pub both_less : {S : ℕ → ℕ → Type 0} → ((m k : ℕ) → R m k → S m k) → {f g : Option ℕ} → Both R f g → Both S f g
   both_less less (both {m} {k} h) = both (less m k h)
   both_less less neither = neither
 
@@ -92,7 +93,7 @@ module _ {A B : Type 0} {R : A → B → Type 0} where
     pairs-keep (pair {x} {y} r h) = by (q y) (λ t. rw (same x y r, t) (pair r (pairs-keep h))) (λ t. rw (same x y r, t) (pairs-keep h))
 
   -- what the first element finds that finds anything
-  pub pairs_first : (S : ℕ → ℕ → Type 0) (f : A → Found) (g : B → Found) → ((x : A) (y : B) → R x y → Both S (f x) (g y)) → {xs : List A} {ys : List B}
+  pub pairs_first : (S : ℕ → ℕ → Type 0) (f : A → Option ℕ) (g : B → Option ℕ) → ((x : A) (y : B) → R x y → Both S (f x) (g y)) → {xs : List A} {ys : List B}
       → Pairs R xs ys → Both S (first_found f xs) (first_found g ys)
   unfolding first_found
   pairs_first S f g e none = neither
@@ -119,7 +120,7 @@ module _ {R : ℕ → ℕ → Type 0} where
   pairs-find p q e (pair {x} {y} r h) = by (q y) (λ t. rw (e x y r, t) (both r)) (λ t. rw (e x y r, t) (pairs-find p q e h))
 
 -- searches along one list
-pub both_first : (R : ℕ → ℕ → Type 0) (f g : ℕ → Found) (xs : List ℕ) → ((x : ℕ) → Memᴰ x xs → Both R (f x) (g x)) → Both R (first_found f xs) (first_found g xs)
+pub both_first : (R : ℕ → ℕ → Type 0) (f g : ℕ → Option ℕ) (xs : List ℕ) → ((x : ℕ) → Memᴰ x xs → Both R (f x) (g x)) → Both R (first_found f xs) (first_found g xs)
 unfolding first_found
 both_first R f g [] h = neither
 both_first R f g (x ∷ xs) h = both-or (h x (Memᴰ.head refl)) (both_first R f g xs (λ y i. h y (Memᴰ.tail i)))

@@ -9,9 +9,10 @@ use native.Mathlib.Omega.{arith}
 use lib.ListN.{length, get_or, length-append}
 use lib.Dec.{eqb, ltb}
 use borrow.Author.Tests.{eqb-true, eqb-false, eq-eqb, ne_eqb, ltb-false, lt-ltb, le-ltb}
-use Rattle.words.specs.Lists.{and_then, fold}
-use Rattle.words.specs.declared.Found.{Found}
-use Rattle.words.specs.declared.Found.TheVariants.{At, Nothing}
+use Rattle.words.specs.Lists.{fold}
+use Rattle.std.specs.Option.{option_and_then}
+use Rattle.std.specs.Prelude.{Option}
+use Rattle.std.specs.Prelude.{Some, None}
 use Rattle.words.proofs.Bools.{by, or-neither}
 use Rattle.words.proofs.ListLaws.{by-found}
 use Rattle.words.specs.Words.{AreBytes}
@@ -59,14 +60,14 @@ module _ (same : ℕ → ℕ → Bool) (ws text abi labels area : List ℕ) (c :
 
 -- ---- how many indices
 
-module _ (ws text abi labels : List ℕ) (own : Found) where
+module _ (ws text abi labels : List ℕ) (own : Option ℕ) where
   number-one : (n : Numbering) (f : ℕ) → length (number_field ws text abi labels own n f).indices ≡ length n.indices + 1
   unfolding number_field
   number-one n f =
       by (is_static (field_flags ws f)) (λ t. rw t (length-append n.indices _))
       (λ q.
       rw q
-      (by-found (and_then own (fixed_field abi labels (field_name ws text f) (field_descriptor ws text f)))
+      (by-found (option_and_then (fixed_field abi labels (field_name ws text f) (field_descriptor ws text f)) own)
       (λ g e. rw e (length-append n.indices _))
       (λ e.
       rw e
@@ -130,17 +131,17 @@ on_refused (built U) f n e = inr (U, e)
 on_refused (refused m) f n e = inl e
 
 module _ (ws text : List ℕ) where
-  put_refused : (fixed slot : Found) (m : ℕ) (T : List Entry) (n : ℕ) → put_method ws text fixed slot m T ≡ refused n → n ≢ 0
+  put_refused : (fixed slot : Option ℕ) (m : ℕ) (T : List Entry) (n : ℕ) → put_method ws text fixed slot m T ≡ refused n → n ≢ 0
   unfolding put_method
-  put_refused (At i) slot m T n e =
+  put_refused (Some i) slot m T n e =
       by (on_found slot (λ j. not (eqb j i)) false) (λ t. refused-some {m = 11} (omega arith) (rw t at e))
       (λ t.
       let r = rw t at e in
       by (entry_is_other ws text (method_name ws text m) (method_descriptor ws text m) (get_or T i empty))
       (λ u. refused-some {m = 12} (omega arith) (rw u at r))
       (λ u. not-built (sym (rw u at r))))
-  put_refused Nothing (At j) m T n e = not-built (sym e)
-  put_refused Nothing Nothing m T n e = not-built (sym e)
+  put_refused None (Some j) m T n e = not-built (sym e)
+  put_refused None None m T n e = not-built (sym e)
 
 module _ (ws text abi labels : List ℕ) where
   add-refused : (abis : List ℕ) (m : ℕ) (T : List Entry) (n : ℕ) → add_method ws text abi labels abis m T ≡ refused n → n ≢ 0

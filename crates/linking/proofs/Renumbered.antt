@@ -10,9 +10,9 @@ use native.Mathlib.Omega.{arith}
 use lib.ListN.{length, get_or, take}
 use lib.Dec.{eqb}
 use borrow.Author.Tests.{eqb-false}
-use Rattle.words.specs.Lists.{and_then}
-use Rattle.words.specs.declared.Found.{Found}
-use Rattle.words.specs.declared.Found.TheVariants.{At, Nothing}
+use Rattle.std.specs.Option.{option_and_then}
+use Rattle.std.specs.Prelude.{Option}
+use Rattle.std.specs.Prelude.{Some, None}
 use Rattle.words.proofs.Bools.{by}
 use Rattle.words.proofs.ListLaws.{by-found}
 use Rattle.words.proofs.Ext.{founds_ext}
@@ -111,7 +111,7 @@ module _ (ws text ws' text' abi labels : List ℕ) (R : ℕ → ℕ → Type 0) 
   unfolding own_fixed
   own_fixed_lem i d s =
       rw (same-abi d s)
-      (by-found (and_then (class_abi ws' text' abi labels d) (slot_at abi i))
+      (by-found (option_and_then (slot_at abi i) (class_abi ws' text' abi labels d))
       (λ z e. rw e (own-method (abi_slot_name abi labels z) (abi_slot_descriptor abi labels z) d s))
       (λ e. rw e neither))
 
@@ -153,12 +153,12 @@ module _ (ws text ws' text' abi labels : List ℕ) (R : ℕ → ℕ → Type 0) 
 
   -- ---- the table before the class's own methods
 
-  put_same : (f : Found) {e e' : Entry} {T U : List Entry} → SameEntry R e e' → Tables R T U
+  put_same : (f : Option ℕ) {e e' : Entry} {T U : List Entry} → SameEntry R e e' → Tables R T U
       → Tables R (put_fixed f e T) (put_fixed f e' U)
-  put_same (At i) s h = pairs_set h i s
-  put_same Nothing s h = pairs-append h (pair s none)
+  put_same (Some i) s h = pairs_set h i s
+  put_same None s h = pairs-append h (pair s none)
 
-  relay-same : (abis : List ℕ) {f g : Found} → Both R f g → {e e' : Entry} {T U : List Entry} → SameEntry R e e' → Tables R T U
+  relay-same : (abis : List ℕ) {f g : Option ℕ} → Both R f g → {e e' : Entry} {T U : List Entry} → SameEntry R e e' → Tables R T U
       → Tables R (relay ws text abi labels abis f e T) (relay ws' text' abi labels abis g e' U)
   relay-same abis (both {m} {k} r) s h = rw (fixed_same m k r abis) (put_same (fixed_of ws' text' abi labels abis k) s h)
   relay-same abis neither s h = h
@@ -206,17 +206,17 @@ module _ (ws text ws' text' abi labels : List ℕ) (R : ℕ → ℕ → Type 0) 
         pairs-position (entry_is ws text (method_name ws text m) (method_descriptor ws text m))
         (entry_is ws' text' (method_name ws' text' k) (method_descriptor ws' text' k)) entry_found 0 h
 
-    put-method : (f slot : Found) {T U : List Entry} → Tables R T U
+    put-method : (f slot : Option ℕ) {T U : List Entry} → Tables R T U
         → SameBuilt R (put_method ws text f slot m T) (put_method ws' text' f slot k U)
     unfolding put_method
-    put-method (At i) slot {T} {U} h =
+    put-method (Some i) slot {T} {U} h =
         by (on_found slot (λ j. not (eqb j i)) false) (λ t. rw t both-refused)
         (λ t.
         rw (t, entry_other (get_or T i empty) (get_or U i empty) (pairs-at h (same-empty R) i))
         (by (entry_is_other ws' text' (method_name ws' text' k) (method_descriptor ws' text' k) (get_or U i empty)) (λ u. rw u both-refused)
         (λ u. rw u (both-built (pairs_set h i (method-entry m k r))))))
-    put-method Nothing (At j) h = both-built (pairs_set h j (method-entry m k r))
-    put-method Nothing Nothing h = both-built (pairs-append h (pair (method-entry m k r) none))
+    put-method None (Some j) h = both-built (pairs_set h j (method-entry m k r))
+    put-method None None h = both-built (pairs-append h (pair (method-entry m k r) none))
 
     add_same : (abis : List ℕ) {T U : List Entry} → Tables R T U
         → SameBuilt R (add_method ws text abi labels abis m T) (add_method ws' text' abi labels abis k U)

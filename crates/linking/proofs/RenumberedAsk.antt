@@ -3,8 +3,8 @@ use mathlib.Core.Path.{refl}
 use mathlib.Core.Bool.{◌&&◌}
 use mathlib.Core.List.{List}
 use Prim.Native.Nat.{ℕ}
-use Rattle.words.specs.declared.Found.{Found}
-use Rattle.words.specs.declared.Found.TheVariants.{Nothing}
+use Rattle.std.specs.Prelude.{Option}
+use Rattle.std.specs.Prelude.{None}
 use Rattle.class_sheet.specs.ClassSheet.{method_name, method_descriptor, method_flags}
 use Rattle.linking.specs.Chain.{on_found, chain, is_virtual, method_is}
 use Rattle.linking.specs.Vtable.{Entry, Built}
@@ -35,18 +35,18 @@ module _ (ws text ws' text' abi labels : List ℕ) (R : ℕ → ℕ → Type 0) 
         (own_implementation ws' text' (method_name ws' text' k) (method_descriptor ws' text' k)) (chain ws c)
         (λ d i. own-implementation (method_name ws' text' k) (method_descriptor ws' text' k) d (s.class d i)))
 
-    found-same : {f f' g g' : Found} (e e' : Entry) → SameEntry R e e' → Both R f f' → Both R g g'
+    found-same : {f f' g g' : Option ℕ} (e e' : Entry) → SameEntry R e e' → Both R f f' → Both R g g'
         → SameBuilt R (dispatch_entry ws e f g) (dispatch_entry ws' e' f' g')
     found-same e e' h (both r) (both {m} {k} t) = both-built (pair (record { word = keeps.target m k t; method = both t; source = refl }) none)
     found-same e e' h (both r) neither = both-refused
     found-same e e' h neither g = both-built (pair h none)
 
     entry-same : (e e' : Entry) → SameEntry R e e'
-        → SameBuilt R (dispatch_entry ws e e.method (on_found e.method (implementation ws text c) Nothing))
-        (dispatch_entry ws' e' e'.method (on_found e'.method (implementation ws' text' c) Nothing))
+        → SameBuilt R (dispatch_entry ws e e.method (on_found e.method (implementation ws text c) None))
+        (dispatch_entry ws' e' e'.method (on_found e'.method (implementation ws' text' c) None))
     entry-same e e' h = found-same e e' h h.method (on_found_lem h.method)
       where
-        on_found_lem : {f f' : Found} → Both R f f' → Both R (on_found f (implementation ws text c) Nothing) (on_found f' (implementation ws' text' c) Nothing)
+        on_found_lem : {f f' : Option ℕ} → Both R f f' → Both R (on_found f (implementation ws text c) None) (on_found f' (implementation ws' text' c) None)
         on_found_lem (both {m} {k} r) = implementation-same m k r
         on_found_lem neither = neither
 

@@ -9,8 +9,8 @@ use lib.ListN.{get_or}
 use lib.Dec.{eqb}
 use borrow.Author.Tests.{lt-ltb}
 use Rattle.words.specs.Lists.{first_found, fold}
-use Rattle.words.specs.declared.Found.{Found}
-use Rattle.words.specs.declared.Found.TheVariants.{Nothing}
+use Rattle.std.specs.Prelude.{Option}
+use Rattle.std.specs.Prelude.{None}
 use Rattle.words.proofs.Bools.{by}
 use Rattle.words.proofs.ListLaws.{by-found}
 use Rattle.class_sheet.specs.ClassSheet.{method_limit}
@@ -144,7 +144,7 @@ module _ (ws text ws' text' abi labels : List ℕ) (new new' : List New) where
       (λ e. on_found e.method (same_signature ws' text' new' k) false)
       (λ e e' s. by_both s.method (λ n l p q t. rw (p, q) (signature-same m k n l r t)) (λ p q. rw (p, q))) h
 
-  append-same : (source : Found) (T U : List Entry) (m k : ℕ) → Tables Signed T U → Signed m k
+  append-same : (source : Option ℕ) (T U : List Entry) (m k : ℕ) → Tables Signed T U → Signed m k
       → Tables Signed (append_from ws text new source T m) (append_from ws' text' new' source U k)
   unfolding append_from
   append-same source T U m k h r =
@@ -164,10 +164,10 @@ module _ (ws text ws' text' abi labels : List ℕ) (new new' : List New) where
       → (view view' P Q : List Entry) → Tables Signed view view' → Tables Signed P Q → (ts : List ℕ)
       → Tables Signed
       (fold (append_entry ws text new)
-      (fold (append_from ws text new Nothing) (compiler_entries ws new c view 0 ts) (class_methods ws new c)) P)
+      (fold (append_from ws text new None) (compiler_entries ws new c view 0 ts) (class_methods ws new c)) P)
       (fold (append_entry ws' text' new')
-      (fold (append_from ws' text' new' Nothing) (compiler_entries ws' new' c view' 0 ts) (class_methods ws' new' c)) Q)
+      (fold (append_from ws' text' new' None) (compiler_entries ws' new' c view' 0 ts) (class_methods ws' new' c)) Q)
   tables-same c methods view view' P Q v p ts =
       pairs-fold (Tables Signed) (append_entry ws text new) (append_entry ws' text' new') append-entry p
-      (pairs-fold (Tables Signed) (append_from ws text new Nothing) (append_from ws' text' new' Nothing) (append-same Nothing) methods
+      (pairs-fold (Tables Signed) (append_from ws text new None) (append_from ws' text' new' None) (append-same None) methods
       (compiler-entries c methods view view' v 0 ts))

@@ -11,8 +11,8 @@ use lib.ListN.{length, get_or, set}
 use lib.Dec.{eqb, ltb}
 use borrow.Author.Tests.{ltb-true, ltb-false}
 use Rattle.words.specs.Lists.{numbers, fold, keep, some}
-use Rattle.words.specs.declared.Found.{Found}
-use Rattle.words.specs.declared.Found.TheVariants.{At, Nothing}
+use Rattle.std.specs.Prelude.{Option}
+use Rattle.std.specs.Prelude.{Some, None}
 use Rattle.words.proofs.Bools.{by, and_both}
 use Rattle.words.proofs.ListLaws.{by-found}
 use Rattle.class_sheet.specs.ClassSheet.{class_limit, class_table_place, class_slot_count, method_flags}
@@ -40,16 +40,16 @@ unfolding topmost
 last-ext p q [] h = refl
 last-ext p q (d ∷ ds) h = rw (last-ext p q ds (λ e i. h e (Memᴰ.tail i)), h d (Memᴰ.head refl))
 
-abbrev found_or : ℕ → Found → ℕ
-found_or d (At m) = m
-found_or d Nothing = d
+abbrev found_or : ℕ → Option ℕ → ℕ
+found_or d (Some m) = m
+found_or d None = d
 
-abbrev is_found : Found → Bool
-is_found (At m) = true
-is_found Nothing = false
+abbrev is_found : Option ℕ → Bool
+is_found (Some m) = true
+is_found None = false
 
 -- what is found passes, and is on the list
-pub last_of : (p : ℕ → Bool) (ds : List ℕ) (k : ℕ) → topmost p ds ≡ At k → Memᴰ k ds × (p k ≡ true)
+pub last_of : (p : ℕ → Bool) (ds : List ℕ) (k : ℕ) → topmost p ds ≡ Some k → Memᴰ k ds × (p k ≡ true)
 unfolding topmost
 last_of p [] k e = absurd (true≢false (sym (ap is_found e)))
 last_of p (d ∷ ds) k e =
@@ -164,7 +164,7 @@ module _ (ws text ws' text' abi labels : List ℕ) (R : ℕ → ℕ → Type 0) 
   put_same s h [] = pairs-append h (pair s none)
   put_same s h (i ∷ is) = sets_same s is (pairs_set h i s)
 
-  module _ (one : (m k n l : ℕ) → R m k → R n l → eqb m n ≡ eqb k l) (first first' : ℕ → Found) (firsts : (i : ℕ) → Both R (first i) (first' i)) where
+  module _ (one : (m k n l : ℕ) → R m k → R n l → eqb m n ≡ eqb k l) (first first' : ℕ → Option ℕ) (firsts : (i : ℕ) → Both R (first i) (first' i)) where
     taken-same : {js ks : List ℕ} → Pairs R js ks → (n : ℕ) → taken_slots first js n ≡ taken_slots first' ks n
     unfolding taken_slots
     taken-same {js} {ks} h n =

@@ -10,34 +10,35 @@ use native.Mathlib.Omega.{arith}
 use lib.ListN.{get_or}
 use lib.Dec.{eqb, leb, ltb}
 use borrow.Author.Tests.{eqb-true, eqb-false, leb-true, ltb-true, le-leb, lt-ltb}
-use Rattle.words.specs.Lists.{list_from, numbers, find, or_else, first_found}
-use Rattle.words.specs.declared.Found.{Found}
-use Rattle.words.specs.declared.Found.TheVariants.{At, Nothing}
+use Rattle.words.specs.Lists.{list_from, numbers, find, first_found}
+use Rattle.std.specs.Option.{option_or}
+use Rattle.std.specs.Prelude.{Option}
+use Rattle.std.specs.Prelude.{Some, None}
 use Rattle.words.proofs.Bools.{by, and_both}
 use Rattle.words.proofs.ListLaws.{by-found, find-member, find-passes, numbers-within}
 use Rattle.class_sheet.specs.ClassSheet.{class_count, class_first_method, class_method_count, class_link_state, class_table_place, method_name, method_descriptor, method_flags, method_target, method_limit}
 use Rattle.abi_sheet.specs.AbiSheet.{abi_slot_name, abi_slot_descriptor}
 use Rattle.set_rules.specs.Valid.{IsClass}
 use Rattle.linking.specs.declared.Declared.{Declared}
-use Rattle.linking.specs.declared.Declared.TheVariants.{By, Nobody}
+use Rattle.linking.specs.Whose.{declared}
 use Rattle.linking.specs.Chain.{list_count, own_methods, chain, is_virtual, method_is, own_target, own_method, find_by_target}
 use Rattle.linking.specs.Abi.{class_abi, slot_at}
 use Rattle.linking.specs.Vtable.{own_fixed, find_by_index, read_entry, read_slot}
 use Rattle.linking.specs.Compiler.{holds, owner_state}
 use Rattle.linking.specs.Ask.{own_implementation, implementation}
-use Rattle.linking.specs.Whose.{method_of, declaring_class, or_declared, first_declared, declared_by_target, declared_implementation, declared_by_index, read_declared, slot_class, Nearest, Declares, MethodsApart, FixedThere, Column, unknown_slot, known_slot, Whose}
+use Rattle.linking.specs.Whose.{method_of, declaring_class, first_declared, declared_by_target, declared_implementation, declared_by_index, read_declared, slot_class, Nearest, Declares, MethodsApart, FixedThere, Column, unknown_slot, known_slot, Whose}
 use Rattle.linking.proofs.ChainLaws.{chain-within, own-target-member, own-method-member, own-method-is}
 
 -- ---- every answer remains
 
-pub declared-found : (f : ℕ → Found) (cs : List ℕ) → method_of (first_declared f cs) ≡ first_found f cs
+pub declared-found : (f : ℕ → Option ℕ) (cs : List ℕ) → method_of (first_declared f cs) ≡ first_found f cs
 unfolding first_declared first_found
 declared-found f [] = refl
 declared-found f (c ∷ cs) = by-found (f c) (λ m e. rw e) (λ e. rw e (declared-found f cs))
 
-or-method : (a b : Declared) → method_of (or_declared a b) ≡ or_else (method_of a) (method_of b)
-or-method (By c m) b = refl
-or-method Nobody b = refl
+or-method : (a b : Option Declared) → method_of (option_or a b) ≡ option_or (method_of a) (method_of b)
+or-method (Some d) b = refl
+or-method None b = refl
 
 pub target_found : (ws : List ℕ) (c t : ℕ) → method_of (declared_by_target ws c t) ≡ find_by_target ws c t
 unfolding declared_by_target find_by_target
@@ -60,20 +61,20 @@ module _ (ws text abi labels : List ℕ) where
 
 -- ---- the nearest counts
 
-nobody : {X : Type 0} {d m : ℕ} → Nobody ≡ By d m → X
+nobody : {X : Type 0} {d m : ℕ} → None ≡ declared d m → X
 nobody e = absurd (let z : ◌≡◌ {A = ℕ} 0 1 = cc in omega arith)
 
-pub nearest-counts : (f : ℕ → Found) (cs : List ℕ) (d m : ℕ) → first_declared f cs ≡ By d m → Nearest f cs d m
+pub nearest-counts : (f : ℕ → Option ℕ) (cs : List ℕ) (d m : ℕ) → first_declared f cs ≡ declared d m → Nearest f cs d m
 unfolding first_declared
 nearest-counts f [] d m e = nobody e
 nearest-counts f (c ∷ cs) d m e = by-found (f c) (λ k q. here k q (rw q at e)) (λ q. further q (nearest-counts f cs d m (rw q at e)))
   where
-    here : (k : ℕ) → f c ≡ At k → By c k ≡ By d m → Nearest f (c ∷ cs) d m
+    here : (k : ℕ) → f c ≡ Some k → declared c k ≡ declared d m → Nearest f (c ∷ cs) d m
     here k q r =
-        let s : c ≡ d = cc in
-        record { before = []; after = cs; parts = rw s; finds = (let p : At k ≡ At m = cc in rw (← s) (q ∙ p)); nearer = λ x t. absurd (Memᴰ.not-nil t) }
+        let s : c ≡ d = ap declaring_class r in
+        record { before = []; after = cs; parts = rw s; finds = rw (← s) (q ∙ ap method_of r); nearer = λ x t. absurd (Memᴰ.not-nil t) }
 
-    further : f c ≡ Nothing → Nearest f cs d m → Nearest f (c ∷ cs) d m
+    further : f c ≡ None → Nearest f cs d m → Nearest f (c ∷ cs) d m
     further q n = record {
       before = c ∷ n.before;
       after = n.after;
@@ -84,10 +85,10 @@ nearest-counts f (c ∷ cs) d m e = by-found (f c) (λ k q. here k q (rw q at e)
 
 -- ---- it declares the method
 
-on_list : {f : ℕ → Found} {cs : List ℕ} {d m : ℕ} → Nearest f cs d m → Memᴰ d cs
+on_list : {f : ℕ → Option ℕ} {cs : List ℕ} {d m : ℕ} → Nearest f cs d m → Memᴰ d cs
 on_list n = rw n.parts (Memᴰ.append_right n.before (Memᴰ.head refl))
 
-target_declares : (ws : List ℕ) (c t d m : ℕ) → declared_by_target ws c t ≡ By d m → Declares ws c d m × (method_target ws m ≡ t)
+target_declares : (ws : List ℕ) (c t d m : ℕ) → declared_by_target ws c t ≡ declared d m → Declares ws c d m × (method_target ws m ≡ t)
 unfolding declared_by_target own_target
 target_declares ws c t d m e =
     let n = nearest-counts (own_target ws t) (chain ws c) d m e in (
@@ -96,23 +97,23 @@ target_declares ws c t d m e =
     )
 
 -- what an own search by index finds
-fixed-there : (ws text abi labels : List ℕ) (i d m : ℕ) → own_fixed ws text abi labels i d ≡ At m
+fixed-there : (ws text abi labels : List ℕ) (i d m : ℕ) → own_fixed ws text abi labels i d ≡ Some m
     → Memᴰ m (own_methods ws d) × FixedThere ws text abi labels d i m
 unfolding own_fixed
 fixed-there ws text abi labels i d m e =
     by-found (class_abi ws text abi labels d)
     (λ a p. by-found (slot_at abi i a)
-    (λ s q. let h : own_method ws text (abi_slot_name abi labels s) (abi_slot_descriptor abi labels s) d ≡ At m = rw q at (rw p at e) in (
+    (λ s q. let h : own_method ws text (abi_slot_name abi labels s) (abi_slot_descriptor abi labels s) d ≡ Some m = rw q at (rw p at e) in (
       own-method-member ws text (abi_slot_name abi labels s) (abi_slot_descriptor abi labels s) d m h,
       record { entry = a; row = s; entry_found = p; row_is = q; signature = own-method-is ws text (abi_slot_name abi labels s) (abi_slot_descriptor abi labels s) d m h },
     ))
     (λ q. none (rw q at (rw p at e))))
     (λ p. none (rw p at e))
   where
-    none : {X : Type 0} → Nothing ≡ At m → X
+    none : {X : Type 0} → None ≡ Some m → X
     none z = absurd (let o : ◌≡◌ {A = ℕ} 0 1 = cc in omega arith)
 
-index_declares : (ws text abi labels : List ℕ) (c i d m : ℕ) → declared_by_index ws text abi labels c i ≡ By d m
+index_declares : (ws text abi labels : List ℕ) (c i d m : ℕ) → declared_by_index ws text abi labels c i ≡ declared d m
     → Declares ws c d m × FixedThere ws text abi labels d i m
 unfolding declared_by_index
 index_declares ws text abi labels c i d m e =
@@ -120,7 +121,7 @@ index_declares ws text abi labels c i d m e =
     let f = fixed-there ws text abi labels i d m n.finds in
     (record { along = on_list n; member = f.0 }, f.1)
 
-implementation_declares : (ws text : List ℕ) (c k d m : ℕ) → declared_implementation ws text c k ≡ By d m
+implementation_declares : (ws text : List ℕ) (c k d m : ℕ) → declared_implementation ws text c k ≡ declared d m
     → Declares ws c d m × (is_virtual (method_flags ws m) ≡ true) × (method_is ws text m (method_name ws text k) (method_descriptor ws text k) ≡ true)
 unfolding declared_implementation own_implementation
 implementation_declares ws text c k d m e =
@@ -134,7 +135,7 @@ implementation_declares ws text c k d m e =
 
 -- the one number that passes is the first
 find-only : (p : ℕ → Bool) (a n d : ℕ) → a ≤ d → d < a + n → p d ≡ true → ((x : ℕ) → a ≤ x → x < a + n → p x ≡ true → x ≡ d)
-    → find p (numbers a n) ≡ At d
+    → find p (numbers a n) ≡ Some d
 unfolding find list_from
 find-only p a zero d h g t u = absurd (omega arith)
 find-only p a (suc n) d h g t u =
@@ -159,13 +160,13 @@ module _ (ws : List ℕ) where
       simp (le-leb (class_first_method ws d) m w.0, lt-ltb m (class_first_method ws d + class_method_count ws d) (omega arith))
 
   owner-is : (c d m : ℕ) → MethodsApart ws → IsClass ws c → Declares ws c d m
-      → (find (holds ws m) (numbers 1 (class_count ws)) ≡ At d) × (owner_state ws m ≡ class_link_state ws d)
+      → (find (holds ws m) (numbers 1 (class_count ws)) ≡ Some d) × (owner_state ws m ≡ class_link_state ws d)
   unfolding owner_state
   owner-is c d m v k e =
       let w = chain-within ws c d e.along in
       let h = member-held m d e.member in
       let o = holds-is m d h in
-      let f : find (holds ws m) (numbers 1 (class_count ws)) ≡ At d =
+      let f : find (holds ws m) (numbers 1 (class_count ws)) ≡ Some d =
       find-only (holds ws m) 1 (class_count ws) d (omega arith) (omega arith) h
       (λ x l g t. let y = holds-is m x t in v x d m (l, omega arith) (omega arith, omega arith) y.0 y.1 o.0 o.1) in
       (f, rw f)
@@ -173,22 +174,22 @@ module _ (ws : List ℕ) where
 -- ---- 0 is unknown
 
 -- by cases on what is answered
-pub by-declared : {X : Type 0} (r : Declared) → ((d m : ℕ) → r ≡ By d m → X) → (r ≡ Nobody → X) → X
-by-declared (By d m) f g = f d m refl
-by-declared Nobody f g = g refl
+pub by-declared : {X : Type 0} (r : Option Declared) → ((d m : ℕ) → r ≡ declared d m → X) → (r ≡ None → X) → X
+by-declared (Some d) f g = f d.class d.method refl
+by-declared None f g = g refl
 
 -- the class of an answer is not 0
-pub declared-class : (f : ℕ → Found) (ws : List ℕ) (c d m : ℕ) → first_declared f (chain ws c) ≡ By d m → (0 < d) × (d ≤ c)
+pub declared-class : (f : ℕ → Option ℕ) (ws : List ℕ) (c d m : ℕ) → first_declared f (chain ws c) ≡ declared d m → (0 < d) × (d ≤ c)
 declared-class f ws c d m e = chain-within ws c d (on_list (nearest-counts f (chain ws c) d m e))
 
 module _ (ws text abi labels : List ℕ) where
-  pub read-class : (c i w d m : ℕ) → read_declared ws text abi labels c i w ≡ By d m → (0 < d) × (d ≤ c)
+  pub read-class : (c i w d m : ℕ) → read_declared ws text abi labels c i w ≡ declared d m → (0 < d) × (d ≤ c)
   unfolding read_declared declared_by_target declared_by_index
   read-class c i w d m e =
       by-declared (first_declared (own_target ws w) (chain ws c)) (λ a b q. declared-class (own_target ws w) ws c d m (q ∙ (rw q at e)))
       (λ q. declared-class (own_fixed ws text abi labels i) ws c d m (rw q at e))
 
-  read_declares : (c i w d m : ℕ) → read_declared ws text abi labels c i w ≡ By d m → Declares ws c d m
+  read_declares : (c i w d m : ℕ) → read_declared ws text abi labels c i w ≡ declared d m → Declares ws c d m
   unfolding read_declared
   read_declares c i w d m e =
       by-declared (declared_by_target ws c w)
@@ -201,19 +202,19 @@ module _ (ws text abi labels : List ℕ) where
       (λ d m e. rw (← reading-found ws text abi labels c i w, e) (known_slot (read_declares c i w d m e)))
       (λ e. rw (← reading-found ws text abi labels c i w, e) unknown_slot)
 
-  unknown-is : (area : List ℕ) (c i : ℕ) → (slot_class ws text abi labels area c i ≡ 0) ↔ ((read_slot ws text abi labels area c i).method ≡ Nothing)
+  unknown-is : (area : List ℕ) (c i : ℕ) → (slot_class ws text abi labels area c i ≡ 0) ↔ ((read_slot ws text abi labels area c i).method ≡ None)
   unfolding slot_class read_slot
   unknown-is area c i =
       let w : ℕ = get_or area (class_table_place ws c + 1 + i) 0 in
       by-declared (read_declared ws text abi labels c i w)
       (λ d m e.
       let l = read-class c i w d m e in
-      let f : At m ≡ (read_entry ws text abi labels c i w).method = rw e at (reading-found ws text abi labels c i w) in (
+      let f : Some m ≡ (read_entry ws text abi labels c i w).method = rw e at (reading-found ws text abi labels c i w) in (
         λ z. absurd (let y : d ≡ 0 = rw e at z in omega arith),
         λ z. absurd (let o : ◌≡◌ {A = ℕ} 0 1 = cc in omega arith),
       ))
       (λ e.
-      let f : Nothing ≡ (read_entry ws text abi labels c i w).method = rw e at (reading-found ws text abi labels c i w) in
+      let f : None ≡ (read_entry ws text abi labels c i w).method = rw e at (reading-found ws text abi labels c i w) in
       (λ z. sym f, λ z. rw e))
 
 pub whose : Whose

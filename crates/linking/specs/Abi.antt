@@ -1,15 +1,16 @@
 -- The ABI sheet's lookups (abi.rs): "The first ABI class of a name, and in it the first match, counts." Indices and sizes above row 4's
 -- limits, which it refuses, count as the limit, so that every definition is total. Assumes nothing.
 use Rattle.std.specs.Prelude.{ℕ, ◌+◌, ◌-◌, max, min, Bool, ◌&&◌, List, take, eqb}
-use Rattle.words.specs.Lists.{numbers, find, first_found, all_found, map_found, fold}
-use Rattle.words.specs.declared.Found.{Found}
+use Rattle.words.specs.Lists.{numbers, find, first_found, all_found, fold}
+use Rattle.std.specs.Option.{option_map}
+use Rattle.std.specs.Prelude.{Option}
 use Rattle.text.specs.Text.{same_bytes}
 use Rattle.class_sheet.specs.ClassSheet.{class_name, class_limit}
 use Rattle.abi_sheet.specs.AbiSheet.{abi_class_count, abi_class_name, abi_class_table_size_plus_one, abi_class_instance_words_plus_one, abi_class_first_slot, abi_class_slot_count, abi_class_first_field, abi_class_field_count, abi_slot_name, abi_slot_descriptor, abi_slot_index, abi_field_name, abi_field_descriptor, abi_field_index, abi_field_limit, abi_slot_limit}
 use Rattle.linking.specs.Chain.{list_count, chain}
 
 -- the first ABI class of the name
-unfoldable pub abi_named : List ℕ → List ℕ → List ℕ → Found
+unfoldable pub abi_named : List ℕ → List ℕ → List ℕ → Option ℕ
 abi_named abi labels name = find (λ a. same_bytes (abi_class_name abi labels a) name) (numbers 0 (abi_class_count abi))
 
 -- the numbers of an ABI class's slot records and field records, in order
@@ -31,18 +32,18 @@ unfoldable pub slot_is : List ℕ → List ℕ → ℕ → List ℕ → List ℕ
 slot_is abi labels s name descriptor = same_bytes (abi_slot_name abi labels s) name && same_bytes (abi_slot_descriptor abi labels s) descriptor
 
 -- the index that the class fixes for the signature
-unfoldable pub vtable_index : List ℕ → List ℕ → List ℕ → List ℕ → ℕ → Found
-vtable_index abi labels name descriptor a = map_found (slot_index abi) (find (λ s. slot_is abi labels s name descriptor) (abi_slots abi a))
+unfoldable pub vtable_index : List ℕ → List ℕ → List ℕ → List ℕ → ℕ → Option ℕ
+vtable_index abi labels name descriptor a = option_map (slot_index abi) (find (λ s. slot_is abi labels s name descriptor) (abi_slots abi a))
 
 -- the first slot record with this index
-unfoldable pub slot_at : List ℕ → ℕ → ℕ → Found
+unfoldable pub slot_at : List ℕ → ℕ → ℕ → Option ℕ
 slot_at abi i a = find (λ s. eqb (slot_index abi s) i) (abi_slots abi a)
 
 unfoldable pub field_is : List ℕ → List ℕ → ℕ → List ℕ → List ℕ → Bool
 field_is abi labels f name descriptor = same_bytes (abi_field_name abi labels f) name && same_bytes (abi_field_descriptor abi labels f) descriptor
 
 -- the first field record of the signature
-unfoldable pub fixed_field : List ℕ → List ℕ → List ℕ → List ℕ → ℕ → Found
+unfoldable pub fixed_field : List ℕ → List ℕ → List ℕ → List ℕ → ℕ → Option ℕ
 fixed_field abi labels name descriptor a = find (λ f. field_is abi labels f name descriptor) (abi_fields abi a)
 
 -- "table size plus 1 (0 none)", and its largest fixed index + 1
@@ -56,7 +57,7 @@ given_words abi a = min (abi_class_instance_words_plus_one abi a) 4097
 -- ---- of the ABI classes that a chain names, nearest first
 
 -- a class's ABI entry
-unfoldable pub class_abi : List ℕ → List ℕ → List ℕ → List ℕ → ℕ → Found
+unfoldable pub class_abi : List ℕ → List ℕ → List ℕ → List ℕ → ℕ → Option ℕ
 class_abi ws text abi labels c = abi_named abi labels (class_name ws text c)
 
 -- (a set has at most `class_limit` classes, so nothing is cut where row 3 does not refuse)
@@ -64,7 +65,7 @@ unfoldable pub chain_abi : List ℕ → List ℕ → List ℕ → List ℕ → �
 chain_abi ws text abi labels c = take class_limit (all_found (class_abi ws text abi labels) (chain ws c))
 
 -- a signature's fixed index: the first match
-unfoldable pub fixed_index : List ℕ → List ℕ → List ℕ → List ℕ → List ℕ → Found
+unfoldable pub fixed_index : List ℕ → List ℕ → List ℕ → List ℕ → List ℕ → Option ℕ
 fixed_index abi labels abis name descriptor = first_found (vtable_index abi labels name descriptor) abis
 
 -- "the largest fixed index + 1 or table size among the chain's ABI classes"

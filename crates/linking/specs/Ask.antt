@@ -1,8 +1,8 @@
 -- `interface_dispatch_table` (the ask): the walk over a class's interface tables, and the node built where there is none. Assumes nothing.
 use Rattle.std.specs.Prelude.{ℕ, zero, suc, ◌+◌, Bool, cond, not, ◌&&◌, ◌||◌, List, [], ◌∷◌, ◌++◌, length, get_or, set, eqb, leb}
 use Rattle.words.specs.Lists.{find, first_found}
-use Rattle.words.specs.declared.Found.{Found}
-use Rattle.words.specs.declared.Found.TheVariants.{At, Nothing}
+use Rattle.std.specs.Prelude.{Option}
+use Rattle.std.specs.Prelude.{Some, None}
 use Rattle.class_sheet.specs.ClassSheet.{text_of, class_table_place, class_slot_count, method_name, method_descriptor, method_flags, method_target}
 use Rattle.abi_sheet.specs.AbiSheet.{abi_text_of}
 use Rattle.set_rules.specs.SetRules.{set_refusal}
@@ -38,18 +38,18 @@ head_place ws c = class_table_place ws c + class_slot_count ws c + 1
 -- keeps its target"
 
 module _ (ws text : List ℕ) where
-  unfoldable pub own_implementation : List ℕ → List ℕ → ℕ → Found
+  unfoldable pub own_implementation : List ℕ → List ℕ → ℕ → Option ℕ
   own_implementation name descriptor c =
       find (λ m. is_virtual (method_flags ws m) && method_is ws text m name descriptor) (own_methods ws c)
 
-  unfoldable pub implementation : ℕ → ℕ → Found
+  unfoldable pub implementation : ℕ → ℕ → Option ℕ
   implementation c m = first_found (own_implementation (method_name ws text m) (method_descriptor ws text m)) (chain ws c)
 
 -- the entry of the class's table for an interface's, if it has an implementation
-abbrev pub dispatch_entry : List ℕ → Entry → Found → Found → Built
-dispatch_entry ws e (At m) (At k) = built (record { word = method_target ws k; method = At k; source = Nothing } ∷ [])
-dispatch_entry ws e (At m) Nothing = refused 16
-dispatch_entry ws e Nothing found = built (e ∷ [])
+abbrev pub dispatch_entry : List ℕ → Entry → Option ℕ → Option ℕ → Built
+dispatch_entry ws e (Some m) (Some k) = built (record { word = method_target ws k; method = Some k; source = None } ∷ [])
+dispatch_entry ws e (Some m) None = refused 16
+dispatch_entry ws e None found = built (e ∷ [])
 
 abbrev pub cons_entry : Built → Built → Built
 cons_entry (built T) (built U) = built (T ++ U)
@@ -60,7 +60,7 @@ cons_entry (refused n) other = refused n
 unfoldable pub dispatch_entries : List ℕ → List ℕ → ℕ → List Entry → Built
 dispatch_entries ws text c [] = built []
 dispatch_entries ws text c (e ∷ es) =
-    cons_entry (dispatch_entry ws e e.method (on_found e.method (implementation ws text c) Nothing)) (dispatch_entries ws text c es)
+    cons_entry (dispatch_entry ws e e.method (on_found e.method (implementation ws text c) None)) (dispatch_entries ws text c es)
 
 -- ---- "a node (old head, interface number, slots) goes in front"
 

@@ -2,15 +2,16 @@
 -- which row 4 refuses, is cut there, and a parent that is not below its child, which row 4 refuses too, counts as none. Assumes nothing.
 use Rattle.std.specs.Prelude.{ℕ, zero, suc, ◌-◌, ◌/◌, ◌%◌, min, ◌≡◌, Bool, cond, not, ◌&&◌, List, [], ◌∷◌, get_or, eqb, ltb}
 use Rattle.words.specs.Lists.{numbers, find, first_found}
-use Rattle.words.specs.declared.Found.{Found}
-use Rattle.words.specs.declared.Found.TheVariants.{At, Nothing}
+use Rattle.std.specs.Prelude.{Option}
+use Rattle.std.specs.Prelude.{Some, None}
 use Rattle.text.specs.Text.{same_bytes}
+pub use Rattle.class_sheet.specs.Flags.{is_private, is_static, is_interface, is_abstract}
 use Rattle.class_sheet.specs.ClassSheet.{class_parent, class_first_method, class_method_count, class_first_field, class_field_count, class_first_interface, class_interface_count, method_name, method_descriptor, method_flags, method_target, method_limit, field_limit, interface_limit}
 
 -- what is made of a number that was found, or what stands for nothing
-abbrev pub on_found {ℓ} : {A : Type ℓ} → Found → (ℕ → A) → A → A
-on_found (At n) f otherwise = f n
-on_found Nothing f otherwise = otherwise
+abbrev pub on_found {ℓ} : {A : Type ℓ} → Option ℕ → (ℕ → A) → A → A
+on_found (Some n) f otherwise = f n
+on_found None f otherwise = otherwise
 
 -- how many of `count` elements from `first` on lie below the limit
 abbrev pub list_count : ℕ → ℕ → ℕ → ℕ
@@ -41,18 +42,6 @@ chain ws c = chain_of ws c c
 
 -- ---- flags
 
-abbrev pub is_private : ℕ → Bool
-is_private flags = eqb (flags / 2 % 2) 1
-
-abbrev pub is_static : ℕ → Bool
-is_static flags = eqb (flags / 8 % 2) 1
-
-abbrev pub is_interface : ℕ → Bool
-is_interface flags = eqb (flags / 512 % 2) 1
-
-abbrev pub is_abstract : ℕ → Bool
-is_abstract flags = eqb (flags / 1024 % 2) 1
-
 -- not static, not private (0x0002)
 unfoldable pub is_virtual : ℕ → Bool
 is_virtual flags = not (is_static flags) && not (is_private flags)
@@ -82,12 +71,12 @@ pub record SameSignature (ws text : List ℕ) (m k : ℕ) : Type 0 where
 -- ---- searches along the chain: "class first, then ancestors"
 
 -- the class's first method with this target
-unfoldable pub own_target : List ℕ → ℕ → ℕ → Found
+unfoldable pub own_target : List ℕ → ℕ → ℕ → Option ℕ
 own_target ws t c = find (λ m. eqb (method_target ws m) t) (own_methods ws c)
 
-unfoldable pub find_by_target : List ℕ → ℕ → ℕ → Found
+unfoldable pub find_by_target : List ℕ → ℕ → ℕ → Option ℕ
 find_by_target ws c t = first_found (own_target ws t) (chain ws c)
 
 -- the class's first method of this signature, of any flags
-unfoldable pub own_method : List ℕ → List ℕ → List ℕ → List ℕ → ℕ → Found
+unfoldable pub own_method : List ℕ → List ℕ → List ℕ → List ℕ → ℕ → Option ℕ
 own_method ws text name descriptor c = find (λ m. method_is ws text m name descriptor) (own_methods ws c)

@@ -1,9 +1,10 @@
 -- A generated class with a compiler table (`prepare_generated`, `build_from_compiler_vtable`). Methods are numbered on: below 512 those of
 -- the sheet, 512 + j the j-th that is added. Assumes nothing.
 use Rattle.std.specs.Prelude.{ℕ, ◌+◌, ◌-◌, min, Bool, false, cond, not, ◌&&◌, ◌||◌, List, [], ◌∷◌, ◌++◌, length, get_or, eqb, leb, ltb}
-use Rattle.words.specs.Lists.{list_from, numbers, or_else, find, first_found, cons_found, all_found, fold, some}
-use Rattle.words.specs.declared.Found.{Found}
-use Rattle.words.specs.declared.Found.TheVariants.{At, Nothing}
+use Rattle.words.specs.Lists.{list_from, numbers, find, first_found, cons_found, all_found, fold, some}
+use Rattle.std.specs.Option.{option_or}
+use Rattle.std.specs.Prelude.{Option}
+use Rattle.std.specs.Prelude.{Some, None}
 use Rattle.text.specs.Text.{same_bytes}
 use Rattle.class_sheet.specs.ClassSheet.{class_count, class_first_method, class_method_count, class_link_state, class_compiler_table, class_compiler_slots, compiler_word, interface_word, method_name, method_descriptor, method_flags, method_target, method_limit}
 use Rattle.abi_sheet.specs.AbiSheet.{abi_slot_name, abi_slot_descriptor}
@@ -78,7 +79,7 @@ module _ (ws text abi labels : List ℕ) where
       cons_found (class_abi ws text abi labels c) (all_found (λ i. class_abi ws text abi labels (interface_word ws i)) (own_interfaces ws c))
 
   -- of a target at index i
-  abbrev pub add_from : ℕ → ℕ → ℕ → Found → List New → List New
+  abbrev pub add_from : ℕ → ℕ → ℕ → Option ℕ → List New → List New
   add_from c i target method xs =
       on_found method (λ m. add_named ws text c (from_method ws text m target) xs)
       (on_found (first_found (slot_at abi i) (signature_sources c)) (λ s. add_named ws text c (from_slot abi labels s target) xs) xs)
@@ -118,14 +119,14 @@ module _ (ws : List ℕ) (new : List New) where
 
   -- ---- (c) "A zero slot is the native view's; another is matched by target in declared and added, then native methods."
 
-  unfoldable pub entry_target : ℕ → Entry → Found
-  entry_target t e = on_found e.method (λ m. cond (eqb (target_of m) t) (At m) Nothing) Nothing
+  unfoldable pub entry_target : ℕ → Entry → Option ℕ
+  entry_target t e = on_found e.method (λ m. cond (eqb (target_of m) t) (Some m) None) None
 
-  unfoldable pub match_target : ℕ → List Entry → ℕ → Found
-  match_target c view t = or_else (find (λ m. eqb (target_of m) t) (class_methods c)) (first_found (entry_target t) view)
+  unfoldable pub match_target : ℕ → List Entry → ℕ → Option ℕ
+  match_target c view t = option_or (find (λ m. eqb (target_of m) t) (class_methods c)) (first_found (entry_target t) view)
 
   unfoldable pub compiler_entry : ℕ → List Entry → ℕ → ℕ → Entry
-  compiler_entry c view i t = cond (eqb t 0) (get_or view i empty) (record { word = t; method = match_target c view t; source = Nothing })
+  compiler_entry c view i t = cond (eqb t 0) (get_or view i empty) (record { word = t; method = match_target c view t; source = None })
 
   unfoldable pub compiler_entries : ℕ → List Entry → ℕ → List ℕ → List Entry
   compiler_entries c view i [] = []
@@ -142,10 +143,10 @@ module _ (ws text : List ℕ) (new : List New) where
   has_slot m T = some (λ e. on_found e.method (same_signature m) false) T
 
   -- appended as a copy of that slot of the parent's table, or as none
-  unfoldable pub append_from : Found → List Entry → ℕ → List Entry
+  unfoldable pub append_from : Option ℕ → List Entry → ℕ → List Entry
   append_from source T m =
       cond (is_eligible (flags_of ws new m) (name_of ws text new m) && not (has_slot m T))
-      (T ++ (record { word = target_of ws new m; method = At m; source = source } ∷ []))
+      (T ++ (record { word = target_of ws new m; method = Some m; source = source } ∷ []))
       T
 
   -- "an appended parent method is" a copy
@@ -157,5 +158,5 @@ compiler_table ws text abi labels area c =
     let new : List New = added_methods ws text abi labels area c in
     let view : List Entry = native_view ws text abi labels area c in
     fold (append_entry ws text new)
-    (fold (append_from ws text new Nothing) (compiler_entries ws new c view 0 (compiler_targets ws c)) (class_methods ws new c))
+    (fold (append_from ws text new None) (compiler_entries ws new c view 0 (compiler_targets ws c)) (class_methods ws new c))
     (parent_entries ws text abi labels area c)

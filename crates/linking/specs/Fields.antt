@@ -1,8 +1,9 @@
 -- Field words (field.rs, `new`, `patch_declared_instance_field_word_indices`). Instance words above row 4's limit, which it refuses,
 -- count as the limit. Assumes nothing.
 use Rattle.std.specs.Prelude.{ℕ, ◌+◌, ◌-◌, max, min, Bool, true, cond, not, ◌&&◌, ◌||◌, List, [], ◌∷◌, ◌++◌, eqb, leb, ltb}
-use Rattle.words.specs.Lists.{and_then, fold, keep, some}
-use Rattle.words.specs.declared.Found.{Found}
+use Rattle.words.specs.Lists.{fold, keep, some}
+use Rattle.std.specs.Option.{option_and_then}
+use Rattle.std.specs.Prelude.{Option}
 use Rattle.descriptor.specs.Words.{width}
 use Rattle.class_sheet.specs.ClassSheet.{class_instance_words, field_name, field_descriptor, field_flags, field_index}
 use Rattle.abi_sheet.specs.AbiSheet.{abi_field_descriptor}
@@ -72,18 +73,18 @@ abbrev pub as_running : ℕ → Numbering → Numbering
 as_running w n = record { indices = n.indices ++ (n.running ∷ []); statics = n.statics; runtime = n.runtime; running = n.running + w }
 
 -- `own` is the class's ABI entry; its instance words plus 1, or 0
-abbrev pub own_given : List ℕ → Found → ℕ
+abbrev pub own_given : List ℕ → Option ℕ → ℕ
 own_given abi own = on_found own (given_words abi) 0
 
-abbrev pub number_instance : List ℕ → Found → Found → ℕ → Numbering → Numbering
+abbrev pub number_instance : List ℕ → Option ℕ → Option ℕ → ℕ → Numbering → Numbering
 number_instance abi own fixed w n =
     on_found fixed (λ g. as_fixed (fixed_field_index abi g) w n) (cond (eqb (own_given abi own) 0) (as_running w n) (as_runtime w n))
 
-module _ (ws text abi labels : List ℕ) (own : Found) where
+module _ (ws text abi labels : List ℕ) (own : Option ℕ) where
   unfoldable pub number_field : Numbering → ℕ → Numbering
   number_field n f =
       cond (is_static (field_flags ws f)) (as_static (field_width ws text f) n)
-      (number_instance abi own (and_then own (fixed_field abi labels (field_name ws text f) (field_descriptor ws text f))) (field_width ws text f) n)
+      (number_instance abi own (option_and_then (fixed_field abi labels (field_name ws text f) (field_descriptor ws text f)) own) (field_width ws text f) n)
 
   unfoldable pub number_fields : ℕ → Numbering
   number_fields c =
@@ -104,7 +105,7 @@ declares_field ws text abi labels c g =
 unfoldable pub raised : List ℕ → List ℕ → ℕ → List ℕ → ℕ
 raised abi labels running gs = fold (λ n g. max n (fixed_field_index abi g + width (abi_field_descriptor abi labels g))) running gs
 
-module _ (ws text abi labels : List ℕ) (own : Found) where
+module _ (ws text abi labels : List ℕ) (own : Option ℕ) where
   unfoldable pub added_fields : ℕ → List ℕ
   added_fields c = on_found own (λ a. keep (λ g. not (declares_field ws text abi labels c g)) (abi_fields abi a)) []
 

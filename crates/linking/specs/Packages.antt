@@ -4,9 +4,10 @@
 -- nothing.
 use Rattle.std.specs.Prelude.{ℕ, ◌/◌, ◌%◌, ◌<◌, min, ◌≡◌, ◌≢◌, ◌↔◌, Bool, true, false, cond, not, ◌&&◌, ◌||◌, length, get_or, set, take, eqb, ltb}
 use mathlib.Core.List.{List, [], ◌∷◌, ◌++◌, Memᴰ}
-use Rattle.words.specs.Lists.{numbers, or_else, and_then, fold, keep, some}
-use Rattle.words.specs.declared.Found.{Found}
-use Rattle.words.specs.declared.Found.TheVariants.{At, Nothing}
+use Rattle.words.specs.Lists.{numbers, fold, keep, some}
+use Rattle.std.specs.Option.{option_or, option_and_then}
+use Rattle.std.specs.Prelude.{Option}
+use Rattle.std.specs.Prelude.{Some, None}
 use Rattle.text.specs.Text.{same_bytes}
 use Rattle.class_sheet.specs.ClassSheet.{class_limit, text_of, class_flags, is_packaged, class_table_place, class_slot_count, class_name, method_flags}
 use Rattle.set_rules.specs.Valid.{IsClass, Valid}
@@ -70,9 +71,9 @@ module _ (same : ℕ → ℕ → Bool) (ws text : List ℕ) where
 -- ---- "A slot's introducing method is what Reading finds there in the topmost chain class whose table has it."
 
 -- the topmost class of a chain that passes the test: a chain has the nearest class first, so the topmost is the last
-unfoldable pub topmost : (ℕ → Bool) → List ℕ → Found
-topmost p [] = Nothing
-topmost p (x ∷ xs) = or_else (topmost p xs) (cond (p x) (At x) Nothing)
+unfoldable pub topmost : (ℕ → Bool) → List ℕ → Option ℕ
+topmost p [] = None
+topmost p (x ∷ xs) = option_or (topmost p xs) (cond (p x) (Some x) None)
 
 -- class c is linked, and its table has slot i
 unfoldable pub table_has : List ℕ → ℕ → ℕ → Bool
@@ -80,15 +81,15 @@ table_has ws i c = not (eqb (class_table_place ws c) 0) && ltb i (min (class_slo
 
 module _ (ws text abi labels : List ℕ) where
   -- of slot i in the table of class p
-  unfoldable pub introducing : List ℕ → ℕ → ℕ → Found
+  unfoldable pub introducing : List ℕ → ℕ → ℕ → Option ℕ
   introducing area p i =
-      and_then (topmost (table_has ws i) (chain ws p)) (λ d. (read_slot ws text abi labels area d i).method)
+      option_and_then (λ d. (read_slot ws text abi labels area d i).method) (topmost (table_has ws i) (chain ws p))
 
 -- ---- the table: "An eligible method takes every inherited slot whose introducing method it overrides by that section, and a new last slot if there
 -- is none."
 
 -- the slots below n whose introducing method is one of these methods
-unfoldable pub taken_slots : (ℕ → Found) → List ℕ → ℕ → List ℕ
+unfoldable pub taken_slots : (ℕ → Option ℕ) → List ℕ → ℕ → List ℕ
 taken_slots introduced ks n = keep (λ i. on_found (introduced i) (λ k. some (λ j. eqb j k) ks) false) (numbers 0 n)
 
 -- the entry at each of these indices, or after the last
@@ -98,12 +99,12 @@ put_taken e T (i ∷ is) = fold (λ U j. set U j e) (set T i e) is
 
 module _ (same : ℕ → ℕ → Bool) (ws text : List ℕ) where
   -- `introduced` gives the introducing methods of the n inherited slots
-  unfoldable pub take_slots : (ℕ → Found) → ℕ → ℕ → List Entry → ℕ → List Entry
+  unfoldable pub take_slots : (ℕ → Option ℕ) → ℕ → ℕ → List Entry → ℕ → List Entry
   take_slots introduced n c T m =
       cond (eligible ws text m) (put_taken (method_entry ws m) T (taken_slots introduced (overridden same ws text c m) n)) T
 
   -- over the parent's entries
-  unfoldable pub packages_over : (ℕ → Found) → ℕ → List Entry → List Entry
+  unfoldable pub packages_over : (ℕ → Option ℕ) → ℕ → List Entry → List Entry
   packages_over introduced c P = fold (take_slots introduced (length P) c) P (own_methods ws c)
 
 module _ (same : ℕ → ℕ → Bool) (ws text abi labels : List ℕ) where

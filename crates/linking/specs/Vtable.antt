@@ -1,9 +1,10 @@
 -- Virtual tables (vtable.rs): Reading, `build_methods`, `build_interface_methods`, and the words written. A known entry's method is a
 -- number of the class sheet's method section. Assumes nothing.
 use Rattle.std.specs.Prelude.{ℕ, ◌+◌, ◌-◌, min, Bool, false, cond, not, List, [], ◌∷◌, ◌++◌, length, get_or, set, replicate, eqb}
-use Rattle.words.specs.Lists.{list_from, or_else, and_then, first_found, position, fold, keep}
-use Rattle.words.specs.declared.Found.{Found}
-use Rattle.words.specs.declared.Found.TheVariants.{At, Nothing}
+use Rattle.words.specs.Lists.{list_from, first_found, position, fold, keep}
+use Rattle.std.specs.Option.{option_or, option_and_then}
+use Rattle.std.specs.Prelude.{Option}
+use Rattle.std.specs.Prelude.{Some, None}
 use Rattle.class_sheet.specs.ClassSheet.{class_table_place, class_slot_count, method_name, method_descriptor, method_target}
 use Rattle.abi_sheet.specs.AbiSheet.{abi_slot_name, abi_slot_descriptor}
 use Rattle.linking.specs.Chain.{on_found, own_methods, parent_of, chain, eligible, method_is, own_method, find_by_target}
@@ -12,11 +13,11 @@ use Rattle.linking.specs.Abi.{slot_at, class_abi, chain_abi, fixed_index, minimu
 -- a slot: its word, 0 where it is empty, its method where it is known, and the slot of the table read that it is a copy of
 pub record Entry : Type 0 where
   pub word : ℕ
-  pub method : Found
-  pub source : Found
+  pub method : Option ℕ
+  pub source : Option ℕ
 
 abbrev pub empty : Entry
-empty = record { word = 0; method = Nothing; source = Nothing }
+empty = record { word = 0; method = None; source = None }
 
 -- a table, or the row that refuses it
 pub data Built : Type 0 where
@@ -32,16 +33,15 @@ module _ (ws text abi labels : List ℕ) where
   -- ABI entry fixes that index and which itself has a method of that signature, of any flags. Else unknown. In each case the entry's
   -- target is the slot's word."
 
-  unfoldable pub own_fixed : ℕ → ℕ → Found
+  unfoldable pub own_fixed : ℕ → ℕ → Option ℕ
   own_fixed i c =
-      and_then (and_then (class_abi ws text abi labels c) (slot_at abi i))
-      (λ s. own_method ws text (abi_slot_name abi labels s) (abi_slot_descriptor abi labels s) c)
+      option_and_then (λ s. own_method ws text (abi_slot_name abi labels s) (abi_slot_descriptor abi labels s) c) (option_and_then (slot_at abi i) (class_abi ws text abi labels c))
 
-  unfoldable pub find_by_index : ℕ → ℕ → Found
+  unfoldable pub find_by_index : ℕ → ℕ → Option ℕ
   find_by_index c i = first_found (own_fixed i) (chain ws c)
 
   unfoldable pub read_entry : ℕ → ℕ → ℕ → Entry
-  read_entry c i w = record { word = w; method = or_else (find_by_target ws c w) (find_by_index c i); source = At i }
+  read_entry c i w = record { word = w; method = option_or (find_by_target ws c w) (find_by_index c i); source = Some i }
 
   -- "its table is the words after the place": slot i of class c, as the area holds it
   unfoldable pub read_slot : List ℕ → ℕ → ℕ → Entry
@@ -61,7 +61,7 @@ module _ (ws text : List ℕ) where
   entry_is name descriptor e = on_found e.method (λ m. method_is ws text m name descriptor) false
 
   -- the first slot of the signature
-  unfoldable pub slot_of : List ℕ → List ℕ → List Entry → Found
+  unfoldable pub slot_of : List ℕ → List ℕ → List Entry → Option ℕ
   slot_of name descriptor T = position (entry_is name descriptor) 0 T
 
   -- a known entry of another signature
@@ -69,7 +69,7 @@ module _ (ws text : List ℕ) where
   entry_is_other name descriptor e = on_found e.method (λ m. not (method_is ws text m name descriptor)) false
 
 abbrev pub method_entry : List ℕ → ℕ → Entry
-method_entry ws m = record { word = method_target ws m; method = At m; source = Nothing }
+method_entry ws m = record { word = method_target ws m; method = Some m; source = None }
 
 -- ---- "`build_methods`: parent entries, extended with empty ones to the largest fixed index + 1 or table size among the chain's ABI
 -- classes. A class with its own ABI entry first puts each known inherited entry at its fixed index, later ones overwriting; known
@@ -79,17 +79,17 @@ method_entry ws m = record { word = method_target ws m; method = At m; source = 
 unfoldable pub extended : List ℕ → List ℕ → List Entry → List Entry
 extended abi abis inherited = inherited ++ replicate (minimum_size abi abis - length inherited) empty
 
-abbrev pub put_fixed : Found → Entry → List Entry → List Entry
-put_fixed (At i) e T = set T i e
-put_fixed Nothing e T = T ++ (e ∷ [])
+abbrev pub put_fixed : Option ℕ → Entry → List Entry → List Entry
+put_fixed (Some i) e T = set T i e
+put_fixed None e T = T ++ (e ∷ [])
 
 module _ (ws text abi labels : List ℕ) where
-  unfoldable pub fixed_of : List ℕ → ℕ → Found
+  unfoldable pub fixed_of : List ℕ → ℕ → Option ℕ
   fixed_of abis m = fixed_index abi labels abis (method_name ws text m) (method_descriptor ws text m)
 
-  abbrev pub relay : List ℕ → Found → Entry → List Entry → List Entry
-  relay abis (At m) e T = put_fixed (fixed_of abis m) e T
-  relay abis Nothing e T = T
+  abbrev pub relay : List ℕ → Option ℕ → Entry → List Entry → List Entry
+  relay abis (Some m) e T = put_fixed (fixed_of abis m) e T
+  relay abis None e T = T
 
   unfoldable pub relay_step : List ℕ → List Entry → Entry → List Entry
   relay_step abis T e = relay abis e.method e T
@@ -105,15 +105,15 @@ module _ (ws text abi labels : List ℕ) where
 
 -- "Rows 11 and 12 go method by method, 11 first": "a fixed index differs from the inherited one", "the fixed slot holds another
 -- signature"
-unfoldable pub put_method : List ℕ → List ℕ → Found → Found → ℕ → List Entry → Built
-put_method ws text (At i) slot m T =
+unfoldable pub put_method : List ℕ → List ℕ → Option ℕ → Option ℕ → ℕ → List Entry → Built
+put_method ws text (Some i) slot m T =
     cond (on_found slot (λ j. not (eqb j i)) false)
     (refused 11)
     (cond (entry_is_other ws text (method_name ws text m) (method_descriptor ws text m) (get_or T i empty))
     (refused 12)
     (built (set T i (method_entry ws m))))
-put_method ws text Nothing (At j) m T = built (set T j (method_entry ws m))
-put_method ws text Nothing Nothing m T = built (T ++ (method_entry ws m ∷ []))
+put_method ws text None (Some j) m T = built (set T j (method_entry ws m))
+put_method ws text None None m T = built (T ++ (method_entry ws m ∷ []))
 
 module _ (ws text abi labels : List ℕ) where
   unfoldable pub add_method : List ℕ → ℕ → List Entry → Built

@@ -3,13 +3,12 @@
 use Rattle.std.specs.Prelude.{ℕ, ◌+◌, ◌≤◌, ◌<◌, ◌≡◌, ◌↔◌, true, get_or}
 use mathlib.Core.List.{List, [], ◌∷◌, ◌++◌, Memᴰ}
 use Rattle.words.specs.Lists.{numbers, find, first_found}
-use Rattle.words.specs.declared.Found.{Found}
-use Rattle.words.specs.declared.Found.TheVariants.{At, Nothing}
+use Rattle.std.specs.Prelude.{Option, Some, None, option_map}
+use Rattle.std.specs.Option.{option_or}
 use Rattle.class_sheet.specs.ClassSheet.{class_count, class_first_method, class_method_count, class_link_state, class_table_place, method_name, method_descriptor, method_flags, method_target}
 use Rattle.abi_sheet.specs.AbiSheet.{abi_slot_name, abi_slot_descriptor}
 use Rattle.set_rules.specs.Valid.{IsClass}
 use Rattle.linking.specs.declared.Declared.{Declared}
-use Rattle.linking.specs.declared.Declared.TheVariants.{By, Nobody}
 use Rattle.linking.specs.Chain.{own_methods, chain, is_virtual, method_is, own_target}
 use Rattle.linking.specs.Abi.{class_abi, slot_at}
 use Rattle.linking.specs.Vtable.{own_fixed, read_entry, read_slot}
@@ -18,46 +17,44 @@ use Rattle.linking.specs.Ask.{own_implementation, implementation}
 
 -- ---- what is answered
 
+-- method m of class c
+abbrev pub declared : ℕ → ℕ → Option Declared
+declared c m = Some (record { class = c; method = m })
+
 -- the method alone
-abbrev pub method_of : Declared → Found
-method_of (By c m) = At m
-method_of Nobody = Nothing
+abbrev pub method_of : Option Declared → Option ℕ
+method_of found = option_map (λ d. d.method) found
 
 -- the class alone, 0 for nobody
-abbrev pub declaring_class : Declared → ℕ
-declaring_class (By c m) = c
-declaring_class Nobody = 0
-
-abbrev pub or_declared : Declared → Declared → Declared
-or_declared (By c m) other = By c m
-or_declared Nobody other = other
+abbrev pub declaring_class : Option Declared → ℕ
+declaring_class (Some d) = d.class
+declaring_class None = 0
 
 -- what class c's own search found
-abbrev pub declared_in : ℕ → Found → Declared
-declared_in c (At m) = By c m
-declared_in c Nothing = Nobody
+abbrev pub declared_in : ℕ → Option ℕ → Option Declared
+declared_in c found = option_map (λ m. record { class = c; method = m }) found
 
 -- ---- the searches: "class first, then ancestors"
 
 -- the first class of the list whose search finds a method, and that method
-unfoldable pub first_declared : (ℕ → Found) → List ℕ → Declared
-first_declared f [] = Nobody
-first_declared f (c ∷ cs) = or_declared (declared_in c (f c)) (first_declared f cs)
+unfoldable pub first_declared : (ℕ → Option ℕ) → List ℕ → Option Declared
+first_declared f [] = None
+first_declared f (c ∷ cs) = option_or (declared_in c (f c)) (first_declared f cs)
 
-unfoldable pub declared_by_target : List ℕ → ℕ → ℕ → Declared
+unfoldable pub declared_by_target : List ℕ → ℕ → ℕ → Option Declared
 declared_by_target ws c t = first_declared (own_target ws t) (chain ws c)
 
-unfoldable pub declared_implementation : List ℕ → List ℕ → ℕ → ℕ → Declared
+unfoldable pub declared_implementation : List ℕ → List ℕ → ℕ → ℕ → Option Declared
 declared_implementation ws text c m =
     first_declared (own_implementation ws text (method_name ws text m) (method_descriptor ws text m)) (chain ws c)
 
 module _ (ws text abi labels : List ℕ) where
-  unfoldable pub declared_by_index : ℕ → ℕ → Declared
+  unfoldable pub declared_by_index : ℕ → ℕ → Option Declared
   declared_by_index c i = first_declared (own_fixed ws text abi labels i) (chain ws c)
 
   -- Reading: by target over the whole chain, and failing that by index
-  unfoldable pub read_declared : ℕ → ℕ → ℕ → Declared
-  read_declared c i w = or_declared (declared_by_target ws c w) (declared_by_index c i)
+  unfoldable pub read_declared : ℕ → ℕ → ℕ → Option Declared
+  read_declared c i w = option_or (declared_by_target ws c w) (declared_by_index c i)
 
   -- the class of slot i of class c's table, as the area holds it: "0 for an unknown slot"
   unfoldable pub slot_class : List ℕ → ℕ → ℕ → ℕ
@@ -66,12 +63,12 @@ module _ (ws text abi labels : List ℕ) where
 -- ---- the theorems
 
 -- the search finds method m in class d of the list, and in none before it
-pub record Nearest (f : ℕ → Found) (cs : List ℕ) (d m : ℕ) : Type 0 where
+pub record Nearest (f : ℕ → Option ℕ) (cs : List ℕ) (d m : ℕ) : Type 0 where
   pub before : List ℕ
   pub after : List ℕ
   pub parts : cs ≡ before ++ (d ∷ after)
-  pub finds : f d ≡ At m
-  pub nearer : (e : ℕ) → Memᴰ e before → f e ≡ Nothing
+  pub finds : f d ≡ Some m
+  pub nearer : (e : ℕ) → Memᴰ e before → f e ≡ None
 
 -- class d is on class c's chain, and method m in its list
 pub record Declares (ws : List ℕ) (c d m : ℕ) : Type 0 where
@@ -89,35 +86,35 @@ MethodsApart ws =
 pub record FixedThere (ws text abi labels : List ℕ) (d i m : ℕ) : Type 0 where
   pub entry : ℕ
   pub row : ℕ
-  pub entry_found : class_abi ws text abi labels d ≡ At entry
-  pub row_is : slot_at abi i entry ≡ At row
+  pub entry_found : class_abi ws text abi labels d ≡ Some entry
+  pub row_is : slot_at abi i entry ≡ Some row
   pub signature : method_is ws text m (abi_slot_name abi labels row) (abi_slot_descriptor abi labels row) ≡ true
 
 -- a slot's last column, where Reading finds this method along class c's chain: "0 for an unknown slot", else the class that declares the method
-pub data Column (ws : List ℕ) (c : ℕ) : Found → ℕ → Type 0 where
-  unknown_slot : Column ws c Nothing 0
-  known_slot : {d m : ℕ} → Declares ws c d m → Column ws c (At m) d
+pub data Column (ws : List ℕ) (c : ℕ) : Option ℕ → ℕ → Type 0 where
+  unknown_slot : Column ws c None 0
+  known_slot : {d m : ℕ} → Declares ws c d m → Column ws c (Some m) d
 
 pub record Whose : Type 0 where
   -- every answer remains
-  pub remains : (f : ℕ → Found) (cs : List ℕ) → method_of (first_declared f cs) ≡ first_found f cs
+  pub remains : (f : ℕ → Option ℕ) (cs : List ℕ) → method_of (first_declared f cs) ≡ first_found f cs
   pub reading_remains : (ws text abi labels : List ℕ) (c i w : ℕ)
       → method_of (read_declared ws text abi labels c i w) ≡ (read_entry ws text abi labels c i w).method
   pub implementation_remains : (ws text : List ℕ) (c m : ℕ) → method_of (declared_implementation ws text c m) ≡ implementation ws text c m
   -- the nearest counts
-  pub nearest : (f : ℕ → Found) (cs : List ℕ) (d m : ℕ) → first_declared f cs ≡ By d m → Nearest f cs d m
+  pub nearest : (f : ℕ → Option ℕ) (cs : List ℕ) (d m : ℕ) → first_declared f cs ≡ declared d m → Nearest f cs d m
   -- it declares the method: by target, by index, of an implementation
-  pub by_target : (ws : List ℕ) (c t d m : ℕ) → declared_by_target ws c t ≡ By d m → Declares ws c d m × (method_target ws m ≡ t)
-  pub by_index : (ws text abi labels : List ℕ) (c i d m : ℕ) → declared_by_index ws text abi labels c i ≡ By d m
+  pub by_target : (ws : List ℕ) (c t d m : ℕ) → declared_by_target ws c t ≡ declared d m → Declares ws c d m × (method_target ws m ≡ t)
+  pub by_index : (ws text abi labels : List ℕ) (c i d m : ℕ) → declared_by_index ws text abi labels c i ≡ declared d m
       → Declares ws c d m × FixedThere ws text abi labels d i m
-  pub implements : (ws text : List ℕ) (c k d m : ℕ) → declared_implementation ws text c k ≡ By d m
+  pub implements : (ws text : List ℕ) (c k d m : ℕ) → declared_implementation ws text c k ≡ declared d m
       → Declares ws c d m × (is_virtual (method_flags ws m) ≡ true) × (method_is ws text m (method_name ws text k) (method_descriptor ws text k) ≡ true)
   -- and no other does: it is the class whose list holds the method
   pub no_other : (ws : List ℕ) (c d m : ℕ) → MethodsApart ws → IsClass ws c → Declares ws c d m
-      → (find (holds ws m) (numbers 1 (class_count ws)) ≡ At d) × (owner_state ws m ≡ class_link_state ws d)
+      → (find (holds ws m) (numbers 1 (class_count ws)) ≡ Some d) × (owner_state ws m ≡ class_link_state ws d)
   -- the method that Reading finds at a slot's word and the number that the listing prints beside it belong together
   pub column : (ws text abi labels : List ℕ) (c i w : ℕ)
       → Column ws c (read_entry ws text abi labels c i w).method (declaring_class (read_declared ws text abi labels c i w))
   -- 0 is unknown
   pub unknown : (ws text abi labels area : List ℕ) (c i : ℕ)
-      → (slot_class ws text abi labels area c i ≡ 0) ↔ ((read_slot ws text abi labels area c i).method ≡ Nothing)
+      → (slot_class ws text abi labels area c i ≡ 0) ↔ ((read_slot ws text abi labels area c i).method ≡ None)

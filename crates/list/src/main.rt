@@ -6,103 +6,82 @@
 ghost use Rattle.std.specs.Prelude.{◌≡◌, length, take};
 ghost use Rattle.listing.specs.Listing.{listing};
 
+use lines::Out;
 use std::io;
-use std::rt::{Env, Files};
+use std::rt::Files;
+use words::part;
 
-// Room for the bytes of a sheet and one block more, so that a longer file is refused and not cut.
-fn sheet_bytes() -> [u8; 47616]
-    ensures { 47616 ≡ length result }
+// The bytes of a sheet and one block more, so that a longer file is refused and not cut.
+const SHEET_BYTES: usize = 47616;
+
+// More than the longest listing has (crates/listing/proofs/Longest.antt).
+const LISTING_BYTES: usize = 2228224;
+
+// Room for a listing.
+fn listing_bytes() -> [u8; LISTING_BYTES]
+    ensures { LISTING_BYTES ≡ length result }
 {
-    [0; 47616]
+    [0; LISTING_BYTES]
 }
 
-// Room for the longest listing, which has fewer bytes (crates/listing/proofs/Longest.antt).
-fn listing_bytes() -> [u8; 2228224]
-    ensures { 2228224 ≡ length result }
-{
-    [0; 2228224]
-}
-
-// Reads the file of this name in a folder.
+// Reads the file of this name in a folder, and answers how many bytes it has.
 fn read_in(
     rt: &(impl Eprint + Files),
     folder: &[u8],
     name: &[u8],
     bytes: &mut [u8],
-) -> files::File {
-    let mut path = [0u8; 4096];
-    let at = lines::put_bytes(&mut path, 0, folder);
-    let end = lines::put_bytes(&mut path, at, name);
-    files::read_path(rt, words::part(&path, 0, end), bytes)
+) -> Option<usize> {
+    let mut room = [0; 4096];
+    let mut path = Out {
+        bytes: &mut room,
+        at: 0,
+    };
+    path.put(folder);
+    path.put(name);
+    let end = path.at;
+    files::read_path(rt, part(&room, 0, end), bytes)
 }
 
 // Puts the listing into the bytes lent for it, and answers how many it has: it is there whole.
-fn put_listing(abi: &[u8], classes: &[u8], out: &mut [u8; 2228224]) -> usize
-    ensures { take result out.new ≡ listing abi.now classes.now }
+fn put_listing(abi: &[u8], classes: &[u8], bytes: &mut [u8; LISTING_BYTES]) -> usize
+    ensures { take result bytes.new ≡ listing abi.now classes.now }
 {
-    listing::list(abi, classes, out)
+    let mut out = Out { bytes, at: 0 };
+    listing::list(abi, classes, &mut out);
+    out.at
 }
 
-// Lists the folder whose ABI sheet is read, and good.
-fn list_classes(
-    rt: &(impl Print + Eprint + Files),
-    folder: &[u8],
-    abi: &[u8],
-    out: &mut [u8; 2228224],
-) -> io::Result<()> {
-    let mut classes = sheet_bytes();
-    if let files::File::Bytes(n) = read_in(rt, folder, b"classes.bin", &mut classes) {
-        let end = put_listing(abi, words::part(&classes, 0, n), out);
-        rt.write_all(words::part(out, 0, end))?;
-    }
-    Ok(())
-}
-
-// Lists the folder whose ABI sheet is read.
-fn list_read(
-    rt: &(impl Print + Eprint + Files),
-    folder: &[u8],
-    abi: &[u8],
-    out: &mut [u8; 2228224],
-) -> io::Result<()> {
-    let end = listing::abi_line(abi, out);
-    if end > 0 {
-        rt.write_all(words::part(out, 0, end))?;
-    } else {
-        list_classes(rt, folder, abi, out)?;
-    }
-    Ok(())
+// Puts the line of a bad ABI sheet into them, and answers how many bytes it has: none for a good one.
+fn put_abi_line(abi: &[u8], bytes: &mut [u8]) -> usize {
+    let mut out = Out { bytes, at: 0 };
+    listing::abi_line(abi, &mut out);
+    out.at
 }
 
 // Lists a folder.
 fn list_folder(rt: &(impl Print + Eprint + Files), folder: &[u8]) -> io::Result<()> {
-    let mut abi = sheet_bytes();
-    if let files::File::Bytes(n) = read_in(rt, folder, b"abi.bin", &mut abi) {
-        let mut out = listing_bytes();
-        list_read(rt, folder, words::part(&abi, 0, n), &mut out)?;
+    let mut room = [0; SHEET_BYTES];
+    let Some(n) = read_in(rt, folder, b"abi.bin", &mut room) else {
+        return Ok(());
+    };
+    let abi = part(&room, 0, n);
+    let mut text = listing_bytes();
+    let end = put_abi_line(abi, &mut text);
+    if end > 0 {
+        return rt.write_all(part(&text, 0, end));
+    }
+    let mut room = [0; SHEET_BYTES];
+    if let Some(n) = read_in(rt, folder, b"classes.bin", &mut room) {
+        let end = put_listing(abi, part(&room, 0, n), &mut text);
+        rt.write_all(part(&text, 0, end))?;
     }
     Ok(())
 }
 
-// Lists the folder that argument i names, and answers whether there is one. One that is too long is said so on standard error.
-fn list_argument(rt: &(impl Print + Eprint + Files + Env), i: usize) -> io::Result<bool> {
-    let mut folder = [0u8; 4096];
-    match files::take_argument(rt, b"list: argument", i, &mut folder) {
-        files::Argument::Bytes(n) => list_folder(rt, words::part(&folder, 0, n))?,
-        files::Argument::TooLong => {}
-        files::Argument::Missing => return Ok(false),
-    }
-    Ok(true)
-}
-
 fn main(rt: HostRuntime) -> io::Result<()> {
-    if !list_argument(&rt, 1)? {
-        return list_folder(&rt, b"");
-    }
-    for i in 2..usize::MAX {
-        if !list_argument(&rt, i)? {
-            break;
-        }
+    let folders = files::each_argument(&rt, b"list: argument", |folder| list_folder(&rt, folder))?;
+    if folders == 0 {
+        list_folder(&rt, b"")?;
     }
     Ok(())
 }

@@ -2,17 +2,17 @@
 -- most; a slot's line has 531 bytes at most, and a class's 293. Assumes nothing.
 use mathlib.Core.Path.{◌≡◌, refl, sym, ap, ◌∙◌}
 use mathlib.Core.Logic.{◌≢◌, ◌⊎◌, inl, inr}
-use mathlib.Core.Bool.{false, cond}
+use mathlib.Core.Bool.{cond}
 use mathlib.Core.List.{List, [], ◌∷◌, ◌++◌}
 use Prim.Native.Nat.{ℕ, zero, suc, ◌+◌, ◌*◌, ◌^◌, ◌≤◌, ◌<◌, min}
 use native.Mathlib.Omega.{arith}
-use lib.ListN.{length, get_or, take, replicate, length-append, length-set, length-take, length-replicate, get_or-eq_default}
+use lib.ListN.{length, get_or, take, length-append, length-set, length-take, length-replicate, get_or-eq_default, get_or-map}
 use lib.Seq.{get_or-set_same, get_or-take}
 use lib.Dec.{eqb, ltb}
-use borrow.Author.Tests.{eqb-true, eqb-false, ne_eqb, eq-eqb, ltb-true, ltb-false, le-ltb}
+use borrow.Author.Tests.{eqb-true, eqb-false, eq-eqb, ltb-true, ltb-false}
 use Rattle.words.proofs.Bools.{by}
-use Rattle.class_sheet.specs.ClassSheet.{class_count, class_kind, is_built_kind, class_word, class_instance_words, class_slot_count, text_of, sheet_words, class_limit}
-use Rattle.abi_sheet.specs.AbiSheet.{abi_text_of, abi_sheet_words}
+use Rattle.class_sheet.specs.ClassSheet.{class_count, class_kind, is_built_kind, class_word, class_instance_words, class_slot_count, text_of, class_limit}
+use Rattle.abi_sheet.specs.AbiSheet.{abi_text_of}
 use Rattle.set_rules.specs.SetRules.{set_refusal}
 use Rattle.set_rules.specs.Valid.{IsClass, ValidAbi}
 use Rattle.set_rules.proofs.Valid.{valid}
@@ -22,7 +22,6 @@ use Rattle.linking.specs.Abi.{class_abi}
 use Rattle.linking.specs.Fields.{number_fields, added_fields, too_many_words, generated_refusal, generated_indices}
 use Rattle.linking.specs.Link.{next_free, Plan, planned, unplanned, on_table, within_slots, new_fields_of, built_table, generated_table, plan_built, plan_generated, plan_array, plan, generated_methods, linked_area, new_words, new_statics, LinkOutcome, link_def}
 use Rattle.linking.specs.Set.{write_at}
-use Rattle.linking.specs.Counts.{missing_short}
 use Rattle.calls.proofs.Area.{linked-length}
 use Rattle.linking.proofs.Plans.{plans}
 use Rattle.calls.proofs.Rows.{Refused, Accepted, link-cases}
@@ -31,11 +30,12 @@ use Rattle.lines.proofs.Bounded.{Bounded, valid-bounded, class-short, ShortNews,
 use Rattle.descriptor.specs.Bytes.{text}
 use Rattle.sheet.specs.Sheet.{read_class_sheet, read_abi_sheet}
 use Rattle.sheet.specs.Sheet as sheet
-use Rattle.sheet.specs.declared.Read.{Read}
+use Rattle.std.specs.Prelude.{map, Option, Some, None, Ok}
+use Rattle.refusal.specs.declared.Refusal.{Refusal}
+use Rattle.refusal.specs.Rows.{row}
 use Rattle.sheet.proofs.Valid.{read-accepted}
 use Rattle.lines.specs.Lines.{numbered, sheet_refused}
-use Rattle.listing.proofs.ListingLaws.{read-row, read-memory}
-use Rattle.listing.specs.Listing.{read_row, fresh_area, fresh_counts, stub_words, Linked, linked, link_one, Links, links, link_all, class_text, class_texts, set_text, abi_line, classes_text, listing}
+use Rattle.listing.specs.Listing.{link_row, fresh_area, fresh_counts, stub_words, Linked, linked, link_one, Links, links, link_all, class_text, class_texts, set_text}
 use Rattle.listing.specs.Small.{Small, Accepts}
 
 -- ---- the methods that a plan adds
@@ -257,87 +257,75 @@ small-limit : (ws : List ℕ) → Small ws → (i : ℕ) → get_or ws i 0 < lim
 unfolding Small
 small-limit ws h i = omega (arith, h i)
 
-small-take : (n : ℕ) (ws : List ℕ) → Small ws → (i : ℕ) → get_or (take n ws) i 0 < limit 9
-small-take n ws h i =
-    by (ltb i n) (λ t. rw (get_or-take n ws i 0 (ltb-true i n t)) (small-limit ws h i))
+-- a refusal's number is small, and so are the rows of links
+row-few : (r : Refusal) → row r < limit 9
+row-few r = grind arith
+
+link-few : (r : Option Refusal) → link_row r < limit 9
+link-few None = omega arith
+link-few (Some r) = row-few r
+
+rows-few : (n : ℕ) (rs : List (Option Refusal)) (i : ℕ) → get_or (take n (map link_row rs)) i 0 < limit 9
+rows-few n rs i =
+    by (ltb i n)
+    (λ t. rw (get_or-take n (map link_row rs) i 0 (ltb-true i n t), get_or-map link_row rs i None) (link-few (get_or rs i None)))
     (λ t.
     let l = ltb-false i n t in
-    rw (get_or-eq_default (take n ws) 0 {n = i} (let g = length-take n ws in omega arith)) (omega arith))
+    rw (get_or-eq_default (take n (map link_row rs)) 0 {n = i} (let g = length-take n (map link_row rs) in omega arith)) (omega arith))
 
 fresh_facts : (next_free fresh_area ≡ 1) × (length fresh_area ≡ 4096)
 unfolding fresh_area
 fresh_facts = (refl, ap suc (length-replicate {0} {A = ℕ} 4095 0))
 
-pub set-few : (ws abi : List ℕ) {s t u area missing stubs : List ℕ} (rows : List ℕ) {n : ℕ} → set_refusal ws abi ≡ 0 → area ≡ fresh_area
-    → stubs ≡ stub_words → missing ≡ fresh_counts → n ≡ class_count ws → links (take n rows) s t u ≡ link_all abi stubs n 1 ws area missing → Small s → Small t → Small rows
-    → length (set_text ws abi) ≤ 2192135
-unfolding set_text
-set-few ws abi {s} {t} {u} {area} {missing} {stubs} rows {n} r e f i g k hs ht hr =
-    let v = valid ws abi r in
-    let z = fresh_facts in
-    let a : All ws area 1 n (link_all abi stubs n 1 ws area missing) =
-    links-all abi stubs n 1 ws area missing (valid-bounded ws v.0) (rw e (omega arith)) (omega arith) (omega arith) in
-    let x : All ws area 1 n (links (take n rows) s t u) = rw k a in
-    let few : class_count s ≤ class_limit = omega (arith, x.classes, v.0.number_of_classes) in
-    let l = x.rows in
-    let y : slots_in s 1 (take n rows) ≤ 4093 =
-    omega (arith, x.slots, x.within, ap next_free e, ap (λ (l : List ℕ). length l) e) in
-    let w = texts-few s abi t x.bounded v.1 few (small-limit s hs) (small-limit t ht) 1 (take n rows) (omega arith) (omega (arith, x.classes))
-    (small-take n rows hr) (omega arith) in
-    rw (← e, ← f, ← i, ← g, ← k) (omega (arith, w, v.0.number_of_classes))
+module _ (ws abi : List ℕ) {s t u : List ℕ} where
+  -- all links make the text
+  pub set-lines : (rows : List ℕ) → links rows s t u ≡ link_all abi stub_words (class_count ws) 1 ws fresh_area fresh_counts
+      → set_text ws abi ≡ class_texts s abi t 1 rows
+  unfolding set_text
+  set-lines rows k = rw (← k)
 
-sheet-few : (sheet : List ℕ) (row : ℕ) → length sheet ≤ 7 → row < 4294967296 → length (sheet_refused sheet row) ≤ 27
+  pub set-few : (rs : List (Option Refusal)) (n : ℕ) → set_refusal ws abi ≡ 0
+      → links (take n (map link_row rs)) s t u ≡ link_all abi stub_words (class_count ws) 1 ws fresh_area fresh_counts → Small s → Small t
+      → length (class_texts s abi t 1 (take n (map link_row rs))) ≤ 2192135
+  set-few rs n r k hs ht =
+      let v = valid ws abi r in
+      let z = fresh_facts in
+      let a : All ws fresh_area 1 (class_count ws) (link_all abi stub_words (class_count ws) 1 ws fresh_area fresh_counts) =
+      links-all abi stub_words (class_count ws) 1 ws fresh_area fresh_counts (valid-bounded ws v.0) (omega arith) (omega arith) (omega arith) in
+      let x : All ws fresh_area 1 (class_count ws) (links (take n (map link_row rs)) s t u) = rw k a in
+      let few : class_count s ≤ class_limit = omega (arith, x.classes, v.0.number_of_classes) in
+      let l = x.rows in
+      let y : slots_in s 1 (take n (map link_row rs)) ≤ 4093 = omega (arith, x.slots, x.within) in
+      let w = texts-few s abi t x.bounded v.1 few (small-limit s hs) (small-limit t ht) 1 (take n (map link_row rs)) (omega arith)
+      (omega (arith, x.classes)) (rows-few n rs) (omega arith) in
+      omega (arith, w, v.0.number_of_classes)
+
+sheet-few : (sheet : List ℕ) (r : Refusal) → length sheet ≤ 7 → length (sheet_refused sheet (row r)) ≤ 27
 unfolding sheet_refused numbered
-sheet-few sheet row l h = let d = decimal-few 9 row (omega arith) in simp length-append (omega arith)
+sheet-few sheet r l = let d = decimal-few 9 (row r) (row-few r) in simp length-append (omega arith)
 
-module _ (abi classes : List ℕ) {row : ℕ} (read : row ≡ (read_class_sheet classes (replicate sheet_words 0)).refusal) where
-  pub classes-few : {m : List ℕ} → row ≡ 0 → m ≡ (read_class_sheet classes (replicate sheet_words 0)).memory → length (set_text m abi) ≤ 2192135
-      → length (classes_text abi classes) ≤ 2192135
-  unfolding classes_text
-  classes-few h f e = rw (← read, eq-eqb row 0 h, ← f) e
+-- the lines of a refused sheet
+pub classes-few : (r : Refusal) → length (sheet_refused (text "classes") (row r)) ≤ 2192135
+classes-few r = omega (arith, sheet-few (text "classes") r (omega arith))
 
-  pub refused-few : (row ≡ 0 → ⊥) → row < 4294967296 → length (classes_text abi classes) ≤ 2192135
-  unfolding classes_text
-  refused-few h l = rw (← read, ne_eqb row 0 h) (omega (arith, sheet-few (text "classes") row (omega arith) l))
-
-module _ (abi classes : List ℕ) {row : ℕ} (read : row ≡ (read_abi_sheet abi (replicate abi_sheet_words 0)).refusal) where
-  pub listing-few : {m : List ℕ} → row ≡ 0 → m ≡ (read_abi_sheet abi (replicate abi_sheet_words 0)).memory → length (classes_text m classes) ≤ 2192135
-      → length (listing abi classes) < 2228224
-  unfolding listing
-  listing-few h f e = rw (← read, eq-eqb row 0 h, ← f) (omega arith)
-
-  pub unread_few : (row ≡ 0 → ⊥) → row < 4294967296 → length (listing abi classes) < 2228224
-  unfolding listing abi_line
-  unread_few h l = rw (← read, ne_eqb row 0 h) (omega (arith, sheet-few (text "abi") row (omega arith) l))
+pub abi-few : (r : Refusal) → length (sheet_refused (text "abi") (row r)) ≤ 2192135
+abi-few r = omega (arith, sheet-few (text "abi") r (omega arith))
 
 -- ---- what two accepted readings leave is accepted
 
-pub read-good : (a : Read) (bs out m abi : List ℕ) {row : ℕ} → Accepts abi → sheet.outcome a m ≡ read_class_sheet bs out → row ≡ read_row a → row ≡ 0
-    → set_refusal m abi ≡ 0
+pub read-good : (n : ℕ) (bs out m abi : List ℕ) → Accepts abi → sheet.outcome (Ok n) m ≡ read_class_sheet bs out → set_refusal m abi ≡ 0
 unfolding Accepts
-read-good a bs out m abi h e f z = rw (read-memory a m e) (h bs out (sym (read-row a m e f) ∙ z))
+read-good n bs out m abi h e = rw (← e) at (h bs out (rw (← e) refl))
 
-pub abi-good : (a : Read) (bs out m : List ℕ) {row : ℕ} → sheet.outcome a m ≡ read_abi_sheet bs out → row ≡ read_row a → row ≡ 0 → Accepts m
+pub abi-good : (n : ℕ) (bs out m : List ℕ) → sheet.outcome (Ok n) m ≡ read_abi_sheet bs out → Accepts m
 unfolding Accepts
-abi-good a bs out m e f z = rw (read-memory a m e) (λ cs o g. read-accepted cs o bs out g (sym (read-row a m e f) ∙ z))
+abi-good n bs out m e = λ cs o g. let h = read-accepted cs o bs out g (rw (← e) refl) in rw (← e) at h
 
--- words that are none are small
-pub none-small : (ws : List ℕ) → length ws ≡ 0 → Small ws
-unfolding Small
-none-small ws h i = rw (get_or-eq_default ws 0 {n = i} (let g : length ws ≤ i = omega arith in g)) (omega arith)
-
+-- each word is below 2^32
 pub each-small : (ws : List ℕ) → ((i : ℕ) → get_or ws i 0 < 2 ^ 32) → Small ws
 unfolding Small
 each-small ws h = h
 
--- the list of counts is long enough for every set that is accepted
-pub counts-fit : (ws abi missing : List ℕ) → set_refusal ws abi ≡ 0 → length missing ≡ length fresh_counts → missing_short ws missing ≡ false
-unfolding missing_short fresh_counts
-counts-fit ws abi missing r e =
-    let v = (valid ws abi r).0.number_of_classes in
-    let l = length-replicate {0} {A = ℕ} 2112 0 in
-    le-ltb (length missing) (33 * class_count ws) (omega arith)
-
--- a set that is accepted has at most 64 classes, so that many rows are enough
-pub set-fits : (ws abi : List ℕ) {n : ℕ} (rows : List ℕ) → set_refusal ws abi ≡ 0 → n ≡ class_count ws → length rows ≡ 64 → n ≤ length rows
-set-fits ws abi rows r e l = let v = (valid ws abi r).0.number_of_classes in omega arith
+-- a set that is accepted has at most 64 classes, so that many refusals are enough
+pub set-fits : (ws abi : List ℕ) → set_refusal ws abi ≡ 0 → class_count ws ≤ 64
+set-fits ws abi r = let v = (valid ws abi r).0.number_of_classes in omega arith

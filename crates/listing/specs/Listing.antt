@@ -1,25 +1,19 @@
 -- The listing's text, of the bytes of both sheets. Assumes nothing.
-use Rattle.std.specs.Prelude.{ℕ, zero, suc, ◌+◌, cond, List, [], ◌∷◌, ◌++◌, replicate, eqb}
+use Rattle.std.specs.Prelude.{ℕ, zero, suc, ◌+◌, cond, List, [], ◌∷◌, ◌++◌, replicate, eqb, Option, Some, None}
 use Rattle.abi_sheet.specs.AbiSheet.{abi_sheet_words}
 use Rattle.words.specs.Folds.{table}
 use Rattle.descriptor.specs.Bytes.{text}
 use Rattle.class_sheet.specs.ClassSheet.{class_count, sheet_words}
 use Rattle.sheet.specs.Sheet.{read_class_sheet, read_abi_sheet}
-use Rattle.sheet.specs.declared.Read.{Read}
-use Rattle.sheet.specs.declared.Read.TheVariants.{Words, Refused as Unread}
-use Rattle.area.specs.declared.Answer.{Answer}
-use Rattle.area.specs.declared.Answer.TheVariants.{Done, Refused}
+use Rattle.refusal.specs.declared.Refusal.{Refusal}
+use Rattle.refusal.specs.Rows.{row as number}
 use Rattle.linking.specs.Link.{LinkOutcome, link_def}
 use Rattle.lines.specs.Lines.{class_lines, class_refused, sheet_refused}
 
--- the row that refuses, or 0
-abbrev pub read_row : Read → ℕ
-read_row (Words n) = 0
-read_row (Unread row) = row
-
-abbrev pub link_row : Answer → ℕ
-link_row (Done place slots) = 0
-link_row (Refused row) = row
+-- the row that refuses a link, or 0
+abbrev pub link_row : Option Refusal → ℕ
+link_row None = 0
+link_row (Some refusal) = number refusal
 
 -- ---- "links all in number order with 11,684 class words lent, in a fresh area of 4,096 words with 1,024 stub words, each 4026531840 +
 -- index"

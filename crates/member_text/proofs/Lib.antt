@@ -1,2 +1,2 @@
-pub mod TextLaws
 pub mod Longest
+pub mod TextLaws

@@ -1,31 +1,27 @@
 -- The text of any bytes, and how long it can be. A file that no row refuses has at most 512 methods, 512 fields and 8,192 bytes of names and
 -- descriptors; beside these a member's line has 34 bytes at most, the class's 16 and its flags' 14. Assumes nothing.
-use Rattle.std.proofs.Common.{◌≡◌, ℕ, ◌+◌, ◌*◌, ◌^◌, ◌<◌, ◌≤◌, ◌||◌, eqb, leb, ◌≢◌, List, [], ◌∷◌, length, get_or, sym, ap, ◌∙◌, arith, length-append, ne_eqb, eqb-true, leb-true}
-use borrow.Author.Tests.{eqb-false}
-use Rattle.words.proofs.Bools.{by, and_3, and_4}
-use Rattle.text.specs.Text.{name_at, printable, part_ok}
+use Rattle.std.proofs.Common.{◌≡◌, ℕ, ◌+◌, ◌*◌, ◌^◌, ◌<◌, ◌≤◌, leb, List, [], ◌∷◌, length, get_or, refl, ap, arith, length-append, ne_eqb, leb-true}
+use Rattle.words.proofs.Bools.{and_3}
 use Rattle.descriptor.specs.Bytes.{text}
 use Rattle.class_sheet.specs.ClassSheet.{field_limit, method_limit, text_limit}
 use Rattle.linking.specs.Compiler.{New}
 use Rattle.linking.specs.Set.{new_text}
-use Rattle.lines.specs.Bytes.{put}
 use Rattle.lines.specs.Lines.{numbered}
 use Rattle.lines.proofs.Lengths.{decimal-few}
-use Rattle.class_form.specs.declared.Judged.{Judged}
-use Rattle.class_form.specs.declared.Judged.TheVariants as form
-use Rattle.class_form.specs.Form.{u2, form_refusal}
-use Rattle.class_form.specs.Parts.{member_at, form_of}
-use Rattle.class_form.proofs.PartLaws.{form-refusal}
-use Rattle.class_form.proofs.RowLaws.{refused-row}
+use Rattle.refusal.specs.declared.Refusal.{Refusal}
+use Rattle.refusal.specs.Rows.{row}
+use Rattle.class_form.specs.Form.{u2}
+use Rattle.std.specs.Prelude.{Result, Ok, Err}
+use Rattle.class_form.specs.Parts.{Judged, member_at, form_of}
 use Rattle.class_members.specs.declared.FileHead.{FileHead}
-use Rattle.class_members.specs.declared.FileRead.{FileRead}
-use Rattle.class_members.specs.declared.FileRead.TheVariants.{Members, Refused}
-use Rattle.class_members.specs.Members.{new_of, members_at, field_places, method_places, parent_index, file_name, file_parent, file_flags, file_fields, file_methods}
-use Rattle.class_members.specs.Members.{file_text, string_ok, field_ok, method_ok, every, names_ok, sheet_holds, file_refusal}
-use Rattle.class_members.specs.Members.{FileOutcome, refused_by, file_outcome, members_by, class_file_head}
+use Rattle.class_file.specs.Walk.{head_read}
+use Rattle.class_file.proofs.JudgeLaws.{Judges, head_is}
+use Rattle.refusal.proofs.Rows.{row_above}
+use Rattle.class_members.specs.Members.{new_of, members_at, field_places, method_places, file_name, file_parent, file_flags, file_fields, file_methods}
+use Rattle.class_members.specs.Members.{file_text, sheet_holds, file_refusal}
 use Rattle.class_members.proofs.SheetForm.{file-passed, length_at}
 use Rattle.class_members.proofs.Targets.{methods-text}
-use Rattle.class_file.proofs.ReadLaws.{length_of_text}
+use Rattle.class_file.proofs.ReadLaws.{form_parted, form_told, fields_start_is, methods_start_is, text_ends}
 use Rattle.member_text.proofs.TextLaws.{target_small}
 use Rattle.member_text.specs.MemberText.{extends, class_text, flags_text, member_text, member_texts, refused_text, targets, class_lines, members_text}
 
@@ -108,68 +104,35 @@ module _ (bs : List ℕ) (bytes : (j : ℕ) → get_or bs j 0 < 256) where
         let c = class-few (file_name bs) (file_parent bs) in
         let f = flags-few (file_flags bs) (u2-small bs bytes _) in
         let w = within in
-        simp length-append (omega (arith, methods-few, fields-few, length_of_text bs []))
-
--- ---- which row refuses a file, by what the code was answered
-
--- a file that no row refuses has a name
-name-some : (bs : List ℕ) → file_refusal bs [] ≡ 0 → 1 ≤ length (file_name bs)
-unfolding names_ok string_ok part_ok
-name-some bs e =
-    let n = file_name bs in
-    let p = and_4 (string_ok n) (eqb (parent_index bs) 0 || string_ok (file_parent bs)) (every field_ok (file_fields bs)) (every method_ok (file_methods bs []))
-    (file-passed bs [] e).names in
-    let q = and_4 (leb 1 (length n)) (leb (length n) 255) (leb (0 + length n) (length n)) (printable (name_at n 0 (length n))) p.0 in
-    leb-true 1 (length n) q.0
-
--- the row refuses the file
-abbrev pub Refuses : List ℕ → ℕ → Type 0
-Refuses bs row = (file_refusal bs [] ≡ row) × (row ≢ 0)
-
--- by its form
-pub form-refuses : (bs : List ℕ) {j : Judged} {row : ℕ} → j ≡ form_of bs → j ≡ form.Refused row → Refuses bs row
-unfolding file_refusal
-form-refuses bs {row = row} e g =
-    let f : form_of bs ≡ form.Refused row = sym e ∙ g in
-    let r : form_refusal bs ≡ row = sym (form-refusal bs) ∙ rw f in
-    (rw (r, ne_eqb row 0 (refused-row bs f)), refused-row bs f)
-
--- by a row after the form
-pub head-refuses : (bs : List ℕ) {r : FileRead} {row : ℕ} → file_outcome r [] [] [] ≡ class_file_head bs → r ≡ Refused row → Refuses bs row
-unfolding class_file_head
-head-refuses bs {row = row} e g =
-    let o : refused_by row [] [] [] ≡ class_file_head bs = ap (λ (x : FileRead). file_outcome x [] [] []) (sym g) ∙ e in
-    by (eqb (file_refusal bs []) 0)
-    (λ t.
-    let u : refused_by row [] [] [] ≡ members_by bs [] [] [] [] = o ∙ rw t in
-    let n : 0 ≡ length (file_name bs) = ap (λ (x : FileOutcome). x.name) u in
-    let s = name-some bs (eqb-true _ 0 t) in
-    absurd (omega arith))
-    (λ t.
-    let u : refused_by row [] [] [] ≡ refused_by (file_refusal bs []) [] [] [] = o ∙ rw t in
-    let v : row ≡ file_refusal bs [] = ap (λ (x : FileOutcome). x.refusal) u in
-    (sym v, λ z. eqb-false _ 0 t (sym v ∙ z)))
-
--- no row does
-pub head-accepts : (bs : List ℕ) {r : FileRead} {h : FileHead} → file_outcome r [] [] [] ≡ class_file_head bs → r ≡ Members h → file_refusal bs [] ≡ 0
-unfolding class_file_head
-head-accepts bs {h = h} e g =
-    let o : file_outcome (Members h) [] [] [] ≡ class_file_head bs = ap (λ (x : FileRead). file_outcome x [] [] []) (sym g) ∙ e in
-    by (eqb (file_refusal bs []) 0) (λ t. eqb-true _ 0 t)
-    (λ t.
-    let u : file_outcome (Members h) [] [] [] ≡ refused_by (file_refusal bs []) [] [] [] = o ∙ rw t in
-    sym (ap (λ (x : FileOutcome). x.refusal) u))
+        simp length-append (omega (arith, methods-few, fields-few, text_ends bs [], methods_start_is bs, fields_start_is bs))
 
 -- ---- the text of any bytes
 
-module _ (bs : List ℕ) (first step : ℕ) (p : List ℕ × ℕ) where
-  abbrev Told : List ℕ × ℕ → Type 0
-  Told q = (q ≡ put p (members_text bs first step)) × (length (members_text bs first step) < 65536)
+row_below : (r : Refusal) → row r < 2 ^ 32
+row_below r = grind arith
 
-  pub text-refused : {q : List ℕ × ℕ} {row : ℕ} → Refuses bs row → row < 2 ^ 32 → q ≡ put p (refused_text row) → Told q
-  unfolding members_text
-  text-refused {row = row} r h e = let t = ne_eqb row 0 r.1 in (e ∙ rw (r.0, t), rw (r.0, t) (omega (arith, refused-few row h)))
+by_rows : {X : Type 0} (bs : List ℕ) → (file_refusal bs [] ≡ 0 → X) → ((r : Refusal) → file_refusal bs [] ≡ row r → X) → X
+by_rows bs f g =
+    by_form bs f g (form_of bs) refl
+  where
+    by_head : {X : Type 0} (bs : List ℕ) → (file_refusal bs [] ≡ 0 → X) → ((r : Refusal) → file_refusal bs [] ≡ row r → X) → (h : Result FileHead Refusal) → Judges bs h → X
+    by_head bs f g (Ok h) e = f e.0
+    by_head bs f g (Err r) e = g r e
 
-  pub text-accepted : {q : List ℕ × ℕ} → ((j : ℕ) → get_or bs j 0 < 256) → file_refusal bs [] ≡ 0 → q ≡ put p (class_lines bs first step) → Told q
+    by_form : {X : Type 0} (bs : List ℕ) → (file_refusal bs [] ≡ 0 → X) → ((r : Refusal) → file_refusal bs [] ≡ row r → X) → (j : Judged) → form_of bs ≡ j → X
+    by_form bs f g (Ok p) e = by_head bs f g (head_read bs p) (head_is bs p (form_parted bs e))
+    by_form bs f g (Err r) e = g r (form_told bs e)
+
+module _ (bs : List ℕ) (first step : ℕ) where
+  pub text_refused : (r : Refusal) → file_refusal bs [] ≡ row r → members_text bs first step ≡ refused_text (row r)
   unfolding members_text
-  text-accepted bytes a e = (e ∙ rw a, rw a (omega (arith, lines_few bs bytes first step a)))
+  text_refused r e = let n = row_above r in rw (e, ne_eqb (row r) 0 (λ z. omega arith))
+
+  pub text_accepted : file_refusal bs [] ≡ 0 → members_text bs first step ≡ class_lines bs first step
+  unfolding members_text
+  text_accepted e = rw e
+
+  pub text_few : ((j : ℕ) → get_or bs j 0 < 256) → length (members_text bs first step) < 65536
+  text_few bytes =
+      by_rows bs (λ e. rw (text_accepted e) (omega (arith, lines_few bs bytes first step e)))
+      (λ r e. rw (text_refused r e) (omega (arith, refused-few (row r) (row_below r))))

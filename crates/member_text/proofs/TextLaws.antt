@@ -1,62 +1,35 @@
--- Laws of the lines of a class file's members, a piece after the other as the code puts them. Assumes nothing.
-use Rattle.std.proofs.Common.{◌≡◌, ℕ, ◌+◌, ◌*◌, ◌%◌, ◌^◌, ◌<◌, ◌≤◌, ltb, List, [], ◌∷◌, ◌++◌, length, get_or, sym, refl, ap, ◌∙◌, mul-zero, mul-suc, add-one, arith, ltb-false, ltb-true}
+-- Laws of the lines of a class file's members: a parent's words, targets, and the lines that are left to put. Assumes nothing.
+use Rattle.std.proofs.Common.{◌≡◌, ℕ, ◌+◌, ◌*◌, ◌%◌, ◌^◌, ◌<◌, ◌≤◌, true, false, eqb, ltb, List, [], ◌∷◌, ◌++◌, length, get_or, sym, refl, ◌∙◌, mul-zero, mul-suc, add-one, arith, ltb-false, ltb-true}
 use lib.ListN.{get_or-eq_default}
+use borrow.Author.Tests.{eqb-true, eqb-false}
 use Rattle.words.proofs.Bools.{by}
 use Rattle.words.proofs.FoldLaws.{length-table, get_d_table}
 use Rattle.descriptor.specs.Bytes.{text}
-use Rattle.lines.specs.Bytes.{put, decimal}
-use Rattle.lines.specs.Lines.{line_end, numbered}
-use Rattle.lines.proofs.ByteLaws.{then, put-none}
-use Rattle.linking.specs.Compiler.{New}
-use Rattle.class_form.specs.declared.Member.{Member}
 use Rattle.class_form.specs.Form.{u2}
 use Rattle.class_form.specs.Parts.{member_at}
-use Rattle.class_members.specs.Members.{utf8_bytes, members_at, places_from, file_name, file_parent, file_flags, file_fields, file_methods}
-use Rattle.class_file.specs.declared.Places.{Places}
+use Rattle.class_members.specs.Members.{utf8_bytes, members_at, member_places, file_fields, file_methods}
+use Rattle.class_form.specs.declared.Places.{Places}
 use Rattle.class_file.specs.Walk.{Parted}
-use Rattle.class_file.proofs.Laws.{left, left-more, left-none, left-all}
-use Rattle.class_file.proofs.JudgeLaws.{fields_read, methods-read, methods-counted}
-use Rattle.member_text.specs.MemberText.{extends, class_text, flags_text, member_text, member_texts, refused_text, target_of, targets, class_lines}
+use Rattle.class_file.proofs.Laws.{left, left_turn, left_end, left_all}
+use Rattle.class_file.proofs.JudgeLaws.{fields_are, methods_are, methods_counted}
+use Rattle.member_text.specs.MemberText.{extends, member_text, member_texts, target_of, targets}
 
--- ---- lines
+-- ---- a parent
 
-pub extends-none : (p : List ℕ × ℕ) (parent : List ℕ) → length parent ≡ 0 → p ≡ put p (extends parent)
-extends-none p [] h = put-none p
-extends-none p (b ∷ bs) h = absurd (omega arith)
+pub extends_none : (parent : List ℕ) → eqb (length parent) 0 ≡ true → extends parent ≡ []
+extends_none [] h = refl
+extends_none (b ∷ bs) h = let e = eqb-true (length (b ∷ bs)) 0 h in absurd (omega arith)
 
-module _ (p : List ℕ × ℕ) {p₁ p₂ : List ℕ × ℕ} where
-  pub extends-some : (parent : List ℕ) → (length parent ≡ 0 → ⊥) → p₁ ≡ put p (text " extends ") → p₂ ≡ put p₁ parent → p₂ ≡ put p (extends parent)
-  extends-some [] h e f = absurd (omega arith)
-  extends-some (b ∷ bs) h e f = then p (text " extends ") _ e f
-
-  pub flags-put : (flags : ℕ) → p₁ ≡ put p (text "  flags " ++ decimal flags) → p₂ ≡ put p₁ line_end → p₂ ≡ put p (flags_text flags)
-  unfolding flags_text numbered
-  flags-put flags e f = then p (text "  flags " ++ decimal flags) _ e f
-
-  pub refused-put : (row : ℕ) → p₁ ≡ put p (text "refused " ++ decimal row) → p₂ ≡ put p₁ line_end → p₂ ≡ put p (refused_text row)
-  unfolding refused_text numbered
-  refused-put row e f = then p (text "refused " ++ decimal row) _ e f
-
-  module _ {p₃ p₄ : List ℕ × ℕ} where
-    pub class-put : (name parent : List ℕ) → p₁ ≡ put p (text "class ") → p₂ ≡ put p₁ name → p₃ ≡ put p₂ (extends parent) → p₄ ≡ put p₃ line_end
-        → p₄ ≡ put p (class_text name parent)
-    unfolding class_text
-    class-put name parent e₁ e₂ e₃ e₄ = then p (text "class ") _ e₁ (then p₁ name _ e₂ (then p₂ (extends parent) _ e₃ e₄))
-
-    pub member-put : {p₅ p₆ p₇ : List ℕ × ℕ} (kind name descriptor : List ℕ) (last flags : ℕ) → p₁ ≡ put p kind → p₂ ≡ put p₁ name → p₃ ≡ put p₂ (text " ")
-        → p₄ ≡ put p₃ descriptor → p₅ ≡ put p₄ (text " " ++ decimal last) → p₆ ≡ put p₅ (text " flags " ++ decimal flags) → p₇ ≡ put p₆ line_end
-        → p₇ ≡ put p (member_text kind name descriptor last flags)
-    unfolding member_text numbered
-    member-put {p₅} {p₆} kind name descriptor last flags e₁ e₂ e₃ e₄ e₅ e₆ e₇ =
-        then p kind _ e₁ (then p₁ name _ e₂ (then p₂ (text " ") _ e₃ (then p₃ descriptor _ e₄ (then p₄ (text " " ++ decimal last) _ e₅
-        (then p₅ (text " flags " ++ decimal flags) _ e₆ e₇)))))
+pub extends_some : (parent : List ℕ) → eqb (length parent) 0 ≡ false → extends parent ≡ text " extends " ++ parent
+extends_some [] h = absurd (eqb-false 0 0 h refl)
+extends_some (b ∷ bs) h = refl
 
 -- ---- targets
 
 -- the next one
-pub target-next : (first step i last : ℕ) {last' : ℕ} → last ≡ target_of first step i → last' ≡ (last + step) % 2 ^ 32 → last' ≡ target_of first step (i + 1)
+pub target_next : (first step i last : ℕ) {last' : ℕ} → last ≡ target_of first step i → last' ≡ (last + step) % 2 ^ 32 → last' ≡ target_of first step (i + 1)
 unfolding target_of
-target-next first step i last e f =
+target_next first step i last e f =
     let m : step * (i + 1) ≡ step + step * i = rw add-one (omega (arith, mul-suc step i)) in
     f ∙ rw (e, m) (omega arith)
 
@@ -95,55 +68,35 @@ unfolding members_at
 no_targets bs n k [] = refl
 no_targets bs n k (p ∷ ps) = rw (no_target n k, no_targets bs n (k + 1) ps)
 
--- ---- the members that are left, i of n put
+-- ---- the lines of the members that are left, i of n put
 
 module _ (bs kind : List ℕ) (first step n : ℕ) where
-  abbrev texts : ℕ → ℕ → List ℕ
-  texts i p = member_texts kind (left bs (targets first step n) n i p)
+  unfoldable pub lines_left : ℕ → ℕ → List ℕ
+  lines_left i p = member_texts kind (left bs (targets first step n) n i p)
 
-  pub texts-start : (p : ℕ) → member_texts kind (members_at bs (targets first step n) 0 (places_from bs n p)) ≡ texts 0 p
-  texts-start p = ap (member_texts kind) (sym (left-all bs (targets first step n) n p))
-
-  texts-more : (i p : ℕ) → i < n
-      → texts i p
+  pub lines_turn : (i p : ℕ) → i < n → lines_left i p
       ≡ member_text kind (utf8_bytes bs (member_at bs p).name) (utf8_bytes bs (member_at bs p).descriptor) (target_of first step i) (member_at bs p).flags
-      ++ texts (i + 1) (member_at bs p).next
-  unfolding member_texts
-  texts-more i p h = ap (member_texts kind) (left-more bs (targets first step n) n i p h) ∙ rw (target_at_lem first step n i h)
+      ++ lines_left (i + 1) (member_at bs p).next
+  unfolding lines_left member_texts
+  lines_turn i p h = rw (left_turn bs (targets first step n) n i p h, target_at_lem first step n i h)
 
-  pub texts-turn : (i p last : ℕ) (q : List ℕ × ℕ) {all q' : List ℕ × ℕ} {m : Member} {name descriptor : List ℕ} → i < n → last ≡ target_of first step i
-      → m ≡ member_at bs p → name ≡ utf8_bytes bs m.name → descriptor ≡ utf8_bytes bs m.descriptor
-      → q' ≡ put q (member_text kind name descriptor last m.flags) → all ≡ put q (texts i p) → all ≡ put q' (texts (i + 1) m.next)
-  texts-turn i p last q {q' = q'} {m = m} h l e f g k inv =
-      let a : List ℕ =
-      member_text kind (utf8_bytes bs (member_at bs p).name) (utf8_bytes bs (member_at bs p).descriptor) (target_of first step i) (member_at bs p).flags in
-      let b : List ℕ = texts (i + 1) (member_at bs p).next in
-      let w : put q' b ≡ put q (a ++ b) = then q a b (k ∙ rw (f, g, e, l)) refl in
-      inv ∙ ap (put q) (texts-more i p h) ∙ sym w ∙ rw e
+  pub lines_end : (i p : ℕ) → n ≤ i → lines_left i p ≡ []
+  unfolding lines_left member_texts
+  lines_end i p h = rw (left_end bs (targets first step n) n i p h)
 
-  pub texts-end : (i p : ℕ) (q : List ℕ × ℕ) → n ≤ i → q ≡ put q (texts i p)
-  unfolding member_texts
-  texts-end i p q h = put-none q ∙ ap (λ (xs : List New). put q (member_texts kind xs)) (sym (left-none bs (targets first step n) n i p h))
+pub lines_all : (bs kind : List ℕ) (first step p : ℕ)
+    → member_texts kind (members_at bs (targets first step (u2 bs p)) 0 (member_places bs p)) ≡ lines_left bs kind first step (u2 bs p) 0 (p + 2)
+unfolding lines_left
+lines_all bs kind first step p = rw (left_all bs (targets first step (u2 bs p)) (u2 bs p) (p + 2))
 
 -- ---- the file: what is read at the places of its parts
 
-module _ (bs marks : List ℕ) (places : Places) (at : Parted bs marks places) where
+module _ (bs : List ℕ) (at : Places) (parted : Parted bs at) where
   -- the methods with their targets
-  pub methods-here : (first step : ℕ) {n : ℕ} → n ≡ u2 bs places.methods
-      → members_at bs (targets first step n) 0 (places_from bs n (places.methods + 2)) ≡ file_methods bs (targets first step (length (file_methods bs [])))
-  methods-here first step {n} e =
-      methods-read bs marks places at (targets first step n) e
-      ∙ ap (λ (k : ℕ). file_methods bs (targets first step k)) (methods-counted bs marks places at e)
+  pub methods_here : (first step : ℕ) → members_at bs (targets first step (u2 bs at.methods)) 0 (member_places bs at.methods)
+      ≡ file_methods bs (targets first step (length (file_methods bs [])))
+  methods_here first step = rw (methods_counted bs at parted [], methods_are bs at parted (targets first step (u2 bs at.methods)))
 
   -- the fields with word index 0
-  pub fields-here : {n : ℕ} → n ≡ u2 bs places.fields → members_at bs (targets 0 0 n) 0 (places_from bs n (places.fields + 2)) ≡ file_fields bs
-  fields-here {n} e = no_targets bs n 0 (places_from bs n (places.fields + 2)) ∙ fields_read bs marks places at e
-
-pub file-put : (bs : List ℕ) (first step : ℕ) (p : List ℕ × ℕ) {p₁ p₂ p₃ p₄ : List ℕ × ℕ} {name parent : List ℕ} {flags : ℕ} {ms fs : List New}
-    → name ≡ file_name bs → parent ≡ file_parent bs → flags ≡ file_flags bs → ms ≡ file_methods bs (targets first step (length (file_methods bs [])))
-    → fs ≡ file_fields bs → p₁ ≡ put p (class_text name parent) → p₂ ≡ put p₁ (flags_text flags) → p₃ ≡ put p₂ (member_texts (text "  method ") ms)
-    → p₄ ≡ put p₃ (member_texts (text "  field ") fs) → p₄ ≡ put p (class_lines bs first step)
-unfolding class_lines
-file-put bs first step p {p₁} {p₂} {p₃} a b c d e f g h k =
-    then p (class_text (file_name bs) (file_parent bs)) _ (f ∙ rw (a, b)) (then p₁ (flags_text (file_flags bs)) _ (g ∙ rw c)
-    (then p₂ (member_texts (text "  method ") (file_methods bs (targets first step (length (file_methods bs []))))) _ (h ∙ rw d) (k ∙ rw e)))
+  pub fields_here : members_at bs (targets 0 0 (u2 bs at.fields)) 0 (member_places bs at.fields) ≡ file_fields bs
+  fields_here = no_targets bs (u2 bs at.fields) 0 (member_places bs at.fields) ∙ sym (fields_are bs at parted)

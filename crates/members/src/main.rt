@@ -3,66 +3,48 @@
 // is named on standard error, and nothing is written for it; nor for one with a word that is no number.
 #![tactic(auto)]
 
-ghost use Rattle.std.specs.Prelude.{◌≡◌, length, take};
+ghost use Rattle.std.specs.Prelude.{◌≡◌, ◌+◌, ◌^◌, ◌<◌, length, take};
 ghost use Rattle.member_text.specs.MemberText.{members_text};
-ghost use Rattle.members.specs.Number.{is_digit, number_of};
+ghost use Rattle.members.specs.Number.{number_of};
 
 use std::env::FillError;
 use std::io;
 use std::rt::{Env, Files};
 use words::part;
 
-// What a word spells: a number from 0 to 4294967295, or none.
-#[derive(Clone, Copy)]
-enum Number {
-    Is(u32),
-    Not,
-}
-
-// Whether a byte is a decimal digit.
-fn is_digit(b: u8) -> bool
-    ensures { result ≡ is_digit b }
-{
-    (b'0' <= b) & (b <= b'9')
-}
+// The most bytes of a file that count, and one more.
+const ROOM: usize = 1048577;
 
 // The number that the decimal digits of a word spell.
-fn spelled(word: &[u8]) -> Number
+#[tactic(auto, using(crate::proofs::NumberLaws::number_steps))]
+fn spelled(word: &[u8]) -> Option<u32>
     ensures { result ≡ number_of word.now }
 {
-    let mut n: u64 = 0;
-    let mut i: usize = 0;
-    while i < word.len() {
-        let b = words::byte_at(word, i);
-        if !is_digit(b) {
-            return Number::Not;
-        }
-        n = 10 * n + (b - b'0') as u64;
-        if n > 4294967295 {
-            return Number::Not;
-        }
-        i += 1;
+    if word.is_empty() {
+        return None;
     }
-    if i == 0 {
-        return Number::Not;
+    let mut n: u32 = 0;
+    for b in word {
+        if !b.is_ascii_digit() {
+            return None;
+        }
+        n = n.checked_mul(10)?.checked_add((*b - b'0') as u32)?;
     }
-    Number::Is(n as u32)
+    Some(n)
 }
 
 // The number that argument i is; one that is missing is none.
-fn number_argument(rt: &impl Env, i: usize) -> Number {
+fn number_argument(rt: &impl Env, i: usize) -> Option<u32> {
     let mut word = [0u8; 4096];
-    match rt.arg(i, &mut word) {
-        Ok(n) => spelled(part(&word, 0, n)),
-        Err(_) => Number::Not,
-    }
+    let n = rt.arg(i, &mut word).ok()?;
+    spelled(part(&word, 0, n))
 }
 
-// Room for the bytes of a file, and one more.
-fn file_bytes() -> [u8; 1048577]
+// Room for the bytes of a file.
+fn file_bytes() -> [u8; ROOM]
     ensures { 1048577 ≡ length result }
 {
-    [0; 1048577]
+    [0; ROOM]
 }
 
 // Puts the text of a class file's members into the bytes lent for it, and answers how many it has: it is there whole.
@@ -84,11 +66,6 @@ fn print_members(
     rt.write_all(part(text, 0, end))
 }
 
-// Says a sentence about a file on standard error.
-fn say(rt: &impl Eprint, path: &[u8], sentence: &str) {
-    files::fail(rt, path, sentence);
-}
-
 // Reads a class file and writes its members.
 fn print_file(
     rt: &(impl Print + Eprint + Files),
@@ -97,44 +74,37 @@ fn print_file(
     step: u32,
 ) -> io::Result<()> {
     let mut bytes = file_bytes();
-    if let files::File::Bytes(n) = files::read_path(rt, path, &mut bytes) {
-        if n == bytes.len() {
-            say(rt, path, "more than 1048576 bytes");
-        } else {
-            let mut text = [0u8; 65536];
-            print_members(rt, part(&bytes, 0, n), first, step, &mut text)?;
-        }
+    match files::read_path(rt, path, &mut bytes) {
+        Some(ROOM) => files::fail(rt, path, "more than 1048576 bytes"),
+        Some(n) => print_members(rt, part(&bytes, 0, n), first, step, &mut [0; 65536])?,
+        None => {}
     }
     Ok(())
 }
 
-// Writes the members of the class file that argument i names, by the first target and the step that two others are.
-fn print_argument(
-    rt: &(impl Print + Eprint + Files + Env),
-    i: usize,
-    first_at: usize,
-    step_at: usize,
-) -> io::Result<()> {
+// Writes the members of the class file that argument i names, by the first target and the step that the two after it are.
+fn print_argument(rt: &(impl Print + Eprint + Files + Env), i: usize) -> io::Result<()>
+    requires { i + 2 < 2 ^ 64 }
+{
     let mut path = [0u8; 4096];
-    let files::Argument::Bytes(n) = files::take_argument(rt, b"members: argument", i, &mut path)
-    else {
+    let Ok(n) = files::take_argument(rt, b"members: argument", i, &mut path) else {
         return Ok(());
     };
-    let Number::Is(first) = number_argument(rt, first_at) else {
-        say(rt, part(&path, 0, n), "the first target is no number");
+    let path = part(&path, 0, n);
+    let Some(first) = number_argument(rt, i + 1) else {
+        files::fail(rt, path, "the first target is no number");
         return Ok(());
     };
-    let Number::Is(step) = number_argument(rt, step_at) else {
-        say(rt, part(&path, 0, n), "the step is no number");
+    let Some(step) = number_argument(rt, i + 2) else {
+        files::fail(rt, path, "the step is no number");
         return Ok(());
     };
-    print_file(rt, part(&path, 0, n), first, step)
+    print_file(rt, path, first, step)
 }
 
 // Whether there is an argument i.
 fn has_argument(rt: &impl Env, i: usize) -> bool {
-    let mut first = [0u8; 1];
-    !matches!(rt.arg(i, &mut first), Err(FillError::NotPresent))
+    !matches!(rt.arg(i, &mut [0; 1]), Err(FillError::NotPresent))
 }
 
 fn main(rt: HostRuntime) -> io::Result<()> {
@@ -147,7 +117,7 @@ fn main(rt: HostRuntime) -> io::Result<()> {
             files::fail(&rt, b"members", "a file, a first target and a step");
             break;
         }
-        print_argument(&rt, i, i + 1, i + 2)?;
+        print_argument(&rt, i)?;
     }
     Ok(())
 }

@@ -1,58 +1,18 @@
--- Laws of the bits of a table that is held in two arrays: one slot's, their number, and a word of 32. Assumes nothing.
+-- Laws of the bits of a table: one slot's, their number, and a word of 32. Assumes nothing.
 use mathlib.Core.Path.{◌≡◌, refl, sym, ap, ◌∙◌}
-use mathlib.Core.Logic.{◌≢◌}
-use mathlib.Core.Bool.{Bool, true, false, ◌||◌}
+use mathlib.Core.Bool.{Bool, true, false}
 use mathlib.Core.List.{List, [], ◌∷◌}
-use Prim.Native.Nat.{ℕ, zero, suc, ◌+◌, ◌*◌, ◌-◌, ◌/◌, ◌%◌, ◌^◌, ◌≤◌, ◌<◌}
+use Prim.Native.Nat.{ℕ, zero, suc, ◌+◌, ◌*◌, ◌-◌, ◌^◌, ◌≤◌, ◌<◌}
 use native.Mathlib.Nat.{pow-succ'}
 use native.Mathlib.Omega.{arith}
 use native.Mathlib.Numerals.{add-one}
 use lib.ListN.{length, get_or, drop, get_or-eq_default}
 use lib.Seq.{drop-cons, drop-length}
 use lib.Pow.{pow_pos}
-use lib.Dec.{eqb, ltb}
-use borrow.Author.Tests.{eq-eqb, ne_eqb, le-ltb, lt-ltb, ltb-true, ltb-false}
-use Rattle.words.specs.declared.Found.{Found}
-use Rattle.words.specs.declared.Found.TheVariants.{At, Nothing}
-use Rattle.words.proofs.Bools.{by, or-neither}
-use Rattle.words.proofs.ListLaws.{get_d_list_from}
 use Rattle.linking.specs.Vtable.{Entry, empty}
-use Rattle.linking.specs.Counts.{is_counted, bits_of, bit, bit_count, bits_from, missing_at, missing_bit, parent_bit}
-use Rattle.reading.specs.Arrays.{source_of, entry_at, entries_of}
+use Rattle.linking.specs.Counts.{is_counted, bits_of, bit, bit_count, bits_from}
+use Rattle.reading.specs.Arrays.{entries_of}
 use Rattle.reading.proofs.ArrayLaws.{length-entries}
-use Rattle.missing.specs.Lists.{slot}
-
--- ---- a parent's bit
-
-module _ (list : List ℕ) (p j : ℕ) where
-  pub no_bit : (eqb p 0 || ltb 1023 j) ≡ true → false ≡ parent_bit list p j
-  unfolding parent_bit
-  no_bit e =
-      by (eqb p 0)
-      (λ z. rw z)
-      (λ z.
-      let h = ltb-true 1023 j (rw z at e) in
-      rw (z, le-ltb j 1024 (omega arith)))
-
-  pub bit-there : {x y w : ℕ} {b : Bool} → (eqb p 0 || ltb 1023 j) ≡ false → x ≡ missing_at p → y ≡ j / 32 → w ≡ get_or list (x + (1 + y)) 0
-      → b ≡ eqb (w / 2 ^ (j % 32) % 2) 1 → b ≡ parent_bit list p j
-  unfolding parent_bit missing_bit
-  bit-there e f h k b =
-      let n = or-neither (eqb p 0) (ltb 1023 j) e in
-      let l = ltb-false 1023 j n.1 in
-      b ∙ rw (k, f, h, n.0, lt-ltb j 1024 (omega arith))
-
--- ---- a slot
-
-module _ (f : ℕ → Bool) (w k : ℕ) where
-  pub takes-stub : w ≡ 0 → true ≡ is_counted f (slot w k)
-  takes-stub e = rw (eq-eqb w 0 e)
-
-  pub copies : {s : Found} (j : ℕ) {b : Bool} → w ≢ 0 → s ≡ source_of k → s ≡ At j → b ≡ f j → b ≡ is_counted f (slot w k)
-  copies j h e s b = b ∙ rw (ne_eqb w 0 h, ← e, s)
-
-  pub no_copy : {s : Found} → w ≢ 0 → s ≡ source_of k → s ≡ Nothing → false ≡ is_counted f (slot w k)
-  no_copy h e s = rw (ne_eqb w 0 h, ← e, s)
 
 -- ---- the bits of all slots
 
@@ -77,21 +37,16 @@ module _ (f : ℕ → Bool) (ts ms : List ℕ) (n : ℕ) where
   pub bit_past : (i : ℕ) → n ≤ i → 0 ≡ bit (get_or bits i false)
   bit_past i h = let l = bits-length in rw (get_or-eq_default bits false {n = i} (omega arith))
 
-  bit_in : (i : ℕ) → i < n → get_or bits i false ≡ is_counted f (slot (get_or ts i 0) (get_or ms i 0))
-  unfolding entries_of entry_at
-  bit_in i h =
-      let l = length-entries ts ms n in
-      let z : 0 + i ≡ i = omega arith in
-      bits_at f (entries_of ts ms n) i (omega arith)
-      ∙ ap (λ (e : Entry). is_counted f e) (get_d_list_from (entry_at ts ms) 0 n i empty h ∙ ap (entry_at ts ms) z)
+  bit_in : (i : ℕ) → i < n → get_or bits i false ≡ is_counted f (get_or (entries_of ts ms n) i empty)
+  bit_in i h = let l = length-entries ts ms n in bits_at f (entries_of ts ms n) i (omega arith)
 
-  pub bit-set : (i : ℕ) {x y w k : ℕ} {b : Bool} → i < n → x ≡ i → w ≡ get_or ts x 0 → y ≡ i → k ≡ get_or ms y 0 → b ≡ is_counted f (slot w k)
-      → b ≡ true → 1 ≡ bit (get_or bits i false)
-  bit-set i h x w y k b t = let e : is_counted f (slot (get_or ts i 0) (get_or ms i 0)) ≡ true = rw (w, x, k, y) at (sym b ∙ t) in rw (bit_in i h, e)
+  pub bit_set : (i : ℕ) {e : Entry} {b : Bool} → i < n → e ≡ get_or (entries_of ts ms n) i empty → b ≡ is_counted f e → b ≡ true
+      → 1 ≡ bit (get_or bits i false)
+  bit_set i h e b t = let q = ap (is_counted f) (sym e) ∙ sym b ∙ t in rw (bit_in i h, q)
 
-  pub bit_clear : (i : ℕ) {x y w k : ℕ} {b : Bool} → i < n → x ≡ i → w ≡ get_or ts x 0 → y ≡ i → k ≡ get_or ms y 0 → b ≡ is_counted f (slot w k)
-      → b ≡ false → 0 ≡ bit (get_or bits i false)
-  bit_clear i h x w y k b t = let e : is_counted f (slot (get_or ts i 0) (get_or ms i 0)) ≡ false = rw (w, x, k, y) at (sym b ∙ t) in rw (bit_in i h, e)
+  pub bit_clear : (i : ℕ) {e : Entry} {b : Bool} → i < n → e ≡ get_or (entries_of ts ms n) i empty → b ≡ is_counted f e → b ≡ false
+      → 0 ≡ bit (get_or bits i false)
+  bit_clear i h e b t = let q = ap (is_counted f) (sym e) ∙ sym b ∙ t in rw (bit_in i h, q)
 
 -- ---- their number
 

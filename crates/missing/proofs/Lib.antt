@@ -1,3 +1,2 @@
-pub mod AskLaws
 pub mod BitLaws
 pub mod ListLaws

@@ -7,9 +7,9 @@ use Prim.Native.Nat.{ℕ, suc, ◌+◌, ◌*◌, ◌-◌, ◌≤◌, ◌<◌}
 use native.Mathlib.Omega.{arith}
 use lib.ListN.{length, get_or, set, take}
 use lib.Seq.{take_all, drop-length}
-use lib.Dec.{leb, ltb}
+use lib.Dec.{leb}
 use borrow.Author.Tests.{le-leb, leb-true, leb-false, ltb-false}
-use Rattle.words.specs.Words.{copy_words}
+use Rattle.words.specs.Words.{copy_elements}
 use Rattle.words.proofs.Bools.{by}
 use Rattle.words.proofs.Laws.{room, no_room_lem}
 use Rattle.words.proofs.ListLaws.{length-list-from, get_d_list_from}
@@ -35,9 +35,9 @@ module _ (bs : List Bool) where
   unfolding pack_bits
   word_first j e w = w ∙ rw e
 
-  pub word-later : (j : ℕ) {w : ℕ} → j ≢ 0 → j < 33 → w ≡ bits_from bs (32 * (j - 1)) 32 → w ≡ get_or (pack_bits bs) j 0
+  pub word_later : (j : ℕ) {w : ℕ} → j ≢ 0 → j < 33 → w ≡ bits_from bs (32 * (j - 1)) 32 → w ≡ get_or (pack_bits bs) j 0
   unfolding pack_bits
-  word-later j h l w =
+  word_later j h l w =
       let s : j ≡ suc (j - 1) = omega arith in
       let z : 0 + (j - 1) ≡ j - 1 = omega arith in
       let g = get_d_list_from (λ k. bits_from bs (32 * k) 32) 0 32 (j - 1) 0 (omega arith) in
@@ -61,7 +61,7 @@ module _ (bs : List Bool) where
 -- ---- the list
 
 -- words copied to a place, where there is room
-put-by : (own list : List ℕ) (at : ℕ) {out : List ℕ} {b : Bool} → length own ≡ 33 → ◌≡◌ {A = Bool × List ℕ} (b, out) (copy_words own 0 33 list at)
+put-by : (own list : List ℕ) (at : ℕ) {out : List ℕ} {b : Bool} → length own ≡ 33 → ◌≡◌ {A = Bool × List ℕ} (b, out) (copy_elements own 0 33 list at)
     → out ≡ cond (leb (at + 33) (length list)) (write_at list at own) list
 put-by own list at l k =
     by (leb (at + 33) (length list))
@@ -72,17 +72,12 @@ put-by own list at l k =
     (λ q. let g = leb-false (at + 33) (length list) q in rw q (ap (λ (x : Bool × List ℕ). x.1) (k ∙ sym (no_room_lem own 0 33 list at (omega arith)))))
 
 module _ (list : List ℕ) (c p : ℕ) (T : List Entry) where
-  pub class-put : {own out : List ℕ} {x : ℕ} {b : Bool} → own ≡ pack_bits (bits_of (parent_bit list p) T) → x ≡ missing_at c
-      → ◌≡◌ {A = Bool × List ℕ} (b, out) (copy_words own 0 33 list x) → out ≡ counted list c p T
+  pub class_put : {own out : List ℕ} {x : ℕ} {b : Bool} → own ≡ pack_bits (bits_of (parent_bit list p) T) → x ≡ missing_at c
+      → ◌≡◌ {A = Bool × List ℕ} (b, out) (copy_elements own 0 33 list x) → out ≡ counted list c p T
   unfolding counted
-  class-put {own = own} e x k =
+  class_put {own = own} e x k =
       let l : length own ≡ 33 = rw e (length_pack (bits_of (parent_bit list p) T)) in
       put-by own list (missing_at c) l (rw x at k) ∙ rw e
-
--- row 15
-pub short-is : (ws list : List ℕ) {n w : ℕ} → n ≡ class_count ws → w ≡ n → ltb (length list) (33 * w) ≡ missing_short ws list
-unfolding missing_short
-short-is ws list e f = rw (f, e)
 
 module _ (list : List ℕ) (c p : ℕ) (T : List Entry) where
   -- a link's list is long enough for each class of the set

@@ -3,29 +3,23 @@
 #![tactic(auto)]
 
 ghost use Rattle.std.specs.Prelude.{◌≡◌, ◌+◌, ◌*◌, ◌/◌, ◌%◌, ◌^◌, ◌≤◌, ◌<◌, false, length, get_or, eqb};
-ghost use Rattle.reading.specs.Arrays.{entries_of};
+ghost use Rattle.reading.specs.Tables.{entry, entries};
 ghost use Rattle.linking.specs.Counts.{missing_at, is_counted, bit, bit_count, bits_from, pack_bits, parent_bit, missing_short};
 ghost use Rattle.linking.specs.Missing.{missing_def};
-ghost use Rattle.missing.specs.Lists.{slot, bits_in, counted, answered};
+ghost use Rattle.missing.specs.Lists.{bits_in, counted, answered};
 
-use words::Found;
+use reading::{Slot, Table};
+use refusal::Refusal;
 
 // How many words of the list are a class's.
 const WIDTH: usize = 33;
-
-// What asking answers: the number of missing slots, or the row that refuses it.
-#[derive(Clone, Copy)]
-pub enum Missing {
-    Count(u32),
-    Refused(u32),
-}
 
 // The place of class c's words.
 fn place_of(c: u32) -> usize
     ensures is { result ≡ missing_at c }
     ensures small { result < 2 ^ 38 }
 {
-    WIDTH * words::wide(words::before(c))
+    WIDTH * (c.saturating_sub(1) as usize)
 }
 
 // Bit i mod 32 of a word.
@@ -36,131 +30,114 @@ fn bit_of(w: u32, i: u32) -> bool
 }
 
 // The bit of slot j of parent p: none without a parent, or past a table's 1,024 slots.
+#[tactic(auto, unfolding(linking::specs::Counts::parent_bit, linking::specs::Counts::missing_bit))]
 fn parent_bit(missing: &[u32], p: u32, j: u32) -> bool
     ensures { result ≡ parent_bit missing.now p j }
 {
     if (p == 0) | (1023 < j) {
         return false;
     }
-    let at = place_of(p) + (1 + words::wide(j / 32));
-    bit_of(words::word_at(missing, at), j)
+    let at = place_of(p) + (1 + ((j / 32) as usize));
+    bit_of(words::get_or(missing, at, 0), j)
 }
 
-// Whether a slot with word w and mark k is missing.
-fn is_counted(missing: &[u32], p: u32, w: u32, k: u32) -> bool
-    ensures { result ≡ is_counted (parent_bit missing.now p) (slot w k) }
+// Whether a slot is missing.
+#[tactic(auto, unfolding(linking::specs::Counts::is_counted))]
+fn is_counted(missing: &[u32], p: u32, slot: Slot) -> bool
+    ensures { result ≡ is_counted (parent_bit missing.now p) (entry slot) }
 {
-    if w == 0 {
-        return true;
-    }
-    match reading::source_of(k) {
-        Found::At(j) => parent_bit(missing, p, j),
-        Found::Nothing => false,
-    }
+    slot.word == 0 || slot.source().is_some_and(|j| parent_bit(missing, p, j))
 }
 
-// 1 where slot i of n is missing, and else 0.
-fn bit_at(missing: &[u32], p: u32, ts: &[u32], ms: &[u32], n: u32, i: u32) -> u32
-    ensures is { result ≡ bit (get_or (bits_in missing.now p ts.now ms.now n) i false) }
+// 1 where slot i of the table is missing, and else 0.
+#[tactic(auto, using(crate::proofs::BitLaws::bit_past, crate::proofs::BitLaws::bit_set, crate::proofs::BitLaws::bit_clear))]
+fn bit_at<const N: usize>(missing: &[u32], p: u32, table: &Table<N>, i: u32) -> u32
+    ensures is { result ≡ bit (get_or (bits_in missing.now p table.now) i false) }
     ensures small { result ≤ 1 }
 {
-    if n <= i {
+    if table.len <= i {
         return 0;
     }
-    let w = words::word_at(ts, words::wide(i));
-    let k = words::word_at(ms, words::wide(i));
-    if is_counted(missing, p, w, k) { 1 } else { 0 }
+    if is_counted(missing, p, table.slot(i)) {
+        1
+    } else {
+        0
+    }
 }
 
-// How many of n slots are missing.
-fn count_slots(missing: &[u32], p: u32, ts: &[u32], ms: &[u32], n: u32) -> u32
-    ensures { result ≡ bit_count (bits_in missing.now p ts.now ms.now n) }
+// How many of its slots are missing.
+fn count_slots<const N: usize>(missing: &[u32], p: u32, table: &Table<N>) -> u32
+    ensures { result ≡ bit_count (bits_in missing.now p table.now) }
 {
     let mut count: u32 = 0;
-    let mut i: u32 = 0;
-    while i < n {
-        count += bit_at(missing, p, ts, ms, n, i);
-        i += 1;
+    for i in 0..table.len {
+        count += bit_at(missing, p, table, i);
     }
     count
 }
 
-// A word of bits with one more, the lowest.
-fn push_bit(b: u32, w: u32) -> u32
-    requires { (b ≤ 1) × (w < 2 ^ 31) }
-    ensures { result ≡ b + 2 * w }
-{
-    b + 2 * w
-}
-
 // Word k of their bits, the first slot's lowest.
-fn bit_word(missing: &[u32], p: u32, ts: &[u32], ms: &[u32], n: u32, k: u32) -> u32
+fn bit_word<const N: usize>(missing: &[u32], p: u32, table: &Table<N>, k: u32) -> u32
     requires { k < 32 }
-    ensures { result ≡ bits_from (bits_in missing.now p ts.now ms.now n) (32 * k) 32 }
+    ensures { result ≡ bits_from (bits_in missing.now p table.now) (32 * k) 32 }
 {
     let mut w: u32 = 0;
-    let mut i: u32 = 32;
-    while 0 < i {
-        i -= 1;
-        w = push_bit(bit_at(missing, p, ts, ms, n, 32 * k + i), w);
+    for i in (0..32).rev() {
+        w = bit_at(missing, p, table, 32 * k + i) + 2 * w;
     }
     w
 }
 
 // Word j of the class's 33: the count, and then the bits.
-fn packed_word(missing: &[u32], p: u32, ts: &[u32], ms: &[u32], n: u32, j: u32) -> u32
+#[tactic(auto, using(crate::proofs::ListLaws::word_first, crate::proofs::ListLaws::word_later))]
+fn packed_word<const N: usize>(missing: &[u32], p: u32, table: &Table<N>, j: u32) -> u32
     requires { j < 33 }
-    ensures { result ≡ get_or (pack_bits (bits_in missing.now p ts.now ms.now n)) j 0 }
+    ensures { result ≡ get_or (pack_bits (bits_in missing.now p table.now)) j 0 }
 {
     if j == 0 {
-        return count_slots(missing, p, ts, ms, n);
+        return count_slots(missing, p, table);
     }
-    bit_word(missing, p, ts, ms, n, j - 1)
+    bit_word(missing, p, table, j - 1)
 }
 
 // Fills a list of 33 with the words.
-fn pack(missing: &[u32], p: u32, ts: &[u32], ms: &[u32], n: u32, out: &mut [u32])
-    requires { length out.old ≡ 33 }
-    ensures { out.new ≡ pack_bits (bits_in missing.now p ts.now ms.now n) }
+fn pack<const N: usize>(missing: &[u32], p: u32, table: &Table<N>, out: &mut [u32; WIDTH])
+    ensures { out.new ≡ pack_bits (bits_in missing.now p table.now) }
 {
-    let mut j: u32 = 0;
-    while j < 33 {
-        let w = packed_word(missing, p, ts, ms, n, j);
-        words::put_word(out, words::wide(j), w);
-        j += 1;
+    for j in 0..33 {
+        words::put(out, j as usize, packed_word(missing, p, table, j));
     }
 }
 
-// Writes the words of class c, whose parent is p and whose table has n slots of these words and marks. Nothing is written into a list that has no room for them.
-pub fn count_class(missing: &mut [u32], c: u32, p: u32, ts: &[u32], ms: &[u32], n: u32)
-    ensures { missing.new ≡ counted missing.old c p (entries_of ts.now ms.now n) }
+// Writes the words of class c, whose parent is p and whose table this is. Nothing is written into a list that has no room for them.
+pub fn count_class<const N: usize>(missing: &mut [u32], c: u32, p: u32, table: &Table<N>)
+    ensures { missing.new ≡ counted missing.old c p (entries table.now) }
 {
-    let mut own = [0u32; 33];
-    pack(missing, p, ts, ms, n, &mut own);
-    words::copy_words(&own, 0, WIDTH, missing, place_of(c));
+    let mut own = [0u32; WIDTH];
+    pack(missing, p, table, &mut own);
+    words::copy(&own, 0, WIDTH, missing, place_of(c));
 }
 
 // Row 15, of the list: whether it is shorter than 33 words for each class of the set.
+#[tactic(auto, unfolding(linking::specs::Counts::missing_short))]
 pub fn is_short(set: &[u32], missing: &[u32]) -> bool
     ensures { result ≡ missing_short set.now missing.now }
 {
-    missing.len() < WIDTH * words::wide(class_sheet::class_count(set))
+    missing.len() < WIDTH * (class_sheet::class_count(set) as usize)
 }
 
-// How many slots of the linked class hold no real method, as its link left the number in the list; or the row that refuses the question. Rows 3 to 5 are
-// judged anew; nothing is written.
-pub fn missing_slots(set: &[u32], abi: &[u32], missing: &[u32], class: u32) -> Missing
+// How many slots of the linked class hold no real method, as its link left the number in the list; or the row that refuses the question. Rows
+// 3 to 5 are judged anew; nothing is written.
+#[tactic(auto, unfolding(linking::specs::Missing::missing_def))]
+pub fn missing_slots(set: &[u32], abi: &[u32], missing: &[u32], class: u32) -> Result<u32, Refusal>
     ensures { answered result ≡ missing_def set.now abi.now missing.now class }
 {
-    let row = set_rules::set_refusal(set, abi);
-    if row != 0 {
-        return Missing::Refused(row);
-    }
+    set_rules::set_refusal(set, abi)?;
     if call_rules::no_class(set, class) | !call_rules::is_linked(set, class) {
-        return Missing::Refused(6);
+        return Err(Refusal::Class);
     }
     if is_short(set, missing) {
-        return Missing::Refused(15);
+        return Err(Refusal::ShortMemory);
     }
-    Missing::Count(words::word_at(missing, place_of(class)))
+    Ok(words::get_or(missing, place_of(class), 0))
 }

@@ -2,4 +2,3 @@ pub mod NameLaws
 pub mod OverLaws
 pub mod TopLaws
 pub mod TakeLaws
-pub mod RowLaws

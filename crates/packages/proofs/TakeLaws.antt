@@ -1,7 +1,7 @@
--- The slots that a method takes, as the code stores them in two arrays. Assumes nothing.
+-- The slots that a method takes, as the code stores them. Assumes nothing.
 use mathlib.Core.Path.{◌≡◌, refl, sym, ap, ◌∙◌}
 use mathlib.Core.Logic.{inl, inr}
-use mathlib.Core.Bool.{Bool, true, false, cond, not, ◌||◌, true≢false, false≢true}
+use mathlib.Core.Bool.{Bool, true, false, cond, not, ◌||◌, or-false, true≢false, false≢true}
 use mathlib.Core.List.Memᴰ
 use mathlib.Core.List.{List, [], ◌∷◌, ◌++◌, Memᴰ}
 use Prim.Native.Nat.{ℕ, zero, suc, ◌+◌, ◌≤◌, ◌<◌}
@@ -11,19 +11,20 @@ use lib.Seq.{get_or-set_same, get_or-set_other}
 use lib.Dec.{eqb}
 use borrow.Author.Tests.{eqb-true, eqb-false, not-true, not-false}
 use Rattle.words.specs.Lists.{list_from, numbers, fold, keep, some}
-use Rattle.words.specs.declared.Found.{Found}
-use Rattle.words.specs.declared.Found.TheVariants.{At, Nothing}
+use Rattle.std.specs.Prelude.{Option}
+use Rattle.std.specs.Prelude.{Some, None}
 use Rattle.words.proofs.Bools.{by}
-use Rattle.words.proofs.ListLaws.{numbers-within, fold_from, fold_start, fold-turn, fold_end}
-use Rattle.class_sheet.specs.ClassSheet.{class_limit, class_first_method, class_method_count, method_flags, method_target, method_limit}
+use Rattle.words.proofs.ListLaws.{fold_from, fold_start, fold-turn, fold_end}
+use Rattle.class_sheet.specs.ClassSheet.{class_limit, class_first_method, class_method_count, method_flags, method_limit}
 use Rattle.linking.specs.Chain.{list_count, on_found, own_methods, parent_of, chain, is_virtual, eligible, same_methods}
 use Rattle.linking.specs.Vtable.{Entry, method_entry, parent_entries}
 use Rattle.linking.specs.Packages.{is_overridden, overridden_in, overridden_along, reached_with, overridden, introducing, taken_slots, put_taken, take_slots, packages_over, build_packages}
 use Rattle.linking.proofs.ChainLaws.{own-method-room}
 use Rattle.linking.proofs.Overriding.{keep-of}
 use Rattle.linking.proofs.Plans.{packages-within, packages-beyond}
-use Rattle.reading.specs.Arrays.{mark_of, method_of, source_of, entries_of}
-use Rattle.reading.proofs.ArrayLaws.{no_source, method-back, length-entries, put-slot, push_slot}
+use Rattle.reading.specs.Arrays.{method_of, entries_of}
+use Rattle.reading.proofs.ArrayLaws.{length-entries}
+use Rattle.packages.proofs.TopLaws.{blank}
 use Rattle.packages.proofs.OverLaws.{left, left-start, left-fold-turn, left-fold-end, left-is-turn, left-is-end}
 use Rattle.packages.specs.Marks.{mark, taken_by, top_of, taken_in, is_some, Tops}
 
@@ -50,15 +51,6 @@ marks_are (k ∷ ks) z m h =
     marks_are ks (set z k 1) m (λ j i. rw (length-set z k 1) (h j (Memᴰ.tail i)))
     ∙ rw (mark-one z k m (h k (Memᴰ.head refl))) (or_turn (some (λ j. eqb j m) ks) (eqb k m) (eqb (get_or z m 0) 1))
 
-or-none : (x : Bool) → (x || false) ≡ x
-or-none true = refl
-or-none false = refl
-
-blank : (n i : ℕ) → ◌≡◌ {A = ℕ} (get_or (replicate n 0) i 0) 0
-blank zero i = refl
-blank (suc n) zero = refl
-blank (suc n) (suc i) = blank n i
-
 keep-ext : (p q : ℕ → Bool) (xs : List ℕ) → ((x : ℕ) → p x ≡ q x) → keep p xs ≡ keep q xs
 unfolding keep
 keep-ext p q [] h = refl
@@ -78,11 +70,11 @@ taken_is tops ks n room e =
     (keep-along (λ i. on_found (top_of tops i) (λ m. eqb (get_or (fold mark (replicate 512 0) ks) m 0) 1) false)
     (λ i. on_found (top_of tops i) (λ k. some (λ j. eqb j k) ks) false) 0 n (λ i l h. one (top_of tops i)))
   where
-    one : (f : Found) → on_found f (λ m. eqb (get_or (fold mark (replicate 512 0) ks) m 0) 1) false ≡ on_found f (λ k. some (λ j. eqb j k) ks) false
-    one (At m) =
+    one : (f : Option ℕ) → on_found f (λ m. eqb (get_or (fold mark (replicate 512 0) ks) m 0) 1) false ≡ on_found f (λ k. some (λ j. eqb j k) ks) false
+    one (Some m) =
         let z : eqb (get_or (replicate 512 0) m 0) 1 ≡ false = rw (blank 512 m) in
-        marks_are ks (replicate 512 0) m (λ k i. rw (length-replicate {A = ℕ} 512 0) (room k i)) ∙ rw z (or-none (some (λ j. eqb j m) ks))
-    one Nothing = refl
+        marks_are ks (replicate 512 0) m (λ k i. rw (length-replicate {A = ℕ} 512 0) (room k i)) ∙ rw z (or-false (some (λ j. eqb j m) ks))
+    one None = refl
 
 -- overridden methods are of the section
 
@@ -106,71 +98,19 @@ overridden-room ws text c m k h =
     by (is_virtual (method_flags ws m)) (λ t. along-room ws text m (chain ws (parent_of ws c)) (c ∷ []) k (rw t at h))
     (λ t. absurd (Memᴰ.not-nil (rw t at h)))
 
--- ---- stores in both arrays
+-- ---- a method stored at the slots that are taken, or behind the last
 
-pub stores-length : (js l : List ℕ) (v : ℕ) → length (fold (λ x j. set x j v) l js) ≡ length l
-unfolding fold
-stores-length [] l v = refl
-stores-length (j ∷ js) l v = stores-length js (set l j v) v ∙ length-set l j v
-
-entries-stores : (js ts ms : List ℕ) (size w k : ℕ) → ((j : ℕ) → Memᴰ j js → j < size) → size ≤ length ts → size ≤ length ms
-    → entries_of (fold (λ x j. set x j w) ts js) (fold (λ x j. set x j k) ms js) size
-    ≡ fold (λ U j. set U j (record { word = w; method = method_of k; source = source_of k })) (entries_of ts ms size) js
-unfolding fold
-entries-stores [] ts ms size w k h a b = refl
-entries-stores (j ∷ js) ts ms size w k h a b =
-    entries-stores js (set ts j w) (set ms j k) size w k (λ i x. h i (Memᴰ.tail x)) (rw (length-set ts j w) a) (rw (length-set ms j k) b)
-    ∙ ap (λ (U : List Entry). fold (λ Z i. set Z i (record { word = w; method = method_of k; source = source_of k })) U js)
-    (put-slot ts ms size j w k (h j (Memᴰ.head refl)) a b)
-
-pub mark-entry : (ws text : List ℕ) (m : ℕ) {t k : ℕ} → m < method_limit → t ≡ method_target ws m → k ≡ mark_of (At m)
-    → ◌≡◌ {A = Entry} (record { word = t; method = method_of k; source = source_of k }) (method_entry ws m)
-mark-entry ws text m h e f = rw (e, f, method-back m (omega arith), no_source (At m))
-
-taken-below : (tops marks : List ℕ) (n j : ℕ) → Memᴰ j (taken_in tops marks n) → j < n
-unfolding taken_in
-taken-below tops marks n j i =
-    let r = keep-of (λ i. taken_by (top_of tops i) marks) (numbers 0 n) i in
-    let w = numbers-within 0 n j r.0 in
-    omega arith
-
-put_some : (e : Entry) (T : List Entry) (js : List ℕ) → is_some js ≡ true → fold (λ U j. set U j e) T js ≡ put_taken e T js
+pub take_some : (e : Entry) (T : List Entry) (js : List ℕ) {d : Entry} {U : List Entry} {r : Bool} → d ≡ e → U ≡ fold (λ l j. set l j d) T js
+    → r ≡ is_some js → r ≡ true → U ≡ put_taken e T js
 unfolding put_taken fold
-put_some e T [] h = absurd (false≢true h)
-put_some e T (j ∷ js) h = refl
+take_some e T [] f u v h = absurd (false≢true (sym v ∙ h))
+take_some e T (j ∷ js) f u v h = u ∙ ap (λ (x : Entry). fold (λ l i. set l i x) T (j ∷ js)) f
 
-none_of : (js : List ℕ) → is_some js ≡ false → js ≡ []
-none_of [] h = refl
-none_of (j ∷ js) h = absurd (true≢false h)
-
--- a method stored at the slots that are taken, or behind the last
-
-module _ (ws tops marks : List ℕ) (m n : ℕ) (small : m < method_limit) {t k : ℕ} (target : t ≡ method_target ws m) (mark-is : k ≡ mark_of (At m)) where
-  abbrev pub putting : List Entry → List Entry
-  putting T = put_taken (method_entry ws m) T (taken_in tops marks n)
-
-  pub take-some : (ts ms : List ℕ) (size : ℕ) {us ns : List ℕ} {r : Bool} → n ≤ size → size ≤ length ts → size ≤ length ms
-      → us ≡ fold (λ l j. set l j t) ts (taken_in tops marks n) → ns ≡ fold (λ l j. set l j k) ms (taken_in tops marks n)
-      → r ≡ is_some (taken_in tops marks n) → r ≡ true → entries_of us ns size ≡ putting (entries_of ts ms size)
-  take-some ts ms size le a d u v r h =
-      rw (u, v)
-      (entries-stores (taken_in tops marks n) ts ms size t k (λ j i. let x = taken-below tops marks n j i in omega arith) a d
-      ∙ ap (λ (e : Entry). fold (λ U j. set U j e) (entries_of ts ms size) (taken_in tops marks n)) (mark-entry ws [] m small target mark-is)
-      ∙ put_some (method_entry ws m) (entries_of ts ms size) (taken_in tops marks n) (sym r ∙ h))
-
-  pub take-new : (ts ms : List ℕ) (size : ℕ) {us ns vs ls : List ℕ} {r : Bool} → size < length ts → size < length ms
-      → us ≡ fold (λ l j. set l j t) ts (taken_in tops marks n) → ns ≡ fold (λ l j. set l j k) ms (taken_in tops marks n)
-      → r ≡ is_some (taken_in tops marks n) → r ≡ false → vs ≡ set us size t → ls ≡ set ns size k
-      → entries_of vs ls (size + 1) ≡ putting (entries_of ts ms size)
-  unfolding fold put_taken
-  take-new ts ms size {us} {ns} a d u v r h x y =
-      let z : taken_in tops marks n ≡ [] = none_of (taken_in tops marks n) (sym r ∙ h) in
-      let p : us ≡ ts = u ∙ ap (λ (js : List ℕ). fold (λ l j. set l j t) ts js) z in
-      let q : ns ≡ ms = v ∙ ap (λ (js : List ℕ). fold (λ l j. set l j k) ms js) z in
-      rw (x, y, p, q)
-      (push_slot ts ms size t k a d
-      ∙ ap (λ (e : Entry). entries_of ts ms size ++ (e ∷ [])) (mark-entry ws [] m small target mark-is)
-      ∙ sym (ap (put_taken (method_entry ws m) (entries_of ts ms size)) z))
+pub take_new : (e : Entry) (T : List Entry) (js : List ℕ) {d : Entry} {U V : List Entry} {r : Bool} → d ≡ e → U ≡ fold (λ l j. set l j d) T js
+    → r ≡ is_some js → r ≡ false → V ≡ U ++ (d ∷ []) → V ≡ put_taken e T js
+unfolding put_taken fold
+take_new e T [] f u v h w = w ∙ rw (u, f)
+take_new e T (j ∷ js) f u v h w = absurd (true≢false (sym v ∙ h))
 
 module _ (ws text tops : List ℕ) (c m n : ℕ) where
   abbrev pub taking : List Entry → List Entry
@@ -192,7 +132,7 @@ module _ (ws text tops : List ℕ) (c m n : ℕ) where
 -- ---- all methods
 
 module _ (ws text abi labels area : List ℕ) (c : ℕ) where
-  take_ext : (f g : ℕ → Found) (n : ℕ) → ((i : ℕ) → i < n → f i ≡ g i) → (T : List Entry) (m : ℕ)
+  take_ext : (f g : ℕ → Option ℕ) (n : ℕ) → ((i : ℕ) → i < n → f i ≡ g i) → (T : List Entry) (m : ℕ)
       → take_slots (same_methods ws text) ws text f n c T m ≡ take_slots (same_methods ws text) ws text g n c T m
   unfolding take_slots taken_slots
   take_ext f g n h T m =
@@ -202,23 +142,23 @@ module _ (ws text abi labels area : List ℕ) (c : ℕ) where
       (λ i l b. rw (h i (omega arith))) in
       rw q
 
-  takes-ext : (f g : ℕ → Found) (n : ℕ) → ((i : ℕ) → i < n → f i ≡ g i) → (ms : List ℕ) (T : List Entry)
+  takes-ext : (f g : ℕ → Option ℕ) (n : ℕ) → ((i : ℕ) → i < n → f i ≡ g i) → (ms : List ℕ) (T : List Entry)
       → fold (take_slots (same_methods ws text) ws text f n c) T ms ≡ fold (take_slots (same_methods ws text) ws text g n c) T ms
   unfolding fold
   takes-ext f g n h [] T = refl
   takes-ext f g n h (m ∷ ms) T =
       rw (take_ext f g n h T m) (takes-ext f g n h ms (take_slots (same_methods ws text) ws text g n c T m))
 
-  pub no_table : (ts ms : List ℕ) → class_limit < c → entries_of ts ms 0 ≡ build_packages (same_methods ws text) ws text abi labels area c
-  unfolding entries_of list_from
-  no_table ts ms h = sym (packages-beyond (same_methods ws text) ws text abi labels area c h)
+  pub no_table : {U : List Entry} → class_limit < c → U ≡ [] → U ≡ build_packages (same_methods ws text) ws text abi labels area c
+  no_table h e = e ∙ sym (packages-beyond (same_methods ws text) ws text abi labels area c h)
 
-  pub packages_are : (ts ms tops : List ℕ) (n p : ℕ) {U : List Entry} → entries_of ts ms n ≡ parent_entries ws text abi labels area c → n ≤ 1024
+  pub packages_are : (ts ms tops : List ℕ) (n p : ℕ) {T U : List Entry} → entries_of ts ms n ≡ T → T ≡ parent_entries ws text abi labels area c → n ≤ 1024
       → p ≡ parent_of ws c → Tops ws text abi labels area p tops
       → U ≡ fold (take_slots (same_methods ws text) ws text (top_of tops) n c) (entries_of ts ms n) (own_methods ws c)
       → c ≤ class_limit → U ≡ build_packages (same_methods ws text) ws text abi labels area c
   unfolding packages_over
-  packages_are ts ms tops n p e l q tells u room =
+  packages_are ts ms tops n p d f l q tells u room =
+      let e = d ∙ f in
       let k : n ≡ length (parent_entries ws text abi labels area c) = sym (length-entries ts ms n) ∙ ap length e in
       u
       ∙ takes-ext (top_of tops) (introducing ws text abi labels area p) n (λ i h. tells i (omega arith)) (own_methods ws c) (entries_of ts ms n)
@@ -237,48 +177,39 @@ module _ (ws text : List ℕ) (c : ℕ) (first count : ℕ) (g : List Entry → 
   pub takes-end : (i : ℕ) {T goal : List Entry} → count ≤ i → fold_from (λ k. k) g T first count i ≡ goal → T ≡ goal
   takes-end i {T = T} h q = fold_end (λ k. k) g first count i T h ∙ q
 
--- ---- whether a slot is taken
-
-module _ (marks : List ℕ) (k : ℕ) {r : Found} (told : r ≡ method_of k) where
-  pub taken-method : {m a v : ℕ} → r ≡ At m → a ≡ m → v ≡ get_or marks a 0 → eqb v 1 ≡ taken_by (method_of k) marks
-  unfolding taken_by
-  taken-method e a v = rw (v, a, ← told, e)
-
-  pub taken_none : r ≡ Nothing → false ≡ taken_by (method_of k) marks
-  unfolding taken_by
-  taken_none e = rw (← told, e)
-
 -- ---- the taken slots, one after the other
 
-module _ (tops marks : List ℕ) (n : ℕ) where
+module _ (tops marks : List ℕ) where
   abbrev pub is_taken : ℕ → Bool
   is_taken j = taken_by (top_of tops j) marks
 
-  taken-left : left is_taken 0 n 0 ≡ taken_in tops marks n
+module _ (tops marks : List ℕ) (n : ℕ) where
+  taken-left : left (is_taken tops marks) 0 n 0 ≡ taken_in tops marks n
   unfolding taken_in
-  taken-left = left-start is_taken 0 n
+  taken-left = left-start (is_taken tops marks) 0 n
 
-  pub stored-start : (l : List ℕ) (v : ℕ) → fold (λ x j. set x j v) l (left is_taken 0 n 0) ≡ fold (λ x j. set x j v) l (taken_in tops marks n)
-  stored-start l v = ap (fold (λ x j. set x j v) l) taken-left
+  pub stored_start : (T : List Entry) (e : Entry) → fold (λ l j. set l j e) T (left (is_taken tops marks) 0 n 0) ≡ fold (λ l j. set l j e) T (taken_in tops marks n)
+  stored_start T e = ap (fold (λ l j. set l j e) T) taken-left
 
-  pub some-start : (false || is_some (left is_taken 0 n 0)) ≡ is_some (taken_in tops marks n)
+  pub some-start : (false || is_some (left (is_taken tops marks) 0 n 0)) ≡ is_some (taken_in tops marks n)
   some-start = ap is_some taken-left
 
   -- the test of slot i, as the code has it
-  test_is : (i : ℕ) (b : Bool) {q v : ℕ} → q ≡ i → v ≡ get_or tops q 0 → b ≡ taken_by (method_of v) marks → b ≡ is_taken (0 + i)
+  test_is : (i : ℕ) (b : Bool) {q v : ℕ} → q ≡ i → v ≡ get_or tops q 0 → b ≡ taken_by (method_of v) marks → b ≡ is_taken tops marks (0 + i)
   unfolding top_of
   test_is i b q v e = let z : 0 + i ≡ i = omega arith in rw z (e ∙ rw (v, q))
 
-  pub stored-turn : (i : ℕ) (b : Bool) (l : List ℕ) (w : ℕ) {q v : ℕ} {m goal : List ℕ} → i < n → q ≡ i → v ≡ get_or tops q 0 → b ≡ taken_by (method_of v) marks
-      → m ≡ cond b (set l i w) l → fold (λ x j. set x j w) l (left is_taken 0 n i) ≡ goal → fold (λ x j. set x j w) m (left is_taken 0 n (i + 1)) ≡ goal
-  stored-turn i b l w h q v e s g = left-fold-turn is_taken 0 n (λ x j. set x j w) i l b h (test_is i b q v e) (omega arith) s g
+  pub stored_turn : (i : ℕ) (b : Bool) (T : List Entry) (e : Entry) {q v : ℕ} {U goal : List Entry} → i < n → q ≡ i → v ≡ get_or tops q 0
+      → b ≡ taken_by (method_of v) marks → U ≡ cond b (set T i e) T → fold (λ l j. set l j e) T (left (is_taken tops marks) 0 n i) ≡ goal
+      → fold (λ l j. set l j e) U (left (is_taken tops marks) 0 n (i + 1)) ≡ goal
+  stored_turn i b T e h q v t s g = left-fold-turn (is_taken tops marks) 0 n (λ l j. set l j e) i T b h (test_is i b q v t) (omega arith) s g
 
-  pub some_turn : (i : ℕ) (o b : Bool) {q v : ℕ} {goal : Bool} → i < n → q ≡ i → v ≡ get_or tops q 0 → b ≡ taken_by (method_of v) marks
-      → (o || is_some (left is_taken 0 n i)) ≡ goal → ((o || b) || is_some (left is_taken 0 n (i + 1))) ≡ goal
-  some_turn i o b h q v e g = left-is-turn is_taken 0 n i o b h (test_is i b q v e) g
+  pub some_turn : (i : ℕ) (o b : Bool) {q v : ℕ} {t goal : Bool} → i < n → q ≡ i → v ≡ get_or tops q 0 → b ≡ taken_by (method_of v) marks → t ≡ cond b true o
+      → (o || is_some (left (is_taken tops marks) 0 n i)) ≡ goal → (t || is_some (left (is_taken tops marks) 0 n (i + 1))) ≡ goal
+  some_turn i o b h q v e s g = left-is-turn (is_taken tops marks) 0 n i o b h (test_is i b q v e) s g
 
-  pub stored-end : (i : ℕ) (l : List ℕ) (v : ℕ) {goal : List ℕ} → n ≤ i → fold (λ x j. set x j v) l (left is_taken 0 n i) ≡ goal → l ≡ goal
-  stored-end i l v h g = left-fold-end is_taken 0 n (λ x j. set x j v) i l h g
+  pub stored_end : (i : ℕ) (T : List Entry) (e : Entry) {goal : List Entry} → n ≤ i → fold (λ l j. set l j e) T (left (is_taken tops marks) 0 n i) ≡ goal → T ≡ goal
+  stored_end i T e h g = left-fold-end (is_taken tops marks) 0 n (λ l j. set l j e) i T h g
 
-  pub some_end : (i : ℕ) (o : Bool) {goal : Bool} → n ≤ i → (o || is_some (left is_taken 0 n i)) ≡ goal → o ≡ goal
-  some_end i o h g = left-is-end is_taken 0 n i o h g
+  pub some_end : (i : ℕ) (o : Bool) {goal : Bool} → n ≤ i → (o || is_some (left (is_taken tops marks) 0 n i)) ≡ goal → o ≡ goal
+  some_end i o h g = left-is-end (is_taken tops marks) 0 n i o h g

@@ -1,15 +1,14 @@
 -- The introducing methods, as the code lays them: class by class up the chain, the topmost last. Assumes nothing.
 use mathlib.Core.Path.{◌≡◌, refl, sym, ap, ◌∙◌}
-use mathlib.Core.Bool.{false, cond}
+use mathlib.Core.Bool.{false}
 use mathlib.Core.List.{List}
 use Prim.Native.Nat.{ℕ, zero, suc, ◌+◌, ◌≤◌, ◌<◌, min}
 use native.Mathlib.Omega.{arith}
-use native.Mathlib.Numerals.{add-one}
-use lib.ListN.{length, get_or, set, replicate}
+use lib.ListN.{length, get_or, replicate}
 use lib.Dec.{eqb, ltb}
 use borrow.Author.Tests.{eq-eqb, ne_eqb, ltb-true, ltb-false}
 use Rattle.words.specs.Folds.{stores}
-use Rattle.words.specs.declared.Found.TheVariants.{Nothing}
+use Rattle.std.specs.Prelude.{None}
 use Rattle.words.proofs.Bools.{by}
 use Rattle.words.proofs.ListLaws.{by-found, length-list-from, get_d_list_from}
 use Rattle.class_sheet.specs.ClassSheet.{class_table_place, class_slot_count}
@@ -20,33 +19,17 @@ use Rattle.linking.proofs.ChainLaws.{chain-none, chain_more}
 use Rattle.reading.specs.Arrays.{method_of, entry_at, entries_of}
 use Rattle.reading.proofs.ArrayLaws.{length-entries, entry_found, no_method}
 use Rattle.reading.proofs.MarkLaws.{stores_at, stores-rest}
-use Rattle.packages.specs.Marks.{top_of, LaidUp, Tops}
+use Rattle.packages.specs.Marks.{top_of, Laid, LaidUp, Tops}
 
-blank : (n i : ℕ) → ◌≡◌ {A = ℕ} (get_or (replicate n 0) i 0) 0
+pub blank : (n i : ℕ) → ◌≡◌ {A = ℕ} (get_or (replicate n 0) i 0) 0
 blank zero i = refl
 blank (suc n) zero = refl
 blank (suc n) (suc i) = blank n i
 
 -- ---- one class
 
--- the copying, turn by turn
-pub lay-start : (f : ℕ → ℕ) (d : List ℕ) → d ≡ stores 0 f d
-unfolding stores
-lay-start f d = refl
-
-pub lay-turn : (qs d : List ℕ) (i : ℕ) {p q w : ℕ} {us ns : List ℕ} → us ≡ stores i (λ j. get_or qs j 0) d → p ≡ i → q ≡ i → w ≡ get_or qs q 0 → ns ≡ set us p w
-    → ns ≡ stores (i + 1) (λ j. get_or qs j 0) d
-unfolding stores
-lay-turn qs d i e p q w s = rw (s, e, p, w, q, add-one)
-
 module _ (ws text abi labels area : List ℕ) (d : ℕ) where
-  -- what a slot's introducing method is, once class d is laid over what was there
-  abbrev pub Laid : List ℕ → List ℕ → Type 0
-  Laid tops new =
-      (i : ℕ) → i < 1024
-      → method_of (get_or new i 0) ≡ cond (table_has ws i d) (read_slot ws text abi labels area d i).method (method_of (get_or tops i 0))
-
-  pub laid-unlinked : {p : ℕ} (tops : List ℕ) → p ≡ class_table_place ws d → p ≡ 0 → Laid tops tops
+  pub laid-unlinked : {p : ℕ} (tops : List ℕ) → p ≡ class_table_place ws d → p ≡ 0 → Laid ws text abi labels area d tops tops
   unfolding table_has
   laid-unlinked tops e z i h = rw (eq-eqb (class_table_place ws d) 0 (sym e ∙ z))
 
@@ -67,21 +50,20 @@ module _ (ws text abi labels area : List ℕ) (d : ℕ) where
       ∙ ap (read_slot ws text abi labels area d) z in
       ap (λ (x : Entry). x.method) a
 
-  pub laid-linked : {p i : ℕ} (ps qs tops : List ℕ) (n : ℕ) {new : List ℕ} → p ≡ class_table_place ws d → (p ≡ 0 → ⊥)
-      → entries_of ps qs n ≡ table_entries ws text abi labels area d → n ≤ 1024 → length tops ≡ 1024 → i ≤ n → n ≤ i
-      → new ≡ stores i (λ j. get_or qs j 0) tops → Laid tops new
+  pub laid-linked : {p : ℕ} (ps qs tops : List ℕ) (n : ℕ) {new : List ℕ} → p ≡ class_table_place ws d → (p ≡ 0 → ⊥)
+      → entries_of ps qs n ≡ table_entries ws text abi labels area d → n ≤ 1024 → length tops ≡ 1024
+      → new ≡ stores n (λ j. get_or qs j 0) tops → Laid ws text abi labels area d tops new
   unfolding table_has
-  laid-linked {i = i} ps qs tops n e z t l k le ge s x h =
+  laid-linked ps qs tops n e z t l k s x h =
       let m = count_is ps qs n t in
-      let q : i ≡ n = omega arith in
       let u : eqb (class_table_place ws d) 0 ≡ false = ne_eqb (class_table_place ws d) 0 (λ y. z (e ∙ y)) in
       by (ltb x (min (class_slot_count ws d) 1024))
       (λ v.
       let b = ltb-true x (min (class_slot_count ws d) 1024) v in
-      rw (u, v, s, q, stores_at n (λ j. get_or qs j 0) tops x (omega arith) (omega arith)) (slot_is_lem ps qs n x t (omega arith)))
+      rw (u, v, s, stores_at n (λ j. get_or qs j 0) tops x (omega arith) (omega arith)) (slot_is_lem ps qs n x t (omega arith)))
       (λ v.
       let b = ltb-false x (min (class_slot_count ws d) 1024) v in
-      rw (u, v, s, q, stores-rest n (λ j. get_or qs j 0) tops x (omega arith)))
+      rw (u, v, s, stores-rest n (λ j. get_or qs j 0) tops x (omega arith)))
 
 -- ---- up the chain
 
@@ -100,7 +82,7 @@ module _ (ws text abi labels area : List ℕ) where
       (rw (e, q) at (up i l))
       ∙ (laid i l ∙ rw (chain_more ws d h, q) (by (table_has ws i d) (λ t. rw t) (λ t. rw t))))
 
-  blank_top : (n i : ℕ) → top_of (replicate n 0) i ≡ Nothing
+  blank_top : (n i : ℕ) → top_of (replicate n 0) i ≡ None
   unfolding top_of
   blank_top n i = ap method_of (blank n i) ∙ no_method
 

@@ -1,8 +1,8 @@
 -- What the table of a class of kind 3 is built with: overridden methods as marks in an array, and the introducing methods as an array of the marks
 -- that Reading gives. Assumes nothing.
-use Rattle.std.specs.Prelude.{ℕ, ◌<◌, ◌≡◌, Bool, true, false, List, [], ◌∷◌, get_or, set, eqb}
+use Rattle.std.specs.Prelude.{ℕ, ◌<◌, ◌≡◌, Bool, true, false, List, [], ◌∷◌, cond, get_or, set, eqb}
 use Rattle.words.specs.Lists.{numbers, keep}
-use Rattle.words.specs.declared.Found.{Found}
+use Rattle.std.specs.Prelude.{Option}
 use Rattle.linking.specs.Chain.{on_found, chain}
 use Rattle.linking.specs.Vtable.{read_slot}
 use Rattle.linking.specs.Packages.{topmost, table_has, introducing}
@@ -13,11 +13,11 @@ unfoldable pub mark : List ℕ → ℕ → List ℕ
 mark ms k = set ms k 1
 
 -- the method is one of those marked
-unfoldable pub taken_by : Found → List ℕ → Bool
+unfoldable pub taken_by : Option ℕ → List ℕ → Bool
 taken_by f marks = on_found f (λ m. eqb (get_or marks m 0) 1) false
 
 -- the introducing method of slot i
-unfoldable pub top_of : List ℕ → ℕ → Found
+unfoldable pub top_of : List ℕ → ℕ → Option ℕ
 top_of tops i = method_of (get_or tops i 0)
 
 -- the slots below n whose introducing method is marked
@@ -27,6 +27,12 @@ taken_in tops marks n = keep (λ i. taken_by (top_of tops i) marks) (numbers 0 n
 abbrev pub is_some : List ℕ → Bool
 is_some [] = false
 is_some (x ∷ xs) = true
+
+-- once class d's table is laid over the array `tops`, it is `new`: where the table has a slot, the mark is of the method that Reading finds there
+abbrev pub Laid : List ℕ → List ℕ → List ℕ → List ℕ → List ℕ → ℕ → List ℕ → List ℕ → Type 0
+Laid ws text abi labels area d tops new =
+    (i : ℕ) → i < 1024
+    → method_of (get_or new i 0) ≡ cond (table_has ws i d) (read_slot ws text abi labels area d i).method (method_of (get_or tops i 0))
 
 -- once the tables of d's chain are laid over the array `tops`, it is `new`
 abbrev pub LaidUp : List ℕ → List ℕ → List ℕ → List ℕ → List ℕ → ℕ → List ℕ → List ℕ → Type 0

@@ -4,23 +4,25 @@ use mathlib.Core.Logic.{◌≢◌}
 use mathlib.Core.List.{List, [], ◌∷◌, ◌++◌}
 use Prim.Native.Nat.{ℕ, ◌+◌, ◌*◌, ◌-◌, ◌/◌, ◌%◌, ◌≤◌, ◌<◌}
 use native.Mathlib.Omega.{arith}
-use native.Mathlib.Nat.{pos_of_ne-zero}
-use lib.ListN.{length, get_or, set, length-append, length-set, get_or-append}
-use lib.Seq.{ext_get_or, get_or-set_same, get_or-set_other, get_or_at}
+use lib.ListN.{length, get_or, set, drop, length-append, length-set, get_or-append}
+use lib.Seq.{ext_get_or, drop-drop, get_or-set_same, get_or-set_other, get_or_at}
 use lib.Dec.{eqb, ltb}
 use borrow.Author.Tests.{ltb-true, ltb-false, lt-ltb, ne_eqb, eqb-true, eqb-false}
-use Rattle.class_sheet.specs.ClassSheet.{method_limit}
+use Rattle.class_sheet.specs.ClassSheet.{method_target, method_limit}
 use Rattle.words.proofs.Bools.{by}
-use Rattle.words.specs.declared.Found.{Found}
-use Rattle.words.specs.declared.Found.TheVariants.{At, Nothing}
+use Rattle.std.specs.Prelude.{Option}
+use Rattle.std.specs.Prelude.{Some, None}
+use Rattle.std.proofs.lemmas.List.{get_or_past, drop-set-lt}
+use Rattle.words.specs.Lists.{list_from}
 use Rattle.words.proofs.ListLaws.{length-list-from, get_d_list_from}
-use Rattle.linking.specs.Vtable.{Entry, empty}
+use Rattle.words.proofs.Ext.{list-more}
+use Rattle.linking.specs.Vtable.{Entry, empty, method_entry}
 use Rattle.reading.specs.Arrays.{mark_of, copy_mark, method_of, source_of, entry_at, entries_of}
 
 -- ---- marks
 
 -- a method comes back from its mark
-pub method-back : (m : ℕ) → m < 4095 → method_of (mark_of (At m)) ≡ At m
+pub method-back : (m : ℕ) → m < 4095 → method_of (mark_of (Some m)) ≡ Some m
 unfolding method_of mark_of
 method-back m h =
     let e : (m + 1) % 4096 ≡ m + 1 = omega arith in
@@ -28,13 +30,13 @@ method-back m h =
     rw (lt-ltb m 4095 h, e, ne_eqb (m + 1) 0 (λ (z : m + 1 ≡ 0). omega arith), d)
 
 -- a method's mark is of no copy
-pub no_source : (f : Found) → source_of (mark_of f) ≡ Nothing
+pub no_source : (f : Option ℕ) → source_of (mark_of f) ≡ None
 unfolding source_of mark_of
-no_source (At m) =
+no_source (Some m) =
     by (ltb m 4095) (λ t. let l = ltb-true m 4095 t in let e : (m + 1) / 4096 ≡ 0 = omega arith in rw (t, e)) (λ t. rw t)
-no_source Nothing = refl
+no_source None = refl
 
-pub sourceless : source_of 0 ≡ Nothing
+pub sourceless : source_of 0 ≡ None
 unfolding source_of
 sourceless = refl
 
@@ -43,7 +45,7 @@ pub copy-method : (i k : ℕ) → method_of (copy_mark i k) ≡ method_of k
 unfolding method_of copy_mark
 copy-method i k = let e : (k % 4096 + 4096 * (i + 1)) % 4096 ≡ k % 4096 = omega arith in rw e
 
-pub copy-source : (i k : ℕ) → source_of (copy_mark i k) ≡ At i
+pub copy-source : (i k : ℕ) → source_of (copy_mark i k) ≡ Some i
 unfolding source_of copy_mark
 copy-source i k =
     let e : (k % 4096 + 4096 * (i + 1)) / 4096 ≡ i + 1 = omega arith in
@@ -51,31 +53,23 @@ copy-source i k =
     rw (e, ne_eqb (i + 1) 0 (λ (z : i + 1 ≡ 0). omega arith), d)
 
 -- none comes back from its mark, which is 0
-pub no_method : method_of 0 ≡ Nothing
+pub no_method : method_of 0 ≡ None
 unfolding method_of
 no_method = refl
 
-pub none-back : method_of (mark_of Nothing) ≡ Nothing
+pub none-back : method_of (mark_of None) ≡ None
 unfolding method_of mark_of
 none-back = refl
 
--- a mark is above the number that it stands for
-pub method-below : (k m : ℕ) → method_of k ≡ At m → m < k
-unfolding method_of
-method-below k m e =
-    by (eqb (k % 4096) 0)
-    (λ q. let b : ◌≡◌ {A = Found} Nothing (At m) = rw q at e in absurd (let z : ◌≡◌ {A = ℕ} 0 1 = cc in omega arith))
-    (λ q.
-    let z : k % 4096 - 1 ≡ m = found_at (rw q at e) in
-    let p = pos_of_ne-zero (eqb-false (k % 4096) 0 q) in omega arith)
-  where
-    found_at : {a b : ℕ} → ◌≡◌ {A = Found} (At a) (At b) → a ≡ b
-    found_at h = cc
-
 -- what was found comes back from its mark, if it is one of the sheet's methods
-pub found_back : (f : Found) → ((m : ℕ) → f ≡ At m → m < method_limit) → method_of (mark_of f) ≡ f
-found_back (At m) h = let l = h m refl in method-back m (omega arith)
-found_back Nothing h = none-back
+pub found_back : (f : Option ℕ) → ((m : ℕ) → f ≡ Some m → m < method_limit) → method_of (mark_of f) ≡ f
+found_back (Some m) h = let l = h m refl in method-back m (omega arith)
+found_back None h = none-back
+
+-- the entry with a method's mark is the method's
+pub mark_entry : (ws : List ℕ) (m : ℕ) {t k : ℕ} → m < method_limit → t ≡ method_target ws m → k ≡ mark_of (Some m)
+    → ◌≡◌ {A = Entry} (record { word = t; method = method_of k; source = source_of k }) (method_entry ws m)
+mark_entry ws m h e f = rw (f, e, method-back m (omega arith), no_source (Some m))
 
 -- ---- slots
 
@@ -87,6 +81,19 @@ pub entry_found : (ts ms : List ℕ) (n i : ℕ) (d : Entry) → i < n → get_o
 unfolding entries_of
 entry_found ts ms n i d h = get_d_list_from (entry_at ts ms) 0 n i d h ∙ ap (entry_at ts ms) (omega arith)
 
+-- what is read of slot i, and past the last
+pub slot_is : (ts ms : List ℕ) (n i : ℕ) → i < n
+    → ◌≡◌ {A = Entry} (record { word = get_or ts i 0; method = method_of (get_or ms i 0); source = source_of (get_or ms i 0) }) (get_or (entries_of ts ms n) i empty)
+unfolding entry_at
+slot_is ts ms n i h = sym (entry_found ts ms n i empty h)
+
+pub slot_past : (ts ms : List ℕ) (n i : ℕ) → n ≤ i → empty ≡ get_or (entries_of ts ms n) i empty
+slot_past ts ms n i h = let e = length-entries ts ms n in sym (get_or_past (entries_of ts ms n) i empty (omega arith))
+
+pub no_entries : (ts ms : List ℕ) → entries_of ts ms 0 ≡ []
+unfolding entries_of list_from
+no_entries ts ms = refl
+
 -- slot i after a store there, and elsewhere
 pub stored_here : (ts ms : List ℕ) (i w k : ℕ) → i < length ts → i < length ms
     → entry_at (set ts i w) (set ms i k) i ≡ record { word = w; method = method_of k; source = source_of k }
@@ -97,10 +104,10 @@ pub stored_other : (ts ms : List ℕ) (i j w k : ℕ) → j ≢ i → entry_at (
 unfolding entry_at
 stored_other ts ms i j w k n = rw (get_or-set_other ts i j w 0 n, get_or-set_other ms i j k 0 n)
 
--- a store to a slot of the table
-pub put-slot : (ts ms : List ℕ) (n i w k : ℕ) → i < n → n ≤ length ts → n ≤ length ms
+-- a store to any slot, of the table or past it
+pub put_slot : (ts ms : List ℕ) (n i w k : ℕ) → n ≤ length ts → n ≤ length ms
     → entries_of (set ts i w) (set ms i k) n ≡ set (entries_of ts ms n) i (record { word = w; method = method_of k; source = source_of k })
-put-slot ts ms n i w k h r s =
+put_slot ts ms n i w k r s =
     ext_get_or empty (entries_of (set ts i w) (set ms i k) n) (set (entries_of ts ms n) i (record { word = w; method = method_of k; source = source_of k }))
     (rw (length-entries (set ts i w) (set ms i k) n, length-set (entries_of ts ms n) i (record { word = w; method = method_of k; source = source_of k }), length-entries ts ms n))
     (λ j l.
@@ -109,6 +116,7 @@ put-slot ts ms n i w k h r s =
     by (eqb j i)
     (λ q.
     let p : j ≡ i = eqb-true j i q in
+    let h : i < n = omega arith in
     rw p
     (entry_found (set ts i w) (set ms i k) n i empty h ∙ stored_here ts ms i w k (omega arith) (omega arith)
     ∙ sym (get_or-set_same (entries_of ts ms n) i (record { word = w; method = method_of k; source = source_of k }) empty (omega arith))))
@@ -139,3 +147,19 @@ push_slot ts ms n w k r s =
     rw p
     (entry_found (set ts n w) (set ms n k) (n + 1) n empty (omega arith) ∙ stored_here ts ms n w k r s
     ∙ sym (get_or_at (entries_of ts ms n) (record { word = w; method = method_of k; source = source_of k }) [] empty n e))))
+
+-- ---- slots copied, one after the other
+
+-- what follows stays as it was
+pub kept_turn : (ts us : List ℕ) (i v : ℕ) → drop i ts ≡ drop i us → drop (i + 1) (set ts i v) ≡ drop (i + 1) us
+kept_turn ts us i v e =
+    drop-set-lt (i + 1) ts i v (omega arith) ∙ sym (drop-drop 1 i ts) ∙ ap (λ (l : List ℕ). drop 1 l) e ∙ drop-drop 1 i us
+
+pub copied_start : (ts ms ps qs : List ℕ) → entries_of ts ms 0 ≡ entries_of ps qs 0
+copied_start ts ms ps qs = no_entries ts ms ∙ sym (no_entries ps qs)
+
+pub copied_turn : (ts ms ps qs : List ℕ) (i : ℕ) → entries_of ts ms i ≡ entries_of ps qs i → i < length ts → i < length ms
+    → entries_of (set ts i (get_or ps i 0)) (set ms i (get_or qs i 0)) (i + 1) ≡ entries_of ps qs (i + 1)
+unfolding entry_at entries_of
+copied_turn ts ms ps qs i e r s =
+    push_slot ts ms i (get_or ps i 0) (get_or qs i 0) r s ∙ rw e (sym (list-more (entry_at ps qs) i))

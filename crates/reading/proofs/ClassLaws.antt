@@ -1,7 +1,7 @@
 -- Laws of the classes that Reading gives: a slot has a class exactly if it has a mark, so what a class marked in its turn is what it claims
 -- after it. Assumes nothing.
 use mathlib.Core.Path.{◌≡◌, refl, sym, ap, ◌∙◌}
-use mathlib.Core.Bool.{true, false, not, ◌&&◌}
+use mathlib.Core.Bool.{true, false}
 use mathlib.Core.List.{List}
 use Prim.Native.Nat.{ℕ, ◌+◌, ◌≤◌, ◌<◌}
 use native.Mathlib.Omega.{arith}
@@ -11,17 +11,18 @@ use lib.Dec.{eqb}
 use borrow.Author.Tests.{eqb-true, ne_eqb, lt-ltb}
 use Rattle.words.specs.Folds.{table, stores}
 use Rattle.words.specs.Lists.{list_from}
-use Rattle.words.specs.declared.Found.{Found}
-use Rattle.words.specs.declared.Found.TheVariants.{At, Nothing}
+use Rattle.std.specs.Option.{option_or}
+use Rattle.std.specs.Prelude.{Option}
+use Rattle.std.specs.Prelude.{Some, None}
 use Rattle.words.proofs.Bools.{by}
 use Rattle.words.proofs.FoldLaws.{length-table, get_d_table, stores-turn, stores-is, length-stores}
 use Rattle.words.proofs.ListLaws.{length-list-from, get_d_list_from}
 use Rattle.class_sheet.specs.ClassSheet.{class_first_method, class_method_count, class_table_place, method_limit}
 use Rattle.linking.specs.declared.Declared.{Declared}
-use Rattle.linking.specs.declared.Declared.TheVariants.{By, Nobody}
+use Rattle.linking.specs.Whose.{declared}
 use Rattle.linking.specs.Chain.{parent_of, chain, own_target, find_by_target}
 use Rattle.linking.specs.Vtable.{own_fixed}
-use Rattle.linking.specs.Whose.{method_of, or_declared, declared_in, first_declared, declared_by_target, declared_by_index, read_declared, slot_class}
+use Rattle.linking.specs.Whose.{method_of, declaring_class, declared_in, first_declared, declared_by_target, declared_by_index, read_declared, slot_class}
 use Rattle.linking.proofs.ChainLaws.{chain-none, chain_more, own-target-room}
 use Rattle.linking.proofs.Whose.{nearest-counts, declared-class, target_found}
 use Rattle.chain.specs.Records.{method_records, first_target}
@@ -33,53 +34,47 @@ use Rattle.reading.proofs.MarkLaws.{stores-rest, stores_at, stores-ext, stores-p
 
 -- ---- one slot
 
-pub claim-new : (c k d : ℕ) → (eqb d 0 && not (eqb k 0)) ≡ true → c ≡ claimed c k d
-unfolding claimed
-claim-new c k d e = rw e
-
-pub claim-old : (c k d : ℕ) → (eqb d 0 && not (eqb k 0)) ≡ false → d ≡ claimed c k d
-unfolding claimed
-claim-old c k d e = rw e
-
 -- what is answered for a slot: a class above 0, and one of the sheet's methods
-abbrev pub Sound : Declared → Type 0
-Sound a = (d m : ℕ) → a ≡ By d m → (0 < d) × (m < method_limit)
+abbrev pub Sound : Option Declared → Type 0
+Sound a = (d m : ℕ) → a ≡ declared d m → (0 < d) × (m < method_limit)
 
-mark-above : (m : ℕ) → m < method_limit → eqb (mark_of (At m)) 0 ≡ false
+mark-above : (m : ℕ) → m < method_limit → eqb (mark_of (Some m)) 0 ≡ false
 unfolding mark_of
 mark-above m h = rw (lt-ltb m 4095 (omega arith)) (ne_eqb (m + 1) 0 (λ (z : m + 1 ≡ 0). absurd (omega arith)))
 
 -- what class c marked it claims
-claim-slot : (c k d : ℕ) (f : Found) → ((m : ℕ) → f ≡ At m → m < method_limit) → eqb d 0 ≡ eqb k 0
+claim-slot : (c k d : ℕ) (f : Option ℕ) → ((m : ℕ) → f ≡ Some m → m < method_limit) → eqb d 0 ≡ eqb k 0
     → claimed c (or_mark k f) d ≡ or_class d (declared_in c f)
 unfolding claimed or_mark or_class mark_of
-claim-slot c k d (At m) h e =
+claim-slot c k d (Some m) h e =
     by (eqb k 0) (λ t. let u : eqb d 0 ≡ true = e ∙ t in rw (t, u, mark-above m (h m refl))) (λ t. let u : eqb d 0 ≡ false = e ∙ t in rw u)
-claim-slot c k d Nothing h e =
+claim-slot c k d None h e =
     by (eqb k 0) (λ t. let u : eqb d 0 ≡ true = e ∙ t in rw (t, u) (eqb-true d 0 u)) (λ t. let u : eqb d 0 ≡ false = e ∙ t in rw u)
 
 -- a slot that has a class exactly if it has a mark keeps to that
-pair-slot : (k d : ℕ) (a : Declared) → Sound a → eqb d 0 ≡ eqb k 0 → eqb (or_class d a) 0 ≡ eqb (or_mark k (method_of a)) 0
+pair-slot : (k d : ℕ) (a : Option Declared) → Sound a → eqb d 0 ≡ eqb k 0 → eqb (or_class d a) 0 ≡ eqb (or_mark k (method_of a)) 0
 unfolding or_mark or_class mark_of
-pair-slot k d (By x m) h e =
-    let s = h x m refl in
+pair-slot k d (Some a) h e =
+    let x = a.class in
+    let s = h a.class a.method refl in
     by (eqb k 0)
-    (λ t. let u : eqb d 0 ≡ true = e ∙ t in rw (t, u, mark-above m s.1) (ne_eqb x 0 (λ (z : x ≡ 0). absurd (omega arith))))
+    (λ t. let u : eqb d 0 ≡ true = e ∙ t in rw (t, u, mark-above a.method s.1) (ne_eqb x 0 (λ (z : x ≡ 0). absurd (omega arith))))
     (λ t. let u : eqb d 0 ≡ false = e ∙ t in rw (t, u) e)
-pair-slot k d Nobody h e =
+pair-slot k d None h e =
     by (eqb k 0) (λ t. let u : eqb d 0 ≡ true = e ∙ t in rw (t, u)) (λ t. let u : eqb d 0 ≡ false = e ∙ t in rw (t, u) e)
 
-class-none : (d : ℕ) (a : Declared) → a ≡ Nobody → or_class d a ≡ d
+class-none : (d : ℕ) (a : Option Declared) → a ≡ None → or_class d a ≡ d
 unfolding or_class
 class-none d a e = by (eqb d 0) (λ t. rw (e, t) (sym (eqb-true d 0 t))) (λ t. rw t)
 
 -- a search after another
-class-then : (d : ℕ) (a b : Declared) → Sound a → or_class (or_class d a) b ≡ or_class d (or_declared a b)
+class-then : (d : ℕ) (a b : Option Declared) → Sound a → or_class (or_class d a) b ≡ or_class d (option_or a b)
 unfolding or_class
-class-then d (By x m) b h =
-    let s = h x m refl in
+class-then d (Some a) b h =
+    let x = a.class in
+    let s = h a.class a.method refl in
     by (eqb d 0) (λ t. rw t (rw (ne_eqb x 0 (λ (z : x ≡ 0). absurd (omega arith))))) (λ t. rw t (rw t refl))
-class-then d Nobody b h = by (eqb d 0) (λ t. rw t) (λ t. rw t (rw t refl))
+class-then d None b h = by (eqb d 0) (λ t. rw t) (λ t. rw t (rw t refl))
 
 -- ---- the loop that claims
 
@@ -96,11 +91,7 @@ claims-turn c i ms cs e v u =
 
 -- ---- n classes
 
-module _ (f : ℕ → Declared) (n : ℕ) (cs : List ℕ) where
-  pub length-classes : length (classes_with f n cs) ≡ length cs
-  unfolding classes_with
-  length-classes = length-stores n (λ i. or_class (get_or cs i 0) (f i)) cs
-
+module _ (f : ℕ → Option Declared) (n : ℕ) (cs : List ℕ) where
   classes-at : (i : ℕ) → i < n → n ≤ length cs → get_or (classes_with f n cs) i 0 ≡ or_class (get_or cs i 0) (f i)
   unfolding classes_with
   classes-at i h g = stores_at n (λ j. or_class (get_or cs j 0) (f j)) cs i h g
@@ -118,11 +109,11 @@ module _ (f : ℕ → Declared) (n : ℕ) (cs : List ℕ) where
       rw (stores-is n v cs h) (take_at (table n v) (drop n cs) n t ∙ ext_get_or 0 (table n v) (list_from v 0 n) (omega arith)
       (λ i j. let z : 0 + i ≡ i = omega arith in get_d_table n v i (omega arith) ∙ sym (get_d_list_from v 0 n i 0 (omega arith) ∙ ap v z)))
 
-  classes-none : ((i : ℕ) → f i ≡ Nobody) → cs ≡ classes_with f n cs
+  classes-none : ((i : ℕ) → f i ≡ None) → cs ≡ classes_with f n cs
   unfolding classes_with
   classes-none h = sym (stores_same n (λ i. or_class (get_or cs i 0) (f i)) cs (λ i. class-none (get_or cs i 0) (f i) (h i)))
 
-  classes-then : (g h : ℕ → Declared) → n ≤ length cs → ((i : ℕ) → Sound (f i)) → ((i : ℕ) → or_declared (f i) (g i) ≡ h i)
+  classes-then : (g h : ℕ → Option Declared) → n ≤ length cs → ((i : ℕ) → Sound (f i)) → ((i : ℕ) → option_or (f i) (g i) ≡ h i)
       → classes_with g n (classes_with f n cs) ≡ classes_with h n cs
   unfolding classes_with
   classes-then g h l s e =
@@ -138,22 +129,23 @@ pub paired_start : (n : ℕ) (ms cs : List ℕ) {ns ds : List ℕ} → ns ≡ st
 unfolding Paired
 paired_start n ms cs e f h g = λ i l. rw (e, f, stores_at n (λ i. 0) ms i l h, stores_at n (λ i. 0) cs i l g)
 
-paired_with : (f : ℕ → Found) (g : ℕ → Declared) (n : ℕ) (ms cs : List ℕ) {ns ds : List ℕ} → ((i : ℕ) → method_of (g i) ≡ f i)
+paired_with : (f : ℕ → Option ℕ) (g : ℕ → Option Declared) (n : ℕ) (ms cs : List ℕ) {ns ds : List ℕ} → ((i : ℕ) → method_of (g i) ≡ f i)
     → ((i : ℕ) → Sound (g i)) → n ≤ length ms → n ≤ length cs → Paired n ms cs → ns ≡ marks_with f n ms → ds ≡ classes_with g n cs → Paired n ns ds
 unfolding Paired
 paired_with f g n ms cs m s h k p e d =
     λ i l. rw (e, d, marks_at_lem f n ms i l h, classes-at g n cs i l k, ← m i) (pair-slot (get_or ms i 0) (get_or cs i 0) (g i) (s i) (p i l))
 
-in_method : (c : ℕ) (f : Found) → method_of (declared_in c f) ≡ f
-in_method c (At m) = refl
-in_method c Nothing = refl
+in_method : (c : ℕ) (f : Option ℕ) → method_of (declared_in c f) ≡ f
+in_method c (Some m) = refl
+in_method c None = refl
 
-in_sound : (c : ℕ) (f : Found) → 0 < c → ((m : ℕ) → f ≡ At m → m < method_limit) → Sound (declared_in c f)
-in_sound c (At k) h r d m e = let x : c ≡ d = cc in let y : k ≡ m = cc in (omega arith, omega (arith, r k refl))
-in_sound c Nothing h r d m e = absurd (let z : ◌≡◌ {A = ℕ} 0 1 = cc in omega arith)
+in_sound : (c : ℕ) (f : Option ℕ) → 0 < c → ((m : ℕ) → f ≡ Some m → m < method_limit) → Sound (declared_in c f)
+in_sound c (Some k) h r d m e =
+    let x : c ≡ d = ap declaring_class e in let y : ◌≡◌ {A = Option ℕ} (Some k) (Some m) = ap method_of e in (omega arith, r m y)
+in_sound c None h r d m e = absurd (let z : ◌≡◌ {A = ℕ} 0 1 = cc in omega arith)
 
 -- a class's turn: it marks by its own search, and claims
-module _ (c n : ℕ) (own : ℕ → Found) (ms cs : List ℕ) {ns ds : List ℕ} (some : 0 < c) (room : (i m : ℕ) → own i ≡ At m → m < method_limit)
+module _ (c n : ℕ) (own : ℕ → Option ℕ) (ms cs : List ℕ) {ns ds : List ℕ} (some : 0 < c) (room : (i m : ℕ) → own i ≡ Some m → m < method_limit)
     (h : n ≤ length ms) (g : n ≤ length cs) (paired : Paired n ms cs) (marks : ns ≡ marks_with own n ms) (classes : ds ≡ claims c n ns cs) where
   turn_is : ds ≡ classes_with (λ i. declared_in c (own i)) n cs
   unfolding classes_with claims Paired
@@ -167,22 +159,22 @@ module _ (c n : ℕ) (own : ℕ → Found) (ms cs : List ℕ) {ns ds : List ℕ}
   turn_paired : Paired n ns ds
   turn_paired = paired_with own (λ i. declared_in c (own i)) n ms cs (λ i. in_method c (own i)) turn-sound h g paired marks turn_is
 
-  turn-then : (up all : ℕ → Declared) {es : List ℕ} → ((i : ℕ) → or_declared (declared_in c (own i)) (up i) ≡ all i) → es ≡ classes_with up n ds
+  turn-then : (up all : ℕ → Option Declared) {es : List ℕ} → ((i : ℕ) → option_or (declared_in c (own i)) (up i) ≡ all i) → es ≡ classes_with up n ds
       → es ≡ classes_with all n cs
   turn-then up all e u = u ∙ rw turn_is (classes-then (λ i. declared_in c (own i)) n cs up all g turn-sound e)
 
 -- ---- searches along the chain
 
-module _ (f : ℕ → Found) (ws : List ℕ) (c : ℕ) where
-  pub declared-none : c ≡ 0 → first_declared f (chain ws c) ≡ Nobody
+module _ (f : ℕ → Option ℕ) (ws : List ℕ) (c : ℕ) where
+  pub declared-none : c ≡ 0 → first_declared f (chain ws c) ≡ None
   unfolding first_declared
   declared-none e = rw (chain-none ws c e)
 
-  pub declared-step : 0 < c → or_declared (declared_in c (f c)) (first_declared f (chain ws (parent_of ws c))) ≡ first_declared f (chain ws c)
+  pub declared-step : 0 < c → option_or (declared_in c (f c)) (first_declared f (chain ws (parent_of ws c))) ≡ first_declared f (chain ws c)
   unfolding first_declared
   declared-step h = rw (chain_more ws c h)
 
-  declared-sound : ((x m : ℕ) → f x ≡ At m → m < method_limit) → Sound (first_declared f (chain ws c))
+  declared-sound : ((x m : ℕ) → f x ≡ Some m → m < method_limit) → Sound (first_declared f (chain ws c))
   declared-sound r d m e = ((declared-class f ws c d m e).0, r d m (nearest-counts f (chain ws c) d m e).finds)
 
 -- ---- by target
@@ -259,8 +251,8 @@ module _ (ws area : List ℕ) (place c n : ℕ) (ts ms cs : List ℕ) {us ns ds 
 
   -- and then by index
   module _ (text abi labels : List ℕ) {fs : List ℕ} (f : fs ≡ classes_with (declared_by_index ws text abi labels c) n es) (at : place ≡ class_table_place ws c) where
-    abbrev both : ℕ → Declared
-    both i = or_declared (declared_by_target ws c (get_or us i 0)) (declared_by_index ws text abi labels c i)
+    abbrev both : ℕ → Option Declared
+    both i = option_or (declared_by_target ws c (get_or us i 0)) (declared_by_index ws text abi labels c i)
 
     both_is : fs ≡ classes_with both n ds
     both_is =

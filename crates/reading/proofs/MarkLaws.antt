@@ -1,20 +1,21 @@
 -- Laws of the marks that Reading gives, slot after slot and class after class. Assumes nothing.
 use mathlib.Core.Path.{◌≡◌, refl, sym, ◌∙◌}
-use mathlib.Core.Bool.{Bool, true, false, cond, ◌&&◌}
+use mathlib.Core.Bool.{Bool, true, cond}
 use mathlib.Core.List.{List}
 use Prim.Native.Nat.{ℕ, zero, suc, ◌+◌, ◌*◌, ◌%◌, ◌≤◌, ◌<◌}
 use native.Mathlib.Omega.{arith}
 use lib.ListN.{length, get_or, set, drop, get_or-append}
 use lib.Seq.{get_or-set_other, set-get_or, drop_at}
 use lib.Dec.{eqb, ltb}
-use borrow.Author.Tests.{eq-eqb, ne_eqb, lt-ltb, eqb-true}
+use borrow.Author.Tests.{ne_eqb, lt-ltb, eqb-true}
 use Rattle.words.specs.Folds.{table, stores}
-use Rattle.words.specs.Lists.{list_from, numbers, find, or_else, first_found}
-use Rattle.words.specs.declared.Found.{Found}
-use Rattle.words.specs.declared.Found.TheVariants.{At, Nothing}
+use Rattle.words.specs.Lists.{list_from, numbers, find, first_found}
+use Rattle.std.specs.Option.{option_or}
+use Rattle.std.specs.Prelude.{Option}
+use Rattle.std.specs.Prelude.{Some, None}
 use Rattle.words.proofs.FoldLaws.{length-table, get_d_table, stores-turn, stores-is, length-stores}
 use Rattle.words.proofs.ListLaws.{find-within}
-use Rattle.words.proofs.Bools.{by, and_both}
+use Rattle.words.proofs.Bools.{by}
 use Rattle.class_sheet.specs.ClassSheet.{member_width, target_word, class_first_method, class_method_count, method_limit}
 use Rattle.linking.specs.Chain.{list_count, parent_of, chain, own_target, find_by_target}
 use Rattle.linking.specs.Vtable.{own_fixed, find_by_index, read_entry}
@@ -59,41 +60,29 @@ unfolding stores
 stores_same zero f d h = refl
 stores_same (suc n) f d h = rw (stores_same n f d h, h n) (set-get_or d n 0)
 
--- the word that is copied to a slot
-pub copied-word : (area : List ℕ) (place i : ℕ) {p q w : ℕ} → p ≡ place → q ≡ i → w ≡ get_or area (p + 1 + q) 0 → w ≡ get_or area (place + 1 + i) 0
-copied-word area place i e f g = g ∙ rw (e, f)
-
 -- ---- one mark
 
-pub mark-stays : (k : ℕ) (f : Found) → (k ≡ 0 → ⊥) → k ≡ or_mark k f
-unfolding or_mark
-mark-stays k f n = rw (ne_eqb k 0 n)
-
-pub mark-found : (k : ℕ) (f : Found) {g : Found} {v : ℕ} → k ≡ 0 → g ≡ f → v ≡ mark_of g → v ≡ or_mark k f
-unfolding or_mark
-mark-found k f e g h = h ∙ rw (g, eq-eqb k 0 e)
-
-mark-none : (k : ℕ) (f : Found) → f ≡ Nothing → or_mark k f ≡ k
+mark-none : (k : ℕ) (f : Option ℕ) → f ≡ None → or_mark k f ≡ k
 unfolding or_mark mark_of
 mark-none k f e = by (eqb k 0) (λ t. rw (e, t) (sym (eqb-true k 0 t))) (λ t. rw t)
 
 -- a search after another
-mark-after : (a b : Found) → ((m : ℕ) → a ≡ At m → m < method_limit) → cond (eqb (mark_of a) 0) (mark_of b) (mark_of a) ≡ mark_of (or_else a b)
+mark-after : (a b : Option ℕ) → ((m : ℕ) → a ≡ Some m → m < method_limit) → cond (eqb (mark_of a) 0) (mark_of b) (mark_of a) ≡ mark_of (option_or a b)
 unfolding mark_of
-mark-after (At m) b h =
+mark-after (Some m) b h =
     let r = h m refl in
     let l : ltb m 4095 ≡ true = lt-ltb m 4095 (omega arith) in
     let n : (m + 1 ≡ 0 → ⊥) = λ (e : m + 1 ≡ 0). absurd (omega arith) in
     rw (l, ne_eqb (m + 1) 0 n)
-mark-after Nothing b h = refl
+mark-after None b h = refl
 
-mark-then : (k : ℕ) (a b : Found) → ((m : ℕ) → a ≡ At m → m < method_limit) → or_mark (or_mark k a) b ≡ or_mark k (or_else a b)
+mark-then : (k : ℕ) (a b : Option ℕ) → ((m : ℕ) → a ≡ Some m → m < method_limit) → or_mark (or_mark k a) b ≡ or_mark k (option_or a b)
 unfolding or_mark
 mark-then k a b h = by (eqb k 0) (λ t. rw t (mark-after a b h)) (λ t. rw t (rw t refl))
 
 -- ---- n marks
 
-module _ (f : ℕ → Found) (n : ℕ) (ms : List ℕ) where
+module _ (f : ℕ → Option ℕ) (n : ℕ) (ms : List ℕ) where
   pub length_marks : length (marks_with f n ms) ≡ length ms
   unfolding marks_with
   length_marks = length-stores n (λ i. or_mark (get_or ms i 0) (f i)) ms
@@ -107,12 +96,12 @@ module _ (f : ℕ → Found) (n : ℕ) (ms : List ℕ) where
   marks_past h = stores-past n (λ i. or_mark (get_or ms i 0) (f i)) ms h
 
   -- where nothing is found
-  pub marks_none : ((i : ℕ) → f i ≡ Nothing) → ms ≡ marks_with f n ms
+  pub marks_none : ((i : ℕ) → f i ≡ None) → ms ≡ marks_with f n ms
   unfolding marks_with
   marks_none h = sym (stores_same n (λ i. or_mark (get_or ms i 0) (f i)) ms (λ i. mark-none (get_or ms i 0) (f i) (h i)))
 
   -- by one search and then another
-  marks_then : (g h : ℕ → Found) → n ≤ length ms → ((i k : ℕ) → or_mark (or_mark k (f i)) (g i) ≡ or_mark k (h i))
+  marks_then : (g h : ℕ → Option ℕ) → n ≤ length ms → ((i k : ℕ) → or_mark (or_mark k (f i)) (g i) ≡ or_mark k (h i))
       → marks_with g n (marks_with f n ms) ≡ marks_with h n ms
   unfolding marks_with
   marks_then g h l e =
@@ -122,11 +111,11 @@ module _ (f : ℕ → Found) (n : ℕ) (ms : List ℕ) where
       ∙ stores-twice n v (λ i. or_mark (get_or ms i 0) (h i)) ms l
 
 -- a turn of the loop that marks
-pub marks_start : (f : ℕ → Found) (ms : List ℕ) → ms ≡ marks_with f 0 ms
+pub marks_start : (f : ℕ → Option ℕ) (ms : List ℕ) → ms ≡ marks_with f 0 ms
 unfolding marks_with stores
 marks_start f ms = refl
 
-pub marks_turn : (f : ℕ → Found) (i : ℕ) (ms : List ℕ) {ns us : List ℕ} {p q k v : ℕ} → ns ≡ marks_with f i ms → p ≡ i → k ≡ get_or ns p 0
+pub marks_turn : (f : ℕ → Option ℕ) (i : ℕ) (ms : List ℕ) {ns us : List ℕ} {p q k v : ℕ} → ns ≡ marks_with f i ms → p ≡ i → k ≡ get_or ns p 0
     → v ≡ or_mark k (f i) → q ≡ i → us ≡ set ns q v → us ≡ marks_with f (i + 1) ms
 unfolding marks_with
 marks_turn f i ms e p k v q u =
@@ -149,20 +138,8 @@ sources-turn i ms e p k q u =
 
 -- ---- by target, along the chain
 
--- one method's mark
-pub mark-hit : (k w t m : ℕ) → m < method_limit → (eqb k 0 && eqb w t) ≡ true → m + 1 ≡ or_mark k (cond (eqb w t) (At m) Nothing)
-unfolding or_mark mark_of
-mark-hit k w t m h e = let p = and_both (eqb k 0) (eqb w t) e in rw (p.0, p.1, lt-ltb m 4095 (omega arith))
-
-pub mark-miss : (k w t m : ℕ) → (eqb k 0 && eqb w t) ≡ false → k ≡ or_mark k (cond (eqb w t) (At m) Nothing)
-unfolding or_mark mark_of
-mark-miss k w t m e = by (eqb k 0) (λ z. rw z (miss z)) (λ z. rw z)
-  where
-    miss : eqb k 0 ≡ true → k ≡ mark_of (cond (eqb w t) (At m) Nothing)
-    miss z = let f : eqb w t ≡ false = rw z at e in rw f (eqb-true k 0 z)
-
 -- one number more to look through
-find-more : (p : ℕ → Bool) (m n : ℕ) → find p (numbers m (n + 1)) ≡ or_else (find p (numbers m n)) (cond (p (m + n)) (At (m + n)) Nothing)
+find-more : (p : ℕ → Bool) (m n : ℕ) → find p (numbers m (n + 1)) ≡ option_or (find p (numbers m n)) (cond (p (m + n)) (Some (m + n)) None)
 unfolding find list_from
 find-more p m zero = let e : m + 0 ≡ m = omega arith in rw e
 find-more p m (suc n) =
@@ -172,34 +149,35 @@ find-more p m (suc n) =
     rw g (by (p m) (λ t. rw t) (λ f. rw f d))
 
 -- the methods of a list, one after the other
-module _ (records ts : List ℕ) (first count n : ℕ) (ms : List ℕ) where
-  abbrev pub first_of : ℕ → ℕ → Found
+module _ (records ts : List ℕ) (first : ℕ) where
+  abbrev pub first_of : ℕ → ℕ → Option ℕ
   first_of j i = find (λ m. eqb (record_word records member_width m target_word) (get_or ts i 0)) (numbers first j)
 
-  pub targets-start : ms ≡ marks_with (first_of 0) n ms
+module _ (records ts : List ℕ) (first n : ℕ) (ms : List ℕ) where
+  pub targets-start : ms ≡ marks_with (first_of records ts first 0) n ms
   unfolding find list_from
-  targets-start = marks_none (λ i. Nothing) n ms (λ i. refl)
+  targets-start = marks_none (λ i. None) n ms (λ i. refl)
 
-  pub targets-turn : (j : ℕ) {ns us : List ℕ} {w : ℕ} → ns ≡ marks_with (first_of j) n ms → w ≡ record_word records member_width (first + j) target_word
-      → us ≡ marks_with (λ i. cond (eqb w (get_or ts i 0)) (At (first + j)) Nothing) n ns → first + j < method_limit → n ≤ length ms
-      → us ≡ marks_with (first_of (j + 1)) n ms
+  pub targets-turn : (j : ℕ) {ns us : List ℕ} {w : ℕ} → ns ≡ marks_with (first_of records ts first j) n ms → w ≡ record_word records member_width (first + j) target_word
+      → us ≡ marks_with (λ i. cond (eqb w (get_or ts i 0)) (Some (first + j)) None) n ns → first + j < method_limit → n ≤ length ms
+      → us ≡ marks_with (first_of records ts first (j + 1)) n ms
   targets-turn j {w = w} e f u h l =
-      u ∙ rw e (marks_then (first_of j) n ms (λ i. cond (eqb w (get_or ts i 0)) (At (first + j)) Nothing) (first_of (j + 1)) l
+      u ∙ rw e (marks_then (first_of records ts first j) n ms (λ i. cond (eqb w (get_or ts i 0)) (Some (first + j)) None) (first_of records ts first (j + 1)) l
       (λ i k. rw (f, find-more (λ m. eqb (record_word records member_width m target_word) (get_or ts i 0)) first j)
-      (mark-then k (first_of j i) (cond (eqb (record_word records member_width (first + j) target_word) (get_or ts i 0)) (At (first + j)) Nothing)
+      (mark-then k (first_of records ts first j i) (cond (eqb (record_word records member_width (first + j) target_word) (get_or ts i 0)) (Some (first + j)) None)
       (λ m q. let b = find-within (λ m. eqb (record_word records member_width m target_word) (get_or ts i 0)) first j m q in omega arith))))
 
-  pub targets-end : {j : ℕ} {ns : List ℕ} → ns ≡ marks_with (first_of j) n ms → j ≡ list_count first count method_limit
+  pub targets-end : (count : ℕ) {j : ℕ} {ns : List ℕ} → ns ≡ marks_with (first_of records ts first j) n ms → j ≡ list_count first count method_limit
       → ns ≡ marks_with (λ i. first_target records first count (get_or ts i 0)) n ms
   unfolding first_target
-  targets-end e f = e ∙ rw f
+  targets-end count e f = e ∙ rw f
 
 module _ (ws ts : List ℕ) (c n : ℕ) (ms : List ℕ) where
   pub targets-none : c ≡ 0 → ms ≡ marks_with (λ i. find_by_target ws c (get_or ts i 0)) n ms
   unfolding find_by_target
   targets-none e = marks_none (λ i. first_found (own_target ws (get_or ts i 0)) (chain ws c)) n ms (λ i. along-none (own_target ws (get_or ts i 0)) ws c e)
 
-  target-step : (t : ℕ) → 0 < c → find_by_target ws c t ≡ or_else (own_target ws t c) (find_by_target ws (parent_of ws c) t)
+  target-step : (t : ℕ) → 0 < c → find_by_target ws c t ≡ option_or (own_target ws t c) (find_by_target ws (parent_of ws c) t)
   unfolding find_by_target first_found
   target-step t h = rw (chain_more ws c h)
 
@@ -220,7 +198,7 @@ module _ (ws text abi labels : List ℕ) (c n : ℕ) (ms : List ℕ) where
       marks_none (λ i. first_found (own_fixed ws text abi labels i) (chain ws c)) n ms (λ i. along-none (own_fixed ws text abi labels i) ws c e)
 
   index-step : (i : ℕ) → 0 < c → find_by_index ws text abi labels c i
-      ≡ or_else (own_fixed ws text abi labels i c) (find_by_index ws text abi labels (parent_of ws c) i)
+      ≡ option_or (own_fixed ws text abi labels i c) (find_by_index ws text abi labels (parent_of ws c) i)
   unfolding find_by_index first_found
   index-step i h = rw (chain_more ws c h)
 

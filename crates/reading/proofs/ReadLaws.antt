@@ -4,13 +4,14 @@ use mathlib.Core.List.{List, []}
 use Prim.Native.Nat.{ℕ, ◌<◌, min}
 use native.Mathlib.Omega.{arith}
 use borrow.Author.Tests.{eq-eqb, ne_eqb}
-use Rattle.words.specs.Lists.{list_from, and_then}
+use Rattle.words.specs.Lists.{list_from}
+use Rattle.std.specs.Option.{option_and_then}
 use Rattle.words.proofs.ListLaws.{by-found, found-by}
-use Rattle.words.specs.declared.Found.{Found}
-use Rattle.words.specs.declared.Found.TheVariants.{At, Nothing}
+use Rattle.std.specs.Prelude.{Option}
+use Rattle.std.specs.Prelude.{Some, None}
 use Rattle.class_sheet.specs.ClassSheet.{class_table_place, class_slot_count, method_limit}
 use Rattle.abi_sheet.specs.AbiSheet.{abi_slot_name, abi_slot_descriptor}
-use Rattle.linking.specs.Chain.{parent_of, chain, own_method, find_by_target}
+use Rattle.linking.specs.Chain.{parent_of, chain, find_by_target}
 use Rattle.linking.specs.Abi.{slot_at, class_abi}
 use Rattle.linking.specs.Vtable.{Entry, own_fixed, find_by_index, read_entry, read_slot, table_entries, parent_entries}
 use Rattle.linking.proofs.ChainLaws.{target_room, found-method-room}
@@ -20,49 +21,39 @@ use Rattle.reading.proofs.ArrayLaws.{found_back}
 module _ (ws text abi labels : List ℕ) where
   -- ---- a class's own method of the signature that its ABI entry fixes
 
-  module _ (i c : ℕ) {r : Found} (entry : r ≡ class_abi ws text abi labels c) where
-    pub fixed-none : r ≡ Nothing → Nothing ≡ own_fixed ws text abi labels i c
+  module _ (i c : ℕ) {r : Option ℕ} (entry : r ≡ class_abi ws text abi labels c) where
+    pub fixed-none : r ≡ None → None ≡ own_fixed ws text abi labels i c
     unfolding own_fixed
     fixed-none e = rw (← entry, e)
 
-    module _ (a : ℕ) (h : r ≡ At a) {q : Found} (slot : q ≡ slot_at abi i a) where
-      pub fixed-free : q ≡ Nothing → Nothing ≡ own_fixed ws text abi labels i c
-      unfolding own_fixed
-      fixed-free e = rw (← entry, h) (rw (← slot, e))
-
-      pub fixed-here : (s : ℕ) → q ≡ At s → {n d : List ℕ} {m : Found} → n ≡ abi_slot_name abi labels s → d ≡ abi_slot_descriptor abi labels s
-          → m ≡ own_method ws text n d c → m ≡ own_fixed ws text abi labels i c
-      unfolding own_fixed
-      fixed-here s e f g k = k ∙ rw (f, g, ← entry, h) (rw (← slot, e))
-
   -- ---- what Reading finds is one of the sheet's methods
 
-  pub own-fixed-room : (i c m : ℕ) → own_fixed ws text abi labels i c ≡ At m → m < method_limit
+  pub own-fixed-room : (i c m : ℕ) → own_fixed ws text abi labels i c ≡ Some m → m < method_limit
   unfolding own_fixed
   own-fixed-room i c m e =
-      by-found (and_then (class_abi ws text abi labels c) (slot_at abi i))
+      by-found (option_and_then (slot_at abi i) (class_abi ws text abi labels c))
       (λ s q. found-method-room ws text (abi_slot_name abi labels s) (abi_slot_descriptor abi labels s) c m (rw q at e))
-      (λ q. let z : ◌≡◌ {A = Found} Nothing (At m) = rw q at e in let o : ◌≡◌ {A = ℕ} 0 1 = cc in absurd (omega arith))
+      (λ q. let z : ◌≡◌ {A = Option ℕ} None (Some m) = rw q at e in let o : ◌≡◌ {A = ℕ} 0 1 = cc in absurd (omega arith))
 
-  index-room : (c i m : ℕ) → find_by_index ws text abi labels c i ≡ At m → m < method_limit
+  index-room : (c i m : ℕ) → find_by_index ws text abi labels c i ≡ Some m → m < method_limit
   unfolding find_by_index
   index-room c i m e = found-by (own_fixed ws text abi labels i) (chain ws c) m (λ x t q. own-fixed-room i x m q) e
 
-  pub read-room : (c i w m : ℕ) → (read_entry ws text abi labels c i w).method ≡ At m → m < method_limit
+  pub read-room : (c i w m : ℕ) → (read_entry ws text abi labels c i w).method ≡ Some m → m < method_limit
   unfolding read_entry
   read-room c i w m e =
       by-found (find_by_target ws c w) (λ k q. target_room ws c w m (q ∙ (rw q at e))) (λ q. index-room c i m (rw q at e))
 
-  entry_eta : (c i w : ℕ) → ◌≡◌ {A = Entry} (record { word = w; method = (read_entry ws text abi labels c i w).method; source = At i }) (read_entry ws text abi labels c i w)
+  entry_eta : (c i w : ℕ) → ◌≡◌ {A = Entry} (record { word = w; method = (read_entry ws text abi labels c i w).method; source = Some i }) (read_entry ws text abi labels c i w)
   unfolding read_entry
   entry_eta c i w = refl
 
   -- an entry comes back from its word and mark
-  pub read_back : (c i w : ℕ) → ◌≡◌ {A = Entry} (record { word = w; method = method_of (mark_of (read_entry ws text abi labels c i w).method); source = At i }) (read_entry ws text abi labels c i w)
+  pub read_back : (c i w : ℕ) → ◌≡◌ {A = Entry} (record { word = w; method = method_of (mark_of (read_entry ws text abi labels c i w).method); source = Some i }) (read_entry ws text abi labels c i w)
   read_back c i w = read_is (found_back (read_entry ws text abi labels c i w).method (read-room c i w))
     where
       read_is : method_of (mark_of (read_entry ws text abi labels c i w).method) ≡ (read_entry ws text abi labels c i w).method
-          → ◌≡◌ {A = Entry} (record { word = w; method = method_of (mark_of (read_entry ws text abi labels c i w).method); source = At i }) (read_entry ws text abi labels c i w)
+          → ◌≡◌ {A = Entry} (record { word = w; method = method_of (mark_of (read_entry ws text abi labels c i w).method); source = Some i }) (read_entry ws text abi labels c i w)
       read_is e = rw e (entry_eta c i w)
 
   module _ (area : List ℕ) (c : ℕ) where

@@ -2,31 +2,31 @@
 use Rattle.std.specs.Prelude.{ℕ, ◌+◌, ◌*◌, ◌-◌, ◌/◌, ◌%◌, cond, List, get_or, eqb, ltb}
 use Rattle.words.specs.Folds.{stores}
 use Rattle.words.specs.Lists.{list_from}
-use Rattle.words.specs.declared.Found.{Found}
-use Rattle.words.specs.declared.Found.TheVariants.{At, Nothing}
+use Rattle.std.specs.Prelude.{Option}
+use Rattle.std.specs.Prelude.{Some, None}
 use Rattle.linking.specs.Vtable.{Entry, read_entry}
 
 -- a method's mark: its number plus 1; 0 for none, and for numbers above those of methods
-unfoldable pub mark_of : Found → ℕ
-mark_of (At m) = cond (ltb m 4095) (m + 1) 0
-mark_of Nothing = 0
+unfoldable pub mark_of : Option ℕ → ℕ
+mark_of (Some m) = cond (ltb m 4095) (m + 1) 0
+mark_of None = 0
 
 -- the mark of a slot that is a copy of slot i
 unfoldable pub copy_mark : ℕ → ℕ → ℕ
 copy_mark i k = k % 4096 + 4096 * (i + 1)
 
 -- the method that a mark stands for, and the slot that it is a copy of
-unfoldable pub method_of : ℕ → Found
-method_of k = cond (eqb (k % 4096) 0) Nothing (At (k % 4096 - 1))
+unfoldable pub method_of : ℕ → Option ℕ
+method_of k = cond (eqb (k % 4096) 0) None (Some (k % 4096 - 1))
 
-unfoldable pub source_of : ℕ → Found
-source_of k = cond (eqb (k / 4096) 0) Nothing (At (k / 4096 - 1))
+unfoldable pub source_of : ℕ → Option ℕ
+source_of k = cond (eqb (k / 4096) 0) None (Some (k / 4096 - 1))
 
 -- a slot's mark, or where it has none the mark of what is found for it; and n slots' marks after that
-unfoldable pub or_mark : ℕ → Found → ℕ
+unfoldable pub or_mark : ℕ → Option ℕ → ℕ
 or_mark k f = cond (eqb k 0) (mark_of f) k
 
-unfoldable pub marks_with : (ℕ → Found) → ℕ → List ℕ → List ℕ
+unfoldable pub marks_with : (ℕ → Option ℕ) → ℕ → List ℕ → List ℕ
 marks_with f n ms = stores n (λ i. or_mark (get_or ms i 0) (f i)) ms
 
 -- n slots' marks as copies of themselves

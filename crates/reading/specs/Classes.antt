@@ -2,6 +2,7 @@
 -- Assumes nothing.
 use Rattle.std.specs.Prelude.{ℕ, ◌<◌, ◌≡◌, cond, not, ◌&&◌, List, get_or, eqb}
 use Rattle.words.specs.Folds.{stores}
+use Rattle.std.specs.Prelude.{Option}
 use Rattle.linking.specs.declared.Declared.{Declared}
 use Rattle.linking.specs.Whose.{declaring_class}
 
@@ -13,10 +14,10 @@ unfoldable pub claims : ℕ → ℕ → List ℕ → List ℕ → List ℕ
 claims c n ms cs = stores n (λ i. claimed c (get_or ms i 0) (get_or cs i 0)) cs
 
 -- a slot's class, or where it has none the class of what is answered for it; and n slots' classes after that
-unfoldable pub or_class : ℕ → Declared → ℕ
+unfoldable pub or_class : ℕ → Option Declared → ℕ
 or_class d a = cond (eqb d 0) (declaring_class a) d
 
-unfoldable pub classes_with : (ℕ → Declared) → ℕ → List ℕ → List ℕ
+unfoldable pub classes_with : (ℕ → Option Declared) → ℕ → List ℕ → List ℕ
 classes_with f n cs = stores n (λ i. or_class (get_or cs i 0) (f i)) cs
 
 -- each of the n slots has a class exactly if it has a mark

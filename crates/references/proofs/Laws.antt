@@ -6,19 +6,25 @@ use mathlib.Core.List.{List, [], ◌∷◌, ◌++◌, append-nil, append_assoc}
 use Prim.Native.Nat.{ℕ, zero, suc, ◌+◌, ◌*◌, ◌-◌, ◌/◌, ◌%◌, ◌^◌, ◌≤◌, ◌<◌, min}
 use native.Mathlib.Omega.{arith}
 use native.Mathlib.Numerals.{add-one}
-use lib.ListN.{length, get_or, set, drop, length-append, length-drop}
+use lib.ListN.{length, get_or, set, drop, length-append}
 use lib.Seq.{drop-cons, set_at}
 use lib.Dec.{eqb}
 use lib.Bits.{bit_and, and_high}
-use lib.Count.{ones, ones_step, ones_cat, ones-le}
-use lib.Pow.{pow_pos, pow-add, shl-shr, shr-shr, shr_lt, shr_mod}
+use lib.Count.{ones, ones_step, ones_cat}
+use lib.Pow.{pow_pos, pow-add, shl-shr, shr-shr, shr_mod}
 use borrow.Author.Tests.{eqb-true, eqb-false, eq-eqb, ne_eqb, lt-ltb, le-ltb}
 use Rattle.words.specs.Folds.{sum_of}
 use Rattle.words.specs.Lists.{list_from, numbers, keep}
 use Rattle.words.proofs.Bools.{by}
 use Rattle.words.proofs.FoldLaws.{sum_more}
 use Rattle.words.specs.Words.{AreBytes}
-use Rattle.references.specs.References.{is_marked, marked_words, written_over, bytes_for, kept_bits, masked, masked_byte, masked_ones, too_few, read_references}
+use Rattle.references.specs.References.{is_marked, marked_words, written_over, bytes_for, kept_bits, masked, masked_byte, masked_ones, too_few, Outcome, outcome, counted, read_references, count_references}
+use Rattle.std.specs.Prelude.{Result, Ok, Err}
+use Rattle.refusal.specs.Rows.{row}
+use Rattle.refusal.specs.declared.Refusal.{Refusal}
+use Rattle.refusal.specs.declared.Refusal.TheVariants.{ShortList}
+use native.Mathlib.Nat.{mod-eq_of_lt}
+use Rattle.refusal.proofs.Rows.{row_above}
 
 -- ---- lists of numbers that pass a test
 
@@ -133,13 +139,6 @@ ones_masked b k small h =
     none : (n : ℕ) → n + ones 0 ≡ n
     none n = let z : ones 0 ≡ 0 = ones_zero in omega arith
 
--- and they are at most k
-pub ones_kept : (b k : ℕ) → b < 256 → k ≤ 8 → ones (masked b k) ≤ k
-ones_kept b k small h =
-    let e : k + (8 - k) ≡ 8 = omega arith in
-    let l : b < 2 ^ (k + (8 - k)) = rw e small in
-    rw (ones_masked b k small h) (ones-le k (b / 2 ^ (8 - k)) (shr_lt k (8 - k) l))
-
 -- ---- all bytes
 
 -- the bytes before byte j
@@ -154,15 +153,6 @@ pub ones_more : (bitmap : List ℕ) (n j : ℕ)
     → ones_before bitmap n (j + 1) ≡ ones_before bitmap n j + ones (masked_byte bitmap n j)
 unfolding ones_before
 ones_more bitmap n j = sum_more j _
-
--- a turn of the loop over the bytes, and its end
-pub ones_turn : (bitmap : List ℕ) (n j : ℕ) {s t w : ℕ} → s ≡ ones_before bitmap n j → w ≡ ones (masked_byte bitmap n j) → t ≡ s + w
-    → t ≡ ones_before bitmap n (j + 1)
-ones_turn bitmap n j p q r = rw (ones_more, r, p, q)
-
-pub ones_all : (bitmap : List ℕ) (n j : ℕ) {s : ℕ} → s ≡ ones_before bitmap n j → j ≡ bytes_for n → s ≡ masked_ones bitmap n
-unfolding masked_ones ones_before
-ones_all bitmap n j p q = rw (← q) p
 
 -- they count the marked ones of the words that lie before it
 pub ones_count : (bitmap : List ℕ) (n j : ℕ) → AreBytes bitmap → j ≤ bytes_for n
@@ -219,46 +209,6 @@ module _ (bitmap : List ℕ) where
       let e : n ≡ i + (n - i) = omega arith in
       rw (e, numbers-split 0 i (n - i), keep_append (is_marked bitmap) (numbers 0 i), length-append) (omega arith)
 
-  -- ---- the list as it is filled
-
-  module _ (list : List ℕ) where
-    pub fill_start : list ≡ written_over (marked_before bitmap 0) list
-    unfolding written_over
-    fill_start = rw before-none
-
-    -- a turn: word i is put at place k if it is marked
-    pub fill_turn : (i n : ℕ) {k : ℕ} {l m : List ℕ} → i < n → length (marked_words bitmap n) ≤ length list
-        → k ≡ length (marked_before bitmap i) → l ≡ written_over (marked_before bitmap i) list → m ≡ cond (is_marked bitmap i) (set l k i) l
-        → m ≡ written_over (marked_before bitmap (i + 1)) list
-    unfolding written_over
-    fill_turn i n {k = k} {l = l} h room g e r =
-        by (is_marked bitmap i)
-        (λ t.
-        let marks : List ℕ = marked_before bitmap i in
-        let more : marked_before bitmap (i + 1) ≡ marks ++ (i ∷ []) = before-take i t in
-        let fits : length marks < length list =
-        let q = before-few (i + 1) n (omega arith) in let z = ap length more ∙ length-append marks (i ∷ []) in omega arith in
-        rw (r, t, more, length-append, e, g, drop-cons list (length marks) 0 fits, add-one)
-        (set_at marks (get_or list (length marks) 0) (drop (suc (length marks)) list) i (length marks) refl
-        ∙ sym (append_assoc marks (i ∷ []) (drop (suc (length marks)) list))))
-        (λ t. rw (r, t, before-skip i t) e)
-
-    pub fill_length : (i n : ℕ) {l : List ℕ} → l ≡ written_over (marked_before bitmap i) list → i ≤ n
-        → length (marked_words bitmap n) ≤ length list → length l ≡ length list
-    unfolding written_over
-    fill_length i n e h room =
-        let q = before-few i n h in rw (e, length-append, length-drop) (omega arith)
-
-    pub fill_end : (i n : ℕ) {l : List ℕ} → l ≡ written_over (marked_before bitmap i) list → i ≡ n → l ≡ written_over (marked_words bitmap n) list
-    unfolding marked_before marked_words
-    fill_end i n e q = rw (← q) e
-
-  -- the next place
-  pub next-turn : (i : ℕ) {k r : ℕ} → k ≡ length (marked_before bitmap i) → r ≡ cond (is_marked bitmap i) (k + 1) k
-      → r ≡ length (marked_before bitmap (i + 1))
-  next-turn i g r =
-      by (is_marked bitmap i) (λ t. rw (r, t, before-take i t, length-append, g)) (λ t. rw (r, t, before-skip i t) g)
-
   pub before-bound : (i : ℕ) → length (marked_before bitmap i) ≤ i
   before-bound zero = rw before-none (omega arith)
   before-bound (suc i) =
@@ -266,23 +216,75 @@ module _ (bitmap : List ℕ) where
       let h = before-bound i in
       rw e (by (is_marked bitmap i) (λ t. rw (before-take i t, length-append) (omega arith)) (λ t. rw (before-skip i t) (omega arith)))
 
--- ---- the call that fills a list, case by case
+  -- so the sum modulo 2^32 is the count
+  pub masked_sum : (n : ℕ) → AreBytes bitmap → n < 2 ^ 32 → sum_of (bytes_for n) (λ j. ones (masked_byte bitmap n j)) % 2 ^ 32 ≡ masked_ones bitmap n
+  unfolding masked_ones marked_words marked_before
+  masked_sum n small h = mod-eq_of_lt (omega (arith, count_is bitmap n small, before-bound n))
 
-module _ (bitmap : List ℕ) (n : ℕ) (list : List ℕ) {b : Bool} (e : b ≡ too_few bitmap n) where
-  pub read-few : b ≡ true → record { refusal = 24; count = 0; memory = list } ≡ read_references bitmap n list
-  unfolding read_references
-  read-few t = rw (sym e ∙ t)
+-- ---- the list as it is filled
 
-  module _ (t : b ≡ false) {m : ℕ} (k : m ≡ masked_ones bitmap n) (small : AreBytes bitmap) where
-    pub list-room : m ≤ length list → length (marked_words bitmap n) ≤ length list
-    list-room h = let q = count_is bitmap n small in omega arith
+-- the k marked ones of the words before word i stand in front of the list
+pub record Filled (bitmap list : List ℕ) (i k : ℕ) (l : List ℕ) : Type 0 where
+  pub place : k ≡ length (marked_before bitmap i)
+  pub words : l ≡ written_over (marked_before bitmap i) list
 
-    pub read_short : length list < m → record { refusal = 25; count = 0; memory = list } ≡ read_references bitmap n list
-    unfolding read_references
-    read_short h = rw (sym e ∙ t, lt-ltb (length list) (length (marked_words bitmap n)) (rw (← count_is bitmap n small, ← k) h))
+module _ (bitmap list : List ℕ) where
+  pub filled_none : Filled bitmap list 0 0 list
+  unfolding written_over
+  filled_none = record { place = rw before-none; words = rw before-none }
 
-    pub read-list : m ≤ length list → {l : List ℕ} → l ≡ written_over (marked_words bitmap n) list
-        → record { refusal = 0; count = m; memory = l } ≡ read_references bitmap n list
-    unfolding read_references
-    read-list h f =
-        rw (sym e ∙ t, le-ltb (length list) (length (marked_words bitmap n)) (list-room h), f, k, count_is bitmap n small)
+  -- a word that is not marked, and one that is: it is put at place k
+  pub filled_skip : (i k : ℕ) {l : List ℕ} → is_marked bitmap i ≡ false → Filled bitmap list i k l → Filled bitmap list (i + 1) k l
+  filled_skip i k t f = record { place = rw (before-skip bitmap i t) f.place; words = rw (before-skip bitmap i t) f.words }
+
+  pub filled_take : (i k n : ℕ) {l : List ℕ} → i < n → length (marked_words bitmap n) ≤ length list → is_marked bitmap i ≡ true
+      → Filled bitmap list i k l → Filled bitmap list (i + 1) (k + 1) (set l k i)
+  unfolding written_over
+  filled_take i k n h room t f =
+      let marks : List ℕ = marked_before bitmap i in
+      let more : marked_before bitmap (i + 1) ≡ marks ++ (i ∷ []) = before-take bitmap i t in
+      let fits : length marks < length list =
+      let q = before-few bitmap (i + 1) n (omega arith) in let z = ap length more ∙ length-append marks (i ∷ []) in omega arith in
+      record {
+        place = rw (more, length-append, f.place);
+        words =
+            rw (more, length-append, f.words, f.place, drop-cons list (length marks) 0 fits, add-one)
+            (set_at marks (get_or list (length marks) 0) (drop (suc (length marks)) list) i (length marks) refl
+            ∙ sym (append_assoc marks (i ∷ []) (drop (suc (length marks)) list)));
+      }
+
+  pub filled_all : (n i k : ℕ) {l : List ℕ} → Filled bitmap list i k l → i ≡ n → l ≡ written_over (marked_words bitmap n) list
+  unfolding marked_before marked_words
+  filled_all n i k f q = rw (← q) f.words
+
+-- ---- the calls, case by case
+
+-- a bitmap that is refused, and one that is not
+module _ (bitmap : List ℕ) (n : ℕ) where
+  pub few_refused : (r : Refusal) (list : List ℕ) {x : Result ℕ Refusal} → x ≡ Err r → counted (Err r) ≡ count_references bitmap n
+      → outcome x list ≡ read_references bitmap n list
+  unfolding count_references read_references
+  few_refused r list q e =
+      by (too_few bitmap n) (λ t. let f : row r ≡ 24 = ap (λ (o : Outcome). o.refusal) (rw t at e) in rw (q, t, f))
+      (λ t. let f : row r ≡ 0 = ap (λ (o : Outcome). o.refusal) (rw t at e) in absurd (omega (arith, row_above r)))
+
+  module _ {m : ℕ} (e : counted (Ok m) ≡ count_references bitmap n) where
+    enough : (too_few bitmap n ≡ false) × (m ≡ masked_ones bitmap n)
+    unfolding count_references
+    enough =
+        by (too_few bitmap n) (λ t. let f : 0 ≡ 24 = ap (λ (o : Outcome). o.refusal) (rw t at e) in absurd (omega arith))
+        (λ t. (t, ap (λ (o : Outcome). o.count) (rw t at e)))
+
+    module _ (small : AreBytes bitmap) (list : List ℕ) where
+      pub list-room : m ≤ length list → length (marked_words bitmap n) ≤ length list
+      list-room h = omega (arith, enough.1, count_is bitmap n small)
+
+      pub read_short : length list < m → outcome (Err ShortList) list ≡ read_references bitmap n list
+      unfolding read_references
+      read_short h =
+          rw (enough.0, lt-ltb (length list) (length (marked_words bitmap n)) (omega (arith, enough.1, count_is bitmap n small)))
+
+      pub read-list : m ≤ length list → {l : List ℕ} → l ≡ written_over (marked_words bitmap n) list → outcome (Ok m) l ≡ read_references bitmap n list
+      unfolding read_references
+      read-list h f =
+          rw (enough.0, le-ltb (length list) (length (marked_words bitmap n)) (list-room h), f, enough.1, count_is bitmap n small)

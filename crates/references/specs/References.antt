@@ -1,13 +1,13 @@
 -- The instance reference bitmap: which of an object's words hold references. Assumes nothing.
 -- "word i is marked if byte i / 8 has the bit 0x80 shifted right by i modulo 8. It gives the marked word numbers in rising order and their
 -- count. Bits beyond the instance words are ignored."
-use Rattle.std.specs.Prelude.{ℕ, ◌+◌, ◌*◌, ◌-◌, ◌/◌, ◌%◌, ◌^◌, min, ◌≢◌, Bool, cond, not, List, [], ◌++◌, length, get_or, drop, eqb, ltb}
+use Rattle.std.specs.Prelude.{ℕ, ◌+◌, ◌*◌, ◌-◌, ◌/◌, ◌%◌, ◌^◌, min, Bool, cond, not, List, [], ◌++◌, length, get_or, drop, eqb, ltb, Result, Ok, Err}
 use Rattle.std.specs.Int.Bits.{bit_and}
 use Rattle.std.specs.Int.Count.{ones}
 use Rattle.words.specs.Folds.{sum_of}
 use Rattle.words.specs.Lists.{numbers, keep}
-use Rattle.references.specs.declared.References.{References}
-use Rattle.references.specs.declared.References.TheVariants.{Count, Refused}
+use Rattle.refusal.specs.declared.Refusal.{Refusal}
+use Rattle.refusal.specs.Rows.{row}
 
 -- ---- the marked words
 
@@ -52,15 +52,10 @@ pub record Outcome : Type 0 where
   pub count : ℕ
   pub memory : List ℕ
 
--- the number and value of each case of the answer, beside the memory
-abbrev pub outcome : References → List ℕ → Outcome
-outcome (Count n) list = record { refusal = 0; count = n; memory = list }
-outcome (Refused row) list = record { refusal = row; count = 0; memory = list }
-
--- "a refused one gives its number": an answer that refuses has one, so that it is told from that of a bitmap without marked words
-abbrev pub Told : References → Type 0
-Told (Count n) = Unit {0}
-Told (Refused row) = row ≢ 0
+-- the number and value of an answer, beside the memory
+abbrev pub outcome : Result ℕ Refusal → List ℕ → Outcome
+outcome (Ok n) list = record { refusal = 0; count = n; memory = list }
+outcome (Err r) list = record { refusal = row r; count = 0; memory = list }
 
 -- the marked words fill the list from its front; words after them stay
 unfoldable pub written_over : List ℕ → List ℕ → List ℕ
@@ -76,7 +71,7 @@ read_references bitmap n list =
     (record { refusal = 0; count = length marks; memory = written_over marks list }))
 
 -- the count alone; no memory is lent to be written
-abbrev pub counted : References → Outcome
+abbrev pub counted : Result ℕ Refusal → Outcome
 counted r = outcome r []
 
 unfoldable pub count_references : List ℕ → ℕ → Outcome

@@ -1,104 +1,74 @@
 // The instance reference bitmap: which of an object's words hold references (`JavaReferenceField` of class_definition.rs).
 #![tactic(auto)]
 
-ghost use Rattle.std.specs.Prelude.{◌≡◌, cond, ◌≤◌, ◌<◌, ◌+◌, ◌^◌, length, set};
+ghost use Rattle.std.specs.Prelude.{◌≡◌, ◌≤◌, length};
 ghost use Rattle.std.specs.Int.Count.{ones};
-ghost use Rattle.references.specs.References.{is_marked, marked_words, written_over, bytes_for, kept_bits, masked, masked_byte, masked_ones, too_few, outcome, Told, counted, read_references, count_references};
+ghost use Rattle.references.specs.References.{
+  is_marked,
+  marked_words,
+  written_over,
+  bytes_for,
+  kept_bits,
+  masked_byte,
+  masked_ones,
+  too_few,
+  outcome,
+  counted,
+  read_references,
+  count_references,
+};
 
-// How many words of a bitmap's object are marked, or the row that refuses.
-#[derive(Clone, Copy)]
-pub enum References {
-    Count(u32),
-    Refused(u32),
-}
-
-const TOO_FEW_BYTES: u32 = 24;
-
-const LIST_TOO_SHORT: u32 = 25;
-
-// 2 to the power k.
-fn power(k: u32) -> u32
-    requires { k ≤ 8 }
-    ensures { result ≡ 2 ^ k }
-{
-    1u32 << k
-}
+use refusal::Refusal;
 
 // Whether word i is marked: the bitmap's bits go from the highest of each byte to the lowest.
+#[tactic(auto, unfolding(crate::specs::References::is_marked))]
 fn is_marked(bitmap: &[u8], i: u32) -> bool
     ensures { result ≡ is_marked bitmap.now i }
 {
-    let b = words::byte_at(bitmap, words::wide(i / 8)) as u32;
+    let b = words::get_or(bitmap, (i / 8) as usize, 0) as u32;
     b & (0x80u32 >> (i % 8)) != 0
 }
 
 // How many bytes n words take.
-fn bytes_for(n: u32) -> u32
+#[tactic(auto, unfolding(crate::specs::References::bytes_for))]
+fn bytes_for(n: u32) -> usize
     ensures { result ≡ bytes_for n }
 {
-    n / 8 + (n % 8 + 7) / 8
+    n.div_ceil(8) as usize
 }
 
 // Whether the bitmap has too few bytes for n words.
+#[tactic(auto, unfolding(crate::specs::References::too_few))]
 fn too_few(bitmap: &[u8], n: u32) -> bool
     ensures { result ≡ too_few bitmap.now n }
 {
-    bitmap.len() < words::wide(bytes_for(n))
+    bitmap.len() < bytes_for(n)
 }
 
 // How many bits of byte j, from the highest on, are of the n words.
-fn kept_bits(n: u32, j: u32) -> u32
-    ensures { result ≡ kept_bits n j }
+#[tactic(auto, unfolding(crate::specs::References::kept_bits))]
+fn kept_bits(n: u32, j: usize) -> u32
+    ensures is { result ≡ kept_bits n j }
+    ensures few { result ≤ 8 }
 {
-    if n / 8 <= j {
-        if n / 8 == j { n % 8 } else { 0 }
-    } else {
-        8
-    }
-}
-
-// A byte's k highest bits, and zeros below them.
-fn masked_byte(b: u32, k: u32) -> u32
-    requires { k ≤ 8 }
-    ensures { result ≡ masked b k }
-{
-    b & (256 - power(8 - k))
+    (n as usize).saturating_sub(j.saturating_mul(8)).min(8) as u32
 }
 
 // The ones of byte j that are of the n words.
-fn byte_ones(bitmap: &[u8], n: u32, j: u32) -> u32
-    ensures is { result ≡ ones (masked_byte bitmap.now n j) }
-    ensures few { result ≤ kept_bits n j }
+#[tactic(auto, unfolding(crate::specs::References::masked))]
+fn byte_ones(bitmap: &[u8], n: u32, j: usize) -> u32
+    ensures { result ≡ ones (masked_byte bitmap.now n j) }
 {
-    let b = words::byte_at(bitmap, words::wide(j)) as u32;
-    u32::count_ones(masked_byte(b, kept_bits(n, j)))
+    let below = 1u32 << (8 - kept_bits(n, j));
+    let b = words::get_or(bitmap, j, 0) as u32;
+    (b & (256 - below)).count_ones()
 }
 
 // How many of the n words are marked, byte by byte.
 fn masked_ones(bitmap: &[u8], n: u32) -> u32
     ensures { result ≡ masked_ones bitmap.now n }
 {
-    let count = bytes_for(n);
-    let mut ones: u32 = 0;
-    let mut j: u32 = 0;
-    while j < count {
-        ones += byte_ones(bitmap, n, j);
-        j += 1;
-    }
-    ones
-}
-
-// Puts word i at place k of the list if it is marked, and answers the next place.
-fn put_if_marked(bitmap: &[u8], i: u32, list: &mut [u32], k: u32) -> u32
-    requires { (k ≤ i) × (i + 1 < 2 ^ 32) }
-    ensures list { list.new ≡ cond (is_marked bitmap.now i) (set list.old k i) list.old }
-    ensures next { result ≡ cond (is_marked bitmap.now i) (k + 1) k }
-{
-    if is_marked(bitmap, i) {
-        words::put_word(list, words::wide(k), i);
-        return k + 1;
-    }
-    k
+    words::sum_of(bytes_for(n), |j| byte_ones(bitmap, n, j))
 }
 
 // Puts the marked ones of the n words into the list, from its front.
@@ -106,38 +76,35 @@ fn put_marked(bitmap: &[u8], n: u32, list: &mut [u32])
     requires { length (marked_words bitmap.now n) ≤ length list.old }
     ensures { list.new ≡ written_over (marked_words bitmap.now n) list.old }
 {
-    let mut k: u32 = 0;
-    let mut i: u32 = 0;
-    while i < n {
-        k = put_if_marked(bitmap, i, list, k);
-        i += 1;
+    let mut k: usize = 0;
+    for i in 0..n {
+        if is_marked(bitmap, i) {
+            words::put(list, k, i);
+            k += 1;
+        }
     }
 }
 
 // How many of an object's words are marked as references by its bitmap, or 24 where the bitmap has too few bytes.
-pub fn reference_count(bitmap: &[u8], words: u32) -> References
-    ensures is { counted result ≡ count_references bitmap.now words }
-    ensures told { Told result }
+#[tactic(auto, unfolding(crate::specs::References::count_references))]
+pub fn reference_count(bitmap: &[u8], words: u32) -> Result<u32, Refusal>
+    ensures { counted result ≡ count_references bitmap.now words }
 {
     if too_few(bitmap, words) {
-        return References::Refused(TOO_FEW_BYTES);
+        return Err(Refusal::ShortBitmap);
     }
-    References::Count(masked_ones(bitmap, words))
+    Ok(masked_ones(bitmap, words))
 }
 
 // Puts the numbers of the marked words into the list, in rising order, and answers how many there are; words after them stay, which is this
 // program's choice. Or 24 where the bitmap has too few bytes, or 25 where the list is shorter than the count: then no word of it is written.
-pub fn reference_words(bitmap: &[u8], words: u32, list: &mut [u32]) -> References
-    ensures is { outcome result list.new ≡ read_references bitmap.now words list.old }
-    ensures told { Told result }
+pub fn reference_words(bitmap: &[u8], words: u32, list: &mut [u32]) -> Result<u32, Refusal>
+    ensures { outcome result list.new ≡ read_references bitmap.now words list.old }
 {
-    if too_few(bitmap, words) {
-        return References::Refused(TOO_FEW_BYTES);
-    }
-    let count = masked_ones(bitmap, words);
-    if list.len() < words::wide(count) {
-        return References::Refused(LIST_TOO_SHORT);
+    let count = reference_count(bitmap, words)?;
+    if list.len() < count as usize {
+        return Err(Refusal::ShortList);
     }
     put_marked(bitmap, words, list);
-    References::Count(count)
+    Ok(count)
 }

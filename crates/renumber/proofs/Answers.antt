@@ -1,14 +1,16 @@
--- An accepted and a refused renumbering never have one outcome, so the contract determines what a renumbering answers: a refusal has a
--- number, and an accepted one's is 0. Assumes nothing.
-use mathlib.Core.Path.{◌≡◌, sym, ap}
+-- An accepted and a refused renumbering never have one outcome, nor have two refusals, so the contract determines what a renumbering answers.
+-- Assumes nothing.
+use mathlib.Core.Path.{◌≡◌, ap}
 use mathlib.Core.List.{List}
 use Prim.Native.Nat.{ℕ}
-use Rattle.renumber.specs.Renumber.{Outcome, outcome, Told}
-use Rattle.renumber.specs.declared.Renumbered.{Renumbered}
-use Rattle.renumber.specs.declared.Renumbered.TheVariants.{Classes, Refused}
+use native.Mathlib.Omega.{arith}
+use Rattle.std.specs.Prelude.{Result, Ok, Err}
+use Rattle.refusal.specs.declared.Refusal.{Refusal}
+use Rattle.refusal.proofs.Rows.{row_unique, row_above}
+use Rattle.renumber.specs.Renumber.{Outcome, outcome}
 
-pub answer_unique : (a b : Renumbered) (ws list ws' list' : List ℕ) → Told a → Told b → outcome a ws list ≡ outcome b ws' list' → a ≡ b
-answer_unique (Classes i) (Classes j) ws list ws' list' p q e = ap Classes (ap (λ (x : Outcome). x.classes) e)
-answer_unique (Classes i) (Refused k) ws list ws' list' p q e = absurd (q (sym (ap (λ (x : Outcome). x.refusal) e)))
-answer_unique (Refused k) (Classes j) ws list ws' list' p q e = absurd (p (ap (λ (x : Outcome). x.refusal) e))
-answer_unique (Refused j) (Refused k) ws list ws' list' p q e = ap Refused (ap (λ (x : Outcome). x.refusal) e)
+pub answer_unique : (a b : Result ℕ Refusal) (ws list ws' list' : List ℕ) → outcome a ws list ≡ outcome b ws' list' → a ≡ b
+answer_unique (Ok i) (Ok j) ws list ws' list' e = ap Ok (ap (λ (x : Outcome). x.classes) e)
+answer_unique (Ok i) (Err r) ws list ws' list' e = absurd (omega (arith, row_above r, ap (λ (x : Outcome). x.refusal) e))
+answer_unique (Err r) (Ok j) ws list ws' list' e = absurd (omega (arith, row_above r, ap (λ (x : Outcome). x.refusal) e))
+answer_unique (Err r) (Err s) ws list ws' list' e = ap Err (row_unique r s (ap (λ (x : Outcome). x.refusal) e))

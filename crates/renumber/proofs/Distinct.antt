@@ -13,7 +13,7 @@ use lib.Dec.{eqb}
 use borrow.Author.Tests.{eq-eqb, ne_eqb, eqb-true, not-false}
 use Rattle.words.specs.Folds.{sum_of}
 use Rattle.words.specs.Lists.{numbers, list_from, find, some}
-use Rattle.words.specs.declared.Found.TheVariants.{At, Nothing}
+use Rattle.std.specs.Prelude.{Some, None}
 use Rattle.words.proofs.Bools.{by, or-either}
 use Rattle.words.proofs.FoldLaws.{sum-ext}
 use Rattle.words.proofs.ListLaws.{by-found, find-passes, find-within}
@@ -53,18 +53,18 @@ place-placed l i h e = rw e at (placed_at l i h)
 
 -- ---- searches along numbers
 
-pub find-before : (p : ℕ → Bool) (m n k : ℕ) → find p (numbers m n) ≡ At k → (j : ℕ) → m ≤ j → j < k → p j ≡ false
+pub find-before : (p : ℕ → Bool) (m n k : ℕ) → find p (numbers m n) ≡ Some k → (j : ℕ) → m ≤ j → j < k → p j ≡ false
 unfolding find list_from
 find-before p m zero k e j h g = cc
 find-before p m (suc n) k e j h g =
-    by (p m) (λ t. let q : At m ≡ At k = rw t at e in let r : m ≡ k = cc in absurd (omega arith))
+    by (p m) (λ t. let q : Some m ≡ Some k = rw t at e in let r : m ≡ k = cc in absurd (omega arith))
     (λ f. ⊎_elim (λ (q : m ≡ j). rw q at f) (λ (l : m < j). find-before p (m + 1) n k (rw f at e) j (omega arith) g) (eq-or-lt_of_le h))
 
-pub find-nothing : (p : ℕ → Bool) (m n : ℕ) → find p (numbers m n) ≡ Nothing → (j : ℕ) → m ≤ j → j < m + n → p j ≡ false
+pub find-nothing : (p : ℕ → Bool) (m n : ℕ) → find p (numbers m n) ≡ None → (j : ℕ) → m ≤ j → j < m + n → p j ≡ false
 unfolding find list_from
 find-nothing p m zero e j h g = absurd (omega arith)
 find-nothing p m (suc n) e j h g =
-    by (p m) (λ t. let q : At m ≡ Nothing = rw t at e in let z : ◌≡◌ {A = ℕ} 0 1 = cc in absurd (omega arith))
+    by (p m) (λ t. let q : Some m ≡ None = rw t at e in let z : ◌≡◌ {A = ℕ} 0 1 = cc in absurd (omega arith))
     (λ f. ⊎_elim (λ (q : m ≡ j). rw q at f) (λ (l : m < j). find-nothing p (m + 1) n (rw f at e) j (omega arith) (omega arith)) (eq-or-lt_of_le h))
 
 -- ---- sums of zeros and ones

@@ -11,7 +11,7 @@ use lib.Dec.{eqb}
 use borrow.Author.Tests.{eq-eqb, ne_eqb}
 use Rattle.words.specs.Lists.{position, some}
 use Rattle.words.specs.Rows.{Rows, no_rows, a_row}
-use Rattle.words.specs.declared.Found.TheVariants.{At, Nothing}
+use Rattle.std.specs.Prelude.{Some, None}
 use Rattle.words.proofs.Bools.{by, or-neither}
 use Rattle.words.proofs.Rows.{row-length}
 use Rattle.class_sheet.specs.ClassSheet.{parent_word, counts_width, class_width, member_width, count_at, class_count, method_count, field_count, interface_count, compiler_count, text_length, content_end, class_word, method_word, field_word, interface_word, compiler_word, text_of, class_parent}
@@ -23,7 +23,7 @@ use Rattle.renumber.proofs.Distinct.{Distinct, placed-place}
 
 -- ---- new numbers
 
-position_at : (l : List ℕ) (c k i : ℕ) → i < length l → get_or l i 0 ≡ c → ((j : ℕ) → j < i → get_or l j 0 ≡ c → ⊥) → position (eqb c) k l ≡ At (k + i)
+position_at : (l : List ℕ) (c k i : ℕ) → i < length l → get_or l i 0 ≡ c → ((j : ℕ) → j < i → get_or l j 0 ≡ c → ⊥) → position (eqb c) k l ≡ Some (k + i)
 unfolding position
 position_at [] c k i h e first = absurd (omega arith)
 position_at (x ∷ l) c k zero h e first = let z : k + 0 ≡ k = omega arith in rw (eq-eqb c x (sym e), z)
@@ -32,7 +32,7 @@ position_at (x ∷ l) c k (suc i) h e first =
     rw (ne_eqb c x (λ q. first 0 (omega arith) (sym q)), ← z)
     (position_at l c (k + 1) i (omega arith) e (λ j g. first (suc j) (omega arith)))
 
-position-none : (l : List ℕ) (c k : ℕ) → placed l c ≡ false → position (eqb c) k l ≡ Nothing
+position-none : (l : List ℕ) (c k : ℕ) → placed l c ≡ false → position (eqb c) k l ≡ None
 unfolding position placed some
 position-none [] c k f = refl
 position-none (x ∷ l) c k f =

@@ -12,7 +12,7 @@ use lib.Seq.{take-append-le, take_at, get_or_at}
 use lib.Dec.{eqb, ltb}
 use borrow.Author.Tests.{eq-eqb, eqb-true, eqb-false, ltb-true, ltb-false, not-true}
 use Rattle.words.specs.Lists.{numbers}
-use Rattle.words.specs.declared.Found.TheVariants.{At, Nothing}
+use Rattle.std.specs.Prelude.{Some, None}
 use Rattle.words.proofs.Bools.{by, and_both, or-either, or-neither}
 use Rattle.words.proofs.ListLaws.{by-found, find-passes, find-within}
 use Rattle.class_sheet.specs.ClassSheet.{class_count, class_parent}
@@ -22,19 +22,19 @@ use Rattle.renumber.specs.Places.{Before, Settled}
 use Rattle.renumber.proofs.Distinct.{Distinct, take-place, place-take, find-before, find-nothing}
 
 -- where none is ready the order stays as it is
-pub order_stuck : (ws : List ℕ) (k : ℕ) (l : List ℕ) → next_class ws l ≡ Nothing → order_from ws k l ≡ l
+pub order_stuck : (ws : List ℕ) (k : ℕ) (l : List ℕ) → next_class ws l ≡ None → order_from ws k l ≡ l
 unfolding order_from
 order_stuck ws zero l e = refl
 order_stuck ws (suc k) l e = rw e (order_stuck ws k l e)
 
 -- a class that is placed is one turn
-pub order-turn : (ws : List ℕ) (k : ℕ) (l : List ℕ) (c : ℕ) → next_class ws l ≡ At c → order_from ws (suc k) l ≡ order_from ws k (l ++ (c ∷ []))
+pub order-turn : (ws : List ℕ) (k : ℕ) (l : List ℕ) (c : ℕ) → next_class ws l ≡ Some c → order_from ws (suc k) l ≡ order_from ws k (l ++ (c ∷ []))
 unfolding order_from
 order-turn ws k l c e = rw e
 
 -- it ends with all turns taken, or where none is ready
 pub order-ends : (ws : List ℕ) (k : ℕ) (l : List ℕ)
-    → (length (order_from ws k l) ≡ length l + k) ⊎ (next_class ws (order_from ws k l) ≡ Nothing)
+    → (length (order_from ws k l) ≡ length l + k) ⊎ (next_class ws (order_from ws k l) ≡ None)
 unfolding order_from
 order-ends ws zero l = inl (omega arith)
 order-ends ws (suc k) l =
@@ -55,9 +55,9 @@ order-most ws (suc k) l =
 -- ---- each element is the first that is ready after those before it
 
 abbrev pub Each : List ℕ → List ℕ → Type 0
-Each ws l = (i : ℕ) → i < length l → next_class ws (take i l) ≡ At (get_or l i 0)
+Each ws l = (i : ℕ) → i < length l → next_class ws (take i l) ≡ Some (get_or l i 0)
 
-each_more : (ws l : List ℕ) (c : ℕ) → next_class ws l ≡ At c → Each ws l → Each ws (l ++ (c ∷ []))
+each_more : (ws l : List ℕ) (c : ℕ) → next_class ws l ≡ Some c → Each ws l → Each ws (l ++ (c ∷ []))
 each_more ws l c e h i g =
     ⊎_elim (λ (q : i ≡ length l). rw (take_at l (c ∷ []) i (sym q), get_or_at l c [] 0 i (sym q)) e)
     (λ (m : i < length l). rw (take-append-le i l (c ∷ []) (omega arith), get_or-append l (c ∷ []) 0 i m) (h i m))
@@ -124,7 +124,7 @@ order-distinct ws l each = record { within = λ i h. element-class ws l each i h
         (λ f. by (ltb j i) (λ t. absurd (later j i (ltb-true j i t) h (sym e))) (λ k. omega (arith, ltb-false i j f, ltb-false j i k)))
 
 -- where none is ready, a class that is not placed has a parent that is not placed
-pub left_behind : (ws l : List ℕ) → next_class ws l ≡ Nothing → (c : ℕ) → IsClass ws c → placed l c ≡ false
+pub left_behind : (ws l : List ℕ) → next_class ws l ≡ None → (c : ℕ) → IsClass ws c → placed l c ≡ false
     → (class_parent ws c ≡ 0 → ⊥) × (placed l (class_parent ws c) ≡ false)
 unfolding next_class ready
 left_behind ws l e c k f =

@@ -12,7 +12,7 @@ use lib.ListN.{length, get_or}
 use lib.Dec.{eqb, ltb}
 use borrow.Author.Tests.{eq-eqb, ne_eqb, eqb-true, eqb-false, ltb-true, ltb-false}
 use Rattle.words.specs.Lists.{numbers, list_from, some}
-use Rattle.words.specs.declared.Found.TheVariants.{Nothing}
+use Rattle.std.specs.Prelude.{None}
 use Rattle.words.proofs.Bools.{by, or-either}
 use Rattle.class_sheet.specs.ClassSheet.{class_count, class_parent}
 use Rattle.set_rules.specs.Valid.{IsClass}
@@ -74,7 +74,7 @@ module _ (ws l : List ℕ) (each : Each ws l) where
 
 -- ---- an order that stops short: no walk from a class that is left out ends
 
-pub left-returns : (ws l : List ℕ) → Named ws → next_class ws l ≡ Nothing → (k : ℕ) (passed : List ℕ) (c : ℕ) → IsClass ws c → placed l c ≡ false
+pub left-returns : (ws l : List ℕ) → Named ws → next_class ws l ≡ None → (k : ℕ) (passed : List ℕ) (c : ℕ) → IsClass ws c → placed l c ≡ false
     → returns_from ws k passed c ≡ true
 unfolding returns_from
 left-returns ws l named e zero passed c h f = refl
@@ -98,7 +98,7 @@ pub stops_round : (ws : List ℕ) → Named ws → length (order_of ws) < class_
 unfolding cyclic order_of returns
 stops_round ws named h =
     ⊎_elim (λ (q : length (order_of ws) ≡ 0 + class_count ws). absurd (omega arith))
-    (λ (q : next_class ws (order_of ws) ≡ Nothing).
+    (λ (q : next_class ws (order_of ws) ≡ None).
     distinct-short (class_count ws) (order_of ws) (order-distinct ws (order_of ws) (each-order ws)) h
     (λ c g l f. some-hit (returns ws) 1 (class_count ws) c g (omega arith)
     (left-returns ws (order_of ws) named q (suc (class_count ws)) [] c (g, l) f)))

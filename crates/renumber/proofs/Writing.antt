@@ -6,12 +6,12 @@ use Prim.Native.Nat.{ℕ, zero, suc, ◌+◌, ◌*◌, ◌-◌, ◌≤◌, ◌<�
 use native.Mathlib.Omega.{arith}
 use native.Mathlib.Numerals.{add-one}
 use native.Mathlib.Nat.{mul-zero, mul-suc}
-use lib.ListN.{length, get_or, take, drop, set, drop_of_length-le, length-take, length-drop, length-append, length-set, length-map}
+use lib.ListN.{length, get_or, take, drop, set, drop_of_length-le, length-append, length-set, length-map}
 use lib.Seq.{drop-cons, drop-drop, take-suc, take-length, take_all, take_at, drop_at, set-append_left, set_at, get_or_at, length-take-le}
 use lib.Dec.{ltb}
-use borrow.Author.Tests.{eq-eqb, ne_eqb, ltb-false}
+use borrow.Author.Tests.{ne_eqb, ltb-false}
 use Rattle.words.specs.Rows.{joined, cut}
-use Rattle.words.specs.Words.{pasted, copy_words}
+use Rattle.words.specs.Words.{pasted, copy_elements}
 use Rattle.words.proofs.Bools.{passed}
 use Rattle.words.proofs.Laws.{room}
 use Rattle.words.proofs.Lists.{length_part}
@@ -20,7 +20,11 @@ use Rattle.class_sheet.specs.ClassSheet.{parent_word, counts_width, class_width,
 use Rattle.class_sheet.specs.Sections.{Sections, Formed, sections_by, sections_of, with_classes}
 use Rattle.class_sheet.proofs.Sections.{at-classes, at-methods, at-interfaces, counts_of, to_methods, to_interfaces, from_methods, from_interfaces, from_compilers, number_of_classes, number_of_interfaces, methods-start, interfaces-start, length-laid, laid_of, formed-of, sections-laid}
 use Rattle.set_rules.specs.Valid.{IsClass}
-use Rattle.renumber.specs.Renumber.{new_number, moved_record, renumbered, renumber_form, names_classes, cyclic, renumber_refusal, renumber_def, Outcome}
+use Rattle.renumber.specs.Renumber.{new_number, moved_record, renumbered, renumber_form, names_classes, cyclic, renumber_refusal, renumber_def, outcome}
+use Rattle.std.specs.Prelude.{Result, Ok, Err}
+use Rattle.refusal.specs.declared.Refusal.{Refusal}
+use Rattle.refusal.specs.Rows.{row}
+use Rattle.refusal.proofs.Rows.{row_above}
 use Rattle.renumber.specs.Steps.{Complete, records_moved, with_interfaces, interfaces_mapped}
 use Rattle.renumber.proofs.OrderLaws.{each-order, element-class, order-distinct}
 use Rattle.renumber.proofs.Moved.{formed-moved}
@@ -56,13 +60,12 @@ module _ (ws l : List ℕ) (c : ℕ) (class : IsClass ws c) where
     moved_length = rw (moved-is, length-set) record_length
 
     -- as the code writes it: the record copied to the front of a part, and its parent's word stored
-    pub record_put : (part : List ℕ) → class_width ≤ length part → {b w p q : ℕ} {r : Bool} {copied stored : List ℕ} → b ≡ c - 1 → w ≡ b
-        → (r, copied) ≡ copy_words ws (counts_width + class_width * w) class_width part 0 → p ≡ class_parent ws c → q ≡ new_number l p
+    pub record_put : (part : List ℕ) → class_width ≤ length part → {p q : ℕ} {r : Bool} {copied stored : List ℕ}
+        {b : ℕ} → b ≡ c - 1 → (r, copied) ≡ copy_elements ws (counts_width + class_width * b) class_width part 0 → p ≡ class_parent ws c → q ≡ new_number l p
         → stored ≡ set copied parent_word q → stored ≡ moved_record ws l c ++ drop class_width part
     unfolding pasted
-    record_put part h {b} {w} {p} {q} {r} {copied} {stored} before wide copy parent number store =
-        let at : counts_width + class_width * w ≡ record_at = omega arith in
-        let all = rw at at copy ∙ sym (room ws record_at class_width part 0 record_inside (omega arith)) in
+    record_put part h {p} {q} {r} {copied} {stored} {b} before copy parent number store =
+        let all = rw before at copy ∙ sym (room ws record_at class_width part 0 record_inside (omega arith)) in
         let e : copied ≡ take class_width (drop record_at ws) ++ drop class_width part = ap (λ (x : Bool × List ℕ). x.1) all in
         store ∙ rw (e, number, parent, moved-is) (set-append_left (take class_width (drop record_at ws)) (drop class_width part) parent_word
         (new_number l (class_parent ws c)) (omega (arith, record_length)))
@@ -131,7 +134,7 @@ module _ (ws l : List ℕ) (o : Complete ws l) where
   -- as the code writes them: copied from an array
   pub records-over : (array : List ℕ) {out : List ℕ} {b : Bool} → length array ≡ class_width * class_limit
       → take (class_width * length l) array ≡ joined (map (moved_record ws l) l)
-      → (b, out) ≡ copy_words array 0 (class_width * length l) ws counts_width → out ≡ records_moved ws l
+      → (b, out) ≡ copy_elements array 0 (class_width * length l) ws counts_width → out ≡ records_moved ws l
   unfolding pasted records_moved
   records-over array {out} {b} size records copy =
       let n : ℕ = class_width * length l in
@@ -167,10 +170,6 @@ module _ (f : ℕ → ℕ) (p : List ℕ) where
       let word : c ≡ x = w ∙ rw here (get_or_at done x left 0 i size) in
       s ∙ rw (here, g, word, set_at done x left (f x) i size, add-one i, take-suc p i 0 h, map-append f (take i p) (x ∷ []))
       (sym (append_assoc done (f x ∷ []) left))
-
-  pub map-length : (i : ℕ) {l : List ℕ} → l ≡ mapped_to f p i → length l ≡ length p
-  unfolding mapped_to
-  map-length i e = rw (e, length-append, length-map, length-take, length-drop) (omega arith)
 
   pub map-end : (i : ℕ) {l : List ℕ} → length p ≤ i → l ≡ mapped_to f p i → l ≡ map f p
   unfolding mapped_to
@@ -230,7 +229,7 @@ module _ (ws l : List ℕ) (o : Complete ws l) where
   both-moved e f = f ∙ rw (e, moved-sections)
 
 -- the list in front of the lent one
-pub list_put : (l order : List ℕ) {last : List ℕ} {b : Bool} → length l ≤ length order → (b, last) ≡ copy_words l 0 (length l) order 0
+pub list_put : (l order : List ℕ) {last : List ℕ} {b : Bool} → length l ≤ length order → (b, last) ≡ copy_elements l 0 (length l) order 0
     → last ≡ l ++ drop (length l) order
 unfolding pasted
 list_put l order {last} {b} h copy =
@@ -239,28 +238,26 @@ list_put l order {last} {b} h copy =
 
 -- ---- the call
 
-module _ (ws order : List ℕ) {row : ℕ} (is : row ≡ renumber_refusal ws (length order)) where
-  pub call-refused : (row ≡ 0 → ⊥) → ◌≡◌ {A = Outcome} (record { refusal = row; classes = 0; set = ws; list = order }) (renumber_def ws order)
+module _ (ws order : List ℕ) where
+  pub call_refused : (r : Refusal) {x : Result ℕ Refusal} → x ≡ Err r → row r ≡ renumber_refusal ws (length order) → outcome x ws order ≡ renumber_def ws order
   unfolding renumber_def
-  call-refused n = rw (← is, ne_eqb row 0 n)
+  call_refused r e f = rw (e, ← f, ne_eqb (row r) 0 (λ z. omega (arith, row_above r)))
 
-  module _ (z : row ≡ 0) where
+  module _ (is : 0 ≡ renumber_refusal ws (length order)) where
     list-room : class_count ws ≤ length order
     unfolding renumber_refusal
     list-room =
-        let a = passed (not (renumber_form ws)) 3 _ (omega arith) (sym is ∙ z) in
+        let a = passed (not (renumber_form ws)) 3 _ (omega arith) (sym is) in
         let b = passed (not (names_classes ws)) 4 _ (omega arith) a.1 in
         let c = passed (cyclic ws) 19 _ (omega arith) b.1 in
         ltb-false _ _ (passed (ltb (length order) (class_count ws)) 15 0 (omega arith) c.1).0
 
     -- the list as a part of the array
-    module _ (list : List ℕ) (complete : Complete ws (take (class_count ws) list)) {n w : ℕ} {l : List ℕ} (count : n ≡ class_count ws) (wide : w ≡ n)
-        (part : l ≡ take w (drop 0 list)) where
+    module _ (list : List ℕ) {n : ℕ} {l : List ℕ} (complete : (n ≡ class_count ws) × Complete ws (take n list)) (part : l ≡ take n (drop 0 list)) where
       pub part-complete : Complete ws l × (length l ≤ length order)
-      part-complete = let o : Complete ws l = rw (part, wide, count) complete in (o, omega (arith, o.all, list-room))
+      part-complete = let o : Complete ws l = rw part complete.1 in (o, omega (arith, o.all, list-room))
 
-      pub call-made : {out last : List ℕ} → out ≡ renumbered ws l → last ≡ l ++ drop (length l) order
-          → ◌≡◌ {A = Outcome} (record { refusal = 0; classes = n; set = out; list = last }) (renumber_def ws order)
+      pub call-made : {out last : List ℕ} → out ≡ renumbered ws l → last ≡ l ++ drop (length l) order → outcome (Ok n) out last ≡ renumber_def ws order
       unfolding renumber_def
       call-made records front =
-          let o = part-complete.0 in rw (← is, eq-eqb row 0 z, records, front, o.all, o.order, count)
+          let o = part-complete.0 in rw (← is, records, front, o.all, o.order, complete.0)

@@ -1,15 +1,13 @@
 -- A step on class words that renumbers the classes: "Parents come first, and among those ready the smallest old number goes next. Parent and
 -- interface numbers follow, and a list gives each class's old number, in new order." Assumes nothing.
-use Rattle.std.specs.Prelude.{ℕ, zero, suc, ◌+◌, ◌-◌, ◌≢◌, Bool, true, cond, not, ◌&&◌, ◌||◌, List, [], ◌∷◌, ◌++◌, map, length, get_or, set, drop, eqb, ltb}
+use Rattle.std.specs.Prelude.{ℕ, zero, suc, ◌+◌, ◌-◌, Bool, true, cond, not, ◌&&◌, ◌||◌, List, [], ◌∷◌, ◌++◌, map, length, get_or, set, drop, eqb, ltb, Option, Some, None, Result, Ok, Err}
 use Rattle.words.specs.Folds.{all_of}
 use Rattle.words.specs.Lists.{numbers, find, position, some}
-use Rattle.words.specs.declared.Found.{Found}
-use Rattle.words.specs.declared.Found.TheVariants.{At, Nothing}
 use Rattle.class_sheet.specs.ClassSheet.{parent_word, class_count, interface_count, class_parent}
 use Rattle.class_sheet.specs.Sections.{Sections, laid_out, sections_of}
 use Rattle.class_rules.specs.ClassRules.{class_fits, all_fresh, interface_names}
-use Rattle.renumber.specs.declared.Renumbered.{Renumbered}
-use Rattle.renumber.specs.declared.Renumbered.TheVariants.{Classes, Refused}
+use Rattle.refusal.specs.declared.Refusal.{Refusal}
+use Rattle.refusal.specs.Rows.{row}
 
 -- ---- what a renumbering answers, and what the lent words then hold
 
@@ -19,15 +17,10 @@ pub record Outcome : Type 0 where
   pub set : List ℕ
   pub list : List ℕ
 
--- the number and value of each case of the answer, beside the memory
-abbrev pub outcome : Renumbered → List ℕ → List ℕ → Outcome
-outcome (Classes n) ws list = record { refusal = 0; classes = n; set = ws; list = list }
-outcome (Refused k) ws list = record { refusal = k; classes = 0; set = ws; list = list }
-
--- "a refused one gives its number": an answer that refuses has one, so that it is told from that of a set without classes
-abbrev pub Told : Renumbered → Type 0
-Told (Classes n) = Unit {0}
-Told (Refused k) = k ≢ 0
+-- the number and value of an answer, beside the memory
+abbrev pub outcome : Result ℕ Refusal → List ℕ → List ℕ → Outcome
+outcome (Ok n) ws list = record { refusal = 0; classes = n; set = ws; list = list }
+outcome (Err r) ws list = record { refusal = row r; classes = 0; set = ws; list = list }
 
 -- ---- the order: "Parents come first, and among those ready the smallest old number goes next."
 
@@ -40,12 +33,12 @@ unfoldable pub ready : List ℕ → List ℕ → ℕ → Bool
 ready ws l c = not (placed l c) && (eqb (class_parent ws c) 0 || placed l (class_parent ws c))
 
 -- the smallest class that is ready: the search goes up from number 1
-unfoldable pub next_class : List ℕ → List ℕ → Found
+unfoldable pub next_class : List ℕ → List ℕ → Option ℕ
 next_class ws l = find (ready ws l) (numbers 1 (class_count ws))
 
-abbrev pub placing : List ℕ → Found → List ℕ
-placing l (At c) = l ++ (c ∷ [])
-placing l Nothing = l
+abbrev pub placing : List ℕ → Option ℕ → List ℕ
+placing l (Some c) = l ++ (c ∷ [])
+placing l None = l
 
 -- the list after k more searches, each of which places one class, or none where none is ready
 unfoldable pub order_from : List ℕ → ℕ → List ℕ → List ℕ
@@ -58,9 +51,9 @@ order_of ws = order_from ws (class_count ws) []
 
 -- ---- the renumbered words: "Parent and interface numbers follow"
 
-abbrev pub or_none : Found → ℕ
-or_none (At n) = n
-or_none Nothing = 0
+abbrev pub or_none : Option ℕ → ℕ
+or_none (Some n) = n
+or_none None = 0
 
 -- old class c's new number: its place in the list, counted from 1; 0, as every number that is not there, becomes 0
 unfoldable pub new_number : List ℕ → ℕ → ℕ

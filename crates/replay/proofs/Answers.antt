@@ -6,6 +6,8 @@ use mathlib.Core.List.{List}
 use Prim.Native.Nat.{ℕ}
 use Rattle.linking.specs.Link.{LinkOutcome, link_def}
 use Rattle.link.specs.Stored.{link_outcome}
+use Rattle.std.specs.Prelude.{Result}
+use Rattle.refusal.specs.declared.Refusal.{Refusal}
 use Rattle.area.specs.declared.Answer.{Answer}
 use Rattle.area.proofs.Answers.{Tells, answer_unique}
 use Rattle.calls.proofs.Rows.{link-cases}
@@ -18,7 +20,7 @@ module _ (ws abi : List ℕ) (c : ℕ) (area stubs missing : List ℕ) where
         | inr a ↦ λ e z. a.lent.some (sym a.answers-place ∙ z)
       ]
 
-  pub link-answer : (a b : Answer) (s t u s' t' u' : List ℕ) → link_outcome a s t u ≡ link_def ws abi c area stubs missing
+  pub link-answer : (a b : Result Answer Refusal) (s t u s' t' u' : List ℕ) → link_outcome a s t u ≡ link_def ws abi c area stubs missing
       → link_outcome b s' t' u' ≡ link_def ws abi c area stubs missing → a ≡ b
   link-answer a b s t u s' t' u' e f =
       answer_unique a b s t s' t' link_tells (ap (λ (x : LinkOutcome). x.outcome) e) (ap (λ (x : LinkOutcome). x.outcome) f)

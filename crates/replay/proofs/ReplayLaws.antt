@@ -16,19 +16,16 @@ use Rattle.link.specs.Stored.{link_outcome}
 use Rattle.linking.specs.Ask.{ask_def}
 use Rattle.area.specs.Area as area
 use Rattle.area.specs.declared.Answer.{Answer}
-use Rattle.area.specs.declared.Answer.TheVariants.{Done, Refused}
+use Rattle.std.specs.Prelude.{Result, Ok, Err}
+use Rattle.refusal.specs.declared.Refusal.{Refusal}
 use Rattle.calls.specs.Calls.{Call, State, start, outcome, step, run}
 use Rattle.replay.specs.Replay.{stub_list, call_of, call_at, calls_of, Called, answer_words, answer_of, answers_of, over, over_at}
 
 -- ---- words laid over others
 
-over_none : (old : List ℕ) → over [] old ≡ old
-unfolding over
-over_none old = refl
-
-pub over-end : (at : ℕ) (old : List ℕ) → over_at at [] old ≡ old
-unfolding over_at
-over-end zero old = over_none old
+over-end : (at : ℕ) (old : List ℕ) → over_at at [] old ≡ old
+unfolding over_at over
+over-end zero old = refl
 over-end (suc at) [] = refl
 over-end (suc at) (y ∷ ys) = ap (λ (t : List ℕ). y ∷ t) (over-end at ys)
 
@@ -43,52 +40,52 @@ over-suc (suc at) a xs (y ∷ ys) = ap (λ (t : List ℕ). y ∷ t) (over-suc at
 over-more : (at a : ℕ) (xs old : List ℕ) → over_at at (a ∷ xs) old ≡ over_at (at + 1) xs (set old at a)
 over-more at a xs old = rw add-one (over-suc at a xs old)
 
--- three stores
-pub three : (at a b d : ℕ) (xs old : List ℕ)
-    → over_at at (a ∷ b ∷ d ∷ xs) old ≡ over_at (at + 3) xs (set (set (set old at a) (at + 1) b) (at + 2) d)
-three at a b d xs old =
-    let e : at + 1 + 1 ≡ at + 2 = omega arith in
-    let f : at + 2 + 1 ≡ at + 3 = omega arith in
-    over-more at a (b ∷ d ∷ xs) old
-    ∙ over-more (at + 1) b (d ∷ xs) (set old at a)
-    ∙ ap (λ (k : ℕ). over_at k (d ∷ xs) (set (set old at a) (at + 1) b)) e
-    ∙ over-more (at + 2) d xs (set (set old at a) (at + 1) b)
-    ∙ ap (λ (k : ℕ). over_at k xs (set (set (set old at a) (at + 1) b) (at + 2) d)) f
-
-stored : (at a b d : ℕ) (old : List ℕ) {x y z : List ℕ} → x ≡ set old at a → y ≡ set x (at + 1) b → z ≡ set y (at + 2) d
+-- three words stored in turn
+pub stored : (at a b d : ℕ) (old : List ℕ) {x y z : List ℕ} → x ≡ set old at a → y ≡ set x (at + 1) b → z ≡ set y (at + 2) d
     → z ≡ over_at at (a ∷ b ∷ d ∷ []) old
-stored at a b d old e f g =
-    rw (g, f, e) (sym (three at a b d [] old ∙ over-end (at + 3) (set (set (set old at a) (at + 1) b) (at + 2) d)))
+stored at a b d old {x} {y} {z} e f g =
+    let k : at + 1 + 1 ≡ at + 2 = omega arith in
+    sym
+    (over-more at a (b ∷ d ∷ []) old
+    ∙ ap (over_at (at + 1) (b ∷ d ∷ [])) (sym e)
+    ∙ over-more (at + 1) b (d ∷ []) x
+    ∙ ap (over_at (at + 1 + 1) (d ∷ [])) (sym f)
+    ∙ over-more (at + 1 + 1) d [] y
+    ∙ over-end (at + 1 + 1 + 1) (set y (at + 1 + 1) d)
+    ∙ ap (λ (i : ℕ). set y i d) k
+    ∙ sym g)
 
-pub done-stored : (at : ℕ) {a : Answer} {b d : ℕ} (old : List ℕ) {x y z : List ℕ} → a ≡ Done b d → x ≡ set old at 0 → y ≡ set x (at + 1) b
-    → z ≡ set y (at + 2) d → z ≡ over_at at (answer_words a) old
-done-stored at {b = b} {d = d} old h e f g = rw h (stored at 0 b d old e f g)
+-- words laid after others
+over-rest : (xs ys old : List ℕ) → over (xs ++ ys) old ≡ over_at (length xs) ys (over xs old)
+unfolding over over_at
+over-rest [] ys old = refl
+over-rest (x ∷ xs) ys [] = refl
+over-rest (x ∷ xs) ys (y ∷ old) = ap (λ (t : List ℕ). x ∷ t) (over-rest xs ys old)
 
-pub refused-stored : (at : ℕ) {a : Answer} {n : ℕ} (old : List ℕ) {x y z : List ℕ} → a ≡ Refused n → x ≡ set old at n → y ≡ set x (at + 1) 0
-    → z ≡ set y (at + 2) 0 → z ≡ over_at at (answer_words a) old
-refused-stored at {n = n} old h e f g = rw h (stored at n 0 0 old e f g)
+over-append : (at : ℕ) (xs ys old : List ℕ) → over_at at (xs ++ ys) old ≡ over_at (at + length xs) ys (over_at at xs old)
+unfolding over_at
+over-append zero xs ys old = let e : 0 + length xs ≡ length xs = omega arith in rw e (over-rest xs ys old)
+over-append (suc at) xs ys [] = let e : suc at + length xs ≡ suc (at + length xs) = omega arith in rw e refl
+over-append (suc at) xs ys (y ∷ old) =
+    let e : suc at + length xs ≡ suc (at + length xs) = omega arith in rw e (ap (λ (t : List ℕ). y ∷ t) (over-append at xs ys old))
 
-answer-over : (a : Answer) (at : ℕ) (xs old : List ℕ) → over_at at (answer_words a ++ xs) old ≡ over_at (at + 3) xs (over_at at (answer_words a) old)
-answer-over (Done a b) at xs old =
-    three at 0 a b xs old
-    ∙ ap (over_at (at + 3) xs) (sym (three at 0 a b [] old ∙ over-end (at + 3) (set (set (set old at 0) (at + 1) a) (at + 2) b)))
-answer-over (Refused n) at xs old =
-    three at n 0 0 xs old
-    ∙ ap (over_at (at + 3) xs) (sym (three at n 0 0 [] old ∙ over-end (at + 3) (set (set (set old at n) (at + 1) 0) (at + 2) 0)))
+answer-over : (a : Result Answer Refusal) (at : ℕ) (xs old : List ℕ) → over_at at (answer_words a ++ xs) old ≡ over_at (at + 3) xs (over_at at (answer_words a) old)
+answer-over (Ok a) at xs old = over-append at (answer_words (Ok a)) xs old
+answer-over (Err k) at xs old = over-append at (answer_words (Err k)) xs old
 
 -- ---- an answer and the outcome that it stands for
 
-answer-is : (a : Answer) (ws ar : List ℕ) → answer_of (area.outcome a ws ar) ≡ answer_words a
-answer-is (Done a b) ws ar = refl
-answer-is (Refused n) ws ar = refl
+answer-is : (a : Result Answer Refusal) (ws ar : List ℕ) → answer_of (area.outcome a ws ar) ≡ answer_words a
+answer-is (Ok a) ws ar = refl
+answer-is (Err k) ws ar = refl
 
-set_is : (a : Answer) (ws ar : List ℕ) → (area.outcome a ws ar).set ≡ ws
-set_is (Done a b) ws ar = refl
-set_is (Refused n) ws ar = refl
+set_is : (a : Result Answer Refusal) (ws ar : List ℕ) → (area.outcome a ws ar).set ≡ ws
+set_is (Ok a) ws ar = refl
+set_is (Err k) ws ar = refl
 
-area-is : (a : Answer) (ws ar : List ℕ) → (area.outcome a ws ar).area ≡ ar
-area-is (Done a b) ws ar = refl
-area-is (Refused n) ws ar = refl
+area-is : (a : Result Answer Refusal) (ws ar : List ℕ) → (area.outcome a ws ar).area ≡ ar
+area-is (Ok a) ws ar = refl
+area-is (Err k) ws ar = refl
 
 -- ---- one call
 
@@ -97,7 +94,7 @@ module _ (ws abi ar missing call stubs : List ℕ) {kind c first n : ℕ} {lent 
   list-is : lent ≡ stub_list call stubs
   list-is = lent_is ∙ rw (first-is, count_is)
 
-  pub link-told : (a : Answer) (ws' ar' missing' : List ℕ) → kind ≡ 0 → link_outcome a ws' ar' missing' ≡ link_def ws abi c ar lent missing
+  pub link-told : (a : Result Answer Refusal) (ws' ar' missing' : List ℕ) → kind ≡ 0 → link_outcome a ws' ar' missing' ≡ link_def ws abi c ar lent missing
       → Called abi (start ws ar missing) (call_of call stubs) a ws' ar' missing'
   unfolding call_of
   link-told a ws' ar' missing' z e =
@@ -105,7 +102,7 @@ module _ (ws abi ar missing call stubs : List ℕ) {kind c first n : ℕ} {lent 
       let o = rw (class-is, list-is) at e in
       rw t (ap (λ (x : LinkOutcome). x.outcome) o, ap (λ (x : LinkOutcome). x.missing) o)
 
-  pub ask-told : (a : Answer) (ar' : List ℕ) {i : ℕ} → kind ≢ 0 → i ≡ get_or call 2 0 → area.outcome a ws ar' ≡ ask_def ws abi c i ar lent
+  pub ask-told : (a : Result Answer Refusal) (ar' : List ℕ) {i : ℕ} → kind ≢ 0 → i ≡ get_or call 2 0 → area.outcome a ws ar' ≡ ask_def ws abi c i ar lent
       → Called abi (start ws ar missing) (call_of call stubs) a ws ar' missing
   unfolding call_of
   ask-told a ar' z f e =
@@ -155,7 +152,7 @@ module _ (abi calls stubs : List ℕ) where
   unfolding left_answers answers_of
   answers-end i s old h = rw (left_end i h) (sym (over-end (3 * i) old))
 
-  module _ (i : ℕ) (h : i < length calls / 5) {call : List ℕ} (call-is : call ≡ take 5 (drop (5 * i) calls)) (a : Answer) (s : State)
+  module _ (i : ℕ) (h : i < length calls / 5) {call : List ℕ} (call-is : call ≡ take 5 (drop (5 * i) calls)) (a : Result Answer Refusal) (s : State)
       (ws' ar' missing' : List ℕ) (e : Called abi s (call_of call stubs) a ws' ar' missing') where
     made : Called abi s (call_at calls stubs i) a ws' ar' missing'
     unfolding call_at

@@ -1,10 +1,11 @@
 -- A list of links and asks as words, and what the calls answer one after the other: the state between two calls and what each leaves are
 -- `calls`' own (Calls.antt). Assumes nothing.
-use Rattle.std.specs.Prelude.{ℕ, zero, suc, ◌*◌, ◌/◌, ◌≡◌, cond, List, [], ◌∷◌, ◌++◌, length, get_or, take, drop, eqb}
+use Rattle.std.specs.Prelude.{ℕ, zero, suc, ◌*◌, ◌/◌, ◌≡◌, cond, List, [], ◌∷◌, ◌++◌, length, get_or, take, drop, eqb, Result, Ok, Err}
 use Rattle.words.specs.Lists.{list_from}
 use Rattle.linking.specs.Link.{Outcome}
 use Rattle.area.specs.declared.Answer.{Answer}
-use Rattle.area.specs.declared.Answer.TheVariants.{Done, Refused}
+use Rattle.refusal.specs.declared.Refusal.{Refusal}
+use Rattle.refusal.specs.Rows.{row}
 use Rattle.area.specs.Area as area
 use Rattle.calls.specs.Calls.{Call, link, ask, State, outcome, missing_after, step}
 
@@ -28,13 +29,13 @@ calls_of calls stubs = list_from (call_at calls stubs) 0 (length calls / 5)
 -- ---- what they answer
 
 -- what an answer stands for, with the memory that its call leaves
-abbrev pub Called : List ℕ → State → Call → Answer → List ℕ → List ℕ → List ℕ → Type 0
+abbrev pub Called : List ℕ → State → Call → Result Answer Refusal → List ℕ → List ℕ → List ℕ → Type 0
 Called abi s k a ws ar missing = (area.outcome a ws ar ≡ outcome abi s k) × (missing ≡ missing_after abi s k)
 
 -- "An accepted call gives 0 and its result; a refused one gives its number, zero in every other answer word": three words a call
-abbrev pub answer_words : Answer → List ℕ
-answer_words (Done a b) = 0 ∷ a ∷ b ∷ []
-answer_words (Refused n) = n ∷ 0 ∷ 0 ∷ []
+abbrev pub answer_words : Result Answer Refusal → List ℕ
+answer_words (Ok a) = 0 ∷ a.first ∷ a.second ∷ []
+answer_words (Err refusal) = row refusal ∷ 0 ∷ 0 ∷ []
 
 abbrev pub answer_of : Outcome → List ℕ
 answer_of o = o.refusal ∷ o.first ∷ o.second ∷ []

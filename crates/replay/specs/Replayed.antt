@@ -1,7 +1,7 @@
 -- DEMAND 3 OF WHAT `replay` LEAVES: `Replayed`, at the end, is the statement; proofs/Demand.antt proves it from demand 3 (crate calls) and the
 -- contract of `replay`. Assumes nothing.
 use Rattle.std.specs.Prelude.{ℕ, ◌+◌, ◌*◌, ◌/◌, ◌<◌, ◌≡◌, ◌≢◌, List, length, get_or}
-use Rattle.words.specs.declared.Found.TheVariants.{Nothing}
+use Rattle.std.specs.Prelude.{None}
 use Rattle.class_sheet.specs.ClassSheet.{text_of}
 use Rattle.abi_sheet.specs.AbiSheet.{abi_text_of}
 use Rattle.linking.specs.Chain.{parent_of}
@@ -41,7 +41,7 @@ module _ (ws abi area missing calls stubs area' : List ℕ) where
   -- demand 3's claim, of the tables in the area that `replay` leaves
   pub record Holds (c place slots : ℕ) : Type 0 where
     pub unique : OldRule ws c → Unique ws (text_of ws) abi (abi_text_of abi) c (table_at area' place slots)
-    pub keeps_parent : parent_of ws c ≢ 0 → class_abi ws (text_of ws) abi (abi_text_of abi) c ≡ Nothing → Keeps c place slots
+    pub keeps_parent : parent_of ws c ≢ 0 → class_abi ws (text_of ws) abi (abi_text_of abi) c ≡ None → Keeps c place slots
     pub whole : length (table_at area' place slots) ≡ slots
 
 -- for whatever `replay` is lent: where the set is unlinked at its start, the claim holds of every class that its answers tell linked and that

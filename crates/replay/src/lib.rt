@@ -1,12 +1,13 @@
 // A list of links and asks, made one after the other on the same lent memory: the program that demand 3 speaks of.
 #![tactic(auto)]
 
-ghost use Rattle.std.specs.Prelude.{◌≡◌, ◌+◌, ◌<◌, ◌^◌};
+ghost use Rattle.std.specs.Prelude.{◌≡◌, ◌+◌, ◌<◌, ◌^◌, [], ◌∷◌};
 ghost use Rattle.calls.specs.Calls.{start};
 ghost use Rattle.replay.specs.Replay.{call_of, Called, answer_words, over_at};
 ghost use Rattle.replay.specs.Replayed.{Made};
 
 use area::Answer;
+use refusal::Refusal;
 
 // Makes the call that five words tell.
 fn one_call(
@@ -16,37 +17,40 @@ fn one_call(
     missing: &mut [u32],
     call: &[u32],
     stubs: &[u32],
-) -> Answer
+) -> Result<Answer, Refusal>
     ensures { Called abi.now (start set.old area.old missing.old) (call_of call.now stubs.now) result set.new area.new missing.new }
 {
-    let class = words::word_at(call, 1);
-    let interface = words::word_at(call, 2);
-    let first = words::wide(words::word_at(call, 3));
-    let count = words::wide(words::word_at(call, 4));
-    let lent = words::word_part(stubs, first, count);
-    if words::word_at(call, 0) == 0 {
+    let class = words::get_or(call, 1, 0);
+    let interface = words::get_or(call, 2, 0);
+    let first = words::get_or(call, 3, 0) as usize;
+    let count = words::get_or(call, 4, 0) as usize;
+    let lent = words::part(stubs, first, count);
+    if words::get_or(call, 0, 0) == 0 {
         return link::link(set, abi, class, area, lent, missing);
     }
     ask::interface_dispatch_table(set, abi, class, interface, area, lent)
 }
 
-// Stores a call's three answer words from a place on, as far as there is room.
-fn put_answer(answers: &mut [u32], at: usize, a: Answer)
-    requires { at + 2 < 2 ^ 64 }
-    ensures { answers.new ≡ over_at at (answer_words a) answers.old }
+// A call's three answer words: refusal, first, second.
+fn answer_words(answer: Result<Answer, Refusal>) -> (u32, u32, u32)
+    ensures { result.0 ∷ result.1 ∷ result.2 ∷ [] ≡ answer_words answer }
 {
-    match a {
-        Answer::Done(first, second) => {
-            words::put_word(answers, at, 0);
-            words::put_word(answers, at + 1, first);
-            words::put_word(answers, at + 2, second);
-        }
-        Answer::Refused(row) => {
-            words::put_word(answers, at, row);
-            words::put_word(answers, at + 1, 0);
-            words::put_word(answers, at + 2, 0);
-        }
+    match answer {
+        Ok(a) => (0, a.first, a.second),
+        Err(refusal) => (u32::from(refusal), 0, 0),
     }
+}
+
+// Stores them from a place on, as far as there is room.
+#[tactic(auto, using(crate::proofs::ReplayLaws::stored))]
+fn put_answer(answers: &mut [u32], at: usize, answer: Result<Answer, Refusal>)
+    requires { at + 2 < 2 ^ 64 }
+    ensures { answers.new ≡ over_at at (answer_words answer) answers.old }
+{
+    let (row, first, second) = answer_words(answer);
+    words::put(answers, at, row);
+    words::put(answers, at + 1, first);
+    words::put(answers, at + 2, second);
 }
 
 // Makes the calls in turn, each on the set, the area and the counts as the last one left them, accepted or refused. Five words are a call: kind (0 a
@@ -65,17 +69,9 @@ pub fn replay(
         (start set.new area.new missing.new) answers.new }
 {
     let n = calls.len() / 5;
-    let mut i: usize = 0;
-    while i < n {
-        let a = one_call(
-            set,
-            abi,
-            area,
-            missing,
-            words::word_part(calls, 5 * i, 5),
-            stubs,
-        );
-        put_answer(answers, 3 * i, a);
-        i += 1;
+    for i in 0..n {
+        let call = words::part(calls, 5 * i, 5);
+        let answer = one_call(set, abi, area, missing, call, stubs);
+        put_answer(answers, 3 * i, answer);
     }
 }

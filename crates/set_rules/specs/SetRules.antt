@@ -34,6 +34,9 @@ abi_descriptors abi text = all_of (abi_slot_count abi) (abi_slot_typed abi text)
 
 -- ---- "Checks run down this table": rows 4 and 5 of one sheet, 0 where neither refuses
 
+unfoldable pub judged : Bool → Bool → ℕ
+judged records typed = cond (not records) 4 (cond (not typed) 5 0)
+
 unfoldable pub class_refusal : List ℕ → List ℕ → ℕ
 class_refusal ws text = cond (not (class_records ws text)) 4 (cond (not (class_descriptors ws text)) 5 0)
 

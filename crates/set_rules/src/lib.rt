@@ -1,12 +1,15 @@
 // Row 5 of the table of refusals for both sheets, and rows 3 to 5 as a link or an ask applies them to words already read.
 #![tactic(auto)]
 
-ghost use Rattle.std.specs.Prelude.{◌≡◌, ◌^◌, ◌≤◌, ◌<◌};
+ghost use Rattle.std.specs.Prelude.{◌≡◌, ◌^◌, ◌≤◌, ◌<◌, Bool};
+ghost use Rattle.refusal.specs.Rows.{row_of};
 ghost use Rattle.words.specs.Folds.{all_of};
 ghost use Rattle.text.specs.Text.{name_at};
 ghost use Rattle.class_sheet.specs.ClassSheet.{member_width};
 ghost use Rattle.set_rules.specs.Known.{is_descriptor, is_known, Known, record_typed};
-ghost use Rattle.set_rules.specs.SetRules.{class_descriptors, abi_descriptors, class_refusal, abi_refusal, set_fits, records_refusal, set_refusal};
+ghost use Rattle.set_rules.specs.SetRules.{judged, class_descriptors, abi_descriptors, class_refusal, abi_refusal, set_fits, records_refusal, set_refusal};
+
+use refusal::Refusal;
 
 // The most bytes that a text has, and so where its parts may start. Many records share a descriptor: `known`, a byte for each start, has one
 // more than the length of a part that starts there and was found to be a descriptor for every record of the kind, so that it is read but
@@ -23,6 +26,7 @@ enum Members {
 
 // Whether the bytes are a descriptor for a record of the kind whose number, its fifth word, is n: of a method n is the flags, and a slot
 // counts as an instance method, whatever its index.
+#[tactic(auto, unfolding(crate::specs::Known::is_descriptor))]
 fn is_descriptor(kind: Members, n: u32, s: &[u8]) -> bool
     ensures { result ≡ is_descriptor kind n s.now }
 {
@@ -34,10 +38,11 @@ fn is_descriptor(kind: Members, n: u32, s: &[u8]) -> bool
 }
 
 // Whether `known` has, at the part's start, one more than its length.
+#[tactic(auto, unfolding(crate::specs::Known::is_known))]
 fn is_known(known: &[u8], start: u32, len: u32) -> bool
     ensures { result ≡ is_known known.now start len }
 {
-    words::byte_at(known, words::wide(start)) as usize == words::wide(len) + 1
+    words::get_or(known, start as usize, 0) as usize == (len as usize) + 1
 }
 
 // Whether the part of the text is a descriptor for a record whose number is n. It is read only where it is not known to be one; a
@@ -54,7 +59,7 @@ fn part_typed(kind: Members, n: u32, text: &[u8], start: u32, len: u32, known: &
         return is_descriptor(kind, n, text::name_at(text, start, len));
     }
     if len < 255 {
-        words::put_byte(known, words::wide(start), (len % 255 + 1) as u8);
+        words::put(known, start as usize, (len % 255 + 1) as u8);
     }
     true
 }
@@ -66,24 +71,23 @@ fn records_typed(kind: Members, ws: &[u32], first: usize, width: usize, n: u32, 
 {
     let mut known = [0u8; STARTS];
     let mut at = first;
-    let mut i: u32 = 0;
-    while i < n {
+    for i in 0..n {
         if ws.len() <= at + text::DESCRIPTOR_LENGTH {
             return false;
         }
         let start = ws[at + text::DESCRIPTOR_START];
         let len = ws[at + text::DESCRIPTOR_LENGTH];
-        let number = words::word_at(ws, at + text::NUMBER);
+        let number = words::get_or(ws, at + text::NUMBER, 0);
         if !part_typed(kind, number, text, start, len, &mut known) {
             return false;
         }
         at += width;
-        i += 1;
     }
     true
 }
 
 // Row 5 for a class sheet.
+#[tactic(auto, using(crate::proofs::KnownLaws::class_typed))]
 fn class_descriptors_ok(ws: &[u32], text: &[u8]) -> bool
     ensures { result ≡ class_descriptors ws.now text.now }
 {
@@ -111,6 +115,7 @@ fn class_descriptors_ok(ws: &[u32], text: &[u8]) -> bool
 }
 
 // Row 5 for an ABI sheet.
+#[tactic(auto, using(crate::proofs::KnownLaws::abi_typed))]
 fn abi_descriptors_ok(abi: &[u32], text: &[u8]) -> bool
     ensures { result ≡ abi_descriptors abi.now text.now }
 {
@@ -137,58 +142,65 @@ fn abi_descriptors_ok(abi: &[u32], text: &[u8]) -> bool
         )
 }
 
-// Rows 4 and 5 for a class sheet: the number that refuses, or 0.
-pub fn class_refusal(ws: &[u32], text: &[u8]) -> u32
-    ensures { result ≡ class_refusal ws.now text.now }
+// Row 4 where the records are not in order, else row 5 where their descriptors are not, which are read only then.
+#[tactic(auto, unfolding(crate::specs::SetRules::judged))]
+fn judged<F: Fn() -> bool>(records: bool, typed: F) -> Result<(), Refusal>
+    requires { F.IsAlwaysCallable typed }
+    ensures { (t : Bool) → ((r : Bool) → F.post typed r → r ≡ t) → row_of result ≡ judged records t }
 {
-    if !class_rules::records_ok(ws, text) {
-        return 4;
+    if !records {
+        return Err(Refusal::Record);
     }
-    if !class_descriptors_ok(ws, text) {
-        return 5;
+    if !typed() {
+        return Err(Refusal::Descriptor);
     }
-    0
+    Ok(())
 }
 
-// Rows 4 and 5 for an ABI sheet: the number that refuses, or 0.
-pub fn abi_refusal(abi: &[u32], text: &[u8]) -> u32
-    ensures { result ≡ abi_refusal abi.now text.now }
+// Rows 4 and 5 for a class sheet.
+pub fn class_refusal(ws: &[u32], text: &[u8]) -> Result<(), Refusal>
+    ensures { row_of result ≡ class_refusal ws.now text.now }
 {
-    if !abi_rules::records_ok(abi, text) {
-        return 4;
-    }
-    if !abi_descriptors_ok(abi, text) {
-        return 5;
-    }
-    0
+    judged(
+        class_rules::records_ok(ws, text),
+        || class_descriptors_ok(ws, text),
+    )
+}
+
+// Rows 4 and 5 for an ABI sheet.
+pub fn abi_refusal(abi: &[u32], text: &[u8]) -> Result<(), Refusal>
+    ensures { row_of result ≡ abi_refusal abi.now text.now }
+{
+    judged(
+        abi_rules::records_ok(abi, text),
+        || abi_descriptors_ok(abi, text),
+    )
 }
 
 // Row 3 of a link or an ask, over both sheets.
+#[tactic(auto, unfolding(crate::specs::SetRules::set_fits))]
 pub fn set_fits(ws: &[u32], abi: &[u32]) -> bool
     ensures { result ≡ set_fits ws.now abi.now }
 {
     class_rules::fits_ok(ws) & abi_rules::fits_ok(abi)
 }
 
-// Rows 4 and 5 of a link or an ask, over both sheets and their texts: the number that refuses, or 0.
-pub fn records_refusal(ws: &[u32], text: &[u8], abi: &[u32], labels: &[u8]) -> u32
-    ensures { result ≡ records_refusal ws.now text.now abi.now labels.now }
+// Rows 4 and 5 of a link or an ask, over both sheets and their texts.
+pub fn records_refusal(ws: &[u32], text: &[u8], abi: &[u32], labels: &[u8]) -> Result<(), Refusal>
+    ensures { row_of result ≡ records_refusal ws.now text.now abi.now labels.now }
 {
-    if !(class_rules::records_ok(ws, text) & abi_rules::records_ok(abi, labels)) {
-        return 4;
-    }
-    if !(class_descriptors_ok(ws, text) & abi_descriptors_ok(abi, labels)) {
-        return 5;
-    }
-    0
+    judged(
+        class_rules::records_ok(ws, text) & abi_rules::records_ok(abi, labels),
+        || class_descriptors_ok(ws, text) & abi_descriptors_ok(abi, labels),
+    )
 }
 
-// Rows 3, 4 and 5 of a link or an ask: the number that refuses, or 0.
-pub fn set_refusal(ws: &[u32], abi: &[u32]) -> u32
-    ensures { result ≡ set_refusal ws.now abi.now }
+// Rows 3, 4 and 5 of a link or an ask.
+pub fn set_refusal(ws: &[u32], abi: &[u32]) -> Result<(), Refusal>
+    ensures { row_of result ≡ set_refusal ws.now abi.now }
 {
     if !set_fits(ws, abi) {
-        return 3;
+        return Err(Refusal::Form);
     }
     let mut text = [0u8; class_sheet::TEXT_LIMIT as usize];
     class_sheet::unpack_text(ws, &mut text);

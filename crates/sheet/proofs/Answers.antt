@@ -10,24 +10,25 @@ use lib.ListN.{length}
 use lib.Dec.{eqb, leb}
 use borrow.Author.Tests.{not-true, not-false, eqb-true, eqb-false}
 use Rattle.words.proofs.Bools.{by, and_4, passed}
+use Rattle.std.proofs.Common.{Result, Ok, Err}
+use Rattle.refusal.specs.declared.Refusal.{Refusal}
+use Rattle.refusal.proofs.Rows.{row_unique}
 use Rattle.class_sheet.specs.ClassSheet.{block_limit}
 use Rattle.abi_sheet.specs.AbiSheet.{abi_block_limit}
 use Rattle.block.specs.Block.{block_count, sheet_words, shape_ok}
 use Rattle.sheet.specs.Sheet.{Outcome, outcome, block_refusal, sheet_refusal, read_sheet, class_rows, class_sheet_refusal, read_class_sheet, loose_rows, unordered_sheet_refusal, read_unordered_sheet, abi_rows, abi_sheet_refusal, read_abi_sheet}
-use Rattle.sheet.specs.declared.Read.{Read}
-use Rattle.sheet.specs.declared.Read.TheVariants.{Words, Refused}
 
 -- an outcome that tells its answer
 abbrev pub Tells : Outcome → Type 0
 Tells o = o.refusal ≡ 0 → o.words ≢ 0
 
-pub answer_unique : (a b : Read) (m n : List ℕ) {o : Outcome} → Tells o → outcome a m ≡ o → outcome b n ≡ o → a ≡ b
-answer_unique (Words i) (Words j) m n t e f = ap Words (ap (λ (x : Outcome). x.words) (e ∙ sym f))
-answer_unique (Words i) (Refused k) m n t e f =
+pub answer_unique : (a b : Result ℕ Refusal) (m n : List ℕ) {o : Outcome} → Tells o → outcome a m ≡ o → outcome b n ≡ o → a ≡ b
+answer_unique (Ok i) (Ok j) m n t e f = ap Ok (ap (λ (x : Outcome). x.words) (e ∙ sym f))
+answer_unique (Ok i) (Err k) m n t e f =
     absurd (t (sym (ap (λ (x : Outcome). x.refusal) e)) (sym (ap (λ (x : Outcome). x.words) f)))
-answer_unique (Refused k) (Words j) m n t e f =
+answer_unique (Err k) (Ok j) m n t e f =
     absurd (t (sym (ap (λ (x : Outcome). x.refusal) f)) (sym (ap (λ (x : Outcome). x.words) e)))
-answer_unique (Refused j) (Refused k) m n t e f = ap Refused (ap (λ (x : Outcome). x.refusal) (e ∙ sym f))
+answer_unique (Err j) (Err k) m n t e f = ap Err (row_unique j k (ap (λ (x : Outcome). x.refusal) (e ∙ sym f)))
 
 -- a sheet that rows 1 and 2 let pass has a block
 some_block : (bs : List ℕ) (room limit : ℕ) → block_refusal bs room limit ≡ 0 → 0 < block_count bs

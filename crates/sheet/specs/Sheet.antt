@@ -1,6 +1,6 @@
 -- Reading a class sheet and an ABI sheet: rows 1 to 5, in that order; a class sheet whose classes come in any order: rows 1 to 3. Assumes
 -- nothing.
-use Rattle.std.specs.Prelude.{ℕ, ◌*◌, cond, not, List, ◌++◌, drop, length, eqb}
+use Rattle.std.specs.Prelude.{ℕ, ◌*◌, cond, not, List, ◌++◌, drop, length, eqb, Result, Ok, Err}
 use Rattle.words.specs.Folds.{all_of}
 use Rattle.block.specs.Block.{block_count, sheet_words, check_ok, shape_ok}
 use Rattle.class_sheet.specs.ClassSheet.{block_limit, text_of}
@@ -8,8 +8,8 @@ use Rattle.abi_sheet.specs.AbiSheet.{abi_block_limit, abi_text_of}
 use Rattle.class_rules.specs.ClassRules.{class_form}
 use Rattle.abi_rules.specs.AbiRules.{abi_form}
 use Rattle.set_rules.specs.SetRules.{class_refusal, abi_refusal}
-use Rattle.sheet.specs.declared.Read.{Read}
-use Rattle.sheet.specs.declared.Read.TheVariants.{Words, Refused}
+use Rattle.refusal.specs.Rows.{row}
+use Rattle.refusal.specs.declared.Refusal.{Refusal}
 
 -- ---- what a reading answers, and what the lent words then hold
 
@@ -20,9 +20,9 @@ pub record Outcome : Type 0 where
   pub memory : List ℕ
 
 -- the number and value of each case of the answer, beside the memory
-abbrev pub outcome : Read → List ℕ → Outcome
-outcome (Words n) ws = record { refusal = 0; words = n; memory = ws }
-outcome (Refused k) ws = record { refusal = k; words = 0; memory = ws }
+abbrev pub outcome : Result ℕ Refusal → List ℕ → Outcome
+outcome (Ok n) ws = record { refusal = 0; words = n; memory = ws }
+outcome (Err refusal) ws = record { refusal = row refusal; words = 0; memory = ws }
 
 -- ---- rows 1 to 5
 

@@ -1,16 +1,9 @@
--- The last step of a reading, as the code takes it; no public promise cites it. Assumes nothing.
-use Rattle.std.specs.Prelude.{ℕ, ◌*◌, ◌%◌, ◌^◌, cond, List, eqb}
-use Rattle.block.specs.Block.{block_count, unpacked}
-use Rattle.sheet.specs.Sheet.{Outcome}
+-- What a reading asks of the rows that it is handed; no public promise cites it. Assumes nothing.
+use Rattle.std.specs.Prelude.{ℕ, ◌≡◌, List, Result}
+use Rattle.refusal.specs.Rows.{row_of}
+use Rattle.refusal.specs.declared.Refusal.{Refusal}
+use denote.Ref.{Bor}
 
--- how many blocks are written where `row` refuses, or is 0
-unfoldable pub written_blocks : List ℕ → ℕ → ℕ
-written_blocks bs row = cond (eqb row 0) (block_count bs % 2 ^ 32) 0
-
-unfoldable pub finished : ℕ → List ℕ → List ℕ → Outcome
-finished row bs ws =
-    record {
-      refusal = row;
-      words = 127 * written_blocks bs row % 2 ^ 32;
-      memory = unpacked bs (written_blocks bs row) ws;
-    }
+-- what a call on words answers, as the call tells, is what `rule` says of them
+abbrev pub Judges : (Bor (List ℕ) → Result Unit Refusal → Type 0) → (List ℕ → ℕ) → Type 0
+Judges call rule = (ws : Bor (List ℕ)) (r : Result Unit Refusal) → call ws r → row_of r ≡ rule ws.now

@@ -1,15 +1,9 @@
 -- A class's own methods, added to a table one by one: each takes a slot where it may stand, or a new last one. So a good table stays good,
 -- each entry is an old one or a method's, and a known entry keeps its signature. Assumes nothing.
-use mathlib.Core.Path.{◌≡◌, refl, sym, ap, ◌∙◌}
-use mathlib.Core.Logic.{◌⊎◌, inl, inr}
-use mathlib.Core.Bool.{true, false, not}
-use mathlib.Core.List.{List, [], ◌∷◌, ◌++◌, Memᴰ}
-use Prim.Native.Nat.{ℕ, ◌≤◌, ◌<◌}
-use native.Mathlib.Omega.{arith}
-use lib.ListN.{length, set, length-set, length-append}
-use lib.Dec.{eqb}
-use borrow.Author.Tests.{eqb-true, not-false}
-use Rattle.words.specs.declared.Found.TheVariants.{At, Nothing}
+use Rattle.std.proofs.lemmas.Grind.{common_steps}
+use Rattle.std.proofs.Common.{rules, ◌≡◌, refl, sym, ap, ◌∙◌, ◌⊎◌, inl, inr, true, false, not, List, [], ◌∷◌, ◌++◌, ℕ, ◌≤◌, ◌<◌, arith, length, set, eqb, eqb-true, Some, None}
+use mathlib.Core.List.{Memᴰ}
+use borrow.Author.Tests.{not-false}
 use Rattle.words.proofs.Bools.{by}
 use Rattle.words.proofs.ListLaws.{by-found}
 use Rattle.class_sheet.specs.ClassSheet.{method_name, method_descriptor, method_target}
@@ -22,7 +16,7 @@ use Rattle.slots.proofs.PlaceFacts.{Signature, OneIndex, Placed, Good}
 use Rattle.slots.proofs.FixedFacts.{method_signature, Fixes, Live, fixed-some, fixed-none, fixed-room}
 use Rattle.slots.proofs.EntryFacts.{at, Shows, shows, known-below, set-good, append-good, slot_for, slot-below, slot-shows, slot-none, not-other}
 
-built_on : (b : Built) (f : List Entry → Built) (T : List Entry) → on_built b f ≡ built T → (U : List Entry) × (b ≡ built U) × (f U ≡ built T)
+pub built_on : (b : Built) (f : List Entry → Built) (T : List Entry) → on_built b f ≡ built T → (U : List Entry) × (b ≡ built U) × (f U ≡ built T)
 built_on (built U) f T e = (U, refl, e)
 built_on (refused n) f T e = not-built e
 
@@ -59,7 +53,7 @@ module _ (ws text abi labels : List ℕ) where
       placed = λ g j l. one (method_signature ws text m) j i l.fixes f;
     }
 
-    own_seat : (i : ℕ) → slot_for ws text m T ≡ At i → Seat c m T i
+    own_seat : (i : ℕ) → slot_for ws text m T ≡ Some i → Seat c m T i
     own_seat i e =
         let k = slot-shows ws text m T i e in
         record {
@@ -69,7 +63,7 @@ module _ (ws text abi labels : List ℕ) where
           placed = λ g. g.placed i (method_signature ws text m) k;
         }
 
-    last-placed : fixed_of ws text abi labels (chain_abi ws text abi labels c) m ≡ Nothing
+    last-placed : fixed_of ws text abi labels (chain_abi ws text abi labels c) m ≡ None
         → Placed (Live ws text abi labels c) (method_signature ws text m) (length T)
     last-placed e j f = absurd (fixed-none ws text abi labels c within m j e f.fixes)
 
@@ -92,8 +86,8 @@ module _ (ws text abi labels : List ℕ) where
         (λ r. added (last-placed q) (slot-none ws text m T r) (built-same (rw (q, r) at e))))
 
   did-longer : {c m : ℕ} {T U : List Entry} → Did c m T U → length T ≤ length U
-  did-longer {m = m} {T = T} (stored i s e) = rw (← e) (omega (arith, length-set T i (method_entry ws m)))
-  did-longer {m = m} {T = T} (added p n e) = rw (← e) (omega (arith, length-append T (method_entry ws m ∷ [])))
+  did-longer {m = m} {T = T} (stored i s e) = search rules
+  did-longer {m = m} {T = T} (added p n e) = grind (arith, common_steps)
 
   did-good : {c m : ℕ} {T U : List Entry} → Did c m T U
       → Good (Live ws text abi labels c) (Shows ws text T) → Good (Live ws text abi labels c) (Shows ws text U)
@@ -159,11 +153,11 @@ module _ (ws text abi labels : List ℕ) where
   -- entry e, which showed s, is now f
   pub record Stays (ms : List ℕ) (s : Signature) (e f : Entry) : Type 0 where
     pub method : ℕ
-    pub holds : f.method ≡ At method
+    pub holds : f.method ≡ Some method
     pub is : method_signature ws text method ≡ s
     pub word : (f.word ≡ e.word) ⊎ Declared ms s f.word
 
-  pub stays_same : (ms : List ℕ) (e f : Entry) (m : ℕ) → e.method ≡ At m → f ≡ e → Stays ms (method_signature ws text m) e f
+  pub stays_same : (ms : List ℕ) (e f : Entry) (m : ℕ) → e.method ≡ Some m → f ≡ e → Stays ms (method_signature ws text m) e f
   stays_same ms e f m k q = rw q (record { method = m; holds = k; is = refl; word = inl refl })
 
   pub stays-own : (ms : List ℕ) (s : Signature) (e f : Entry) (m : ℕ) → Memᴰ m ms → eligible ws text m ≡ true → method_signature ws text m ≡ s
@@ -172,7 +166,7 @@ module _ (ws text abi labels : List ℕ) where
       rw r (record { method = m; holds = refl; is = k; word = inr (record { method = m; own = i; eligible = q; is = k; target = refl }) })
 
   stays_then : (ms : List ℕ) (s : Signature) (e f g : Entry) → Stays ms s e f
-      → ((m : ℕ) → f.method ≡ At m → Stays ms (method_signature ws text m) f g) → Stays ms s e g
+      → ((m : ℕ) → f.method ≡ Some m → Stays ms (method_signature ws text m) f g) → Stays ms s e g
   stays_then ms s e f g k next = go (next k.method k.holds)
     where
       which : (g.word ≡ f.word) ⊎ Declared ms s g.word → (f.word ≡ e.word) ⊎ Declared ms s f.word
@@ -186,11 +180,11 @@ module _ (ws text abi labels : List ℕ) where
 
   module _ (own : List ℕ) where
     did-stays : {c m : ℕ} {T U : List Entry} → Memᴰ m own → eligible ws text m ≡ true → Did c m T U
-        → (i n : ℕ) → (at T i).method ≡ At n → Stays own (method_signature ws text n) (at T i) (at U i)
+        → (i n : ℕ) → (at T i).method ≡ Some n → Stays own (method_signature ws text n) (at T i) (at U i)
     did-stays {m = m} {T = T} k q (stored j s e) i n h =
         rw (← e)
         (elim (set_at T j i (method_entry ws m) empty s.below) [
-          | inl p ↦ (let g : (at T j).method ≡ At n = rw p.0 at h in
+          | inl p ↦ (let g : (at T j).method ≡ Some n = rw p.0 at h in
               stays-own own (method_signature ws text n) (at T i) (at (set T j (method_entry ws m)) i) m k q
               (sym (s.same (method_signature ws text n) (shows ws text T j n g))) p.1)
           | inr p ↦ stays_same own (at T i) (at (set T j (method_entry ws m)) i) n h p.1
@@ -203,7 +197,7 @@ module _ (ws text abi labels : List ℕ) where
         ])
 
     pub adds-stays : {c : ℕ} {ms : List ℕ} {T U : List Entry} → Adds c ms T U → ((m : ℕ) → Memᴰ m ms → Memᴰ m own)
-        → (i n : ℕ) → (at T i).method ≡ At n → Stays own (method_signature ws text n) (at T i) (at U i)
+        → (i n : ℕ) → (at T i).method ≡ Some n → Stays own (method_signature ws text n) (at T i) (at U i)
     adds-stays (done {T = T}) sub i n h = stays_same own (at T i) (at T i) n h refl
     adds-stays (skip a) sub i n h = adds-stays a (λ m k. sub m (Memᴰ.tail k)) i n h
     adds-stays (add {m = m} {T = T} {U = U} {W = W} q d a) sub i n h =

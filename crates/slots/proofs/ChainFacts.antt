@@ -1,13 +1,9 @@
 -- A chain class by class: its methods and slot records are the class's own or its parent's, so a chain's conditions are its parent's too; and
 -- what Reading's first rule finds along it. Assumes nothing.
-use mathlib.Core.Path.{◌≡◌, sym, ap, ◌∙◌, refl}
-use mathlib.Core.Logic.{◌⊎◌, ◌≢◌}
+use Rattle.std.proofs.Common.{◌≡◌, sym, ap, ◌∙◌, refl, ◌⊎◌, ◌≢◌, List, ℕ, ◌<◌, eqb, eqb-true, Some, None}
 use mathlib.Core.List.Memᴰ
-use mathlib.Core.List.{List, Memᴰ}
-use Prim.Native.Nat.{ℕ, ◌<◌}
-use lib.Dec.{eqb}
-use borrow.Author.Tests.{eqb-true, eqb-false}
-use Rattle.words.specs.declared.Found.TheVariants.{At, Nothing}
+use mathlib.Core.List.{Memᴰ}
+use borrow.Author.Tests.{eqb-false}
 use Rattle.words.proofs.ListLaws.{by-found, find-member, find-passes}
 use Rattle.class_sheet.specs.ClassSheet.{method_target}
 use Rattle.linking.specs.Chain.{own_methods, parent_of, chain, own_target, find_by_target}
@@ -58,32 +54,32 @@ module _ (ws : List ℕ) (c t : ℕ) where
     method : ChainMethod ws c m
     target : method_target ws m ≡ t
 
-  own-target-of : {d m : ℕ} → Memᴰ d (chain ws c) → own_target ws t d ≡ At m → Targeted m
+  own-target-of : {d m : ℕ} → Memᴰ d (chain ws c) → own_target ws t d ≡ Some m → Targeted m
   unfolding own_target
   own-target-of {d} {m} i e = record {
     method = record { owner = d; along = i; own = (find-member (λ k. eqb (method_target ws k) t) (own_methods ws d) m e) };
     target = eqb-true (method_target ws m) t (find-passes (λ k. eqb (method_target ws k) t) (own_methods ws d) m e);
   }
 
-  target-of : {m : ℕ} → find_by_target ws c t ≡ At m → Targeted m
+  target-of : {m : ℕ} → find_by_target ws c t ≡ Some m → Targeted m
   unfolding find_by_target
   target-of {m} e = let r = found_in (own_target ws t) (chain ws c) m e in own-target-of r.along r.finds
 
   -- nothing, where no method of the chain has the target
-  pub target_absent : ((m : ℕ) → ChainMethod ws c m → method_target ws m ≢ t) → find_by_target ws c t ≡ Nothing
+  pub target_absent : ((m : ℕ) → ChainMethod ws c m → method_target ws m ≢ t) → find_by_target ws c t ≡ None
   target_absent none = by-found (find_by_target ws c t) (λ m e. let r = target-of e in absurd (none m r.method r.target)) (λ e. e)
 
   -- the method itself, where the chain's targets are all different
   pub target-own : ((m n : ℕ) → ChainMethod ws c m → ChainMethod ws c n → method_target ws m ≡ method_target ws n → m ≡ n)
-      → (m : ℕ) → ChainMethod ws c m → method_target ws m ≡ t → find_by_target ws c t ≡ At m
+      → (m : ℕ) → ChainMethod ws c m → method_target ws m ≡ t → find_by_target ws c t ≡ Some m
   unfolding find_by_target
   target-own different m i e = found-only (own_target ws t) m i.along first (λ d n j f. only n (own-target-of j f))
     where
       only : (n : ℕ) → Targeted n → n ≡ m
       only n r = different n m r.method i (r.target ∙ sym e)
 
-      misses : own_target ws t i.owner ≡ Nothing → ⊥
+      misses : own_target ws t i.owner ≡ None → ⊥
       misses f = eqb-false (method_target ws m) t (find-misses (λ n. eqb (method_target ws n) t) i.own (unfold own_target in f)) e
 
-      first : own_target ws t i.owner ≡ At m
-      first = by-found (own_target ws t i.owner) (λ n f. f ∙ ap At (only n (own-target-of i.along f))) (λ f. absurd (misses f))
+      first : own_target ws t i.owner ≡ Some m
+      first = by-found (own_target ws t i.owner) (λ n f. f ∙ ap Some (only n (own-target-of i.along f))) (λ f. absurd (misses f))

@@ -1,18 +1,11 @@
 -- Entries of a table: the signatures they show, what a store or one entry more does to a good table, and where a signature's slot is.
 -- Assumes nothing.
-use mathlib.Core.Path.{◌≡◌, refl, sym, ap, ◌∙◌}
-use mathlib.Core.Logic.{◌⊎◌, inl, inr, ◌≢◌}
-use mathlib.Core.Bool.{true, false, false≢true}
-use mathlib.Core.List.{List, [], ◌∷◌, ◌++◌}
-use Prim.Native.Nat.{ℕ, ◌<◌}
-use lib.ListN.{length, get_or, set}
-use borrow.Author.Tests.{not-false}
-use Rattle.words.specs.declared.Found.{Found}
-use Rattle.words.specs.declared.Found.TheVariants.{At, Nothing}
+use Rattle.std.proofs.lemmas.Grind.{common_steps}
+use Rattle.std.proofs.Common.{rules, arith, ◌≡◌, refl, sym, ap, ◌∙◌, ◌⊎◌, inl, inr, ◌≢◌, true, false, List, [], ◌∷◌, ◌++◌, ℕ, ◌<◌, length, get_or, set, Option, Some, None}
+use mathlib.Core.Bool.{false≢true}
 use Rattle.class_sheet.specs.ClassSheet.{method_name, method_descriptor}
-use Rattle.linking.specs.Chain.{method_is}
-use Rattle.linking.specs.Vtable.{Entry, empty, entry_is, slot_of, entry_is_other}
-use Rattle.slots.proofs.ListFacts.{not_found, found-same, position-below, position-passes, position-misses, set_at, snoc_at, inside}
+use Rattle.linking.specs.Vtable.{slot_word, Entry, empty, entry_is, slot_of, entry_is_other}
+use Rattle.slots.proofs.ListFacts.{position-below, position-passes, position-misses, set_at, snoc_at}
 use Rattle.slots.proofs.PlaceFacts.{Signature, Placed, Good, good_more}
 use Rattle.slots.proofs.FixedFacts.{method_signature, method-same, method-other}
 
@@ -21,17 +14,17 @@ abbrev pub at : List Entry → ℕ → Entry
 at T i = get_or T i empty
 
 -- a known entry is inside
-pub known-below : (T : List Entry) (i m : ℕ) → (at T i).method ≡ At m → i < length T
-known-below T i m e = inside T i empty (λ q. not_found (sym (ap (λ (x : Entry). x.method) q) ∙ e))
+pub known-below : (T : List Entry) (i m : ℕ) → (at T i).method ≡ Some m → i < length T
+known-below T i m e = grind (arith, common_steps)
 
 module _ (ws text : List ℕ) where
   -- the entry at index i is known, with signature s
   pub record Shows (T : List Entry) (i : ℕ) (s : Signature) : Type 0 where
     pub method : ℕ
-    pub holds : (at T i).method ≡ At method
+    pub holds : (at T i).method ≡ Some method
     pub is : method_signature ws text method ≡ s
 
-  pub shows : (T : List Entry) (i m : ℕ) → (at T i).method ≡ At m → Shows T i (method_signature ws text m)
+  pub shows : (T : List Entry) (i m : ℕ) → (at T i).method ≡ Some m → Shows T i (method_signature ws text m)
   shows T i m e = record { method = m; holds = e; is = refl }
 
   -- entries that are the same show the same
@@ -39,11 +32,10 @@ module _ (ws text : List ℕ) where
   shows_same T U i j s e k = record { method = k.method; holds = ap (λ (x : Entry). x.method) (sym e) ∙ k.holds; is = k.is }
 
   -- what an entry's method shows
-  pub shows-entry : (T : List Entry) (i m : ℕ) (s : Signature) → (at T i).method ≡ At m → Shows T i s → s ≡ method_signature ws text m
-  shows-entry T i m s e k =
-      let q : k.method ≡ m = found-same (sym k.holds ∙ e) in sym k.is ∙ ap (method_signature ws text) q
+  pub shows-entry : (T : List Entry) (i m : ℕ) (s : Signature) → (at T i).method ≡ Some m → Shows T i s → s ≡ method_signature ws text m
+  shows-entry T i m s e k = cc
 
-  module _ {F : Signature → ℕ → Type 0} (T : List Entry) (e : Entry) (m : ℕ) (known : e.method ≡ At m) where
+  module _ {F : Signature → ℕ → Type 0} (T : List Entry) (e : Entry) (m : ℕ) (known : e.method ≡ Some m) where
     pub set-good : (i : ℕ) → i < length T → Placed F (method_signature ws text m) i → ((j : ℕ) → Shows T j (method_signature ws text m) → j ≡ i)
         → Good F (Shows T) → Good F (Shows (set T i e))
     set-good i l p alone g = good_more i (method_signature ws text m) p alone (λ j s k. cases j s k (set_at T i j e empty l)) g
@@ -66,36 +58,37 @@ module _ (ws text : List ℕ) where
 -- ---- the slot of a method's signature
 
 module _ (ws text : List ℕ) (m : ℕ) (T : List Entry) where
-  abbrev pub slot_for : Found
+  abbrev pub slot_for : Option ℕ
   slot_for = slot_of ws text (method_name ws text m) (method_descriptor ws text m) T
 
-  pub slot-below : (i : ℕ) → slot_for ≡ At i → i < length T
+  pub slot-below : (i : ℕ) → slot_for ≡ Some i → i < length T
   unfolding slot_of
-  slot-below i e = position-below (entry_is ws text (method_name ws text m) (method_descriptor ws text m)) T empty i e
+  slot-below i e = search (rules, position-below)
 
-  pub slot-shows : (i : ℕ) → slot_for ≡ At i → Shows ws text T i (method_signature ws text m)
+  pub slot-shows : (i : ℕ) → slot_for ≡ Some i → Shows ws text T i (method_signature ws text m)
   unfolding slot_of entry_is
   slot-shows i e =
       go (at T i).method refl (position-passes (entry_is ws text (method_name ws text m) (method_descriptor ws text m)) T empty i e)
     where
-      go : (f : Found) → (at T i).method ≡ f → entry_is ws text (method_name ws text m) (method_descriptor ws text m) (at T i) ≡ true
+      go : (f : Option ℕ) → (at T i).method ≡ f → entry_is ws text (method_name ws text m) (method_descriptor ws text m) (at T i) ≡ true
           → Shows ws text T i (method_signature ws text m)
-      go (At k) q p = record { method = k; holds = q; is = method-same ws text k m (rw q at p) }
-      go Nothing q p = absurd (false≢true (rw q at p))
+      go (Some k) q p = record { method = k; holds = q; is = method-same ws text k m (rw q at p) }
+      go None q p = absurd (false≢true (rw q at p))
 
-  pub slot-none : slot_for ≡ Nothing → (i : ℕ) → Shows ws text T i (method_signature ws text m) → ⊥
+  pub slot-none : slot_for ≡ None → (i : ℕ) → Shows ws text T i (method_signature ws text m) → ⊥
   unfolding slot_of entry_is
-  slot-none e i k =
-      let l = known-below T i k.method k.holds in
-      let q =
-      position-misses (entry_is ws text (method_name ws text m) (method_descriptor ws text m)) 0 T empty i l e in
-      method-other ws text k.method m (rw k.holds at q) k.is
+  slot-none e i k = search (rules, known-below, position-misses, method-other)
 
   -- the entry at index i is of no other signature
   pub not-other : (i : ℕ) → entry_is_other ws text (method_name ws text m) (method_descriptor ws text m) (at T i) ≡ false
       → (s : Signature) → Shows ws text T i s → s ≡ method_signature ws text m
   unfolding entry_is_other
-  not-other i e s k =
-      sym k.is
-      ∙ method-same ws text k.method m
-      (not-false (method_is ws text k.method (method_name ws text m) (method_descriptor ws text m)) (rw k.holds at e))
+  not-other i e s k = search (rules, method-same)
+
+-- ---- what a slot holds of an entry: its word, or the stub where that is 0
+
+pub own-word : (w stub : ℕ) → w ≢ 0 → slot_word w stub ≡ w
+own-word w stub n = search rules
+
+pub stub-word : (w stub : ℕ) → w ≡ 0 → slot_word w stub ≡ stub
+stub-word w stub z = cc

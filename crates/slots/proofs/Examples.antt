@@ -1,12 +1,7 @@
 -- A chain on which the premises hold, tables that links wrote, and what the claims then say of them. Assumes nothing.
-use mathlib.Core.Path.{◌≡◌, refl, sym, ap, ◌∙◌}
-use mathlib.Core.Logic.{◌⊎◌, inl, inr, ◌≢◌}
+use Rattle.std.proofs.Common.{◌≡◌, refl, sym, ap, ◌∙◌, ◌⊎◌, inl, inr, ◌≢◌, List, [], ◌∷◌, ℕ, suc, ◌+◌, ◌-◌, ◌*◌, ◌≤◌, ◌<◌, arith, get_or, Some, None}
 use mathlib.Core.List.Memᴰ
-use mathlib.Core.List.{List, [], ◌∷◌, Memᴰ}
-use Prim.Native.Nat.{ℕ, suc, ◌+◌, ◌-◌, ◌*◌, ◌≤◌, ◌<◌}
-use native.Mathlib.Omega.{arith}
-use lib.ListN.{get_or}
-use Rattle.words.specs.declared.Found.TheVariants.{At, Nothing}
+use mathlib.Core.List.{Memᴰ}
 use Rattle.class_sheet.specs.ClassSheet.{text_of, class_kind, method_target}
 use Rattle.abi_sheet.specs.AbiSheet.{abi_text_of, abi_slot_name}
 use Rattle.linking.specs.Chain.{own_methods, parent_of, chain}
@@ -94,10 +89,10 @@ the_methods =
       ((each Method [] tt), ((each Method (0 ∷ []) (record { small = omega arith; target = refl }, tt)), tt)),
     )
 
-the_slots : (c : ℕ) → Memᴰ c (3 ∷ 2 ∷ 1 ∷ []) → (a : ℕ) → class_abi ws text sheet labels c ≡ At a → (s : ℕ) → Memᴰ s (abi_slots sheet a) → Slot s
+the_slots : (c : ℕ) → Memᴰ c (3 ∷ 2 ∷ 1 ∷ []) → (a : ℕ) → class_abi ws text sheet labels c ≡ Some a → (s : ℕ) → Memᴰ s (abi_slots sheet a) → Slot s
 unfolding opened ws text sheet labels
 the_slots =
-    each (λ c. (a : ℕ) → class_abi ws text sheet labels c ≡ At a → (s : ℕ) → Memᴰ s (abi_slots sheet a) → Slot s) (3 ∷ 2 ∷ 1 ∷ []) (
+    each (λ c. (a : ℕ) → class_abi ws text sheet labels c ≡ Some a → (s : ℕ) → Memᴰ s (abi_slots sheet a) → Slot s) (3 ∷ 2 ∷ 1 ∷ []) (
       (λ a e. not_found e),
       (
         (λ a e. let q : 1 ≡ a = found-same e in rw (← q) (each Slot (1 ∷ []) (record { small = omega arith; index = refl; letter = refl }, tt))),
@@ -145,7 +140,7 @@ made = each (Made ws text sheet labels tables P) (3 ∷ 2 ∷ 1 ∷ []) (third, 
 
     second : Made ws text sheet labels tables P 2
     second = record {
-      entries = record { word = 901; method = Nothing; source = At 0 } ∷ record { word = method_target ws 0; method = At 0; source = At 1 } ∷ [];
+      entries = record { word = 901; method = None; source = Some 0 } ∷ record { word = method_target ws 0; method = Some 0; source = Some 1 } ∷ [];
       stubs = world.stubs;
       enough = omega arith;
       lent = lent-stubs;
@@ -156,7 +151,7 @@ made = each (Made ws text sheet labels tables P) (3 ∷ 2 ∷ 1 ∷ []) (third, 
 
     third : Made ws text sheet labels tables P 3
     third = record {
-      entries = record { word = 901; method = Nothing; source = At 0 } ∷ method_entry ws 1 ∷ method_entry ws 2 ∷ [];
+      entries = record { word = 901; method = None; source = Some 0 } ∷ method_entry ws 1 ∷ method_entry ws 2 ∷ [];
       stubs = world.stubs;
       enough = omega arith;
       lent = lent-stubs;
@@ -195,5 +190,5 @@ kept = table_kept ws text sheet labels tables P 3 (omega arith) kinds conditions
     some-parent : parent_of ws 3 ≢ 0
     some-parent e = let p : parent_of ws 3 ≡ 2 = unfold opened in unfold ws in refl in omega arith
 
-    no_entry : class_abi ws text sheet labels 3 ≡ Nothing
+    no_entry : class_abi ws text sheet labels 3 ≡ None
     no_entry = unfold opened in unfold ws in unfold text in unfold sheet in unfold labels in refl

@@ -1,14 +1,8 @@
 -- Signatures of methods and of slot records, what a chain's ABI classes fix, and Reading's second rule. What a class with methods fixes
 -- is kept apart from what an array class fixes, which takes its parent's entries as they are. Assumes nothing.
-use mathlib.Core.Path.{◌≡◌, refl, sym, ap, ◌∙◌}
-use mathlib.Core.Logic.{◌⊎◌, inl, inr, ◌≢◌}
-use mathlib.Core.Bool.{Bool, true, false, true≢false}
-use mathlib.Core.List.{List, [], Memᴰ}
-use Prim.Native.Nat.{ℕ, ◌+◌, ◌-◌, ◌≤◌, ◌<◌, min}
-use native.Mathlib.Omega.{arith}
-use lib.Dec.{eqb}
+use Rattle.std.proofs.Common.{rules, ◌≡◌, refl, sym, ap, ◌∙◌, ◌⊎◌, inl, inr, ◌≢◌, Bool, true, false, List, [], ℕ, ◌+◌, ◌-◌, ◌≤◌, ◌<◌, min, arith, eqb, Some, None}
+use mathlib.Core.List.{Memᴰ}
 use Rattle.words.specs.Lists.{find}
-use Rattle.words.specs.declared.Found.TheVariants.{At, Nothing}
 use Rattle.words.proofs.Bools.{and_both}
 use Rattle.words.proofs.ListLaws.{by-found, find-member, find-passes, largest_member}
 use Rattle.text.specs.Text.{same_bytes}
@@ -50,14 +44,11 @@ module _ (ws text : List ℕ) where
   pub method-other : (m k : ℕ) → method_is ws text m (method_name ws text k) (method_descriptor ws text k) ≡ false
       → method_signature ws text m ≡ method_signature ws text k → ⊥
   unfolding method_is method_signature
-  method-other m k h e =
-      let n : method_name ws text m ≡ method_name ws text k = ap (λ (s : Signature). s.name) e in
-      let d : method_descriptor ws text m ≡ method_descriptor ws text k = ap (λ (s : Signature). s.descriptor) e in
-      true≢false (sym (rw (n, d, same_refl (method_name ws text k)) (same_refl (method_descriptor ws text k))) ∙ h)
+  method-other m k h e = search (rules, same_refl)
 
   pub same_signature_lem : {m k : ℕ} → SameSignature ws text m k → method_signature ws text m ≡ method_signature ws text k
   unfolding method_signature
-  same_signature_lem h = same_parts h.name h.descriptor
+  same_signature_lem h = cc
 
   pub signature-same : {m k : ℕ} → method_signature ws text m ≡ method_signature ws text k → SameSignature ws text m k
   unfolding method_signature
@@ -76,10 +67,7 @@ module _ (ws text abi labels : List ℕ) where
   slot-other : (s k : ℕ) → slot_is abi labels s (method_name ws text k) (method_descriptor ws text k) ≡ false
       → slot_signature abi labels s ≡ method_signature ws text k → ⊥
   unfolding slot_is slot_signature method_signature
-  slot-other s k h e =
-      let n : abi_slot_name abi labels s ≡ method_name ws text k = ap (λ (s : Signature). s.name) e in
-      let d : abi_slot_descriptor abi labels s ≡ method_descriptor ws text k = ap (λ (s : Signature). s.descriptor) e in
-      true≢false (sym (rw (n, d, same_refl (method_name ws text k)) (same_refl (method_descriptor ws text k))) ∙ h)
+  slot-other s k h e = search (rules, same_refl)
 
   -- ---- what the chain of class c fixes, and what its classes with methods fix
 
@@ -105,11 +93,11 @@ module _ (ws text abi labels : List ℕ) where
       ∙ g.index
 
   -- a class that is an array, or has no ABI entry, adds nothing
-  pub live_up : (c : ℕ) → 0 < c → (class_kind ws c ≡ 2) ⊎ (class_abi ws text abi labels c ≡ Nothing)
+  pub live_up : (c : ℕ) → 0 < c → (class_kind ws c ≡ 2) ⊎ (class_abi ws text abi labels c ≡ None)
       → (s : Signature) (i : ℕ) → Live c s i → Live (parent_of ws c) s i
   live_up c h idle s i l = go l.fixes.along.class refl (chain-cases ws c h l.fixes.along.along)
     where
-      none : (d : ℕ) → l.fixes.along.class ≡ d → d ≡ c → (class_kind ws c ≡ 2) ⊎ (class_abi ws text abi labels c ≡ Nothing) → ⊥
+      none : (d : ℕ) → l.fixes.along.class ≡ d → d ≡ c → (class_kind ws c ≡ 2) ⊎ (class_abi ws text abi labels c ≡ None) → ⊥
       none d e f (inl k) = l.methods (rw (e, f) k)
       none d e f (inr k) = not_found (sym k ∙ (rw (e, f) at l.fixes.along.named))
 
@@ -137,10 +125,10 @@ module _ (ws text abi labels : List ℕ) where
     entry-along : {a : ℕ} → Memᴰ a (chain_abi ws text abi labels c) → FoundBy (class_abi ws text abi labels) (chain ws c) a
     entry-along i = found-of-all (class_abi ws text abi labels) (chain ws c) (rw (chain-abi-whole ws text abi labels c h) at i)
 
-    along-entry : {d a : ℕ} → Memᴰ d (chain ws c) → class_abi ws text abi labels d ≡ At a → Memᴰ a (chain_abi ws text abi labels c)
+    along-entry : {d a : ℕ} → Memᴰ d (chain ws c) → class_abi ws text abi labels d ≡ Some a → Memᴰ a (chain_abi ws text abi labels c)
     along-entry i e = rw (chain-abi-whole ws text abi labels c h) (all_found_lem (class_abi ws text abi labels) i e)
 
-    pub fixed-some : (m i : ℕ) → fixed_of ws text abi labels (chain_abi ws text abi labels c) m ≡ At i → Fixes c (method_signature ws text m) i
+    pub fixed-some : (m i : ℕ) → fixed_of ws text abi labels (chain_abi ws text abi labels c) m ≡ Some i → Fixes c (method_signature ws text m) i
     unfolding fixed_of fixed_index vtable_index
     fixed-some m i e =
         let r = found_in (vtable_index abi labels (method_name ws text m) (method_descriptor ws text m)) (chain_abi ws text abi labels c) i e in
@@ -161,7 +149,7 @@ module _ (ws text abi labels : List ℕ) where
         })
         (λ q. not_found (rw q at r.finds))
 
-    pub fixed-none : (m i : ℕ) → fixed_of ws text abi labels (chain_abi ws text abi labels c) m ≡ Nothing → Fixes c (method_signature ws text m) i → ⊥
+    pub fixed-none : (m i : ℕ) → fixed_of ws text abi labels (chain_abi ws text abi labels c) m ≡ None → Fixes c (method_signature ws text m) i → ⊥
     unfolding fixed_of fixed_index vtable_index
     fixed-none m i e f =
         let a = f.along.entry in
@@ -187,7 +175,7 @@ module _ (ws text abi labels : List ℕ) where
 
   -- ---- Reading's second rule: "the first chain class whose ABI entry fixes that index and which itself has a method of that signature"
 
-  own_fixed_live : {c d i m : ℕ} → Memᴰ d (chain ws c) → (class_kind ws d ≡ 2 → own_methods ws d ≡ []) → own_fixed ws text abi labels i d ≡ At m
+  own_fixed_live : {c d i m : ℕ} → Memᴰ d (chain ws c) → (class_kind ws d ≡ 2 → own_methods ws d ≡ []) → own_fixed ws text abi labels i d ≡ Some m
       → Live c (method_signature ws text m) i
   unfolding own_fixed
   own_fixed_live {c} {d} {i} {m} along bare e =
@@ -198,8 +186,8 @@ module _ (ws text abi labels : List ℕ) where
       (λ r. not_found (rw (q, r) at e)))
       (λ q. not_found (rw q at e))
     where
-      fixed : (a s : ℕ) → class_abi ws text abi labels d ≡ At a → slot_at abi i a ≡ At s
-          → own_method ws text (abi_slot_name abi labels s) (abi_slot_descriptor abi labels s) d ≡ At m → Live c (method_signature ws text m) i
+      fixed : (a s : ℕ) → class_abi ws text abi labels d ≡ Some a → slot_at abi i a ≡ Some s
+          → own_method ws text (abi_slot_name abi labels s) (abi_slot_descriptor abi labels s) d ≡ Some m → Live c (method_signature ws text m) i
       fixed a s q r f = record {
         fixes = record {
           slot = s;
@@ -218,14 +206,14 @@ module _ (ws text abi labels : List ℕ) where
             in_none (bare k) (own-method-member ws text (abi_slot_name abi labels s) (abi_slot_descriptor abi labels s) d m f);
       }
 
-  pub index_live : (c i m : ℕ) → ((d : ℕ) → Memᴰ d (chain ws c) → class_kind ws d ≡ 2 → own_methods ws d ≡ []) → find_by_index ws text abi labels c i ≡ At m
+  pub index_live : (c i m : ℕ) → ((d : ℕ) → Memᴰ d (chain ws c) → class_kind ws d ≡ 2 → own_methods ws d ≡ []) → find_by_index ws text abi labels c i ≡ Some m
       → Live c (method_signature ws text m) i
   unfolding find_by_index
   index_live c i m bare e =
       let r = found_in (own_fixed ws text abi labels i) (chain ws c) m e in own_fixed_live r.along (bare r.element r.along) r.finds
 
   -- a class without an ABI entry reads what its parent does
-  pub index-parent : (c i : ℕ) → 0 < c → class_abi ws text abi labels c ≡ Nothing
+  pub index-parent : (c i : ℕ) → 0 < c → class_abi ws text abi labels c ≡ None
       → find_by_index ws text abi labels c i ≡ find_by_index ws text abi labels (parent_of ws c) i
   unfolding find_by_index own_fixed
-  index-parent c i h e = along-up (own_fixed ws text abi labels i) ws c h (rw e refl)
+  index-parent c i h e = search (rules, along-up)

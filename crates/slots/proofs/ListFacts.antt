@@ -1,31 +1,23 @@
 -- Searches along lists, by membership: what is found, and that nothing was; and the elements of a list after a store, with one more at
 -- its end, or blank. All of them are generic. Assumes nothing.
-use mathlib.Core.Path.{◌≡◌, refl, sym, ap, ◌∙◌}
-use mathlib.Core.Logic.{◌⊎◌, inl, inr, ◌≢◌, ⊎_elim}
-use mathlib.Core.Bool.{Bool, true, false}
+use Rattle.std.proofs.Common.{◌≡◌, refl, sym, ap, ◌∙◌, ◌⊎◌, inl, inr, ◌≢◌, ⊎_elim, Bool, true, false, List, [], ◌∷◌, ◌++◌, ℕ, zero, suc, ◌+◌, ◌<◌, arith, length, get_or, set, replicate, get_or-set_same, get_or-set_other, eqb, ltb, eqb-true, ltb-true, ltb-false, Option, Some, None}
 use mathlib.Core.List.Memᴰ
-use mathlib.Core.List.{List, [], ◌∷◌, ◌++◌, Memᴰ}
-use Prim.Native.Nat.{ℕ, zero, suc, ◌+◌, ◌<◌}
-use native.Mathlib.Omega.{arith}
-use lib.ListN.{length, get_or, set, replicate, get_or-eq_default}
-use lib.Seq.{get_or-set_same, get_or-set_other}
-use lib.Dec.{eqb, ltb}
-use borrow.Author.Tests.{eqb-true, eqb-false, ltb-true, ltb-false}
+use mathlib.Core.List.{Memᴰ}
+use lib.ListN.{get_or-eq_default}
+use borrow.Author.Tests.{eqb-false}
 use Rattle.words.specs.Lists.{find, first_found, all_found, position}
-use Rattle.words.specs.declared.Found.{Found}
-use Rattle.words.specs.declared.Found.TheVariants.{At, Nothing}
 use Rattle.words.proofs.Bools.{by}
 use Rattle.words.proofs.ListLaws.{by-found}
 
 -- ---- found or not
 
-pub not_found : {X : Type 0} {n : ℕ} → Nothing ≡ At n → X
+pub not_found : {X : Type 0} {n : ℕ} → None ≡ Some n → X
 not_found e = absurd (omega (arith, zero_one e))
   where
-    zero_one : {n : ℕ} → Nothing ≡ At n → ◌≡◌ {A = ℕ} 0 1
+    zero_one : {n : ℕ} → None ≡ Some n → ◌≡◌ {A = ℕ} 0 1
     zero_one e = cc
 
-pub found-same : {m n : ℕ} → At m ≡ At n → m ≡ n
+pub found-same : {m n : ℕ} → Some m ≡ Some n → m ≡ n
 found-same e = cc
 
 -- ---- elements
@@ -35,46 +27,46 @@ in_none e i = absurd (Memᴰ.not-nil (rw e at i))
 
 -- ---- searches
 
-pub find-misses : (p : ℕ → Bool) {x : ℕ} {xs : List ℕ} → Memᴰ x xs → find p xs ≡ Nothing → p x ≡ false
+pub find-misses : (p : ℕ → Bool) {x : ℕ} {xs : List ℕ} → Memᴰ x xs → find p xs ≡ None → p x ≡ false
 unfolding find
 find-misses p (Memᴰ.head {x = y} q) e = rw q (by (p y) (λ t. not_found (sym (rw t at e))) (λ f. f))
 find-misses p (Memᴰ.tail {x = y} i) e = by (p y) (λ t. not_found (sym (rw t at e))) (λ f. find-misses p i (rw f at e))
 
 -- the element that found it
-pub record FoundBy (f : ℕ → Found) (xs : List ℕ) (n : ℕ) : Type 0 where
+pub record FoundBy (f : ℕ → Option ℕ) (xs : List ℕ) (n : ℕ) : Type 0 where
   pub element : ℕ
   pub along : Memᴰ element xs
-  pub finds : f element ≡ At n
+  pub finds : f element ≡ Some n
 
-found-later : {f : ℕ → Found} {x n : ℕ} {xs : List ℕ} → FoundBy f xs n → FoundBy f (x ∷ xs) n
+found-later : {f : ℕ → Option ℕ} {x n : ℕ} {xs : List ℕ} → FoundBy f xs n → FoundBy f (x ∷ xs) n
 found-later r = record { element = r.element; along = Memᴰ.tail r.along; finds = r.finds }
 
-pub found_in : (f : ℕ → Found) (xs : List ℕ) (n : ℕ) → first_found f xs ≡ At n → FoundBy f xs n
+pub found_in : (f : ℕ → Option ℕ) (xs : List ℕ) (n : ℕ) → first_found f xs ≡ Some n → FoundBy f xs n
 unfolding first_found
 found_in f [] n e = not_found e
 found_in f (x ∷ xs) n e =
     by-found (f x) (λ k q. record { element = x; along = Memᴰ.head refl; finds = q ∙ (rw q at e) })
     (λ q. found-later (found_in f xs n (rw q at e)))
 
-pub found-misses : (f : ℕ → Found) {x : ℕ} {xs : List ℕ} → Memᴰ x xs → first_found f xs ≡ Nothing → f x ≡ Nothing
+pub found-misses : (f : ℕ → Option ℕ) {x : ℕ} {xs : List ℕ} → Memᴰ x xs → first_found f xs ≡ None → f x ≡ None
 unfolding first_found
 found-misses f (Memᴰ.head {x = y} s) e = rw s (by-found (f y) (λ k q. not_found (sym (rw q at e))) (λ q. q))
 found-misses f (Memᴰ.tail {x = y} i) e = by-found (f y) (λ k q. not_found (sym (rw q at e))) (λ q. found-misses f i (rw q at e))
 
 -- an element that finds n, where no other finds anything else
-pub found-only : (f : ℕ → Found) {x : ℕ} {xs : List ℕ} (n : ℕ) → Memᴰ x xs → f x ≡ At n → ((y k : ℕ) → Memᴰ y xs → f y ≡ At k → k ≡ n)
-    → first_found f xs ≡ At n
+pub found-only : (f : ℕ → Option ℕ) {x : ℕ} {xs : List ℕ} (n : ℕ) → Memᴰ x xs → f x ≡ Some n → ((y k : ℕ) → Memᴰ y xs → f y ≡ Some k → k ≡ n)
+    → first_found f xs ≡ Some n
 found-only f {xs = xs} n i e only =
     by-found (first_found f xs)
-    (λ k q. let r = found_in f xs k q in q ∙ ap At (only r.element k r.along r.finds))
+    (λ k q. let r = found_in f xs k q in q ∙ ap Some (only r.element k r.along r.finds))
     (λ q. not_found (sym (found-misses f i q) ∙ e))
 
-pub all_found_lem : (f : ℕ → Found) {x n : ℕ} {xs : List ℕ} → Memᴰ x xs → f x ≡ At n → Memᴰ n (all_found f xs)
+pub all_found_lem : (f : ℕ → Option ℕ) {x n : ℕ} {xs : List ℕ} → Memᴰ x xs → f x ≡ Some n → Memᴰ n (all_found f xs)
 unfolding all_found
 all_found_lem f (Memᴰ.head s) e = rw (← s, e) (Memᴰ.head refl)
 all_found_lem f (Memᴰ.tail {x = y} i) e = by-found (f y) (λ k q. rw q (Memᴰ.tail (all_found_lem f i e))) (λ q. rw q (all_found_lem f i e))
 
-pub found-of-all : (f : ℕ → Found) {n : ℕ} (xs : List ℕ) → Memᴰ n (all_found f xs) → FoundBy f xs n
+pub found-of-all : (f : ℕ → Option ℕ) {n : ℕ} (xs : List ℕ) → Memᴰ n (all_found f xs) → FoundBy f xs n
 unfolding all_found
 found-of-all f [] i = in_none refl i
 found-of-all f {n} (x ∷ xs) i =
@@ -93,7 +85,7 @@ record Passing {A : Type 0} (p : A → Bool) (k : ℕ) (xs : List A) (d : A) (j 
   below : index < length xs
   passes : p (get_or xs index d) ≡ true
 
-passing : {A : Type 0} (p : A → Bool) (k : ℕ) (xs : List A) (d : A) (j : ℕ) → position p k xs ≡ At j → Passing p k xs d j
+passing : {A : Type 0} (p : A → Bool) (k : ℕ) (xs : List A) (d : A) (j : ℕ) → position p k xs ≡ Some j → Passing p k xs d j
 unfolding position
 passing p k [] d j e = not_found e
 passing p k (x ∷ xs) d j e =
@@ -104,17 +96,17 @@ passing p k (x ∷ xs) d j e =
     let c = r.counted in let b = r.below in
     record { index = suc r.index; counted = omega arith; below = omega arith; passes = r.passes })
 
-pub position-below : {A : Type 0} (p : A → Bool) (xs : List A) (d : A) (i : ℕ) → position p 0 xs ≡ At i → i < length xs
+pub position-below : {A : Type 0} (p : A → Bool) (xs : List A) (d : A) (i : ℕ) → position p 0 xs ≡ Some i → i < length xs
 position-below p xs d i e = let r = passing p 0 xs d i e in let c = r.counted in let b = r.below in omega arith
 
-pub position-passes : {A : Type 0} (p : A → Bool) (xs : List A) (d : A) (i : ℕ) → position p 0 xs ≡ At i → p (get_or xs i d) ≡ true
+pub position-passes : {A : Type 0} (p : A → Bool) (xs : List A) (d : A) (i : ℕ) → position p 0 xs ≡ Some i → p (get_or xs i d) ≡ true
 position-passes p xs d i e =
     let r = passing p 0 xs d i e in
     let c = r.counted in
     let q : i ≡ r.index = omega arith in
     rw q r.passes
 
-pub position-misses : {A : Type 0} (p : A → Bool) (k : ℕ) (xs : List A) (d : A) (i : ℕ) → i < length xs → position p k xs ≡ Nothing
+pub position-misses : {A : Type 0} (p : A → Bool) (k : ℕ) (xs : List A) (d : A) (i : ℕ) → i < length xs → position p k xs ≡ None
     → p (get_or xs i d) ≡ false
 unfolding position
 position-misses p k [] d i h e = absurd (omega arith)

@@ -1,52 +1,43 @@
 -- The table half of demand 3 for a chain of kind 3, class by class from its root: every slot is known, by the target of a chain method; its introducing
 -- method has its signature; so a child keeps its parent's slots. Assumes nothing.
-use mathlib.Core.Path.{◌≡◌, refl, sym, ap, ◌∙◌}
-use mathlib.Core.Logic.{inl, inr, ⊎_elim, ◌≢◌}
-use mathlib.Core.Bool.{Bool, true, false}
+use Rattle.std.proofs.Common.{rules, ◌≡◌, refl, sym, ap, ◌∙◌, inl, inr, ⊎_elim, ◌≢◌, Bool, true, false, List, [], ◌∷◌, ℕ, zero, suc, ◌≤◌, ◌<◌, arith, length, get_or, eqb, ltb, eqb-true, lt-ltb, ltb-true, ltb-false, Option, Some, None}
 use mathlib.Core.List.Memᴰ
-use mathlib.Core.List.{List, [], ◌∷◌, Memᴰ}
-use Prim.Native.Nat.{ℕ, zero, suc, ◌≤◌, ◌<◌}
-use native.Mathlib.Omega.{arith}
-use lib.ListN.{length, get_or}
-use lib.Dec.{eqb, ltb}
-use borrow.Author.Tests.{eqb-true, eqb-false, eq-eqb, ne_eqb, lt-ltb, ltb-true, ltb-false}
-use Rattle.words.specs.declared.Found.{Found}
-use Rattle.words.specs.declared.Found.TheVariants.{At, Nothing}
+use mathlib.Core.List.{Memᴰ}
+use borrow.Author.Tests.{eqb-false}
 use Rattle.words.proofs.Bools.{by}
 use Rattle.words.proofs.ListLaws.{by-found}
 use Rattle.class_sheet.specs.ClassSheet.{class_kind, method_target}
 use Rattle.linking.specs.Chain.{own_methods, parent_of, chain}
-use Rattle.linking.specs.Vtable.{Entry, read_entry, slot_word, slot_words}
+use Rattle.linking.specs.Vtable.{Entry, read_entry, slot_words}
 use Rattle.linking.specs.Packages.{topmost}
 use Rattle.linking.proofs.ChainLaws.{parent_below, parent-within, chain-none, chain_more}
-use Rattle.linking.proofs.Plans.{built-same}
 use Rattle.slots.specs.Slots.{PackageRule, Known, Redeclares, Keeps, Kept, ChainMethod}
 use Rattle.slots.specs.Made.{read_words, inherited_from, introduced_from, packages_from, made_from, Made}
-use Rattle.slots.proofs.ListFacts.{not_found, found-same, in_none}
+use Rattle.slots.proofs.ListFacts.{not_found, found-same}
 use Rattle.slots.proofs.ChainFacts.{chain-here, chain-up, chain-cases, method-up, target-own}
 use Rattle.slots.proofs.FixedFacts.{method_signature, signature-same}
-use Rattle.slots.proofs.EntryFacts.{at}
+use Rattle.slots.proofs.EntryFacts.{at, own-word}
 use Rattle.slots.proofs.AddFacts.{Declared, Stays}
 use Rattle.slots.proofs.ReadFacts.{length-words, word_at, length-read, read_at, read_word}
 use Rattle.slots.proofs.TakenFacts.{Ours, Introduces, Over, packages-over}
 
 -- ---- the topmost class of a chain that passes a test
 
-pub last_up : (p : ℕ → Bool) (d : ℕ) (ds : List ℕ) (k : ℕ) → topmost p ds ≡ At k → topmost p (d ∷ ds) ≡ At k
+pub last_up : (p : ℕ → Bool) (d : ℕ) (ds : List ℕ) (k : ℕ) → topmost p ds ≡ Some k → topmost p (d ∷ ds) ≡ Some k
 unfolding topmost
 last_up p d ds k e = rw e
 
-pub last-here : (p : ℕ → Bool) (d : ℕ) (ds : List ℕ) → topmost p ds ≡ Nothing → p d ≡ true → topmost p (d ∷ ds) ≡ At d
+pub last-here : (p : ℕ → Bool) (d : ℕ) (ds : List ℕ) → topmost p ds ≡ None → p d ≡ true → topmost p (d ∷ ds) ≡ Some d
 unfolding topmost
 last-here p d ds e t = rw (e, t)
 
-pub last_none : (p : ℕ → Bool) (ds : List ℕ) → ((d : ℕ) → Memᴰ d ds → p d ≡ false) → topmost p ds ≡ Nothing
+pub last_none : (p : ℕ → Bool) (ds : List ℕ) → ((d : ℕ) → Memᴰ d ds → p d ≡ false) → topmost p ds ≡ None
 unfolding topmost
 last_none p [] h = refl
 last_none p (d ∷ ds) h =
     rw (last_none p ds (λ e i. h e (Memᴰ.tail i)), h d (Memᴰ.head refl))
 
-pub last_some : (p : ℕ → Bool) (ds : List ℕ) (d : ℕ) → Memᴰ d ds → p d ≡ true → (k : ℕ) × (topmost p ds ≡ At k)
+pub last_some : (p : ℕ → Bool) (ds : List ℕ) (d : ℕ) → Memᴰ d ds → p d ≡ true → (k : ℕ) × (topmost p ds ≡ Some k)
 unfolding topmost
 last_some p [] d i t = absurd (Memᴰ.not-nil i)
 last_some p (x ∷ ds) d i t =
@@ -69,17 +60,17 @@ module _ (ws text abi labels : List ℕ) where
 
   -- a word that is a chain method's target reads as that method
   pub reads : (c i w m : ℕ) → Targets c → ChainMethod ws c m → w ≡ method_target ws m
-      → (read_entry ws text abi labels c i w).method ≡ At m
+      → (read_entry ws text abi labels c i w).method ≡ Some m
   unfolding read_entry
-  reads c i w m t k e = rw (target-own ws c w t.different m k (sym e)) refl
+  reads c i w m t k e = search (rules, target-own)
 
   module _ (tables : ℕ → List ℕ) (P : ℕ → Type 0) where
-    abbrev pub first : ℕ → ℕ → Found
+    abbrev pub first : ℕ → ℕ → Option ℕ
     first p = introduced_from ws text abi labels tables p
 
     pub record Introduced (c i m : ℕ) : Type 0 where
       pub method : ℕ
-      pub is : first c i ≡ At method
+      pub is : first c i ≡ Some method
       pub signature : method_signature ws text method ≡ method_signature ws text m
 
     -- what the table of a class has, for its children and for the claim
@@ -106,9 +97,9 @@ module _ (ws text abi labels : List ℕ) where
       pub words-length : length (tables c) ≡ length (packages_from ws text abi labels tables c)
       pub word-is : (x : ℕ) → x < length (packages_from ws text abi labels tables c)
           → get_or (tables c) x 0 ≡ (at (packages_from ws text abi labels tables c) x).word
-      pub known : (x m : ℕ) → x < length (packages_from ws text abi labels tables c) → (at (packages_from ws text abi labels tables c) x).method ≡ At m
+      pub known : (x m : ℕ) → x < length (packages_from ws text abi labels tables c) → (at (packages_from ws text abi labels tables c) x).method ≡ Some m
           → Known ws text abi labels c (tables c) x m
-      pub known_is : (x m : ℕ) → Known ws text abi labels c (tables c) x m → (at (packages_from ws text abi labels tables c) x).method ≡ At m
+      pub known_is : (x m : ℕ) → Known ws text abi labels c (tables c) x m → (at (packages_from ws text abi labels tables c) x).method ≡ Some m
       -- an inherited slot has the introducing method that it has in the parent, a new one its own
       pub introduced-above : (i : ℕ) → i < length (inherited_from ws text abi labels tables c) → first c i ≡ first (parent_of ws c) i
       pub introduced-below : (i : ℕ) → length (inherited_from ws text abi labels tables c) ≤ i → i < length (tables c)
@@ -126,24 +117,22 @@ module _ (ws text abi labels : List ℕ) where
 
       no_parent : parent_of ws c ≡ 0 → ◌≡◌ {A = List Entry} inherited []
       unfolding inherited_from
-      no_parent e = rw (eq-eqb (parent_of ws c) 0 e) refl
+      no_parent e = cc
 
       some-parent : parent_of ws c ≢ 0 → inherited ≡ read_words ws text abi labels (parent_of ws c) (tables (parent_of ws c))
       unfolding inherited_from
-      some-parent n = rw (ne_eqb (parent_of ws c) 0 n) refl
+      some-parent n = search rules
 
       -- an inherited slot has a parent
       with_parent : (x : ℕ) → x < length inherited → parent_of ws c ≢ 0
-      with_parent x l e = let q : length inherited ≡ 0 = ap length (no_parent e) in omega arith
+      with_parent x l e = search (rules, no_parent)
 
       inherited-length : parent_of ws c ≢ 0 → length inherited ≡ length (tables (parent_of ws c))
-      inherited-length n = ap length (some-parent n) ∙ length-read ws text abi labels (parent_of ws c) (tables (parent_of ws c))
+      inherited-length n = search (rules, some-parent, length-read)
 
       inherited-at : (n : parent_of ws c ≢ 0) (x : ℕ) → x < length inherited
           → at inherited x ≡ read_entry ws text abi labels (parent_of ws c) x (get_or (tables (parent_of ws c)) x 0)
-      inherited-at n x l =
-          ap (λ (l : List Entry). at l x) (some-parent n)
-          ∙ read_at ws text abi labels (parent_of ws c) (tables (parent_of ws c)) x (omega (arith, l, inherited-length n))
+      inherited-at n x l = grind (arith, some-parent n, read_at ws text abi labels (parent_of ws c) (tables (parent_of ws c)) x, inherited-length n)
 
       inherited-ours : (x : ℕ) → x < length inherited → Ours ws text abi labels c (at inherited x)
       inherited-ours x l =
@@ -158,7 +147,7 @@ module _ (ws text abi labels : List ℕ) where
             word = ap (λ (y : Entry). y.word) e ∙ read_word ws text abi labels (parent_of ws c) x (get_or (tables (parent_of ws c)) x 0) ∙ o.2;
           }
 
-      inherited-known : (x p : ℕ) → x < length inherited → (at inherited x).method ≡ At p
+      inherited-known : (x p : ℕ) → x < length inherited → (at inherited x).method ≡ Some p
           → Known ws text abi labels (parent_of ws c) (tables (parent_of ws c)) x p
       inherited-known x p l e =
           let n = with_parent x l in
@@ -181,38 +170,32 @@ module _ (ws text abi labels : List ℕ) where
 
       entries_are : made.entries ≡ T
       unfolding made_from
-      entries_are = sym (built-same (rw kind at made.from))
+      entries_are = cc
 
       words : tables c ≡ slot_words made.stubs 0 T
-      words = made.words ∙ ap (λ (l : List Entry). slot_words made.stubs 0 l) entries_are
+      words = grind (arith, entries_are)
 
       words-length : length (tables c) ≡ length T
       words-length = ap length words ∙ length-words made.stubs 0 T
-
-      full : (w x : ℕ) → w ≢ 0 → slot_word w x ≡ w
-      full w x n = rw (ne_eqb w 0 n) refl
 
       word-is : (x : ℕ) → x < length T → get_or (tables c) x 0 ≡ (at T x).word
       word-is x l =
           let o = over.ours x l in
           ap (λ (y : List ℕ). get_or y x 0) words ∙ word_at made.stubs T x l
-          ∙ full (at T x).word (get_or made.stubs x 0) (λ z. t.nonzero o.method o.along (sym o.word ∙ z))
+          ∙ own-word (at T x).word (get_or made.stubs x 0) (λ z. t.nonzero o.method o.along (sym o.word ∙ z))
 
       -- what a slot holds is known there
-      known : (x m : ℕ) → x < length T → (at T x).method ≡ At m → Known ws text abi labels c (tables c) x m
+      known : (x m : ℕ) → x < length T → (at T x).method ≡ Some m → Known ws text abi labels c (tables c) x m
       known x m l e =
           let o = over.ours x l in
           let q : o.method ≡ m = found-same (sym o.holds ∙ e) in
           record {
             slot = omega (arith, l, words-length);
-            reads = reads c x (get_or (tables c) x 0) o.method t o.along (word-is x l ∙ o.word) ∙ ap At q;
+            reads = reads c x (get_or (tables c) x 0) o.method t o.along (word-is x l ∙ o.word) ∙ ap Some q;
           }
 
-      known_is : (x m : ℕ) → Known ws text abi labels c (tables c) x m → (at T x).method ≡ At m
-      known_is x m k =
-          let l : x < length T = omega (arith, k.slot, words-length) in
-          let o = over.ours x l in
-          o.holds ∙ sym (reads c x (get_or (tables c) x 0) o.method t o.along (word-is x l ∙ o.word)) ∙ k.reads
+      known_is : (x m : ℕ) → Known ws text abi labels c (tables c) x m → (at T x).method ≡ Some m
+      known_is x m k = search (rules, words-length, over, reads, word-is)
 
       -- ---- what is claimed
 
@@ -226,13 +209,7 @@ module _ (ws text abi labels : List ℕ) where
       longer n = omega (arith, over.longer, words-length, inherited-length n)
 
       longest-one : (d : ℕ) → Memᴰ d (chain ws c) → length (tables d) ≤ length (tables c)
-      longest-one d i =
-          elim (chain-cases ws c h i) [
-            | inl e ↦ rw e (omega arith)
-            | inr j ↦
-                by (eqb (parent_of ws c) 0) (λ q. in_none (chain-none ws (parent_of ws c) (eqb-true (parent_of ws c) 0 q)) j)
-                (λ q. let n = eqb-false (parent_of ws c) 0 q in omega (arith, (parent n).longest d j, longer n))
-          ]
+      longest-one d i = search (rules, chain-cases, chain-none, longer)
 
       kept-one : parent_of ws c ≢ 0 → Kept ws text abi labels c (tables c) (tables (parent_of ws c))
       kept-one n i m k = keep (over.stays i m below holds)
@@ -240,7 +217,7 @@ module _ (ws text abi labels : List ℕ) where
           below : i < length inherited
           below = omega (arith, k.slot, inherited-length n)
 
-          holds : (at inherited i).method ≡ At m
+          holds : (at inherited i).method ≡ Some m
           holds = ap (λ (y : Entry). y.method) (inherited-at n i below) ∙ k.reads
 
           inside : i < length T
@@ -274,19 +251,14 @@ module _ (ws text abi labels : List ℕ) where
 
       -- the topmost class whose table has the slot is the parent's, or the class itself
 
-      introduced-up : (i k : ℕ) → topmost (λ d. ltb i (length (tables d))) (chain ws (parent_of ws c)) ≡ At k → first c i ≡ first (parent_of ws c) i
+      introduced-up : (i k : ℕ) → topmost (λ d. ltb i (length (tables d))) (chain ws (parent_of ws c)) ≡ Some k → first c i ≡ first (parent_of ws c) i
       unfolding introduced_from
-      introduced-up i k e =
-          rw (chain_more ws c h, last_up (λ d. ltb i (length (tables d))) c (chain ws (parent_of ws c)) k e, e)
+      introduced-up i k e = search (rules, chain_more, last_up)
 
-      introduced-here : (i : ℕ) → topmost (λ d. ltb i (length (tables d))) (chain ws (parent_of ws c)) ≡ Nothing → i < length (tables c)
+      introduced-here : (i : ℕ) → topmost (λ d. ltb i (length (tables d))) (chain ws (parent_of ws c)) ≡ None → i < length (tables c)
           → first c i ≡ (read_entry ws text abi labels c i (get_or (tables c) i 0)).method
       unfolding introduced_from
-      introduced-here i e l =
-          rw (
-            chain_more ws c h,
-            last-here (λ d. ltb i (length (tables d))) c (chain ws (parent_of ws c)) e (lt-ltb i (length (tables c)) l),
-          )
+      introduced-here i e l = search (rules, chain_more, last-here)
 
       introduced-above : (i : ℕ) → i < length inherited → first c i ≡ first (parent_of ws c) i
       introduced-above i l =
@@ -324,7 +296,7 @@ module _ (ws text abi labels : List ℕ) where
           (λ u. u)
 
       introduced-below : (i : ℕ) → length inherited ≤ i → i < length (tables c) → first c i ≡ (read_entry ws text abi labels c i (get_or (tables c) i 0)).method
-      introduced-below i l b = introduced-here i (last_none (λ d. ltb i (length (tables d))) (chain ws (parent_of ws c)) (short i l)) b
+      introduced-below i l b = search (rules, introduced-here, last_none, short)
 
       introduced-new : (i m : ℕ) → Known ws text abi labels c (tables c) i m → length inherited ≤ i → Introduced c i m
       introduced-new i m k l = record { method = m; is = introduced-below i l k.slot ∙ k.reads; signature = refl }

@@ -1,36 +1,26 @@
 -- Kind 3 beside kind 0, the table half: where the chain has no ABI entry, every eligible method is public or protected and no class declares a signature
 -- twice, the slots that a method takes are the slot of its signature or none. So both rules make the same tables. Assumes nothing.
-use mathlib.Core.Path.{◌≡◌, refl, sym, ap, ◌∙◌}
-use mathlib.Core.Logic.{◌⊎◌, inl, inr, ◌≢◌}
-use mathlib.Core.Bool.{true, not}
+use Rattle.std.proofs.Common.{rules, ◌≡◌, refl, sym, ap, ◌∙◌, ◌⊎◌, inl, inr, ◌≢◌, true, not, List, [], ◌∷◌, ◌++◌, ℕ, zero, suc, ◌+◌, ◌≤◌, ◌<◌, arith, length, get_or, set, set-set, ext_get_or, eqb, ltb, eqb-true, ltb-true, ltb-false, Option, Some, None}
 use mathlib.Core.List.Memᴰ
-use mathlib.Core.List.{List, [], ◌∷◌, ◌++◌, Memᴰ}
-use Prim.Native.Nat.{ℕ, zero, suc, ◌+◌, ◌≤◌, ◌<◌}
-use native.Mathlib.Omega.{arith}
-use lib.ListN.{length, get_or, set}
-use lib.Seq.{set-set, ext_get_or}
-use lib.Dec.{eqb, ltb}
-use borrow.Author.Tests.{eqb-true, eqb-false, ne_eqb, ltb-true, ltb-false}
+use mathlib.Core.List.{Memᴰ}
+use borrow.Author.Tests.{eqb-false}
 use Rattle.words.specs.Lists.{list_from, numbers, first_found, fold}
-use Rattle.words.specs.declared.Found.{Found}
-use Rattle.words.specs.declared.Found.TheVariants.{At, Nothing}
 use Rattle.words.proofs.Bools.{by, and_both}
 use Rattle.words.proofs.ListLaws.{by-found}
 use Rattle.class_sheet.specs.ClassSheet.{class_first_method, class_method_count, method_name, method_flags, method_limit}
 use Rattle.linking.specs.Chain.{list_count, own_methods, parent_of, chain, is_virtual, is_eligible, eligible, same_methods}
 use Rattle.linking.specs.Abi.{fixed_index}
-use Rattle.linking.specs.Vtable.{Entry, built, fixed_of, method_entry, put_method, add_method, add_methods, slot_word, slot_words}
+use Rattle.linking.specs.Vtable.{Entry, built, fixed_of, method_entry, put_method, add_method, add_methods, slot_words}
 use Rattle.linking.specs.Packages.{is_public, is_protected, Virtual, Open, public, protected, open_method, overridden, put_taken, take_slots, packages_over}
 use Rattle.linking.proofs.Overriding.{virtual_of, overrides-overridden}
 use Rattle.linking.proofs.ChainLaws.{parent_below}
-use Rattle.linking.proofs.Plans.{built-same}
 use Rattle.slots.specs.Slots.{PackageRule, ChainMethod}
 use Rattle.slots.specs.Made.{read_words, inherited_from, introduced_from, packages_from, Made}
 use Rattle.slots.proofs.ListFacts.{not_found, found-same}
 use Rattle.slots.proofs.ChainFacts.{chain-here, chain-up, method-here, method-up}
 use Rattle.slots.proofs.PlaceFacts.{Signature, Good, good_less, good_none}
 use Rattle.slots.proofs.FixedFacts.{method_signature, signature-same}
-use Rattle.slots.proofs.EntryFacts.{at, Shows, set-good, append-good, slot_for, slot-below, slot-shows, slot-none}
+use Rattle.slots.proofs.EntryFacts.{at, own-word, Shows, set-good, append-good, slot_for, slot-below, slot-shows, slot-none}
 use Rattle.slots.proofs.ReadFacts.{length-words, word_at, read_known}
 use Rattle.slots.proofs.PackageTables.{Targets, targets-up, Step, stepped}
 use Rattle.slots.proofs.TakenFacts.{taken_of, taken_in_lem, PutAt, stored, left, added, put-at, Over, over-start, over-take, slots, taken-signature}
@@ -94,7 +84,7 @@ module _ (ws text abi labels : List ℕ) where
         pub equal : tables c ≡ zeros c
         pub good : Good Never (Shows ws text (read_words ws text abi labels c (tables c)))
         pub introducers : (i : ℕ) → i < length (tables c)
-            → (k : ℕ) × (introduced_from ws text abi labels tables c i ≡ At k) × ChainMethod ws c k × (eligible ws text k ≡ true)
+            → (k : ℕ) × (introduced_from ws text abi labels tables c i ≡ Some k) × ChainMethod ws c k × (eligible ws text k ≡ true)
 
     -- ---- one class over its parent
 
@@ -106,7 +96,7 @@ module _ (ws text abi labels : List ℕ) where
       abbrev T : List Entry
       T = packages_from ws text abi labels tables c
 
-      abbrev first : ℕ → Found
+      abbrev first : ℕ → Option ℕ
       first = introduced_from ws text abi labels tables (parent_of ws c)
 
       abbrev Inherits : List Entry → Type 0
@@ -120,7 +110,7 @@ module _ (ws text abi labels : List ℕ) where
         inherits : Inherits U
         good : Good Never (Shows ws text U)
         new : (x : ℕ) → length inherited ≤ x → x < length U
-            → (p : ℕ) × ((at U x).method ≡ At p) × Memᴰ p (own_methods ws c) × (eligible ws text p ≡ true) × (p < a)
+            → (p : ℕ) × ((at U x).method ≡ Some p) × Memᴰ p (own_methods ws c) × (eligible ws text p ≡ true) × (p < a)
 
       between_start : (a : ℕ) → Between a inherited
       between_start a = record {
@@ -184,13 +174,10 @@ module _ (ws text abi labels : List ℕ) where
                   (opens g.0 (record { owner = g.2.owner; along = chain-up ws c h g.2.along; own = g.2.own }) g.3)));
             })
 
-        stored_same : eligible ws text a ≡ true → (j : ℕ) → slot_for ws text a U ≡ At j → put_taken e U js ≡ set U j e
-        stored_same el j q =
-            let s = slot-shows ws text a U j q in
-            let l = not_new el j (slot-below ws text a U j q) s in
-            put_same e U js j (takes el j l s) (λ x i. z.good.unique x j (method_signature ws text a) (taken-shows x i) s)
+        stored_same : eligible ws text a ≡ true → (j : ℕ) → slot_for ws text a U ≡ Some j → put_taken e U js ≡ set U j e
+        stored_same el j q = search (rules, slot-shows, not_new, slot-below, put_same, takes, taken-shows)
 
-        added-same : slot_for ws text a U ≡ Nothing → js ≡ []
+        added-same : slot_for ws text a U ≡ None → js ≡ []
         added-same q = no_members js (λ x i. slot-none ws text a U q x (taken-shows x i))
 
         add_same : add_method ws text abi labels [] a U ≡ built (take-one U a)
@@ -222,15 +209,15 @@ module _ (ws text abi labels : List ℕ) where
             (λ t. rw t z.good)
 
         new-next : (x : ℕ) → length inherited ≤ x → x < length (take-one U a)
-            → (p : ℕ) × ((at (take-one U a) x).method ≡ At p) × Memᴰ p (own_methods ws c) × (eligible ws text p ≡ true) × (p < a + 1)
+            → (p : ℕ) × ((at (take-one U a) x).method ≡ Some p) × Memᴰ p (own_methods ws c) × (eligible ws text p ≡ true) × (p < a + 1)
         unfolding take_slots
         new-next x l b =
             by (eligible ws text a)
             (λ t. rw t (placed t (put-at e U js below x (rw t at b))))
             (λ t. rw t (older (z.new x l (rw t at b))))
           where
-            older : (p : ℕ) × ((at U x).method ≡ At p) × Memᴰ p (own_methods ws c) × (eligible ws text p ≡ true) × (p < a)
-                → (p : ℕ) × ((at U x).method ≡ At p) × Memᴰ p (own_methods ws c) × (eligible ws text p ≡ true) × (p < a + 1)
+            older : (p : ℕ) × ((at U x).method ≡ Some p) × Memᴰ p (own_methods ws c) × (eligible ws text p ≡ true) × (p < a)
+                → (p : ℕ) × ((at U x).method ≡ Some p) × Memᴰ p (own_methods ws c) × (eligible ws text p ≡ true) × (p < a + 1)
             older r = (r.0, r.1, r.2, r.3, omega (arith, r.4))
 
             below : (j : ℕ) → Memᴰ j js → j < length U
@@ -239,7 +226,7 @@ module _ (ws text abi labels : List ℕ) where
                 omega (arith, t.below, z.inherits.longer)
 
             placed : eligible ws text a ≡ true → {f : Entry} → PutAt e U js x f
-                → (p : ℕ) × (f.method ≡ At p) × Memᴰ p (own_methods ws c) × (eligible ws text p ≡ true) × (p < a + 1)
+                → (p : ℕ) × (f.method ≡ Some p) × Memᴰ p (own_methods ws c) × (eligible ws text p ≡ true) × (p < a + 1)
             placed el {f} (stored i k q) =
                 let t = taken_of first (overridden (same_methods ws text) ws text c a) (length inherited) x k in
                 absurd (omega (arith, t.below))
@@ -272,28 +259,20 @@ module _ (ws text abi labels : List ℕ) where
 
       inherited-zero : inherited_from ws text abi labels zeros c ≡ inherited
       unfolding inherited_from
-      inherited-zero =
-          by (eqb (parent_of ws c) 0) (λ q. rw q refl)
-          (λ q. rw (q, (same (eqb-false (parent_of ws c) 0 q)).equal) refl)
+      inherited-zero = search rules
 
       entries-zero : made-zero.entries ≡ T
-      entries-zero =
-          built-same (sym made-zero.from ∙ ap (add_methods ws text abi labels [] (own_methods ws c)) inherited-zero ∙ both.0)
-
-      full : (w x : ℕ) → w ≢ 0 → slot_word w x ≡ w
-      full w x n = rw (ne_eqb w 0 n) refl
+      entries-zero = search (rules, inherited-zero, both)
 
       zero_word : (x : ℕ) → x < length T → get_or (zeros c) x 0 ≡ (at T x).word
       zero_word x l =
           let o = step.over.ours x l in
           ap (λ (y : List ℕ). get_or y x 0) (made-zero.words ∙ ap (λ (y : List Entry). slot_words made-zero.stubs 0 y) entries-zero)
           ∙ word_at made-zero.stubs T x l
-          ∙ full (at T x).word (get_or made-zero.stubs x 0) (λ z. t.nonzero o.method o.along (sym o.word ∙ z))
+          ∙ own-word (at T x).word (get_or made-zero.stubs x 0) (λ z. t.nonzero o.method o.along (sym o.word ∙ z))
 
       zero-length : length (zeros c) ≡ length T
-      zero-length =
-          ap length (made-zero.words ∙ ap (λ (y : List Entry). slot_words made-zero.stubs 0 y) entries-zero)
-          ∙ length-words made-zero.stubs 0 T
+      zero-length = grind (arith, entries-zero, length-words made-zero.stubs 0 T)
 
       equal-one : tables c ≡ zeros c
       equal-one =
@@ -301,7 +280,7 @@ module _ (ws text abi labels : List ℕ) where
           (λ x l. let b : x < length T = omega (arith, l, step.words-length) in step.word-is x b ∙ sym (zero_word x b))
 
       introducers-one : (i : ℕ) → i < length (tables c)
-          → (k : ℕ) × (introduced_from ws text abi labels tables c i ≡ At k) × ChainMethod ws c k × (eligible ws text k ≡ true)
+          → (k : ℕ) × (introduced_from ws text abi labels tables c i ≡ Some k) × ChainMethod ws c k × (eligible ws text k ≡ true)
       introducers-one i l =
           by (ltb i (length inherited))
           (λ u.

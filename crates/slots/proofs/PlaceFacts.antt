@@ -1,9 +1,6 @@
 -- Signatures at indices: what is fixed, F, against what a table shows, K. A table is good if each signature that it shows is where it is
 -- fixed, if at all, and is shown once. Assumes nothing.
-use mathlib.Core.Path.{◌≡◌, sym, ◌∙◌}
-use mathlib.Core.Logic.{◌⊎◌, inl, inr}
-use mathlib.Core.List.{List}
-use Prim.Native.Nat.{ℕ}
+use Rattle.std.proofs.Common.{◌≡◌, sym, ◌∙◌, ◌⊎◌, inl, inr, List, ℕ}
 
 pub record Signature : Type 0 where
   pub name : List ℕ

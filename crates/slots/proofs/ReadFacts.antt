@@ -1,20 +1,14 @@
 -- Where entries and words come from, and what Reading makes of the words that a link writes: a word that is a method's target reads as that
 -- method, one that was lent reads by the ABI alone. Assumes nothing.
-use mathlib.Core.Path.{◌≡◌, refl, sym, ap, ◌∙◌}
-use mathlib.Core.Logic.{◌⊎◌, inl, inr, ◌≢◌}
-use mathlib.Core.List.{List, [], ◌∷◌, Memᴰ}
-use Prim.Native.Nat.{ℕ, zero, suc, ◌+◌, ◌≤◌, ◌<◌}
-use native.Mathlib.Omega.{arith}
-use lib.ListN.{length, get_or, get_or-eq_default}
-use lib.Dec.{ltb}
-use borrow.Author.Tests.{eq-eqb, ne_eqb, ltb-true, ltb-false}
-use Rattle.words.specs.declared.Found.TheVariants.{At, Nothing}
+use Rattle.std.proofs.Common.{rules, ◌≡◌, refl, sym, ap, ◌∙◌, ◌⊎◌, inl, inr, ◌≢◌, List, [], ◌∷◌, ℕ, zero, suc, ◌+◌, ◌≤◌, ◌<◌, arith, length, get_or, ltb, ltb-true, ltb-false, Some, None}
+use mathlib.Core.List.{Memᴰ}
+use lib.ListN.{get_or-eq_default}
 use Rattle.words.proofs.Bools.{by}
 use Rattle.words.proofs.ListLaws.{length-list-from, get_d_list_from}
 use Rattle.class_sheet.specs.ClassSheet.{class_kind, method_target}
 use Rattle.linking.specs.Chain.{own_methods, parent_of, chain}
 use Rattle.linking.specs.Abi.{class_abi}
-use Rattle.linking.specs.Vtable.{Entry, empty, own_fixed, find_by_index, read_entry, slot_word, slot_words}
+use Rattle.linking.specs.Vtable.{Entry, empty, find_by_index, read_entry, slot_word, slot_words}
 use Rattle.linking.proofs.ChainLaws.{along-none, target_none}
 use Rattle.slots.specs.Slots.{Known, ChainMethod}
 use Rattle.slots.specs.Made.{read_words, Conditions}
@@ -22,7 +16,7 @@ use Rattle.slots.proofs.ListFacts.{not_found}
 use Rattle.slots.proofs.ChainFacts.{method-up, conditions-up, target_absent, target-own}
 use Rattle.slots.proofs.PlaceFacts.{Signature, OneIndex, Good, good-fixed}
 use Rattle.slots.proofs.FixedFacts.{method_signature, Live, index_live, index-parent}
-use Rattle.slots.proofs.EntryFacts.{at, known-below, Shows}
+use Rattle.slots.proofs.EntryFacts.{at, own-word, stub-word, known-below, Shows}
 
 -- ---- "A slot that is empty or of target 0 takes the stub word at its index."
 
@@ -34,13 +28,13 @@ length-words stubs k (e ∷ T) = ap suc (length-words stubs (k + 1) T)
 words-from : (stubs : List ℕ) (k : ℕ) (T : List Entry) (i j : ℕ) → i < length T → j ≡ k + i
     → get_or (slot_words stubs k T) i 0 ≡ slot_word (at T i).word (get_or stubs j 0)
 unfolding slot_words
-words-from stubs k [] i j h e = absurd (omega arith)
-words-from stubs k (x ∷ T) zero j h e = let q : j ≡ k = omega arith in rw q refl
-words-from stubs k (x ∷ T) (suc i) j h e = words-from stubs (k + 1) T i j (omega arith) (omega arith)
+words-from stubs k [] i j h e = search rules
+words-from stubs k (x ∷ T) zero j h e = search rules
+words-from stubs k (x ∷ T) (suc i) j h e = search (rules, words-from stubs (k + 1) T i j)
 
 pub word_at : (stubs : List ℕ) (T : List Entry) (i : ℕ) → i < length T
     → get_or (slot_words stubs 0 T) i 0 ≡ slot_word (at T i).word (get_or stubs i 0)
-word_at stubs T i h = words-from stubs 0 T i i h (omega arith)
+word_at stubs T i h = search (rules, words-from)
 
 -- a word of class c's table is the target of a method of its chain, or was lent
 pub data Origin (ws : List ℕ) (P : ℕ → Type 0) (c w : ℕ) : Type 0 where
@@ -53,30 +47,28 @@ module _ (ws text abi labels : List ℕ) where
   module _ (c : ℕ) (t : List ℕ) where
     pub length-read : length (read_words ws text abi labels c t) ≡ length t
     unfolding read_words
-    length-read = length-list-from (λ i. read_entry ws text abi labels c i (get_or t i 0)) 0 (length t)
+    length-read = search (rules, length-list-from)
 
     pub read_at : (i : ℕ) → i < length t → at (read_words ws text abi labels c t) i ≡ read_entry ws text abi labels c i (get_or t i 0)
     unfolding read_words
-    read_at i h =
-        get_d_list_from (λ k. read_entry ws text abi labels c k (get_or t k 0)) 0 (length t) i empty h
-        ∙ ap (λ (k : ℕ). read_entry ws text abi labels c k (get_or t k 0)) (omega arith)
+    read_at i h = search (rules, get_d_list_from)
 
-    pub read_known : (i m : ℕ) → (at (read_words ws text abi labels c t) i).method ≡ At m → Known ws text abi labels c t i m
+    pub read_known : (i m : ℕ) → (at (read_words ws text abi labels c t) i).method ≡ Some m → Known ws text abi labels c t i m
     read_known i m e =
         let h : i < length t = rw length-read at (known-below (read_words ws text abi labels c t) i m e) in
         record { slot = h; reads = ap (λ (x : Entry). x.method) (sym (read_at i h)) ∙ e }
 
-    pub known_read : (i m : ℕ) → Known ws text abi labels c t i m → (at (read_words ws text abi labels c t) i).method ≡ At m
-    known_read i m k = ap (λ (x : Entry). x.method) (read_at i k.slot) ∙ k.reads
+    pub known_read : (i m : ℕ) → Known ws text abi labels c t i m → (at (read_words ws text abi labels c t) i).method ≡ Some m
+    known_read i m k = search (rules, read_at)
 
   pub read_word : (c i w : ℕ) → (read_entry ws text abi labels c i w).word ≡ w
   unfolding read_entry
   read_word c i w = refl
 
   -- along no chain, nothing is known
-  pub read_no_class : (i w : ℕ) → (read_entry ws text abi labels 0 i w).method ≡ Nothing
+  pub read_no_class : (i w : ℕ) → (read_entry ws text abi labels 0 i w).method ≡ None
   unfolding read_entry find_by_index
-  read_no_class i w = rw (target_none ws 0 w refl) (along-none (own_fixed ws text abi labels i) ws 0 refl)
+  read_no_class i w = search (rules, target_none, along-none)
 
   module _ (P : ℕ → Type 0) where
     -- ---- where an entry comes from
@@ -84,12 +76,12 @@ module _ (ws text abi labels : List ℕ) where
     -- an entry at index i of class c's table, before it is written, is a method's; or its word was lent, and if known it is so by what Reading's second
     -- rule says of a class without an ABI entry too; or it is empty
     pub data Firm (c i : ℕ) (e : Entry) : Type 0 where
-      ours : (m : ℕ) → ChainMethod ws c m → e.method ≡ At m → e.word ≡ method_target ws m → Firm c i e
-      lent : P e.word → ((m : ℕ) → e.method ≡ At m → class_abi ws text abi labels c ≡ Nothing → find_by_index ws text abi labels c i ≡ At m) → Firm c i e
-      blank : e.word ≡ 0 → e.method ≡ Nothing → Firm c i e
+      ours : (m : ℕ) → ChainMethod ws c m → e.method ≡ Some m → e.word ≡ method_target ws m → Firm c i e
+      lent : P e.word → ((m : ℕ) → e.method ≡ Some m → class_abi ws text abi labels c ≡ None → find_by_index ws text abi labels c i ≡ Some m) → Firm c i e
+      blank : e.word ≡ 0 → e.method ≡ None → Firm c i e
 
     -- the index does not matter where the class has an ABI entry
-    pub firm-any : {c a : ℕ} → class_abi ws text abi labels c ≡ At a → (i j : ℕ) (e : Entry) → Firm c i e → Firm c j e
+    pub firm-any : {c a : ℕ} → class_abi ws text abi labels c ≡ Some a → (i j : ℕ) (e : Entry) → Firm c i e → Firm c j e
     firm-any q i j e (ours m k f g) = ours m k f g
     firm-any q i j e (lent p f) = lent p (λ m k n. not_found (sym n ∙ q))
     firm-any q i j e (blank f g) = blank f g
@@ -97,13 +89,13 @@ module _ (ws text abi labels : List ℕ) where
     -- ---- Reading along a chain that meets the conditions
 
     module _ (c : ℕ) (k : Conditions ws text abi labels P c) (i w : ℕ) where
-      pub read-target : (m : ℕ) → ChainMethod ws c m → w ≡ method_target ws m → (read_entry ws text abi labels c i w).method ≡ At m
+      pub read-target : (m : ℕ) → ChainMethod ws c m → w ≡ method_target ws m → (read_entry ws text abi labels c i w).method ≡ Some m
       unfolding read_entry
-      read-target m h e = rw (target-own ws c w k.different_targets m h (sym e)) refl
+      read-target m h e = search (rules, target-own)
 
       pub read-stub : P w → (read_entry ws text abi labels c i w).method ≡ find_by_index ws text abi labels c i
       unfolding read_entry
-      read-stub p = rw (target_absent ws c w (λ m h. k.no_stub w m p h)) refl
+      read-stub p = search (rules, target_absent)
 
     -- the parent's entries, as the child starts from them
     module _ (c : ℕ) (h : 0 < c) (k : Conditions ws text abi labels P c) where
@@ -130,25 +122,19 @@ module _ (ws text abi labels : List ℕ) where
     -- ---- what is written for an entry
 
     data Written (c i : ℕ) (e : Entry) (w : ℕ) : Type 0 where
-      method : (m : ℕ) → ChainMethod ws c m → e.method ≡ At m → e.word ≡ w → w ≡ method_target ws m → Written c i e w
-      other : P w → ((m : ℕ) → e.method ≡ At m → e.word ≡ w)
-          → ((m : ℕ) → e.method ≡ At m → class_abi ws text abi labels c ≡ Nothing → find_by_index ws text abi labels c i ≡ At m) → Written c i e w
-
-    full : (w x : ℕ) → w ≢ 0 → slot_word w x ≡ w
-    full w x n = rw (ne_eqb w 0 n) refl
-
-    bare-word : (w x : ℕ) → w ≡ 0 → slot_word w x ≡ x
-    bare-word w x e = rw (eq-eqb w 0 e) refl
+      method : (m : ℕ) → ChainMethod ws c m → e.method ≡ Some m → e.word ≡ w → w ≡ method_target ws m → Written c i e w
+      other : P w → ((m : ℕ) → e.method ≡ Some m → e.word ≡ w)
+          → ((m : ℕ) → e.method ≡ Some m → class_abi ws text abi labels c ≡ None → find_by_index ws text abi labels c i ≡ Some m) → Written c i e w
 
     module _ (c : ℕ) (k : Conditions ws text abi labels P c) where
       written : (i : ℕ) (e : Entry) (x : ℕ) → P x → Firm c i e → Written c i e (slot_word e.word x)
       written i e x p (ours m h f g) =
-          let n : e.word ≢ 0 = λ z. k.nonzero_targets m h (sym g ∙ z) in method m h f (sym (full e.word x n)) (full e.word x n ∙ g)
+          let n : e.word ≢ 0 = λ z. k.nonzero_targets m h (sym g ∙ z) in method m h f (sym (own-word e.word x n)) (own-word e.word x n ∙ g)
       written i e x p (lent q f) =
           let n : e.word ≢ 0 = k.nonzero_stubs e.word q in
-          let r : slot_word e.word x ≡ e.word = full e.word x n in
+          let r : slot_word e.word x ≡ e.word = own-word e.word x n in
           other (rw r q) (λ m g. sym r) f
-      written i e x p (blank f g) = other (rw (bare-word e.word x f) p) (λ m q. not_found (sym g ∙ q)) (λ m q. not_found (sym g ∙ q))
+      written i e x p (blank f g) = other (rw (stub-word e.word x f) p) (λ m q. not_found (sym g ∙ q)) (λ m q. not_found (sym g ∙ q))
 
       written-origin : {i : ℕ} {e : Entry} {w : ℕ} → Written c i e w → Origin ws P c w
       written-origin (method m h f g r) = target m h r
@@ -156,15 +142,15 @@ module _ (ws text abi labels : List ℕ) where
 
       -- read back, it is the entry's method, or the ABI fixes it there
       written_back : ((d : ℕ) → Memᴰ d (chain ws c) → class_kind ws d ≡ 2 → own_methods ws d ≡ []) → (i : ℕ) (e : Entry) (w : ℕ) → Written c i e w
-          → (n : ℕ) → (read_entry ws text abi labels c i w).method ≡ At n → (e.method ≡ At n) ⊎ Live ws text abi labels c (method_signature ws text n) i
-      written_back bare i e w (method m h f g r) n q = inl (f ∙ sym (read-target c k i w m h r) ∙ q)
-      written_back bare i e w (other p f g) n q = inr (index_live ws text abi labels c i n bare (sym (read-stub c k i w p) ∙ q))
+          → (n : ℕ) → (read_entry ws text abi labels c i w).method ≡ Some n → (e.method ≡ Some n) ⊎ Live ws text abi labels c (method_signature ws text n) i
+      written_back bare i e w (method m h f g r) n q = search (rules, read-target)
+      written_back bare i e w (other p f g) n q = search (rules, index_live, read-stub)
 
       -- a known entry of a class without an ABI entry reads back as it is
-      written_on : class_abi ws text abi labels c ≡ Nothing → (i : ℕ) (e : Entry) (w : ℕ) → Written c i e w
-          → (n : ℕ) → e.method ≡ At n → ((read_entry ws text abi labels c i w).method ≡ At n) × (e.word ≡ w)
-      written_on none i e w (method m h f g r) n q = (read-target c k i w m h r ∙ sym f ∙ q, g)
-      written_on none i e w (other p f g) n q = (read-stub c k i w p ∙ g n q none, f n q)
+      written_on : class_abi ws text abi labels c ≡ None → (i : ℕ) (e : Entry) (w : ℕ) → Written c i e w
+          → (n : ℕ) → e.method ≡ Some n → ((read_entry ws text abi labels c i w).method ≡ Some n) × (e.word ≡ w)
+      written_on none i e w (method m h f g r) n q = search (rules, read-target)
+      written_on none i e w (other p f g) n q = search (rules, read-stub)
 
       -- ---- a whole table, written and read back
 
@@ -192,11 +178,11 @@ module _ (ws text abi labels : List ℕ) where
                 ]
 
         -- a known entry of a class without an ABI entry is known, and its word is written
-        pub table-known : class_abi ws text abi labels c ≡ Nothing → (i m : ℕ) → (at T i).method ≡ At m → Known ws text abi labels c (slot_words stubs 0 T) i m
+        pub table-known : class_abi ws text abi labels c ≡ None → (i m : ℕ) → (at T i).method ≡ Some m → Known ws text abi labels c (slot_words stubs 0 T) i m
         table-known none i m e =
             let l = known-below T i m e in
             record { slot = rw (length-words stubs 0 T) l; reads = (written_on none i (at T i) (get_or (slot_words stubs 0 T) i 0) (each i l) m e).0 }
 
-        pub table-word : class_abi ws text abi labels c ≡ Nothing → (i m : ℕ) → (at T i).method ≡ At m → get_or (slot_words stubs 0 T) i 0 ≡ (at T i).word
+        pub table-word : class_abi ws text abi labels c ≡ None → (i m : ℕ) → (at T i).method ≡ Some m → get_or (slot_words stubs 0 T) i 0 ≡ (at T i).word
         table-word none i m e =
             let l = known-below T i m e in sym (written_on none i (at T i) (get_or (slot_words stubs 0 T) i 0) (each i l) m e).1

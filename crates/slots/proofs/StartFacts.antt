@@ -1,18 +1,13 @@
 -- What a class starts from: its parent's entries, extended, or laid out anew where the class has an ABI entry of its own. Either way a good
 -- table stays good, there is room for all that the chain fixes, and each entry is an inherited one or empty. Assumes nothing.
-use mathlib.Core.Path.{◌≡◌, refl, sym, ap, ◌∙◌}
-use mathlib.Core.Logic.{inl, inr}
-use mathlib.Core.List.{List, [], ◌∷◌, ◌++◌}
-use Prim.Native.Nat.{ℕ, suc, ◌-◌, ◌≤◌, ◌<◌}
-use native.Mathlib.Omega.{arith}
-use lib.ListN.{length, set, replicate, length-set, length-append, length-replicate}
+use Rattle.std.proofs.lemmas.Grind.{common_steps}
+use Rattle.std.proofs.Common.{◌≡◌, refl, ap, ◌∙◌, inl, inr, List, [], ◌∷◌, ◌++◌, ℕ, suc, ◌≤◌, ◌<◌, arith, length, set, replicate, length-set, length-append, Some, None}
+use lib.ListN.{length-replicate}
 use Rattle.words.specs.Lists.{fold}
-use Rattle.words.specs.declared.Found.{Found}
-use Rattle.words.specs.declared.Found.TheVariants.{At, Nothing}
 use Rattle.words.proofs.ListLaws.{by-found}
 use Rattle.linking.specs.Abi.{chain_abi, minimum_size}
-use Rattle.linking.specs.Vtable.{Entry, empty, fixed_of, put_fixed, relay, relay_step, relayed, extended}
-use Rattle.slots.proofs.ListFacts.{not_found, set_at, snoc_at, blank-at, extended-at}
+use Rattle.linking.specs.Vtable.{Entry, empty, fixed_of, relay_step, relayed, extended}
+use Rattle.slots.proofs.ListFacts.{set_at, snoc_at, blank-at}
 use Rattle.slots.proofs.PlaceFacts.{Signature, OneIndex, Good, good_less, good_none}
 use Rattle.slots.proofs.FixedFacts.{method_signature, Fixes, fixed-some, fixed-none, fixed-room}
 use Rattle.slots.proofs.EntryFacts.{at, Shows, shows_same, shows-entry, set-good, append-good}
@@ -22,11 +17,11 @@ use Rattle.slots.proofs.EntryFacts.{at, Shows, shows_same, shows-entry, set-good
 module _ (abi abis : List ℕ) (T : List Entry) where
   pub extended-same : (i : ℕ) → at (extended abi abis T) i ≡ at T i
   unfolding extended
-  extended-same i = extended-at T (minimum_size abi abis - length T) i empty
+  extended-same i = grind (arith, common_steps)
 
   pub extended-room : minimum_size abi abis ≤ length (extended abi abis T)
   unfolding extended
-  extended-room = simp (length-append, length-replicate) (omega arith)
+  extended-room = grind (arith, common_steps)
 
 pub extended-good : (ws text abi abis : List ℕ) (T : List Entry) {F : Signature → ℕ → Type 0} → Good F (Shows ws text T)
     → Good F (Shows ws text (extended abi abis T))
@@ -38,22 +33,20 @@ module _ (ws text abi labels : List ℕ) where
   -- one follow after the minimum size; unknown ones go."
 
   module _ (abis : List ℕ) (T : List Entry) (e : Entry) where
-    step-none : e.method ≡ Nothing → relay_step ws text abi labels abis T e ≡ T
+    step-none : e.method ≡ None → relay_step ws text abi labels abis T e ≡ T
     unfolding relay_step
-    step-none q = ap (λ (f : Found). relay ws text abi labels abis f e T) q
+    step-none q = cc
 
-    step-fixed : (m i : ℕ) → e.method ≡ At m → fixed_of ws text abi labels abis m ≡ At i → relay_step ws text abi labels abis T e ≡ set T i e
+    step-fixed : (m i : ℕ) → e.method ≡ Some m → fixed_of ws text abi labels abis m ≡ Some i → relay_step ws text abi labels abis T e ≡ set T i e
     unfolding relay_step
-    step-fixed m i q r =
-        ap (λ (f : Found). relay ws text abi labels abis f e T) q ∙ ap (λ (f : Found). put_fixed f e T) r
+    step-fixed m i q r = cc
 
-    step-last : (m : ℕ) → e.method ≡ At m → fixed_of ws text abi labels abis m ≡ Nothing → relay_step ws text abi labels abis T e ≡ T ++ (e ∷ [])
+    step-last : (m : ℕ) → e.method ≡ Some m → fixed_of ws text abi labels abis m ≡ None → relay_step ws text abi labels abis T e ≡ T ++ (e ∷ [])
     unfolding relay_step
-    step-last m q r =
-        ap (λ (f : Found). relay ws text abi labels abis f e T) q ∙ ap (λ (f : Found). put_fixed f e T) r
+    step-last m q r = cc
 
   blank_none : (n i : ℕ) (s : Signature) → Shows ws text (replicate n empty) i s → ⊥
-  blank_none n i s k = not_found (sym (ap (λ (e : Entry). e.method) (blank-at n i empty)) ∙ k.holds)
+  blank_none n i s k = grind (arith, common_steps)
 
   module _ (c : ℕ) (within : c ≤ 64) (one : OneIndex (Fixes ws text abi labels c)) where
     -- the entries T laid out already share no signature with those to come, E
@@ -73,7 +66,7 @@ module _ (ws text abi labels : List ℕ) where
       lay-none : Laying T E
       lay-none = record { good = l.good; room = l.room; rest = rest-next; apart = λ i j s k n. l.apart i (suc j) s k (next n) }
 
-      module _ (m : ℕ) (known : e.method ≡ At m) where
+      module _ (m : ℕ) (known : e.method ≡ Some m) where
         first : Shows ws text (e ∷ E) 0 (method_signature ws text m)
         first = record { method = m; holds = known; is = refl }
 
@@ -84,7 +77,7 @@ module _ (ws text abi labels : List ℕ) where
         once : (j : ℕ) (s : Signature) → s ≡ method_signature ws text m → Shows ws text E j s → ⊥
         once j s q k = let z = l.rest 0 (suc j) (method_signature ws text m) first (rw q at (next k)) in absurd (omega arith)
 
-        lay-fixed : (i : ℕ) → fixed_of ws text abi labels (chain_abi ws text abi labels c) m ≡ At i → Laying (set T i e) E
+        lay-fixed : (i : ℕ) → fixed_of ws text abi labels (chain_abi ws text abi labels c) m ≡ Some i → Laying (set T i e) E
         lay-fixed i q =
             let f = fixed-some ws text abi labels c within m i q in
             let r = fixed-room ws text abi labels c within (method_signature ws text m) i f in
@@ -100,7 +93,7 @@ module _ (ws text abi labels : List ℕ) where
               ];
             }
 
-        lay-last : fixed_of ws text abi labels (chain_abi ws text abi labels c) m ≡ Nothing → Laying (T ++ (e ∷ [])) E
+        lay-last : fixed_of ws text abi labels (chain_abi ws text abi labels c) m ≡ None → Laying (T ++ (e ∷ [])) E
         lay-last q =
             let n = l.room in
             record {

@@ -1,14 +1,8 @@
 -- The table half of demand 3: of tables that links made along a chain, class by class from its root. No two known slots have one signature, and a
 -- child without an ABI entry keeps its parent's known slots. Assumes nothing.
-use mathlib.Core.Path.{◌≡◌, refl, sym, ap, ◌∙◌}
-use mathlib.Core.Logic.{inl, inr, ◌≢◌}
-use mathlib.Core.List.{List, [], Memᴰ}
-use Prim.Native.Nat.{ℕ, zero, suc, ◌≤◌, ◌<◌}
-use native.Mathlib.Omega.{arith}
-use lib.ListN.{length, get_or}
-use lib.Dec.{eqb}
-use borrow.Author.Tests.{eqb-true, eqb-false, eq-eqb, ne_eqb}
-use Rattle.words.specs.declared.Found.TheVariants.{At, Nothing}
+use Rattle.std.proofs.Common.{rules, ◌≡◌, refl, sym, ap, ◌∙◌, inl, inr, ◌≢◌, List, [], ℕ, zero, suc, ◌≤◌, ◌<◌, arith, length, get_or, eqb, eqb-true, Some, None}
+use mathlib.Core.List.{Memᴰ}
+use borrow.Author.Tests.{eqb-false}
 use Rattle.words.proofs.Bools.{by}
 use Rattle.words.proofs.ListLaws.{by-found}
 use Rattle.class_sheet.specs.ClassSheet.{class_kind}
@@ -33,7 +27,7 @@ module _ (ws text abi labels : List ℕ) (tables : ℕ → List ℕ) (P : ℕ �
   record Linked (c : ℕ) : Type 0 where
     origin : (i : ℕ) → i < length (tables c) → Origin ws P c (get_or (tables c) i 0)
     good : Good (Live ws text abi labels c) (Shows ws text (read_words ws text abi labels c (tables c)))
-    kept : parent_of ws c ≢ 0 → class_abi ws text abi labels c ≡ Nothing → Kept ws text abi labels c (tables c) (tables (parent_of ws c))
+    kept : parent_of ws c ≢ 0 → class_abi ws text abi labels c ≡ None → Kept ws text abi labels c (tables c) (tables (parent_of ws c))
 
   -- ---- one class over its parent
 
@@ -49,11 +43,11 @@ module _ (ws text abi labels : List ℕ) (tables : ℕ → List ℕ) (P : ℕ �
 
     no_parent : parent_of ws c ≡ 0 → ◌≡◌ {A = List Entry} inherited []
     unfolding inherited_from
-    no_parent e = rw (eq-eqb (parent_of ws c) 0 e) refl
+    no_parent e = cc
 
     some-parent : parent_of ws c ≢ 0 → inherited ≡ read_words ws text abi labels (parent_of ws c) (tables (parent_of ws c))
     unfolding inherited_from
-    some-parent n = rw (ne_eqb (parent_of ws c) 0 n) refl
+    some-parent n = search rules
 
     inherited-firm : (i : ℕ) → Firm ws text abi labels P c i (at inherited i)
     inherited-firm i =
@@ -74,7 +68,7 @@ module _ (ws text abi labels : List ℕ) (tables : ℕ → List ℕ) (P : ℕ �
     record Makes (T : List Entry) : Type 0 where
       good : Good (Live ws text abi labels c) (Shows ws text T)
       firm : (i : ℕ) → Firm ws text abi labels P c i (at T i)
-      stays : class_abi ws text abi labels c ≡ Nothing → (i m : ℕ) → (at inherited i).method ≡ At m
+      stays : class_abi ws text abi labels c ≡ None → (i m : ℕ) → (at inherited i).method ≡ Some m
           → Stays ws text abi labels (own_methods ws c) (method_signature ws text m) (at inherited i) (at T i)
 
     -- "Array: the parent's entries."
@@ -91,9 +85,9 @@ module _ (ws text abi labels : List ℕ) (tables : ℕ → List ℕ) (P : ℕ �
       good : Good (Live ws text abi labels c) (Shows ws text T)
       room : minimum_size abi (chain_abi ws text abi labels c) ≤ length T
       firm : (i : ℕ) → Firm ws text abi labels P c i (at T i)
-      same : class_abi ws text abi labels c ≡ Nothing → (i : ℕ) → at T i ≡ at inherited i
+      same : class_abi ws text abi labels c ≡ None → (i : ℕ) → at T i ≡ at inherited i
 
-    relayed-starts : (a : ℕ) → class_abi ws text abi labels c ≡ At a → Starts (relayed ws text abi labels (chain_abi ws text abi labels c) inherited)
+    relayed-starts : (a : ℕ) → class_abi ws text abi labels c ≡ Some a → Starts (relayed ws text abi labels (chain_abi ws text abi labels c) inherited)
     relayed-starts a e = record {
       good = good-sub (live_fixes ws text abi labels c) (relayed-good ws text abi labels c within one inherited inherited-good.unique);
       room = relayed-room ws text abi labels c within one inherited inherited-good.unique;
@@ -102,7 +96,7 @@ module _ (ws text abi labels : List ℕ) (tables : ℕ → List ℕ) (P : ℕ �
       same = λ n. not_found (sym n ∙ e);
     }
 
-    extended-starts : class_abi ws text abi labels c ≡ Nothing → Starts (extended abi (chain_abi ws text abi labels c) inherited)
+    extended-starts : class_abi ws text abi labels c ≡ None → Starts (extended abi (chain_abi ws text abi labels c) inherited)
     extended-starts e = record {
       good = extended-good ws text abi (chain_abi ws text abi labels c) inherited (good-sub (live_up ws text abi labels c h (inr e)) inherited-good);
       room = extended-room abi (chain_abi ws text abi labels c) inherited;
@@ -138,7 +132,7 @@ module _ (ws text abi labels : List ℕ) (tables : ℕ → List ℕ) (P : ℕ �
 
     old-from : (T : List Entry) → made_from ws text abi labels tables c ≡ built T → table_from ws text abi labels c inherited ≡ built T
     unfolding made_from
-    old-from T e = elim (old c (chain-here ws c h)) [ inl q ↦ rw q at e | inr q ↦ rw q at e ]
+    old-from T e = search (rules, chain-here)
 
     -- ---- its words, written and read back
 
@@ -146,14 +140,14 @@ module _ (ws text abi labels : List ℕ) (tables : ℕ → List ℕ) (P : ℕ �
     bare d i e = (made d i).bare e
 
     kept-one : (stubs : List ℕ) (T : List Entry) → length T ≤ length stubs → ((i : ℕ) → i < length stubs → P (get_or stubs i 0)) → Makes T
-        → parent_of ws c ≢ 0 → class_abi ws text abi labels c ≡ Nothing
+        → parent_of ws c ≢ 0 → class_abi ws text abi labels c ≡ None
         → Kept ws text abi labels c (slot_words stubs 0 T) (tables (parent_of ws c))
     kept-one stubs T enough given makes n none i m known = keep (makes.stays none i m holds)
       where
         read : at inherited i ≡ read_entry ws text abi labels (parent_of ws c) i (get_or (tables (parent_of ws c)) i 0)
         read = rw (some-parent n) (read_at ws text abi labels (parent_of ws c) (tables (parent_of ws c)) i known.slot)
 
-        holds : (at inherited i).method ≡ At m
+        holds : (at inherited i).method ≡ Some m
         holds = ap (λ (x : Entry). x.method) read ∙ known.reads
 
         word : (at inherited i).word ≡ get_or (tables (parent_of ws c)) i 0
@@ -220,7 +214,7 @@ module _ (ws text abi labels : List ℕ) (tables : ℕ → List ℕ) (P : ℕ �
   -- "In a child without an ABI entry, each known slot of its parent's table is known at the same index with the same signature, and the child's
   -- target there is the parent's or that of an eligible method of that signature which the child declares."
   pub table_kept : (c : ℕ) → c ≤ 64 → OldRule ws c → Conditions ws text abi labels P c
-      → ((d : ℕ) → Memᴰ d (chain ws c) → Made ws text abi labels tables P d) → parent_of ws c ≢ 0 → class_abi ws text abi labels c ≡ Nothing
+      → ((d : ℕ) → Memᴰ d (chain ws c) → Made ws text abi labels tables P d) → parent_of ws c ≢ 0 → class_abi ws text abi labels c ≡ None
       → Kept ws text abi labels c (tables c) (tables (parent_of ws c))
   table_kept c within old k made n none =
       let f = parent-within ws c in

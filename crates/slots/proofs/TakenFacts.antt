@@ -1,18 +1,12 @@
 -- A class of kind 3 over its parent's entries: each eligible method stands at the slots that it takes, or in a new last one. So every entry is a
 -- method's of the chain, and one that was inherited keeps its signature. Assumes nothing.
-use mathlib.Core.Path.{◌≡◌, refl, sym, ap, ◌∙◌}
-use mathlib.Core.Logic.{◌⊎◌, inl, inr, ⊎_elim}
-use mathlib.Core.Bool.{true, false, false≢true}
+use Rattle.std.proofs.lemmas.Grind.{common_steps}
+use Rattle.std.proofs.Common.{rules, ◌≡◌, refl, sym, ap, ◌∙◌, ◌⊎◌, inl, inr, ⊎_elim, true, false, List, [], ◌∷◌, ◌++◌, ℕ, zero, suc, ◌+◌, ◌≤◌, ◌<◌, arith, length, set, length-set, eqb, eqb-true, eq-eqb, Option, Some}
+use mathlib.Core.Bool.{false≢true}
 use mathlib.Core.List.Memᴰ
-use mathlib.Core.List.{List, [], ◌∷◌, ◌++◌, Memᴰ}
-use Prim.Native.Nat.{ℕ, zero, suc, ◌+◌, ◌≤◌, ◌<◌}
-use native.Mathlib.Omega.{arith}
-use lib.ListN.{length, set, length-set, length-append}
-use lib.Dec.{eqb}
-use borrow.Author.Tests.{eqb-true, eqb-false, eq-eqb}
+use mathlib.Core.List.{Memᴰ}
+use borrow.Author.Tests.{eqb-false}
 use Rattle.words.specs.Lists.{list_from, numbers, fold, some}
-use Rattle.words.specs.declared.Found.{Found}
-use Rattle.words.specs.declared.Found.TheVariants.{At}
 use Rattle.words.proofs.Bools.{by}
 use Rattle.words.proofs.ListLaws.{by-found, numbers-within}
 use Rattle.class_sheet.specs.ClassSheet.{method_target}
@@ -29,13 +23,13 @@ use Rattle.slots.proofs.AddFacts.{Stays, stays_same, stays-own}
 
 -- ---- the slots that are taken
 
-pub record Taken (first : ℕ → Found) (ks : List ℕ) (n x : ℕ) : Type 0 where
+pub record Taken (first : ℕ → Option ℕ) (ks : List ℕ) (n x : ℕ) : Type 0 where
   pub below : x < n
   pub method : ℕ
-  pub introduces : first x ≡ At method
+  pub introduces : first x ≡ Some method
   pub among : Memᴰ method ks
 
-pub taken_of : (first : ℕ → Found) (ks : List ℕ) (n x : ℕ) → Memᴰ x (taken_slots first ks n) → Taken first ks n x
+pub taken_of : (first : ℕ → Option ℕ) (ks : List ℕ) (n x : ℕ) → Memᴰ x (taken_slots first ks n) → Taken first ks n x
 unfolding taken_slots
 taken_of first ks n x h =
     let r = keep-of (λ i. on_found (first i) (λ k. some (λ j. eqb j k) ks) false) (numbers 0 n) h in
@@ -53,7 +47,7 @@ number_in m (suc n) x l h =
     by (eqb x m) (λ t. Memᴰ.head (eqb-true x m t))
     (λ t. let q = eqb-false x m t in Memᴰ.tail (number_in (m + 1) n x (omega arith) (omega arith)))
 
-pub taken_in_lem : (first : ℕ → Found) (ks : List ℕ) (n x : ℕ) → Taken first ks n x → Memᴰ x (taken_slots first ks n)
+pub taken_in_lem : (first : ℕ → Option ℕ) (ks : List ℕ) (n x : ℕ) → Taken first ks n x → Memᴰ x (taken_slots first ks n)
 unfolding taken_slots
 taken_in_lem first ks n x t =
     keep_in (λ i. on_found (first i) (λ k. some (λ j. eqb j k) ks) false) (numbers 0 n) (number_in 0 n x (omega arith) (omega (arith, t.below)))
@@ -82,11 +76,10 @@ module _ (e : Entry) where
 
   snoc_cases : (T : List Entry) (x : ℕ) → x < length (T ++ (e ∷ []))
       → ((x < length T) × (at (T ++ (e ∷ [])) x ≡ at T x)) ⊎ ((x ≡ length T) × (at (T ++ (e ∷ [])) x ≡ e))
-  snoc_cases [] zero h = inr (refl, refl)
-  snoc_cases [] (suc x) h = absurd (omega arith)
-  snoc_cases (y ∷ T) zero h = inl (omega arith, refl)
-  snoc_cases (y ∷ T) (suc x) h =
-      elim (snoc_cases T x (omega arith)) [ inl p ↦ inl (omega (arith, p.0), p.1) | inr p ↦ inr (ap suc p.0, p.1) ]
+  snoc_cases [] zero h = grind arith
+  snoc_cases [] (suc x) h = grind arith
+  snoc_cases (y ∷ T) zero h = grind arith
+  snoc_cases (y ∷ T) (suc x) h = grind (arith, common_steps)
 
   -- what stands at a place of the new table: the entry where it was stored, the old one, or the entry after the last
   pub data PutAt (T : List Entry) (js : List ℕ) (x : ℕ) (f : Entry) : Type 0 where
@@ -104,8 +97,8 @@ module _ (e : Entry) where
 
   pub put-length : (T : List Entry) (js : List ℕ) → length T ≤ length (put_taken e T js)
   unfolding put_taken
-  put-length T [] = omega (arith, length-append T (e ∷ []))
-  put-length T (j ∷ js) = omega (arith, stores-length js (set T j e), length-set T j e)
+  put-length T [] = grind (arith, common_steps)
+  put-length T (j ∷ js) = search (rules, stores-length)
 
 -- ---- a class's own methods, one after the other
 
@@ -114,20 +107,20 @@ module _ (ws text abi labels : List ℕ) where
   pub record Ours (c : ℕ) (e : Entry) : Type 0 where
     pub method : ℕ
     pub along : ChainMethod ws c method
-    pub holds : e.method ≡ At method
+    pub holds : e.method ≡ Some method
     pub word : e.word ≡ method_target ws method
 
   -- the introducing method of an inherited slot has the signature of the entry there
-  abbrev pub Introduces : (ℕ → Found) → List Entry → Type 0
+  abbrev pub Introduces : (ℕ → Option ℕ) → List Entry → Type 0
   Introduces first P =
-      (x p : ℕ) → x < length P → (at P x).method ≡ At p → (k : ℕ) × (first x ≡ At k) × (method_signature ws text k ≡ method_signature ws text p)
+      (x p : ℕ) → x < length P → (at P x).method ≡ Some p → (k : ℕ) × (first x ≡ Some k) × (method_signature ws text k ≡ method_signature ws text p)
 
-  module _ (c : ℕ) (h : 0 < c) (first : ℕ → Found) (P : List Entry) (introduces : Introduces first P)
+  module _ (c : ℕ) (h : 0 < c) (first : ℕ → Option ℕ) (P : List Entry) (introduces : Introduces first P)
       (inherited : (x : ℕ) → x < length P → Ours c (at P x)) where
     pub record Over (T : List Entry) : Type 0 where
       pub longer : length P ≤ length T
       pub ours : (x : ℕ) → x < length T → Ours c (at T x)
-      pub stays : (x p : ℕ) → x < length P → (at P x).method ≡ At p
+      pub stays : (x p : ℕ) → x < length P → (at P x).method ≡ Some p
           → Stays ws text abi labels (own_methods ws c) (method_signature ws text p) (at P x) (at T x)
 
     pub over-start : Over P
@@ -144,7 +137,7 @@ module _ (ws text abi labels : List ℕ) where
     abbrev pub slots : ℕ → List ℕ
     slots m = taken_slots first (overridden (same_methods ws text) ws text c m) (length P)
 
-    pub taken-signature : (m x p : ℕ) → Memᴰ m (own_methods ws c) → Memᴰ x (slots m) → (at P x).method ≡ At p
+    pub taken-signature : (m x p : ℕ) → Memᴰ m (own_methods ws c) → Memᴰ x (slots m) → (at P x).method ≡ Some p
         → method_signature ws text m ≡ method_signature ws text p
     taken-signature m x p i j e =
         let t = taken_of first (overridden (same_methods ws text) ws text c m) (length P) x j in
@@ -173,7 +166,7 @@ module _ (ws text abi labels : List ℕ) where
         each x {f} (left l n q) = rw q (o.ours x l)
         each x {f} (added l k q) = mine m i f q
 
-        kept : (x p : ℕ) → x < length P → (at P x).method ≡ At p → {f : Entry} → PutAt e T (slots m) x f
+        kept : (x p : ℕ) → x < length P → (at P x).method ≡ Some p → {f : Entry} → PutAt e T (slots m) x f
             → Stays ws text abi labels (own_methods ws c) (method_signature ws text p) (at P x) f
         kept x p l q {f} (stored b k r) =
             stays-own ws text abi labels (own_methods ws c) (method_signature ws text p) (at P x) f m i el (taken-signature m x p i k q) r

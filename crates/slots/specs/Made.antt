@@ -1,8 +1,8 @@
 -- What a table that the linker made is made of: the local equation that the runs keep, and the conditions under which tables so made have
 -- demand 3's properties. Tables are lists of slot words, one for each class number. Assumes nothing.
-use Rattle.std.specs.Prelude.{ℕ, ◌<◌, ◌≤◌, ◌≡◌, ◌≢◌, cond, List, [], length, get_or, eqb, ltb}
-use Rattle.words.specs.Lists.{list_from, and_then}
-use Rattle.words.specs.declared.Found.{Found}
+use Rattle.std.specs.Prelude.{ℕ, ◌<◌, ◌≤◌, ◌≡◌, ◌≢◌, cond, List, [], length, get_or, eqb, ltb, Option}
+use Rattle.words.specs.Lists.{list_from}
+use Rattle.std.specs.Option.{option_and_then}
 use Rattle.class_sheet.specs.ClassSheet.{class_kind, is_array, is_packaged, method_target}
 use Rattle.abi_sheet.specs.AbiSheet.{abi_slot_name, abi_slot_descriptor}
 use Rattle.linking.specs.Chain.{on_found, own_methods, parent_of, chain, same_methods}
@@ -36,9 +36,9 @@ module _ (ws text abi labels : List ℕ) where
   -- ---- and of a class of kind 3, from the tables of its parent's chain
 
   -- "what Reading finds there in the topmost chain class whose table has it", of slot i in the table of class p
-  unfoldable pub introduced_from : (ℕ → List ℕ) → ℕ → ℕ → Found
+  unfoldable pub introduced_from : (ℕ → List ℕ) → ℕ → ℕ → Option ℕ
   introduced_from tables p i =
-      and_then (topmost (λ d. ltb i (length (tables d))) (chain ws p)) (λ d. (read_entry ws text abi labels d i (get_or (tables d) i 0)).method)
+      option_and_then (λ d. (read_entry ws text abi labels d i (get_or (tables d) i 0)).method) (topmost (λ d. ltb i (length (tables d))) (chain ws p))
 
   unfoldable pub packages_from : (ℕ → List ℕ) → ℕ → List Entry
   packages_from tables c =

@@ -1,8 +1,7 @@
 -- The terms of demand 3 that speak of one class's table: known slots, signatures, chains, orderly ABI sheets. A table is a list of slot words;
 -- methods, chains and Reading go by one sheet. The library's `List.Memᴰ x xs` says that x is an element of xs. Assumes nothing.
-use Rattle.std.specs.Prelude.{ℕ, ◌<◌, ◌≡◌, ◌⊎◌, true, length, get_or}
-use mathlib.Core.List.{List, Memᴰ}
-use Rattle.words.specs.declared.Found.TheVariants.{At}
+use Rattle.std.specs.Prelude.{ℕ, ◌<◌, ◌≡◌, ◌⊎◌, true, length, get_or, List, Some}
+use mathlib.Core.List.{Memᴰ}
 use Rattle.class_sheet.specs.ClassSheet.{class_kind, method_target}
 use Rattle.abi_sheet.specs.AbiSheet.{abi_slot_name, abi_slot_descriptor}
 use Rattle.linking.specs.Chain.{own_methods, parent_of, chain, eligible, SameSignature}
@@ -39,7 +38,7 @@ module _ (ws text abi labels : List ℕ) where
   -- "a slot is known where Reading finds a method": slot i of class c's table holds method m
   pub record Known (c : ℕ) (t : List ℕ) (i m : ℕ) : Type 0 where
     pub slot : i < length t
-    pub reads : (read_entry ws text abi labels c i (get_or t i 0)).method ≡ At m
+    pub reads : (read_entry ws text abi labels c i (get_or t i 0)).method ≡ Some m
 
   -- "and has its signature": "no two known slots in a class's table have one signature"
   abbrev pub Unique : ℕ → List ℕ → Type 0
@@ -63,7 +62,7 @@ module _ (ws text abi labels : List ℕ) where
     pub class : ℕ
     pub along : Memᴰ class (chain ws c)
     pub entry : ℕ
-    pub named : class_abi ws text abi labels class ≡ At entry
+    pub named : class_abi ws text abi labels class ≡ Some entry
     pub own : Memᴰ s (abi_slots abi entry)
 
   -- "An ABI sheet is orderly for a chain if, over the ABI classes the chain names, each signature (name and descriptor) has one index and

@@ -1,12 +1,8 @@
 -- Theorem 4: a class keeps its record until its link, and that link finds the fields of the list's start, as no link of another class changes a field's
 -- flags or descriptor; after its link no call changes the word. Assumes nothing.
-use mathlib.Core.Path.{◌≡◌, refl, sym, ◌∙◌}
-use mathlib.Core.Logic.{◌≢◌, inl, inr}
-use mathlib.Core.List.{List, [], ◌∷◌, Memᴰ}
-use Prim.Native.Nat.{ℕ, ◌≤◌, ◌<◌}
-use native.Mathlib.Omega.{arith}
-use lib.Dec.{eqb}
-use borrow.Author.Tests.{eqb-true, eqb-false}
+use Rattle.std.proofs.Common.{◌≡◌, refl, sym, ◌∙◌, ◌≢◌, inl, inr, List, [], ◌∷◌, ℕ, ◌≤◌, ◌<◌, arith, eqb, eqb-true}
+use mathlib.Core.List.{Memᴰ}
+use borrow.Author.Tests.{eqb-false}
 use Rattle.words.specs.Lists.{fold}
 use Rattle.words.proofs.Bools.{by}
 use Rattle.words.proofs.ListLaws.{numbers-within}

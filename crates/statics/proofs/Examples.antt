@@ -1,8 +1,6 @@
 -- Static words that links of each kind of class leave, computed on the definitions, so that `Statics` speaks of some calls. The telling rows run
 -- this list and more. Assumes nothing.
-use mathlib.Core.Path.{◌≡◌, refl}
-use mathlib.Core.List.{List, [], ◌∷◌, map}
-use Prim.Native.Nat.{ℕ}
+use Rattle.std.proofs.Common.{◌≡◌, refl, List, [], ◌∷◌, map, ℕ}
 use Prim.Native.String.{String}
 use Rattle.linking.proofs.Assemble.{Class, Lent, Member, static, unlinked, without, built, generated, array, bringing, lent, link, after, statics_of}
 use Rattle.linking.proofs.Opened.{opened}

@@ -1,11 +1,7 @@
 -- Theorem 1, and what a link leaves of the field records that were there: flags and descriptors. By the sections that a link lays out. Assumes nothing.
-use mathlib.Core.Path.{◌≡◌, sym, ap, ◌∙◌, subst}
-use mathlib.Core.Logic.{◌≢◌, inl, inr}
+use Rattle.std.proofs.Common.{◌≡◌, sym, ap, ◌∙◌, subst, ◌≢◌, inl, inr, List, [], ◌++◌, ℕ, ◌+◌, ◌-◌, ◌≤◌, ◌<◌, arith, length, get_or, length-append}
 use mathlib.Core.Bool.{false≢true}
-use mathlib.Core.List.{List, [], ◌++◌}
-use Prim.Native.Nat.{ℕ, ◌+◌, ◌-◌, ◌≤◌, ◌<◌}
-use native.Mathlib.Omega.{arith}
-use lib.ListN.{length, get_or, length-append, get_or-append}
+use lib.ListN.{get_or-append}
 use Rattle.words.specs.Rows.{row_word}
 use Rattle.words.proofs.Bools.{by}
 use Rattle.words.specs.Words.{AreBytes}

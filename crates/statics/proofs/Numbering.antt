@@ -1,13 +1,8 @@
 -- Theorems 2 and 3: each turn of the numbering adds to the static count what the sum adds, and gives a static field the count before it. Assumes nothing.
-use mathlib.Core.Path.{◌≡◌, refl, sym, ap, ◌∙◌}
-use mathlib.Core.Bool.{true, cond, false≢true, ◌||◌}
-use mathlib.Core.List.{List, [], ◌∷◌, ◌++◌, append-nil, append_assoc}
-use Prim.Native.Nat.{ℕ, zero, suc, ◌+◌, ◌*◌, ◌≤◌, ◌<◌}
-use native.Mathlib.Omega.{arith}
-use lib.ListN.{length, get_or, take}
-use lib.Dec.{eqb}
-use Rattle.words.specs.Lists.{and_then, fold}
-use Rattle.words.specs.declared.Found.{Found}
+use Rattle.std.proofs.Common.{◌≡◌, refl, sym, ap, ◌∙◌, true, cond, ◌||◌, List, [], ◌∷◌, ◌++◌, append-nil, append_assoc, ℕ, zero, suc, ◌+◌, ◌*◌, ◌≤◌, ◌<◌, arith, length, get_or, take, eqb, Option}
+use mathlib.Core.Bool.{false≢true}
+use Rattle.words.specs.Lists.{fold}
+use Rattle.std.specs.Option.{option_and_then}
 use Rattle.words.proofs.Bools.{by}
 use Rattle.words.proofs.ListLaws.{by-found}
 use Rattle.descriptor.specs.Bytes.{byte}
@@ -55,7 +50,7 @@ module _ (ws text : List ℕ) where
 
 -- ---- the numbering
 
-module _ (ws text abi labels : List ℕ) (own : Found) where
+module _ (ws text abi labels : List ℕ) (own : Option ℕ) where
   -- a turn: one index more, and a static field's is the count so far
   record Turn (n : Numbering) (f : ℕ) (m : Numbering) : Type 0 where
     pub index : ℕ
@@ -64,7 +59,7 @@ module _ (ws text abi labels : List ℕ) (own : Found) where
     pub static : is_static (field_flags ws f) ≡ true → index ≡ n.statics
 
   -- an instance field's index, whatever it is, leaves the count
-  instance-turn : (n : Numbering) (fixed : Found) (w : ℕ)
+  instance-turn : (n : Numbering) (fixed : Option ℕ) (w : ℕ)
       → (index : ℕ) × ((number_instance abi own fixed w n).indices ≡ n.indices ++ (index ∷ []))
       × ((number_instance abi own fixed w n).statics ≡ n.statics)
   instance-turn n fixed w =
@@ -82,7 +77,7 @@ module _ (ws text abi labels : List ℕ) (own : Found) where
       by (is_static (field_flags ws f))
       (λ t. rw t (record { index = n.statics; indices = refl; counts = rw t; static = λ s. refl }))
       (λ q.
-      let r = instance-turn n (and_then own (fixed_field abi labels (field_name ws text f) (field_descriptor ws text f))) (field_width ws text f) in
+      let r = instance-turn n (option_and_then (fixed_field abi labels (field_name ws text f) (field_descriptor ws text f)) own) (field_width ws text f) in
       rw q
       (record { index = r.0; indices = r.1; counts = r.2 ∙ rw q; static = λ s. absurd (false≢true (sym q ∙ s)) }))
 

@@ -1,16 +1,7 @@
 -- Theorem 3 in the words that a link leaves: a built class's own fields stand in its list, each with the index that the numbering gave it, and fields that
 -- the ABI adds, flags 0x0002, are not static. Assumes nothing.
-use mathlib.Core.Path.{◌≡◌, refl, sym, ap, ◌∙◌, subst}
-use mathlib.Core.Logic.{inl, inr}
-use mathlib.Core.Bool.{true, false, true≢false}
-use mathlib.Core.List.{List, [], ◌∷◌}
-use Prim.Native.Nat.{ℕ, zero, suc, ◌+◌, ◌-◌, ◌≤◌, ◌<◌}
-use native.Mathlib.Omega.{arith}
-use lib.ListN.{length, get_or}
-use lib.Dec.{ltb}
-use borrow.Author.Tests.{ltb-true, ltb-false}
+use Rattle.std.proofs.Common.{◌≡◌, refl, sym, ap, ◌∙◌, subst, inl, inr, true, false, true≢false, List, [], ◌∷◌, ℕ, zero, suc, ◌+◌, ◌-◌, ◌≤◌, ◌<◌, arith, length, get_or, ltb, ltb-true, ltb-false, Option}
 use Rattle.words.specs.Rows.{row_word}
-use Rattle.words.specs.declared.Found.{Found}
 use Rattle.words.proofs.Bools.{by}
 use Rattle.text.specs.Text.{descriptor_start_word, descriptor_length_word}
 use Rattle.class_sheet.specs.ClassSheet.{class_width, first_field_word, field_count_word, index_word, field_count, text_of, class_first_field, class_field_count, class_static_words, field_word, field_flags, field_index}
@@ -41,7 +32,7 @@ use Rattle.statics.proofs.Linked as one
 -- ---- the plan of a built class
 
 module _ (ws text abi labels area : List ℕ) (c : ℕ) (p : Plan) where
-  abbrev own : Found
+  abbrev own : Option ℕ
   own = class_abi ws text abi labels c
 
   -- what it gives and adds

@@ -1,7 +1,5 @@
 -- The theorems of specs/Statics.antt: what a link leaves, numbering and sum, and any list of calls. Assumes nothing.
-use mathlib.Core.Path.{◌≡◌}
-use mathlib.Core.List.{List}
-use Prim.Native.Nat.{ℕ}
+use Rattle.std.proofs.Common.{◌≡◌, List, ℕ}
 use Rattle.sheet.specs.Sheet.{read_class_sheet}
 use Rattle.sheet.proofs.Valid.{read-valid, read-fresh}
 use Rattle.statics.specs.Statics.{Start, Statics}

@@ -1,8 +1,7 @@
 -- The theorems on static words, for all class words: what a link leaves, that numbering and sum agree, that the static indices end there, and what
 -- holds after any list of calls. `statics` of proofs/Theorem.antt proves them. Assumes nothing.
-use Rattle.std.specs.Prelude.{ℕ, ◌+◌, ◌≤◌, ◌<◌, ◌≡◌, ◌≢◌, true, List, length, get_or, take}
+use Rattle.std.specs.Prelude.{ℕ, ◌+◌, ◌≤◌, ◌<◌, ◌≡◌, ◌≢◌, true, List, length, get_or, take, Option}
 use Rattle.words.specs.Lists.{fold}
-use Rattle.words.specs.declared.Found.{Found}
 use Rattle.class_sheet.specs.ClassSheet.{text_of, class_kind, is_built_kind, class_first_field, class_field_count, class_table_place, class_static_words, field_flags, field_index}
 use Rattle.set_rules.specs.Valid.{IsClass, Valid}
 use Rattle.sheet.specs.Sheet.{read_class_sheet}
@@ -48,14 +47,14 @@ pub record Statics : Type 0 where
       → Left ws (link_def ws abi c area stubs missing).outcome.set c
   pub refused : (ws abi : List ℕ) (c : ℕ) (area stubs missing : List ℕ) → (link_def ws abi c area stubs missing).outcome.refusal ≢ 0 → (link_def ws abi c area stubs missing).outcome.set ≡ ws
   -- 2. The numbering counts to the sum, and that is at most 1,024.
-  pub counted : (ws text abi labels : List ℕ) (own : Found) (c : ℕ) → (number_fields ws text abi labels own c).statics ≡ static_words ws text c
+  pub counted : (ws text abi labels : List ℕ) (own : Option ℕ) (c : ℕ) → (number_fields ws text abi labels own c).statics ≡ static_words ws text c
   pub most : (ws text : List ℕ) (c : ℕ) → static_words ws text c ≤ 1024
   -- 3. A static field's new index is the words of the static fields before it, and its end is at most the sum; so in the words that a link of a built
   -- class leaves.
-  pub begins : (ws text abi labels : List ℕ) (own : Found) (c i : ℕ) → i < length (own_fields ws c)
+  pub begins : (ws text abi labels : List ℕ) (own : Option ℕ) (c i : ℕ) → i < length (own_fields ws c)
       → is_static (field_flags ws (get_or (own_fields ws c) i 0)) ≡ true
       → get_or (number_fields ws text abi labels own c).indices i 0 ≡ fold (add_static ws text) 0 (take i (own_fields ws c))
-  pub ends : (ws text abi labels : List ℕ) (own : Found) (c i : ℕ) → i < length (own_fields ws c)
+  pub ends : (ws text abi labels : List ℕ) (own : Option ℕ) (c i : ℕ) → i < length (own_fields ws c)
       → is_static (field_flags ws (get_or (own_fields ws c) i 0)) ≡ true
       → get_or (number_fields ws text abi labels own c).indices i 0 + field_width ws text (get_or (own_fields ws c) i 0) ≤ static_words ws text c
   pub stand : (ws abi : List ℕ) (c : ℕ) (area stubs missing : List ℕ) → (link_def ws abi c area stubs missing).outcome.refusal ≡ 0 → IsBuilt ws c

@@ -9,7 +9,7 @@ use lib.ListN.{length, get_or, drop, length-drop, drop_of_length-le}
 use lib.Seq.{drop-cons, get_or-drop, ext_get_or}
 use lib.Dec.{eqb}
 use borrow.Author.Tests.{eq-eqb, ne_eqb, eqb-true, eqb-false}
-use Rattle.words.specs.declared.Found.TheVariants.{At, Nothing}
+use Rattle.std.specs.Prelude.{Some, None}
 use Rattle.words.proofs.Bools.{by}
 use Rattle.words.proofs.ListLaws.{by-found}
 use Rattle.text.specs.Text.{same_bytes, last_differing, pairs_read}
@@ -18,20 +18,20 @@ use Rattle.text.proofs.Laws.{same-is, same_refl}
 
 -- ---- the last differing place
 
-last_none : (a : List ℕ) → last_differing a a ≡ Nothing
+last_none : (a : List ℕ) → last_differing a a ≡ None
 unfolding last_differing
 last_none [] = refl
 last_none (x ∷ xs) = rw (last_none xs, eq-eqb x x refl)
 
 -- place i, where they differ, if they are the same from there on
 last-at : (a b : List ℕ) (i : ℕ) → i < length a → i < length b → get_or a i 0 ≢ get_or b i 0 → drop (suc i) a ≡ drop (suc i) b
-    → last_differing a b ≡ At i
+    → last_differing a b ≡ Some i
 unfolding last_differing
 last-at [] b i h k n e = absurd (omega arith)
 last-at (x ∷ xs) [] i h k n e = absurd (omega arith)
 last-at (x ∷ xs) (y ∷ ys) zero h k n e = rw (e, last_none ys, ne_eqb x y n)
 last-at (x ∷ xs) (y ∷ ys) (suc i) h k n e =
-    let t : last_differing xs ys ≡ At i = last-at xs ys i (omega arith) (omega arith) n e in
+    let t : last_differing xs ys ≡ Some i = last-at xs ys i (omega arith) (omega arith) n e in
     let q : i + 1 ≡ suc i = omega arith in rw (t, q)
 
 -- ---- the count, and whether they are the same, as the loop sees them
@@ -50,7 +50,7 @@ module _ (a b : List ℕ) where
     unfolding pairs_read
     differ-pairs n t e s =
         let q : suc i ≡ i + 1 = omega arith in
-        let l : last_differing a b ≡ At i = last-at a b i inside (omega arith) differ (rw (q, ← e) t) in
+        let l : last_differing a b ≡ Some i = last-at a b i inside (omega arith) differ (rw (q, ← e) t) in
         simp (eq-eqb (length a) (length b) lengths) (rw l (omega arith))
 
   -- nothing is left to be read
@@ -81,17 +81,17 @@ same_after a b p e h =
     ext_get_or 0 (drop (p + 1) a) (drop (p + 1) b) (omega arith)
     (λ i l. get_or-drop (p + 1) a i 0 ∙ h (p + 1 + i) (omega arith) (omega arith) ∙ sym (get_or-drop (p + 1) b i 0))
 
-last_within : (a b : List ℕ) (p : ℕ) → last_differing a b ≡ At p → p < length a
+last_within : (a b : List ℕ) (p : ℕ) → last_differing a b ≡ Some p → p < length a
 unfolding last_differing
 last_within [] b p e = absurd (let z : ◌≡◌ {A = ℕ} 0 1 = cc in omega arith)
 last_within (x ∷ xs) [] p e = absurd (let z : ◌≡◌ {A = ℕ} 0 1 = cc in omega arith)
 last_within (x ∷ xs) (y ∷ ys) p e =
     by-found (last_differing xs ys)
-    (λ k t. let u : At (k + 1) ≡ At p = rw t at e in let v : k + 1 ≡ p = cc in omega (arith, last_within xs ys k t))
+    (λ k t. let u : Some (k + 1) ≡ Some p = rw t at e in let v : k + 1 ≡ p = cc in omega (arith, last_within xs ys k t))
     (λ t.
     by (eqb x y)
-    (λ s. let u : Nothing ≡ At p = rw (t, s) at e in let z : ◌≡◌ {A = ℕ} 0 1 = cc in absurd (omega arith))
-    (λ s. let u : At 0 ≡ At p = rw (t, s) at e in let v : 0 ≡ p = cc in omega arith))
+    (λ s. let u : None ≡ Some p = rw (t, s) at e in let z : ◌≡◌ {A = ℕ} 0 1 = cc in absurd (omega arith))
+    (λ s. let u : Some 0 ≡ Some p = rw (t, s) at e in let v : 0 ≡ p = cc in omega arith))
 
 -- the count of names of one length, by the place that is found
 pairs-by : (a b : List ℕ) → length a ≡ length b → (pairs_read a b ≡ length a) ⊎ ((p : ℕ) × (p < length a) × (pairs_read a b ≡ length a - p))

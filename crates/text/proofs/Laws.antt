@@ -1,22 +1,25 @@
 -- Laws of the text section. Assumes nothing.
+use borrow.Rule.Slice.PartMut.{put_mid}
+use Rattle.std.specs.Int.{w32, to_le_bytes}
+use Rattle.std.specs.List.{fold as std_fold, list_all, range_with_len}
 use mathlib.Core.Path.{◌≡◌, refl, sym, ap, ◌∙◌}
-use mathlib.Core.Bool.{Bool, true, false, not, ◌&&◌, false≢true, and-false, and-true}
+use mathlib.Core.Bool.{Bool, true, false, ◌&&◌, false≢true, and-false, and-true}
 use mathlib.Core.List.{List, [], ◌∷◌, ◌++◌}
 use Prim.Native.Nat.{ℕ, zero, suc, ◌+◌, ◌*◌, ◌-◌, ◌/◌, ◌%◌, ◌^◌, ◌≤◌, ◌<◌}
 use native.Mathlib.Omega.{arith}
 use native.Mathlib.Numerals.{add-one}
 use native.Mathlib.Nat.{add-zero, add-suc, add_assoc, mul-le-mul_right}
-use lib.ListN.{length, get_or, set, take, drop, drop_of_length-le}
-use lib.Seq.{drop-cons, take_at, get_or-drop}
+use lib.ListN.{length, get_or, set, take, drop}
+use lib.Seq.{take_at, get_or-drop}
 use lib.Dec.{eqb, leb}
-use borrow.Author.Tests.{eq-eqb, ne_eqb, lt-ltb, le-ltb, le-leb, lt-leb, leb-true, eqb-true, not-true, not-false}
+use borrow.Author.Tests.{eq-eqb, lt-ltb, le-ltb, le-leb, leb-true, eqb-true}
 use Rattle.words.specs.Words.{byte_of}
 use Rattle.words.proofs.Bools.{by, and_both, and_3}
 use Rattle.words.proofs.Laws.{past, byte_0, byte_at}
 use Rattle.words.proofs.Lists.{part_at, length_part}
 use Rattle.words.specs.Folds.{all_of, table, stores}
-use Rattle.words.proofs.FoldLaws.{stores-is, stores-turn, length-table, all-turn, all-stop, all_done}
-use Rattle.text.specs.Text.{text_byte, text_of_words, text_stores, unpacked_text, zero_at, zero_rest, name_at, same_bytes, printable, part_ok, part_clean, signature_clean, member_clean}
+use Rattle.words.proofs.FoldLaws.{stores-is, stores-turn, length-table, all-ext}
+use Rattle.text.specs.Text.{text_byte, text_of_words, text_stores, unpacked_text, name_at, same_bytes, printable, part_ok, part_clean, signature_clean, member_clean}
 
 -- ---- unpacking
 
@@ -34,22 +37,29 @@ store_byte : (ws d : List ℕ) (n : ℕ) {m : ℕ} {t : List ℕ} {b : ℕ} → 
     → set t n b ≡ stores m (text_byte ws) d
 store_byte ws d n p q e = rw e (stores-turn n (text_byte ws) d refl p q)
 
-pub word-turn : (ws d : List ℕ) (w : ℕ) {t : List ℕ} → t ≡ stores (4 * w) (text_byte ws) d
-    → set
-    (set
-    (set (set t (4 * w) (get_or ws w 0 % 256)) (4 * w + 1) (get_or ws w 0 / 256 % 256))
-    (4 * w + 2)
-    (get_or ws w 0 / 65536 % 256))
-    (4 * w + 3)
-    (get_or ws w 0 / 16777216 % 256)
-    ≡ stores (4 * (w + 1)) (text_byte ws) d
-word-turn ws d w p =
+-- four stores one behind the other are one part that is put
+four-stores : (t : List ℕ) (p a b c d : ℕ) → p + 4 ≤ length t
+    → put_mid p 4 t (a ∷ b ∷ c ∷ d ∷ []) ≡ set (set (set (set t p a) (suc p) b) (suc (suc p)) c) (suc (suc (suc p))) d
+four-stores [] p a b c d h = absurd (omega arith)
+four-stores (x ∷ []) zero a b c d h = absurd (omega arith)
+four-stores (x ∷ y ∷ []) zero a b c d h = absurd (omega arith)
+four-stores (x ∷ y ∷ z ∷ []) zero a b c d h = absurd (omega arith)
+four-stores (x ∷ y ∷ z ∷ w ∷ r) zero a b c d h = refl
+four-stores (x ∷ xs) (suc p) a b c d h = ap (λ (l : List ℕ). x ∷ l) (four-stores xs p a b c d (omega arith))
+
+pub word-turn : (ws d : List ℕ) (w : ℕ) {m : ℕ} {t p : List ℕ} → t ≡ stores (4 * w) (text_byte ws) d → 4 * w + 4 ≤ length t → m ≡ 4
+    → p ≡ to_le_bytes w32 (get_or ws w 0) → put_mid (4 * w) m t p ≡ stores (4 * (w + 1)) (text_byte ws) d
+word-turn ws d w {t = t} p h e f =
     let x = get_or ws w 0 in
     let b = rw (add-zero) at (word_byte ws w 0 (omega arith) (byte_0 x 0 refl)) in
     let q = store_byte ws d (4 * w) p b refl in
     let r = store_byte ws d (4 * w + 1) {m = 4 * w + 2} q (word_byte ws w 1 (omega arith) (byte_at x 1 1 256 refl refl)) (omega arith) in
     let s = store_byte ws d (4 * w + 2) {m = 4 * w + 3} r (word_byte ws w 2 (omega arith) (byte_at x 2 2 65536 refl refl)) (omega arith) in
-    store_byte ws d (4 * w + 3) s (word_byte ws w 3 (omega arith) (byte_at x 3 3 16777216 refl refl)) (omega arith)
+    let i : suc (4 * w) ≡ 4 * w + 1 = omega arith in
+    let j : suc (4 * w + 1) ≡ 4 * w + 2 = omega arith in
+    let k : suc (4 * w + 2) ≡ 4 * w + 3 = omega arith in
+    rw (e, f) (rw (i, j, k) at (four-stores t (4 * w) (x % 256) (x / 256 % 256) (x / 65536 % 256) (x / 16777216 % 256) h)
+    ∙ store_byte ws d (4 * w + 3) s (word_byte ws w 3 (omega arith) (byte_at x 3 3 16777216 refl refl)) (omega arith))
 
 pub words-done : (ws d : List ℕ) (n w : ℕ) {t : List ℕ} → t ≡ stores (4 * w) (text_byte ws) d → w ≡ n → t ≡ stores (4 * n) (text_byte ws) d
 words-done ws d n w p e = rw (← e) p
@@ -119,29 +129,20 @@ unfolding same_bytes
 same_refl [] = refl
 same_refl (x ∷ xs) = rw (eq-eqb x x refl) (same_refl xs)
 
--- ---- printable, at the rest from i on
+-- ---- printable, byte by byte
 
-unfoldable pub print_from : List ℕ → ℕ → Bool
-print_from s i = printable (drop i s)
+-- what the fold over the bytes makes of one more
+abbrev pub print_step : Bool → ℕ → Bool
+print_step ok b = ok && leb 33 b && leb b 126
 
-pub print_start : (s : List ℕ) → printable s ≡ print_from s 0
-unfolding print_from
-print_start s = refl
-
-and-chain : (a b c d : Bool) → (a && (b && c && d)) ≡ (a && b && c && d)
+and-chain : (a b c d : Bool) → (a && b && c && d) ≡ (a && (b && c && d))
 and-chain true b c d = refl
 and-chain false b c d = refl
 
-module _ (s : List ℕ) (i : ℕ) where
-  pub print_turn : (ok : Bool) → i < length s
-      → (ok && print_from s i) ≡ (ok && leb 33 (get_or s i 0) && leb (get_or s i 0) 126 && print_from s (i + 1))
-  unfolding print_from printable
-  print_turn ok h =
-      rw (add-one, drop-cons s i 0 h) (and-chain ok (leb 33 (get_or s i 0)) (leb (get_or s i 0) 126) (printable (drop (suc i) s)))
-
-  pub print_end : (ok : Bool) → length s ≤ i → (ok && print_from s i) ≡ ok
-  unfolding print_from printable
-  print_end ok h = rw (drop_of_length-le s h) (and-true ok)
+pub print_fold : (ok : Bool) (s : List ℕ) → std_fold print_step ok s ≡ (ok && printable s)
+unfolding printable
+print_fold ok [] = sym (and-true ok)
+print_fold ok (b ∷ s) = print_fold (print_step ok b) s ∙ and-chain ok (leb 33 b) (leb b 126) (printable s)
 
 -- each part of a printable text is printable
 printable-drop : (s : List ℕ) (k : ℕ) → printable s ≡ true → printable (drop k s) ≡ true
@@ -188,28 +189,6 @@ printable-all text start len l h =
 
 -- ---- the rule for a part
 
-module _ (text : List ℕ) (clean : Bool) (start len : ℕ) where
-  pub part-empty : len < 1 → false ≡ part_clean text clean start len
-  unfolding part_clean
-  part-empty h = simp (lt-leb 1 len h)
-
-  pub part-long : 255 < len → false ≡ part_clean text clean start len
-  unfolding part_clean
-  part-long h = simp (lt-leb len 255 h, and-false)
-
-  pub part-outside : length text < start + len → false ≡ part_clean text clean start len
-  unfolding part_clean
-  part-outside h = simp (lt-leb (start + len) (length text) h, and-false)
-
-  module _ (h : 1 ≤ len) (k : len ≤ 255) (l : start + len ≤ length text) where
-    pub part-told : clean ≡ true → true ≡ part_clean text clean start len
-    unfolding part_clean
-    part-told e = simp (le-leb 1 len h, le-leb len 255 k, le-leb (start + len) (length text) l, e)
-
-    pub part-seen : clean ≡ false → {p : List ℕ} {b : Bool} → p ≡ name_at text start len → b ≡ printable p → b ≡ part_clean text clean start len
-    unfolding part_clean
-    part-seen e f g = simp (le-leb 1 len h, le-leb len 255 k, le-leb (start + len) (length text) l, e, ← f) g
-
 -- ---- records that begin with a name and a descriptor
 
 -- a record's place is a number of 64 bits
@@ -217,32 +196,12 @@ pub product : (a b : ℕ) → a < 2 ^ 32 → b < 2 ^ 32 → a * b + 4 < 2 ^ 64
 product a b h k = let p : a * b ≤ 2 ^ 32 * b = mul-le-mul_right b (omega arith) in omega arith
 
 -- where the descriptor's length is not there, it is 0
-pub signature-cut : (ws : List ℕ) (at : ℕ) (text : List ℕ) (clean : Bool) → length ws ≤ at + 3 → false ≡ signature_clean ws at text clean
-unfolding signature_clean
-signature-cut ws at text clean h =
+pub signature_cut : (ws : List ℕ) (at : ℕ) (text : List ℕ) (clean : Bool) → length ws ≤ at + 3 → false ≡ signature_clean ws at text clean
+unfolding signature_clean part_clean
+signature_cut ws at text clean h =
     let z = past ws (at + 3) h in
-    let e = part-empty text clean (get_or ws (at + 2) 0) (get_or ws (at + 3) 0) (omega arith) in
-    rw (← e) (sym (and-false (part_clean text clean (get_or ws at 0) (get_or ws (at + 1) 0))))
-
--- name first, then the descriptor; both first, then the number
-module _ (ws : List ℕ) (at : ℕ) (text : List ℕ) (clean : Bool) {b : Bool} (name : b ≡ part_clean text clean (get_or ws at 0) (get_or ws (at + 1) 0)) where
-  pub signature-stop : not b ≡ true → false ≡ signature_clean ws at text clean
-  unfolding signature_clean
-  signature-stop h = rw (← name, not-true b h)
-
-  pub signature_on : not b ≡ false → {d : Bool} → d ≡ part_clean text clean (get_or ws (at + 2) 0) (get_or ws (at + 3) 0)
-      → d ≡ signature_clean ws at text clean
-  unfolding signature_clean
-  signature_on h e = rw (← name, not-false b h) e
-
-module _ (ws : List ℕ) (width most : ℕ) (text : List ℕ) (clean : Bool) (i : ℕ) {b : Bool} (both : b ≡ signature_clean ws (width * i) text clean) where
-  pub member-stop : not b ≡ true → false ≡ member_clean ws width most text clean i
-  unfolding member_clean
-  member-stop h = rw (← both, not-true b h)
-
-  pub member_on : not b ≡ false → {w : ℕ} → w ≡ get_or ws (width * i + 4) 0 → leb w most ≡ member_clean ws width most text clean i
-  unfolding member_clean
-  member_on h e = rw (← both, not-false b h, e)
+    let e : part_clean text clean (get_or ws (at + 2) 0) (get_or ws (at + 3) 0) ≡ false = rw (← z) refl in
+    rw e (sym (and-false (part_clean text clean (get_or ws at 0) (get_or ws (at + 1) 0))))
 
 -- told the truth of the text, it is the rule
 pub clean_is : (text : List ℕ) {clean : Bool} (start len : ℕ) → clean ≡ printable text → part_clean text clean start len ≡ part_ok text start len
@@ -279,29 +238,23 @@ name_is text start len e f g = rw (← e, ← f) g
 
 -- ---- zeros to the end
 
-module _ (ws : List ℕ) (start : ℕ) where
-  pub zero-start : all_of (start - start) (zero_at ws start) ≡ true
-  unfolding all_of
-  zero-start = let e : start - start ≡ 0 = omega arith in rw e
+and-both : (a b c : Bool) → (a && (b && c)) ≡ (a && b && c)
+and-both true b c = refl
+and-both false b c = refl
 
-  -- the loop's byte b, from its start
-  pub zero-byte : (b : ℕ) {w y : ℕ} → start ≤ b → w ≡ get_or ws (b / 4) 0 → y ≡ byte_of w (b % 4) → eqb y 0 ≡ zero_at ws start (b - start)
-  unfolding zero_at
-  zero-byte b h e f = let g : start + (b - start) ≡ b = omega arith in rw (g, text-byte ws b e f)
+-- a test of each number, taken apart at the front
+all-front : (n : ℕ) (p : ℕ → Bool) → (p 0 && all_of n (λ k. p (k + 1))) ≡ all_of (suc n) p
+unfolding all_of
+all-front zero p = and-true (p 0)
+all-front (suc n) p =
+    let e : n + 1 ≡ suc n = add-one n in
+    rw e (and-both (p 0) (all_of n (λ k. p (k + 1))) (p (suc n)) ∙ ap (λ b. b && p (suc n)) (all-front n p))
 
-  pub zero_turn : (b : ℕ) {w y : ℕ} → start ≤ b → w ≡ get_or ws (b / 4) 0 → y ≡ byte_of w (b % 4) → y ≡ 0
-      → all_of (b - start) (zero_at ws start) ≡ true → all_of (b + 1 - start) (zero_at ws start) ≡ true
-  zero_turn b {y = y} h e f z k =
-      let g : b + 1 - start ≡ b - start + 1 = omega arith in
-      rw g (all-turn (b - start) (zero_at ws start) k (zero-byte b h e f) (eq-eqb y 0 z))
-
-  pub zero-stop : (b : ℕ) {w y : ℕ} → start ≤ b → b < 4 * length ws → w ≡ get_or ws (b / 4) 0 → y ≡ byte_of w (b % 4) → (y ≡ 0 → ⊥)
-      → false ≡ zero_rest ws start
-  unfolding zero_rest
-  zero-stop b {y = y} h l e f z =
-      all-stop (4 * length ws - start) (zero_at ws start) (b - start) (omega arith) (zero-byte b h e f) (ne_eqb y 0 z)
-
-  pub zero-done : (b : ℕ) → start ≤ b → 4 * length ws ≤ b → b - start ≤ 4 * length ws - start → all_of (b - start) (zero_at ws start) ≡ true
-      → true ≡ zero_rest ws start
-  unfolding zero_rest
-  zero-done b h l k p = all_done (4 * length ws - start) (zero_at ws start) (b - start) p (omega arith)
+-- and of the numbers from a on, as the library goes along them
+pub all-range : (p : ℕ → Bool) (a n : ℕ) → list_all p (range_with_len a n) ≡ all_of n (λ k. p (a + k))
+unfolding all_of
+all-range p a zero = refl
+all-range p a (suc n) =
+    let z : a + 0 ≡ a = omega arith in
+    ap (λ b. p a && b) (all-range p (a + 1) n ∙ all-ext n (λ k. p (a + 1 + k)) (λ k. p (a + (k + 1))) (λ i h. let e : a + 1 + i ≡ a + (i + 1) = omega arith in rw e refl))
+    ∙ rw z at (all-front n (λ k. p (a + k)))

@@ -2,8 +2,8 @@
 use Rattle.std.specs.Prelude.{ℕ, zero, suc, ◌+◌, ◌*◌, ◌-◌, ◌/◌, ◌%◌, Bool, true, false, ◌&&◌, ◌||◌, cond, List, [], ◌∷◌, ◌++◌, get_or, set, take, drop, length, eqb, leb, ltb}
 use Rattle.words.specs.Folds.{all_of, table}
 use Rattle.words.specs.Words.{byte_of}
-use Rattle.words.specs.declared.Found.{Found}
-use Rattle.words.specs.declared.Found.TheVariants.{At, Nothing}
+use Rattle.std.specs.Prelude.{Option}
+use Rattle.std.specs.Prelude.{Some, None}
 
 -- byte k of the text in the words: "text is four bytes a word, lowest byte first"
 unfoldable pub text_byte : List ℕ → ℕ → ℕ
@@ -45,19 +45,19 @@ same_bytes (x ∷ xs) (y ∷ ys) = eqb x y && same_bytes xs ys
 -- pairs it read: 0 for unequal lengths, all for equal names, else the length minus the last differing place (from 0)."
 
 -- the place after this one, or this one where nothing is found later and the bytes here differ
-abbrev pub later_or : Found → Bool → Found
-later_or (At p) same = At (p + 1)
-later_or Nothing same = cond same Nothing (At 0)
+abbrev pub later_or : Option ℕ → Bool → Option ℕ
+later_or (Some p) same = Some (p + 1)
+later_or None same = cond same None (Some 0)
 
 -- the last place where two names differ
-unfoldable pub last_differing : List ℕ → List ℕ → Found
-last_differing [] ys = Nothing
-last_differing (x ∷ xs) [] = Nothing
+unfoldable pub last_differing : List ℕ → List ℕ → Option ℕ
+last_differing [] ys = None
+last_differing (x ∷ xs) [] = None
 last_differing (x ∷ xs) (y ∷ ys) = later_or (last_differing xs ys) (eqb x y)
 
-abbrev pub pairs_from : ℕ → Found → ℕ
-pairs_from n (At p) = n - p
-pairs_from n Nothing = n
+abbrev pub pairs_from : ℕ → Option ℕ → ℕ
+pairs_from n (Some p) = n - p
+pairs_from n None = n
 
 unfoldable pub pairs_read : List ℕ → List ℕ → ℕ
 pairs_read a b = cond (eqb (length a) (length b)) (pairs_from (length a) (last_differing a b)) 0

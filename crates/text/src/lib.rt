@@ -15,29 +15,13 @@ pub const DESCRIPTOR_LENGTH: usize = 3;
 
 pub const NUMBER: usize = 4;
 
-// The smaller of two numbers.
-fn least(a: usize, b: usize) -> usize
-    ensures { (result ≤ a) × (result ≤ b) }
-{
-    if a < b {
-        return a;
-    }
-    b
-}
-
 // Stores the first n words, four bytes each, lowest byte first.
 fn unpack_words(ws: &[u32], n: usize, text: &mut [u8])
     requires { (n ≤ length ws.now) × (4 * n ≤ length text.old) }
     ensures { text.new ≡ stores (4 * n) (text_byte ws.now) text.old }
 {
-    let mut w: usize = 0;
-    while w < n {
-        let x = ws[w];
-        text[4 * w] = (x % 256) as u8;
-        text[4 * w + 1] = (x / 256 % 256) as u8;
-        text[4 * w + 2] = (x / 65536 % 256) as u8;
-        text[4 * w + 3] = (x / 16777216 % 256) as u8;
-        w += 1;
+    for w in 0..n {
+        text[4 * w..4 * w + 4].copy_from_slice(&ws[w].to_le_bytes());
     }
 }
 
@@ -45,10 +29,8 @@ fn unpack_words(ws: &[u32], n: usize, text: &mut [u8])
 fn unpack_bytes(ws: &[u32], start: usize, end: usize, text: &mut [u8])
     ensures { text.new ≡ text_stores ws.now start (end - start) text.old }
 {
-    let mut i: usize = start;
-    while i < end {
-        words::put_byte(text, i, words::byte_of(words::word_at(ws, i / 4), i));
-        i += 1;
+    for i in start..end {
+        words::put(text, i, words::byte_of(words::get_or(ws, i / 4, 0), i));
     }
 }
 
@@ -61,7 +43,7 @@ pub fn unpack_text(ws: &[u32], n: u32, text: &mut [u8])
     if text.len() < count {
         return;
     }
-    let whole = least(count / 4, ws.len());
+    let whole = (count / 4).min(ws.len());
     unpack_words(ws, whole, text);
     unpack_bytes(ws, 4 * whole, count, text);
 }
@@ -70,22 +52,22 @@ pub fn unpack_text(ws: &[u32], n: u32, text: &mut [u8])
 pub fn zero_rest(ws: &[u32], start: usize) -> bool
     ensures { result ≡ zero_rest ws.now start }
 {
-    let end = 4 * ws.len();
-    let mut b: usize = start;
-    while b < end {
-        if words::byte_of(words::word_at(ws, b / 4), b) != 0 {
-            return false;
-        }
-        b += 1;
-    }
-    true
+    (start..4 * ws.len()).all(|b| words::byte_of(words::get_or(ws, b / 4, 0), b) == 0)
 }
 
 // A name or descriptor as its part of the text, as much of it as is there.
+#[tactic(auto, unfolding(crate::specs::Text::name_at))]
 pub fn name_at(text: &[u8], start: u32, len: u32) -> &[u8]
     ensures { result.now ≡ name_at text.now start len }
 {
-    words::part(text, words::wide(start), words::wide(len))
+    words::part(text, start as usize, len as usize)
+}
+
+// A member's name and descriptor.
+#[derive(Clone, Copy)]
+pub struct Signature<'a> {
+    pub name: &'a [u8],
+    pub descriptor: &'a [u8],
 }
 
 // Whether two names are the same bytes, and how many pairs of bytes were read to see it.
@@ -106,103 +88,94 @@ pub fn compare(a: &[u8], b: &[u8]) -> Compared
             pairs: 0,
         };
     }
-    let mut i: usize = a.len();
-    let mut pairs: usize = 0;
-    while 0 < i {
-        i -= 1;
-        pairs += 1;
+    for i in (0..a.len()).rev() {
         if a[i] != b[i] {
-            return Compared { same: false, pairs };
+            return Compared {
+                same: false,
+                pairs: a.len() - i,
+            };
         }
     }
-    Compared { same: true, pairs }
+    Compared {
+        same: true,
+        pairs: a.len(),
+    }
 }
 
 // Whether two names are the same bytes.
 pub fn same(a: &[u8], b: &[u8]) -> bool
     ensures { result ≡ same_bytes a.now b.now }
 {
-    let c = compare(a, b);
-    c.same
+    compare(a, b).same
 }
 
 // Whether each byte is from 0x21 to 0x7E.
 pub fn is_printable(s: &[u8]) -> bool
     ensures { result ≡ printable s.now }
 {
-    let mut ok = true;
-    let mut i: usize = 0;
-    while i < s.len() {
-        let b = s[i];
-        ok = ok & (33 <= b) & (b <= 126);
-        i += 1;
+    s.iter().fold(true, |ok, b| ok & (33 <= *b) & (*b <= 126))
+}
+
+// A text of which it was seen, once for all of its parts, whether each byte is from 0x21 to 0x7E.
+#[derive(Clone, Copy)]
+pub struct Seen<'a> {
+    pub bytes: &'a [u8],
+    pub clean: bool,
+    ghost told: { clean ≡ printable bytes.now },
+}
+
+// Looks through a text.
+pub fn see<'a>(bytes: &'a [u8]) -> Seen<'a>
+    ensures { result.bytes.now ≡ bytes.now }
+{
+    Seen {
+        bytes,
+        clean: is_printable(bytes),
     }
-    ok
 }
 
 // Whether a name or descriptor lies inside the text, has 1 to 255 bytes, and each is from 0x21 to 0x7E. `clean` tells that each byte of
 // the text is: then those of the part need no look.
+#[tactic(auto, unfolding(crate::specs::Text::part_clean))]
 pub fn part_clean(text: &[u8], clean: bool, start: u32, len: u32) -> bool
     ensures { result ≡ part_clean text.now clean start len }
 {
-    if len < 1 {
-        return false;
-    }
-    if 255 < len {
-        return false;
-    }
-    if text.len() < words::wide(start) + words::wide(len) {
-        return false;
-    }
-    if clean {
-        return true;
-    }
-    is_printable(name_at(text, start, len))
+    1 <= len
+        && len <= 255
+        && start as usize + len as usize <= text.len()
+        && (clean || is_printable(name_at(text, start, len)))
 }
 
 // Whether a name and a descriptor are in order, whose starts and lengths are the four words from `at` on. Where the last of these is not
 // there, the descriptor is empty.
+#[tactic(auto, using(crate::proofs::Laws::signature_cut), unfolding(crate::specs::Text::signature_clean))]
 pub fn signature_clean(ws: &[u32], at: usize, text: &[u8], clean: bool) -> bool
     ensures { result ≡ signature_clean ws.now at text.now clean }
 {
-    if ws.len() < 4 {
+    if ws.len() < 4 || ws.len() - 4 < at {
         return false;
     }
-    if ws.len() - 4 < at {
-        return false;
-    }
-    if !part_clean(text, clean, ws[at], ws[at + NAME_LENGTH]) {
-        return false;
-    }
-    part_clean(
-        text,
-        clean,
-        ws[at + DESCRIPTOR_START],
-        ws[at + DESCRIPTOR_LENGTH],
-    )
+    part_clean(text, clean, ws[at], ws[at + NAME_LENGTH])
+        && part_clean(
+            text,
+            clean,
+            ws[at + DESCRIPTOR_START],
+            ws[at + DESCRIPTOR_LENGTH],
+        )
 }
 
 // Whether record i of this width is in order: a name, a descriptor, and a number up to `most`.
+#[tactic(auto, using(crate::proofs::Laws::product), unfolding(crate::specs::Text::member_clean))]
 fn member_clean(ws: &[u32], width: u32, most: u32, text: &[u8], clean: bool, i: u32) -> bool
     ensures { result ≡ member_clean ws.now width most text.now clean i }
 {
     let at = (width as usize) * (i as usize);
-    if !signature_clean(ws, at, text, clean) {
-        return false;
-    }
-    words::word_at(ws, at + NUMBER) <= most
+    signature_clean(ws, at, text, clean) && words::get_or(ws, at + NUMBER, 0) <= most
 }
 
 // Whether each of the n records is.
 pub fn members_clean(ws: &[u32], width: u32, n: u32, most: u32, text: &[u8], clean: bool) -> bool
     ensures { result ≡ all_of n (member_clean ws.now width most text.now clean) }
 {
-    let mut i: u32 = 0;
-    while i < n {
-        if !member_clean(ws, width, most, text, clean, i) {
-            return false;
-        }
-        i += 1;
-    }
-    true
+    words::all_of(n, |i| member_clean(ws, width, most, text, clean, i))
 }

@@ -27,10 +27,10 @@ module _ (ws text : List ℕ) where
     unfolding method_entries keep
     eligible_no h = rw (← able, h) (sym (append-nil T))
 
-    pub eligible_yes : {U : List Entry} → e ≡ true → U ≡ T ++ (method_entry ws m ∷ [])
+    pub eligible_yes : {U : List Entry} {own : Entry} → e ≡ true → own ≡ method_entry ws m → U ≡ T ++ (own ∷ [])
         → U ≡ T ++ method_entries ws (keep (eligible ws text) (m ∷ []))
     unfolding method_entries keep
-    eligible_yes h u = u ∙ rw (← able, h)
+    eligible_yes h w u = u ∙ rw (w, ← able, h)
 
   entries-cons : (x : ℕ) (xs : List ℕ)
       → method_entries ws (keep (eligible ws text) (x ∷ xs))

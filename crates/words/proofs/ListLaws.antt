@@ -1,5 +1,6 @@
 -- The searches and folds of `words`' Lists, a turn at a time: along numbers that a loop counts up, and along a list that it indexes.
 -- A loop's invariant is that the rest of the search, or of the fold, answers what the whole does. Assumes nothing.
+use Rattle.std.specs.List.{fold as list_fold, range_with_len}
 use mathlib.Core.Path.{◌≡◌, refl, ap, ◌∙◌}
 use mathlib.Core.Bool.{Bool, true, false}
 use mathlib.Core.Logic.{⊎_elim}
@@ -11,8 +12,7 @@ use native.Mathlib.Numerals.{add-one}
 use lib.ListN.{length, get_or, drop, drop_of_length-le}
 use lib.Seq.{drop-cons}
 use Rattle.words.specs.Lists.{list_from, numbers, find, first_found, all_found, fold, some}
-use Rattle.words.specs.declared.Found.{Found}
-use Rattle.words.specs.declared.Found.TheVariants.{At, Nothing}
+use Rattle.std.specs.Prelude.{Option, Some, None, is_some}
 use Rattle.words.proofs.Bools.{by}
 
 -- what is left of a count, one less each turn
@@ -55,14 +55,14 @@ get_d_list_from f m (suc n) (suc i) d h =
 
 module _ (p : ℕ → Bool) where
   -- the search at turn i of n from m on
-  unfoldable pub find_from : ℕ → ℕ → ℕ → Found
+  unfoldable pub find_from : ℕ → ℕ → ℕ → Option ℕ
   find_from m n i = find p (rest_from (λ k. k) m n i)
 
   pub find-start : (m n : ℕ) → find_from m n 0 ≡ find p (numbers m n)
   unfolding find_from
   find-start m n = rw (rest-start (λ (k : ℕ). k) m n)
 
-  pub find-hit : (m n i : ℕ) {b : Bool} → i < n → b ≡ p (m + i) → b ≡ true → At (m + i) ≡ find_from m n i
+  pub find-hit : (m n i : ℕ) {b : Bool} → i < n → b ≡ p (m + i) → b ≡ true → Some (m + i) ≡ find_from m n i
   unfolding find_from find
   find-hit m n i h e t = rw (rest-turn (λ (k : ℕ). k) m n i h, ← e, t)
 
@@ -70,40 +70,63 @@ module _ (p : ℕ → Bool) where
   unfolding find_from find
   find-miss m n i h e t = rw (rest-turn (λ (k : ℕ). k) m n i h, ← e, t)
 
-  pub find-end : (m n i : ℕ) → n ≤ i → Nothing ≡ find_from m n i
+  pub find-end : (m n i : ℕ) → n ≤ i → None ≡ find_from m n i
   unfolding find_from find
   find-end m n i h = rw (rest_end (λ (k : ℕ). k) m n i h)
 
   -- the same where the numbers start at 0: the loop's counter is the number itself
-  pub seek_hit : (n i : ℕ) {b : Bool} → i < n → b ≡ p i → b ≡ true → At i ≡ find_from 0 n i
+  pub seek_hit : (n i : ℕ) {b : Bool} → i < n → b ≡ p i → b ≡ true → Some i ≡ find_from 0 n i
   seek_hit n i h e t = let z : 0 + i ≡ i = omega arith in rw z at (find-hit 0 n i h (rw z e) t)
 
   pub seek_miss : (n i : ℕ) {b : Bool} → i < n → b ≡ p i → b ≡ false → find_from 0 n (i + 1) ≡ find_from 0 n i
   seek_miss n i h e t = let z : 0 + i ≡ i = omega arith in find-miss 0 n i h (rw z e) t
 
+-- a search along the numbers from m on, below `end`: it goes on, or stops at m, or there are none
+module _ (p : ℕ → Bool) (m end : ℕ) where
+  pub find-later : m < end → false ≡ p m → find p (numbers (m + 1) (end - (m + 1))) ≡ find p (numbers m (end - m))
+  unfolding find list_from
+  find-later h e = let k : end - m ≡ suc (end - (m + 1)) = omega arith in rw (k, ← e) refl
+
+  pub find-here : m < end → true ≡ p m → Some m ≡ find p (numbers m (end - m))
+  unfolding find list_from
+  find-here h e = let k : end - m ≡ suc (end - (m + 1)) = omega arith in rw (k, ← e) refl
+
+  pub find-past : end ≤ m → None ≡ find p (numbers m (end - m))
+  unfolding find list_from
+  find-past h = let k : end - m ≡ 0 = omega arith in rw k refl
+
+-- a number passes if and only if one is found
+some_found : (p : ℕ → Bool) (xs : List ℕ) → is_some (find p xs) ≡ some p xs
+unfolding find some
+some_found p [] = refl
+some_found p (x ∷ xs) = by (p x) (λ t. rw t refl) (λ f. rw f (some_found p xs))
+
+pub found-some : (p : ℕ → Bool) (xs : List ℕ) {f : Option ℕ} {b : Bool} → f ≡ find p xs → b ≡ is_some f → b ≡ some p xs
+found-some p xs e q = q ∙ ap is_some e ∙ some_found p xs
+
 -- a turn of a search along records: b is what the code reads of the i-th record, x what that is in the sheet's words, and F what is found from there on
-module _ (p : ℕ → Bool) (m n i : ℕ) {b x : Bool} {F : Found} where
-  pub turn-hit : i < n → b ≡ x → x ≡ p (m + i) → b ≡ true → find_from p m n i ≡ F → At (m + i) ≡ F
+module _ (p : ℕ → Bool) (m n i : ℕ) {b x : Bool} {F : Option ℕ} where
+  pub turn-hit : i < n → b ≡ x → x ≡ p (m + i) → b ≡ true → find_from p m n i ≡ F → Some (m + i) ≡ F
   turn-hit h e f t g = find-hit p m n i h (e ∙ f) t ∙ g
 
   pub turn-miss : i < n → b ≡ x → x ≡ p (m + i) → b ≡ false → find_from p m n i ≡ F → find_from p m n (i + 1) ≡ F
   turn-miss h e f t g = find-miss p m n i h (e ∙ f) t ∙ g
 
-pub turn_end : (p : ℕ → Bool) (m n i : ℕ) {F : Found} → n ≤ i → find_from p m n i ≡ F → Nothing ≡ F
+pub turn_end : (p : ℕ → Bool) (m n i : ℕ) {F : Option ℕ} → n ≤ i → find_from p m n i ≡ F → None ≡ F
 turn_end p m n i h g = find-end p m n i h ∙ g
 
 -- a found number passes the test, and is in the list
-pub find-passes : (p : ℕ → Bool) (xs : List ℕ) (m : ℕ) → find p xs ≡ At m → p m ≡ true
+pub find-passes : (p : ℕ → Bool) (xs : List ℕ) (m : ℕ) → find p xs ≡ Some m → p m ≡ true
 unfolding find
 find-passes p [] m e = cc
 find-passes p (x ∷ xs) m e =
-    by (p x) (λ t. let q : At x ≡ At m = rw t at e in cc) (λ f. find-passes p xs m (rw f at e))
+    by (p x) (λ t. let q : Some x ≡ Some m = rw t at e in cc) (λ f. find-passes p xs m (rw f at e))
 
-pub find-member : (p : ℕ → Bool) (xs : List ℕ) (m : ℕ) → find p xs ≡ At m → Memᴰ m xs
+pub find-member : (p : ℕ → Bool) (xs : List ℕ) (m : ℕ) → find p xs ≡ Some m → Memᴰ m xs
 unfolding find
 find-member p [] m e = let z : ◌≡◌ {A = ℕ} 0 1 = cc in absurd (omega arith)
 find-member p (x ∷ xs) m e =
-    by (p x) (λ t. let q : At x ≡ At m = rw t at e in Memᴰ.head (cc)) (λ f. Memᴰ.tail (find-member p xs m (rw f at e)))
+    by (p x) (λ t. let q : Some x ≡ Some m = rw t at e in Memᴰ.head (cc)) (λ f. Memᴰ.tail (find-member p xs m (rw f at e)))
 
 pub numbers-within : (m n k : ℕ) → Memᴰ k (numbers m n) → (m ≤ k) × (k < m + n)
 unfolding list_from
@@ -112,49 +135,59 @@ numbers-within m (suc n) k h =
     ⊎_elim (λ (e : k ≡ m). (omega arith, omega arith)) (λ t. let r = numbers-within (m + 1) n k t in (omega arith, omega arith))
     (Memᴰ.cases_cons h)
 
-pub find-within : (p : ℕ → Bool) (m n k : ℕ) → find p (numbers m n) ≡ At k → (m ≤ k) × (k < m + n)
+pub find-within : (p : ℕ → Bool) (m n k : ℕ) → find p (numbers m n) ≡ Some k → (m ≤ k) × (k < m + n)
 find-within p m n k e = numbers-within m n k (find-member p (numbers m n) k e)
 
 -- ---- what the first element finds that finds anything
 
 -- by cases on what is found
-pub by-found : {X : Type 0} (r : Found) → ((k : ℕ) → r ≡ At k → X) → (r ≡ Nothing → X) → X
-by-found (At k) f g = f k refl
-by-found Nothing f g = g refl
+pub by-found : {X : Type 0} (r : Option ℕ) → ((k : ℕ) → r ≡ Some k → X) → (r ≡ None → X) → X
+by-found (Some k) f g = f k refl
+by-found None f g = g refl
 
 -- the search at place i of a list
-unfoldable pub found_from {ℓ} : {A : Type ℓ} → (A → Found) → List A → ℕ → Found
+unfoldable pub found_from {ℓ} : {A : Type ℓ} → (A → Option ℕ) → List A → ℕ → Option ℕ
 found_from f xs i = first_found f (drop i xs)
 
-module _ {ℓ} {A : Type ℓ} (f : A → Found) (xs : List A) where
+module _ {ℓ} {A : Type ℓ} (f : A → Option ℕ) (xs : List A) where
   pub found-start : found_from f xs 0 ≡ first_found f xs
   unfolding found_from
   found-start = refl
 
-  pub found-hit : (i : ℕ) (d : A) {r : Found} (k : ℕ) → i < length xs → r ≡ f (get_or xs i d) → r ≡ At k → At k ≡ found_from f xs i
+  pub found-hit : (i : ℕ) (d : A) {r : Option ℕ} (k : ℕ) → i < length xs → r ≡ f (get_or xs i d) → r ≡ Some k → Some k ≡ found_from f xs i
   unfolding found_from first_found
   found-hit i d k h e t = rw (drop-cons xs i d h, ← e, t)
 
-  pub found-miss : (i : ℕ) (d : A) {r : Found} → i < length xs → r ≡ f (get_or xs i d) → r ≡ Nothing → found_from f xs (i + 1) ≡ found_from f xs i
+  pub found-miss : (i : ℕ) (d : A) {r : Option ℕ} → i < length xs → r ≡ f (get_or xs i d) → r ≡ None → found_from f xs (i + 1) ≡ found_from f xs i
   unfolding found_from first_found
   found-miss i d h e t = rw (add-one, drop-cons xs i d h, ← e, t)
 
-  pub found-end : (i : ℕ) → length xs ≤ i → Nothing ≡ found_from f xs i
+  pub found-end : (i : ℕ) → length xs ≤ i → None ≡ found_from f xs i
   unfolding found_from first_found
   found-end i h = rw (drop_of_length-le xs h)
 
+  -- as a loop has it, which asks whether the element gives something
+  pub found-some-here : (i : ℕ) (d : A) {r : Option ℕ} {b : Bool} → i < length xs → r ≡ f (get_or xs i d) → b ≡ is_some r → b ≡ true → r ≡ found_from f xs i
+  found-some-here i d {r = Some k} h e g t = found-hit i d k h e refl
+  found-some-here i d {r = None} h e g t = cc
+
+  pub found-none-here : (i : ℕ) (d : A) {r : Option ℕ} {b : Bool} → i < length xs → r ≡ f (get_or xs i d) → b ≡ is_some r → b ≡ false
+      → found_from f xs (i + 1) ≡ found_from f xs i
+  found-none-here i d {r = Some k} h e g t = cc
+  found-none-here i d {r = None} h e g t = found-miss i d h e refl
+
 -- what is found is what some element finds
-pub found-by {ℓ} : {A : Type ℓ} {P : Type 0} (f : A → Found) (xs : List A) (m : ℕ) → ((x : A) → Memᴰ x xs → f x ≡ At m → P)
-    → first_found f xs ≡ At m → P
+pub found-by {ℓ} : {A : Type ℓ} {P : Type 0} (f : A → Option ℕ) (xs : List A) (m : ℕ) → ((x : A) → Memᴰ x xs → f x ≡ Some m → P)
+    → first_found f xs ≡ Some m → P
 unfolding first_found
 found-by f [] m h e = let z : ◌≡◌ {A = ℕ} 0 1 = cc in absurd (omega arith)
 found-by f (x ∷ xs) m h e =
-    by-found (f x) (λ k q. h x (Memᴰ.head refl) (let r : At k ≡ At m = rw q at e in q ∙ r))
+    by-found (f x) (λ k q. h x (Memᴰ.head refl) (let r : Some k ≡ Some m = rw q at e in q ∙ r))
     (λ q. found-by f xs m (λ y t. h y (Memᴰ.tail t)) (rw q at e))
 
 -- ---- all that the elements find
 
-pub all-found-length : (f : ℕ → Found) (xs : List ℕ) → length (all_found f xs) ≤ length xs
+pub all-found-length : (f : ℕ → Option ℕ) (xs : List ℕ) → length (all_found f xs) ≤ length xs
 unfolding all_found
 all-found-length f [] = omega arith
 all-found-length f (x ∷ xs) =
@@ -178,6 +211,18 @@ module _ {ℓ ℓ'} {A : Type ℓ} {S : Type ℓ'} (f : ℕ → A) (g : S → A 
   pub fold_end : (i : ℕ) (s : S) → n ≤ i → s ≡ fold_from f g s m n i
   unfolding fold_from fold
   fold_end i s h = rw (rest_end f m n i h)
+
+-- the library's fold is this one
+pub fold_is : {A S : Type 0} (f : S → A → S) (s : S) (xs : List A) → list_fold f s xs ≡ fold f s xs
+unfolding fold
+fold_is f s [] = refl
+fold_is f s (x ∷ xs) = fold_is f (f s x) xs
+
+-- and so are its numbers
+pub range_is : (m n : ℕ) → range_with_len m n ≡ numbers m n
+unfolding list_from
+range_is m zero = refl
+range_is m (suc n) = ap (λ (l : List ℕ). m ∷ l) (range_is (m + 1) n)
 
 -- the fold from state q on, at place i of a list
 

@@ -1,10 +1,10 @@
 -- Laws on lists of any element: a part that is written, parts that follow one another, parts by their elements. Assumes nothing.
-use mathlib.Core.Path.{◌≡◌}
+use mathlib.Core.Path.{◌≡◌, refl}
 use mathlib.Core.Logic.{◌⊎◌, inl, inr}
-use Prim.Native.Nat.{ℕ, ◌+◌, ◌≤◌, ◌<◌}
+use Prim.Native.Nat.{ℕ, zero, suc, ◌+◌, ◌≤◌, ◌<◌}
 use native.Mathlib.Omega.{arith}
 use mathlib.Core.List.{List, ◌++◌}
-use lib.ListN.{length, get_or, take, drop, set, length-take, length-drop, length-set}
+use lib.ListN.{length, get_or, replicate, take, drop, set, length-take, length-drop, length-set}
 use lib.Seq.{get_or-take, get_or-drop, get_or-append-add, ext_get_or, get_or-set_other}
 
 -- past a part
@@ -35,3 +35,9 @@ part-set-other x a i v p n (inl h) =
     part_ext x (set a i v) a p n (length-set a i v) (λ j h₁ h₂. get_or-set_other a i j v x (omega arith))
 part-set-other x a i v p n (inr h) =
     part_ext x (set a i v) a p n (length-set a i v) (λ j h₁ h₂. get_or-set_other a i j v x (omega arith))
+
+-- zeros, at each place and past the end
+pub zeros : (n i : ℕ) → ◌≡◌ {A = ℕ} (get_or (replicate n 0) i 0) 0
+zeros zero i = refl
+zeros (suc n) zero = refl
+zeros (suc n) (suc i) = zeros n i

@@ -1,7 +1,7 @@
 -- Lists that are given by a count, and searches and folds along lists, front to back, as a loop goes along them. Assumes nothing.
 use Rattle.std.specs.Prelude.{ℕ, zero, suc, ◌+◌, Bool, false, cond, ◌||◌, List, [], ◌∷◌}
-use Rattle.words.specs.declared.Found.{Found}
-use Rattle.words.specs.declared.Found.TheVariants.{At, Nothing}
+use Rattle.std.specs.Prelude.{Option, Some, None}
+use Rattle.std.specs.Option.{option_or}
 
 -- f m, f (m + 1), .., n in all
 unfoldable pub list_from {ℓ} : {A : Type ℓ} → (ℕ → A) → ℕ → ℕ → List A
@@ -12,43 +12,29 @@ list_from f m (suc n) = f m ∷ list_from f (m + 1) n
 abbrev pub numbers : ℕ → ℕ → List ℕ
 numbers m n = list_from (λ k. k) m n
 
--- ---- what may be found
-
-abbrev pub or_else : Found → Found → Found
-or_else (At n) other = At n
-or_else Nothing other = other
-
-abbrev pub and_then : Found → (ℕ → Found) → Found
-and_then (At n) f = f n
-and_then Nothing f = Nothing
-
-abbrev pub map_found : (ℕ → ℕ) → Found → Found
-map_found f (At n) = At (f n)
-map_found f Nothing = Nothing
-
 -- the first number of the list that passes the test
-unfoldable pub find : (ℕ → Bool) → List ℕ → Found
-find p [] = Nothing
-find p (x ∷ xs) = cond (p x) (At x) (find p xs)
+unfoldable pub find : (ℕ → Bool) → List ℕ → Option ℕ
+find p [] = None
+find p (x ∷ xs) = cond (p x) (Some x) (find p xs)
 
 -- what the first element finds that finds anything
-unfoldable pub first_found {ℓ} : {A : Type ℓ} → (A → Found) → List A → Found
-first_found f [] = Nothing
-first_found f (x ∷ xs) = or_else (f x) (first_found f xs)
+unfoldable pub first_found {ℓ} : {A : Type ℓ} → (A → Option ℕ) → List A → Option ℕ
+first_found f [] = None
+first_found f (x ∷ xs) = option_or (f x) (first_found f xs)
 
 -- all that the elements find, in their order
-abbrev pub cons_found : Found → List ℕ → List ℕ
-cons_found (At n) ns = n ∷ ns
-cons_found Nothing ns = ns
+abbrev pub cons_found : Option ℕ → List ℕ → List ℕ
+cons_found (Some n) ns = n ∷ ns
+cons_found None ns = ns
 
-unfoldable pub all_found : (ℕ → Found) → List ℕ → List ℕ
+unfoldable pub all_found : (ℕ → Option ℕ) → List ℕ → List ℕ
 all_found f [] = []
 all_found f (x ∷ xs) = cons_found (f x) (all_found f xs)
 
 -- the place, counted from k, of the first element that passes the test
-unfoldable pub position {ℓ} : {A : Type ℓ} → (A → Bool) → ℕ → List A → Found
-position p k [] = Nothing
-position p k (x ∷ xs) = cond (p x) (At k) (position p (k + 1) xs)
+unfoldable pub position {ℓ} : {A : Type ℓ} → (A → Bool) → ℕ → List A → Option ℕ
+position p k [] = None
+position p k (x ∷ xs) = cond (p x) (Some k) (position p (k + 1) xs)
 
 -- the state after a step for each element
 unfoldable pub fold {ℓ ℓ'} : {A : Type ℓ} {S : Type ℓ'} → (S → A → S) → S → List A → S

@@ -24,14 +24,15 @@ byte_of w j = w / 256 ^ j % 256
 unfoldable pub inside : ℕ → ℕ → ℕ → Bool
 inside first n total = leb (first + n) total
 
--- dst with n words of src from `from` in it from `at`
-unfoldable pub pasted : List ℕ → ℕ → ℕ → List ℕ → ℕ → List ℕ
-pasted src from n dst at = take at dst ++ take n (drop from src) ++ drop (at + n) dst
+module _ {A : Type 0} (src : List A) (from n : ℕ) (dst : List A) (at : ℕ) where
+  -- dst with n elements of src from `from` in it from `at`
+  unfoldable pub pasted : List A
+  pasted = take at dst ++ take n (drop from src) ++ drop (at + n) dst
 
--- the n words are in src, and fit into dst
-unfoldable pub copy_fits : List ℕ → ℕ → ℕ → List ℕ → ℕ → Bool
-copy_fits src from n dst at = leb (from + n) (length src) && leb (at + n) (length dst)
+  -- the n elements are in src, and fit into dst
+  unfoldable pub copy_fits : Bool
+  copy_fits = leb (from + n) (length src) && leb (at + n) (length dst)
 
--- whether the copy was made, and what dst then holds
-unfoldable pub copy_words : List ℕ → ℕ → ℕ → List ℕ → ℕ → Bool × List ℕ
-copy_words src from n dst at = cond (copy_fits src from n dst at) (true, pasted src from n dst at) (false, dst)
+  -- whether the copy was made, and what dst then holds
+  unfoldable pub copy_elements : Bool × List A
+  copy_elements = cond copy_fits (true, pasted) (false, dst)

@@ -1,44 +1,27 @@
 -- Laws of writing: the rows as the code tests them, and the blocks that it writes. Assumes nothing.
 use mathlib.Core.Path.{◌≡◌, sym, ◌∙◌}
-use mathlib.Core.Bool.{Bool, true, false, not, ◌&&◌}
+use mathlib.Core.Bool.{true, not}
 use mathlib.Core.List.{List, ◌++◌}
-use Prim.Native.Nat.{ℕ, ◌+◌, ◌*◌, ◌%◌, ◌^◌, ◌≤◌, ◌<◌}
+use Prim.Native.Nat.{ℕ, ◌*◌, ◌%◌, ◌^◌, ◌≤◌}
 use native.Mathlib.Omega.{arith}
 use lib.ListN.{length, take, drop}
 use lib.Dec.{eqb, ltb}
-use borrow.Author.Tests.{eq-eqb, ne_eqb, eqb-true, eqb-false, lt-ltb, le-ltb, ltb-false, not-false}
+use borrow.Author.Tests.{eqb-true, eqb-false, le-ltb, ltb-false, not-false}
 use Rattle.words.proofs.Bools.{by, passed}
 use Rattle.block.specs.Block.{blocks_for, sheet_bytes, packed_blocks}
 use Rattle.block.proofs.PackLaws.{packed-is}
-use Rattle.text.specs.Text.{zero_rest}
-use Rattle.class_sheet.specs.ClassSheet.{text_length, methods_at, fields_at, interfaces_at, compilers_at, text_at, content_end, text_of}
+use Rattle.class_sheet.specs.ClassSheet.{methods_at, fields_at, interfaces_at, compilers_at, text_at, content_end, text_of}
 use Rattle.class_sheet.proofs.Laws.{content-within}
-use Rattle.class_rules.specs.ClassRules.{class_fits, all_fresh}
+use Rattle.class_rules.specs.ClassRules.{class_fits}
 use Rattle.class_rules.proofs.Laws as class
 use Rattle.set_rules.specs.SetRules.{class_refusal}
 use Rattle.writer.specs.Writer.{Outcome, content_of, blocks_of, link_rows, storable, write_refusal, write_class_sheet}
 
 -- ---- rows 3 to 5
 
-module _ (ws : List ℕ) {f : Bool} (fits : f ≡ class_fits ws) where
-  pub link_3 : not f ≡ true → 3 ≡ link_rows ws
-  unfolding link_rows
-  link_3 h = rw (← fits, h)
-
-  pub link-rest : not f ≡ false → {t : List ℕ} {r : ℕ} → t ≡ text_of ws → r ≡ class_refusal ws t → r ≡ link_rows ws
-  unfolding link_rows
-  link-rest h e g = g ∙ rw (← fits, h, e)
-
-link-passed : (ws : List ℕ) → link_rows ws ≡ 0 → (class_fits ws ≡ true) × (class_refusal ws (text_of ws) ≡ 0)
+pub link-passed : (ws : List ℕ) → link_rows ws ≡ 0 → (class_fits ws ≡ true) × (class_refusal ws (text_of ws) ≡ 0)
 unfolding link_rows
 link-passed ws e = let p = passed (not (class_fits ws)) 3 _ (omega arith) e in (not-false _ p.0, p.1)
-
--- ---- row 17
-
-pub storable-is : (ws : List ℕ) {x e : ℕ} {p : List ℕ} {a z : Bool} → x ≡ 4 * text_at ws + text_length ws → e ≡ content_end ws
-    → p ≡ take e (drop 0 ws) → a ≡ all_fresh ws → z ≡ zero_rest p x → (a && z) ≡ storable ws
-unfolding storable
-storable-is ws f g q a z = rw (a, z, q, f, g)
 
 -- ---- the blocks that the content takes: 6 to 11,654 words
 
@@ -50,32 +33,11 @@ pub few-blocks : (ws : List ℕ) → class_fits ws ≡ true → (1 ≤ blocks_of
 unfolding blocks_for
 few-blocks ws h = let l = content-within ws (class.fits ws h).0 in (omega (arith, content-some ws), omega arith)
 
-counted : (ws : List ℕ) {e n : ℕ} → class_fits ws ≡ true → e ≡ content_end ws → n ≡ blocks_for e % 2 ^ 32 → n ≡ blocks_of ws
+-- and their number as the code counts it
+pub counted : (ws : List ℕ) {e n : ℕ} → class_fits ws ≡ true → e ≡ content_end ws → n ≡ blocks_for e % 2 ^ 32 → n ≡ blocks_of ws
 counted ws {n = n} h f g = let q : n ≡ blocks_of ws % 2 ^ 32 = rw f at g in omega (arith, (few-blocks ws h).1)
 
 -- ---- all rows
-
-module _ (ws : List ℕ) (room : ℕ) {row : ℕ} (rows : row ≡ link_rows ws) where
-  pub write-early : (row ≡ 0 → ⊥) → row ≡ write_refusal ws room
-  unfolding write_refusal
-  write-early n = rw (← rows) (simp (ne_eqb row 0 n))
-
-  module _ (z : row ≡ 0) {s : Bool} (store : s ≡ storable ws) where
-    pub write_17 : not s ≡ true → 17 ≡ write_refusal ws room
-    unfolding write_refusal
-    write_17 h = rw (← rows, ← store) (simp (eq-eqb row 0 z, h))
-
-    module _ (h : not s ≡ false) {e n w : ℕ} (end : e ≡ content_end ws) (blocks : n ≡ blocks_for e % 2 ^ 32) (wide : w ≡ n) where
-      count : w ≡ blocks_of ws
-      count = wide ∙ counted ws (link-passed ws (sym rows ∙ z)).0 end blocks
-
-      pub write_18 : room < 512 * w → 18 ≡ write_refusal ws room
-      unfolding write_refusal
-      write_18 l = rw (← rows, ← store, ← count) (simp (eq-eqb row 0 z, h, lt-ltb room (512 * w) l))
-
-      pub write_0 : 512 * w ≤ room → 0 ≡ write_refusal ws room
-      unfolding write_refusal
-      write_0 l = rw (← rows, ← store, ← count) (simp (eq-eqb row 0 z, h, le-ltb room (512 * w) l))
 
 -- what a set that no row refuses has passed, and that this is all
 pub record Passed (ws : List ℕ) (room : ℕ) : Type 0 where
@@ -101,17 +63,13 @@ write-accepts ws room p = rw (p.fits, p.rows, p.store, le-ltb room (512 * blocks
 
 -- ---- what is written
 
-module _ (ws bs : List ℕ) {row : ℕ} (rows : row ≡ write_refusal ws (length bs)) where
-  pub write-refused : (row ≡ 0 → ⊥) → ◌≡◌ {A = Outcome} (record { refusal = row; blocks = 0; memory = bs }) (write_class_sheet ws bs)
-  unfolding write_class_sheet
-  write-refused n = rw (← rows) (simp (ne_eqb row 0 n))
-
-  pub write_done : row ≡ 0 → {e n : ℕ} {p o : List ℕ} → e ≡ content_end ws → n ≡ blocks_for e % 2 ^ 32 → p ≡ take e (drop 0 ws)
-      → o ≡ packed_blocks p n bs → ◌≡◌ {A = Outcome} (record { refusal = 0; blocks = n; memory = o }) (write_class_sheet ws bs)
-  unfolding write_class_sheet
-  write_done z {n = n} {p = p} {o = o} end blocks part stored =
-      let w = write-passed ws (length bs) (sym rows ∙ z) in
-      let m : n ≡ blocks_of ws = counted ws w.fits end blocks in
-      let c : p ≡ content_of ws = part ∙ rw end in
-      let s : o ≡ sheet_bytes p n ++ drop (512 * n) bs = stored ∙ packed-is p n bs (rw m w.space) in
-      rw (← rows) (simp (eq-eqb row 0 z, s, m, c))
+pub write-done : (ws bs : List ℕ) → 0 ≡ write_refusal ws (length bs) → {e n : ℕ} {p o : List ℕ} → e ≡ content_end ws → n ≡ blocks_for e % 2 ^ 32
+    → p ≡ take e (drop 0 ws) → o ≡ packed_blocks p n bs
+    → ◌≡◌ {A = Outcome} (record { refusal = 0; blocks = n; memory = o }) (write_class_sheet ws bs)
+unfolding write_class_sheet
+write-done ws bs rows {n = n} {p = p} {o = o} end blocks part stored =
+    let w = write-passed ws (length bs) (sym rows) in
+    let m : n ≡ blocks_of ws = counted ws w.fits end blocks in
+    let c : p ≡ content_of ws = part ∙ rw end in
+    let s : o ≡ sheet_bytes p n ++ drop (512 * n) bs = stored ∙ packed-is p n bs (rw m w.space) in
+    rw (← rows, s, m, c)

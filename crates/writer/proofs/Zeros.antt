@@ -5,13 +5,13 @@ use mathlib.Core.List.{List, ◌++◌}
 use Prim.Native.Nat.{ℕ, ◌+◌, ◌*◌, ◌-◌, ◌/◌, ◌%◌, ◌^◌, ◌≤◌}
 use native.Mathlib.Nat.{zero-div}
 use native.Mathlib.Omega.{arith}
-use lib.ListN.{length, get_or, replicate, length-replicate, get_or-replicate, get_or-append, get_or-eq_default}
+use lib.ListN.{length, get_or, replicate, get_or-append, get_or-eq_default}
 use lib.Dec.{ltb}
 use borrow.Author.Tests.{ltb-true, ltb-false, eq-eqb, eqb-true}
 use Rattle.words.specs.Words.{byte_of}
 use Rattle.words.proofs.Bools.{by}
 use Rattle.words.proofs.FoldLaws.{all-each, all-if}
-use Rattle.words.proofs.Lists.{skip}
+use Rattle.words.proofs.Lists.{skip, zeros}
 use Rattle.text.specs.Text.{text_byte, zero_at, zero_rest}
 
 -- ---- zeros to the end of the words: past it there are only zeros
@@ -41,14 +41,6 @@ unfolding text_byte
 zero_same a b start same h = zero-all b start (λ k l. rw (same (k / 4)) at (zero-each a start h k l))
 
 -- ---- zeros after words
-
-pub zeros : (n i : ℕ) → ◌≡◌ {A = ℕ} (get_or (replicate n 0) i 0) 0
-zeros n i =
-    by (ltb i n) (λ t. get_or-replicate n i 0 0 (ltb-true i n t))
-    (λ t.
-    let none : List ℕ = replicate n 0 in
-    let past : length none ≤ i = omega (arith, length-replicate {A = ℕ} n 0, ltb-false i n t) in
-    get_or-eq_default none 0 past)
 
 pub padded-at : (c : List ℕ) (n i : ℕ) → get_or (c ++ replicate n 0) i 0 ≡ get_or c i 0
 padded-at c n i =

@@ -1,12 +1,12 @@
 -- Writing a class sheet back: from an unlinked set the blocks of a class sheet. Assumes nothing.
-use Rattle.std.specs.Prelude.{ℕ, ◌+◌, ◌*◌, Bool, cond, not, ◌&&◌, List, ◌++◌, take, drop, length, eqb, ltb}
+use Rattle.std.specs.Prelude.{ℕ, ◌+◌, ◌*◌, Bool, cond, not, ◌&&◌, List, ◌++◌, take, drop, length, eqb, ltb, Result, Ok, Err}
+use Rattle.refusal.specs.Rows.{row}
+use Rattle.refusal.specs.declared.Refusal.{Refusal}
 use Rattle.block.specs.Block.{blocks_for, sheet_bytes}
 use Rattle.text.specs.Text.{zero_rest}
 use Rattle.class_sheet.specs.ClassSheet.{text_length, text_at, content_end, text_of}
 use Rattle.class_rules.specs.ClassRules.{class_fits, all_fresh}
 use Rattle.set_rules.specs.SetRules.{class_refusal}
-use Rattle.writer.specs.declared.Written.{Written}
-use Rattle.writer.specs.declared.Written.TheVariants.{Blocks, Refused}
 
 -- ---- what a writing answers, and what the lent bytes then hold
 
@@ -17,9 +17,9 @@ pub record Outcome : Type 0 where
   pub memory : List ℕ
 
 -- the number and value of each case of the answer, beside the memory
-abbrev pub outcome : Written → List ℕ → Outcome
-outcome (Blocks n) bs = record { refusal = 0; blocks = n; memory = bs }
-outcome (Refused k) bs = record { refusal = k; blocks = 0; memory = bs }
+abbrev pub outcome : Result ℕ Refusal → List ℕ → Outcome
+outcome (Ok n) bs = record { refusal = 0; blocks = n; memory = bs }
+outcome (Err refusal) bs = record { refusal = row refusal; blocks = 0; memory = bs }
 
 -- ---- what is written
 

@@ -2,21 +2,18 @@
 #![tactic(auto)]
 
 ghost use Rattle.std.specs.Prelude.{◌≡◌};
+ghost use Rattle.refusal.specs.Rows.{row_of};
 ghost use Rattle.writer.specs.Writer.{outcome, link_rows, storable, write_refusal, write_class_sheet};
 
-// What a writing answers: the number of blocks written, or the row that refuses.
-#[derive(Clone, Copy)]
-pub enum Written {
-    Blocks(u32),
-    Refused(u32),
-}
+use refusal::Refusal;
 
-// Rows 3 to 5 as a link has them, of the class words alone: the number that refuses, or 0.
-fn link_rows(set: &[u32]) -> u32
-    ensures { result ≡ link_rows set.now }
+// Rows 3 to 5 as a link has them, of the class words alone.
+#[tactic(auto, unfolding(crate::specs::Writer::link_rows))]
+fn link_rows(set: &[u32]) -> Result<(), Refusal>
+    ensures { row_of result ≡ link_rows set.now }
 {
     if !class_rules::fits_ok(set) {
-        return 3;
+        return Err(Refusal::Form);
     }
     let mut text = [0u8; class_sheet::TEXT_LIMIT as usize];
     class_sheet::unpack_text(set, &mut text);
@@ -24,43 +21,40 @@ fn link_rows(set: &[u32]) -> u32
 }
 
 // Row 17: whether each class is as a sheet may bring it, and the bytes after the text in its last word are 0.
+#[tactic(auto, unfolding(crate::specs::Writer::storable))]
 fn is_storable(set: &[u32]) -> bool
     ensures { result ≡ storable set.now }
 {
-    let text_end = 4 * class_sheet::text_at(set) + words::wide(class_sheet::text_length(set));
-    let content = words::word_part(set, 0, class_sheet::content_end(set));
+    let text_end = 4 * class_sheet::text_at(set) + (class_sheet::text_length(set) as usize);
+    let content = words::part(set, 0, class_sheet::content_end(set));
     class_rules::all_fresh(set) & text::zero_rest(content, text_end)
 }
 
-// Rows 3, 4, 5, 17 and 18, where `room` bytes are lent: the number that refuses, or 0.
-fn write_refusal(set: &[u32], room: usize) -> u32
-    ensures { result ≡ write_refusal set.now room }
+// Rows 3, 4, 5, 17 and 18, where `room` bytes are lent.
+#[tactic(auto, unfolding(crate::specs::Writer::write_refusal))]
+fn write_refusal(set: &[u32], room: usize) -> Result<(), Refusal>
+    ensures { row_of result ≡ write_refusal set.now room }
 {
-    let row = link_rows(set);
-    if row != 0 {
-        return row;
-    }
-    if !is_storable(set) {
-        return 17;
-    }
+    link_rows(set)?;
     let n = block::blocks_for(class_sheet::content_end(set));
-    if room < 512 * words::wide(n) {
-        return 18;
+    if !is_storable(set) {
+        return Err(Refusal::NotFresh);
     }
-    0
+    if room < 512 * n as usize {
+        return Err(Refusal::ShortBytes);
+    }
+    Ok(())
 }
 
 // Writes the blocks of a class sheet from an unlinked set into the lent bytes, as few blocks as hold its content, which is the number
 // answered. Every byte after them stays; a refused call changes none.
-pub fn write_class_sheet(set: &[u32], out: &mut [u8]) -> Written
+#[tactic(auto, unfolding(crate::specs::Writer::write_class_sheet))]
+pub fn write_class_sheet(set: &[u32], out: &mut [u8]) -> Result<u32, Refusal>
     ensures { outcome result out.new ≡ write_class_sheet set.now out.old }
 {
-    let row = write_refusal(set, out.len());
-    if row != 0 {
-        return Written::Refused(row);
-    }
+    write_refusal(set, out.len())?;
     let end = class_sheet::content_end(set);
     let n = block::blocks_for(end);
-    block::pack(words::word_part(set, 0, end), n, out);
-    Written::Blocks(n)
+    block::pack(words::part(set, 0, end), n, out);
+    Ok(n)
 }

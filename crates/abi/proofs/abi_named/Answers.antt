@@ -1,24 +1,8 @@
-use Rattle.words.proofs.ListLaws.{find-start, seek_hit, seek_miss, find-end}
-use native.Mathlib.Omega.{arith}
-use mathlib.Core.Path.{◌∙◌}
+-- The classes are searched in order, and each name that is compared is the class's. Assumes nothing.
+use Rattle.std.proofs.Common.{rules, arith}
 use Rattle.linking.specs.Abi.{abi_named}
 use Rattle.abi.proofs.abi_named.Goals as goal
 
-pub loop-a-init : goal.loop-a-init
-unfolding abi_named
-loop-a-init c = (omega arith, find-start _ _ _ ∙ cc)
-
-pub returns-then-name_is : goal.returns-then-name_is
-returns-then-name_is c =
-    seek_hit _ _ _ c.loop-a-test.true c.name_is.ensures c.if-name_is.true
-    ∙ c.loop-a.invariant.1
-
-pub loop-a-preserved : goal.loop-a-preserved
-loop-a-preserved c = (
-  omega arith,
-  seek_miss _ _ _ c.loop-a-test.true c.name_is.ensures c.if-name_is.false
-      ∙ c.loop-a.invariant.1,
-)
-
 pub returns : goal.returns
-returns c = find-end _ _ _ _ c.loop-a-test.false ∙ c.loop-a.invariant.1
+unfolding abi_named
+returns c = rw (← c.class_count.ensures) (c.find_in.ensures _ _ (omega arith) (λ i r l post. search rules))

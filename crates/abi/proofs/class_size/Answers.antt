@@ -1,24 +1,16 @@
-use Rattle.words.proofs.ListLaws.{fold_start, fold-turn, fold_end}
+-- The library's fold over the slots' numbers is the definition's. Assumes nothing.
+use Rattle.std.proofs.Common.{rules, arith, ℕ, ◌≡◌, max, min, ◌+◌, ◌-◌, ◌∙◌, ap, refl}
+use Rattle.std.proofs.lemmas.Iterator.Consumers.{fold_from_yields_List}
+use Rattle.std.proofs.lemmas.Iterator.{YieldsList-from_range}
+use Rattle.words.specs.Lists.{fold}
+use Rattle.words.proofs.ListLaws.{fold_is, range_is}
 use Rattle.linking.specs.Abi.{abi_slots, slot_index, class_size}
-use native.Mathlib.Omega.{arith}
-use mathlib.Core.Path.{refl, ◌∙◌}
 use Rattle.abi.proofs.class_size.Goals as goal
 
-pub loop-i-init : goal.loop-i-init
-unfolding class_size abi_slots
-loop-i-init c = (omega arith, omega arith, fold_start _ _ _ _ _ ∙ cc)
-
-pub overflow_add-slot_index : goal.overflow_add-slot_index
-unfolding slot_index
-overflow_add-slot_index c = omega arith
-
-pub loop-i-preserved : goal.loop-i-preserved
-loop-i-preserved c = (
-  omega arith,
-  omega arith,
-  fold-turn _ _ _ _ _ c.loop-i-test.true (rw (c.larger-size.ensures, c.slot_index.ensures) refl)
-      ∙ c.loop-i.invariant.2,
-)
-
 pub returns : goal.returns
-returns c = fold_end _ _ _ _ _ _ c.loop-i-test.false ∙ c.loop-i.invariant.2
+unfolding class_size abi_slots
+returns c =
+    let step : ℕ → ℕ → ℕ = λ n s. max n (slot_index c.args.abi.now s + 1) in
+    rw (← c.slot_count.ensures, ← c.class_first_slot-first.ensures, ← c.class_table_size_plus_one.ensures, ← c.min.ensures, ← c.saturating_sub-size.ensures)
+    (fold_from_yields_List _ step _ c.fold.result c.fold.ensures.ran (YieldsList-from_range _ _ c.slot_count.result refl (omega arith)) (λ a x b q k. search rules)
+    ∙ fold_is step _ _ ∙ ap (fold step _) (range_is _ _))

@@ -1,25 +1,10 @@
-use native.Mathlib.Omega.{arith}
-use mathlib.Core.Path.{◌∙◌}
-use Rattle.words.proofs.ListLaws.{find-start, find-hit, find-miss, find-end}
+-- The numbers that are searched are those of the class's fields. Assumes nothing.
+use Rattle.std.proofs.Common.{rules, arith}
 use Rattle.linking.specs.Abi.{fixed_field, abi_fields}
 use Rattle.abi.proofs.fixed_field.Goals as goal
 
-pub loop-i-init : goal.loop-i-init
-unfolding fixed_field abi_fields
-loop-i-init c = (omega arith, omega arith, find-start _ _ _ ∙ cc)
-
-pub returns-then-field_is : goal.returns-then-field_is
-returns-then-field_is c =
-    find-hit _ _ _ _ c.loop-i-test.true c.field_is.ensures c.if-field_is.true
-    ∙ c.loop-i.invariant.2
-
-pub loop-i-preserved : goal.loop-i-preserved
-loop-i-preserved c = (
-  omega arith,
-  omega arith,
-  find-miss _ _ _ _ c.loop-i-test.true c.field_is.ensures c.if-field_is.false
-      ∙ c.loop-i.invariant.2,
-)
-
 pub returns : goal.returns
-returns c = find-end _ _ _ _ c.loop-i-test.false ∙ c.loop-i.invariant.2
+unfolding fixed_field abi_fields
+returns c =
+    rw (← c.field_count.ensures, ← c.class_first_field-first.ensures)
+    (c.find_in.ensures _ _ (omega arith) (λ i r l post. search rules))

@@ -1,20 +1,13 @@
-use Rattle.words.proofs.ListLaws.{fold-at-start, fold-at-turn, fold-at-end}
-use Rattle.linking.specs.Abi.{minimum_size}
-use native.Mathlib.Omega.{arith}
-use mathlib.Core.Path.{◌∙◌, refl, sym}
+-- The library's fold is the definition's. Assumes nothing.
+use Rattle.std.proofs.Common.{rules, max, ◌∙◌}
+use Rattle.std.proofs.lemmas.Iterator.Consumers.{fold_from_yields_List}
+use Rattle.std.proofs.lemmas.Iterator.{YieldsList-from_slice}
+use Rattle.words.proofs.ListLaws.{fold_is}
+use Rattle.linking.specs.Abi.{class_size, minimum_size}
 use Rattle.abi.proofs.largest_size.Goals as goal
 
-pub loop-i-init : goal.loop-i-init
-unfolding minimum_size
-loop-i-init c = (omega arith, sym (fold-at-start _ _ _))
-
-pub loop-i-preserved : goal.loop-i-preserved
-loop-i-preserved c =
-    let a = c.args in (
-      omega arith,
-      sym (fold-at-turn _ _ a.abis.now 0 _ c.loop-i-test.true refl (cc))
-          ∙ c.loop-i.invariant.1,
-    )
-
 pub returns : goal.returns
-returns c = sym (fold-at-end _ _ _ _ c.loop-i-test.false) ∙ c.loop-i.invariant.1
+unfolding minimum_size
+returns c =
+    fold_from_yields_List _ (λ n a. max n (class_size c.args.abi.now a)) 0 c.fold.result c.fold.ensures.ran (YieldsList-from_slice c.args.abis.now cc) (λ a x b q k. search rules)
+    ∙ fold_is _ 0 c.args.abis.now

@@ -1,19 +1,11 @@
-use native.Mathlib.Omega.{arith}
-use mathlib.Core.Path.{◌∙◌}
-use Rattle.words.proofs.ListLaws.{find-start, turn-hit, turn-miss, turn_end}
+-- The numbers that are searched are those of the class's slots, and each record that is read is the slot's. Assumes nothing.
+use Rattle.std.proofs.Common.{rules, arith}
 use Rattle.linking.specs.Abi.{abi_slots}
 use Rattle.abi.proofs.RecordLaws.{record_slot}
 use Rattle.abi.proofs.slot_of.Goals as goal
 
-pub loop-i-init : goal.loop-i-init
-unfolding abi_slots
-loop-i-init c = (omega arith, omega arith, c.slot_records-records.ensures, find-start _ _ _ ∙ cc)
-
-pub returns-then-record_is : goal.returns-then-record_is
-returns-then-record_is c = search (turn-hit, record_slot)
-
-pub loop-i-preserved : goal.loop-i-preserved
-loop-i-preserved c = (omega arith, omega arith, search, search (turn-miss, record_slot))
-
 pub returns : goal.returns
-returns c = search turn_end
+unfolding abi_slots
+returns c =
+    rw (← c.slot_count.ensures, ← c.class_first_slot-first.ensures)
+    (c.find_in.ensures _ _ (omega arith) (λ i r l post. search (rules, record_slot)))

@@ -1,16 +1,8 @@
-use native.Mathlib.Omega.{arith}
-use borrow.Author.Tests.{not-false}
-use Rattle.words.proofs.FoldLaws.{all_none, all-turn, all-stop, all_done}
+-- The test of each class number is the definition's. Assumes nothing.
+use Rattle.std.proofs.Common.{rules}
+use Rattle.apart.specs.Apart.{apart_before}
 use Rattle.apart.proofs.each_apart.Goals as goal
 
-pub loop-i-init : goal.loop-i-init
-loop-i-init c = (omega arith, all_none _, omega arith)
-
-pub returns-then-not-apart_before : goal.returns-then-not-apart_before
-returns-then-not-apart_before c = all-stop _ _ c.loop-i.i (omega arith) c.apart_before.ensures c.if-not-apart_before.true
-
-pub loop-i-preserved : goal.loop-i-preserved
-loop-i-preserved c = (omega arith, search (not-false, all-turn), omega arith)
-
 pub returns : goal.returns
-returns c = all_done _ _ _ c.loop-i.invariant.1 (omega arith)
+returns c =
+    rw (← c.class_count.ensures) (c.all_up_to.ensures (apart_before c.args.ws.now c.args.text.now) (λ i r l post. search rules))

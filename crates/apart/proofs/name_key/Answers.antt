@@ -1,19 +1,13 @@
-use native.Mathlib.Omega.{arith}
-use mathlib.Core.Path.{refl, sym, ◌∙◌}
+-- The library's fold is the definition's. Assumes nothing.
+use Rattle.std.proofs.Common.{rules, ◌∙◌}
+use Rattle.std.proofs.lemmas.Iterator.Consumers.{fold_from_yields_List}
+use Rattle.std.proofs.lemmas.Iterator.{YieldsList-from_slice}
+use Rattle.words.proofs.ListLaws.{fold_is}
 use Rattle.apart.specs.Seen.{key_step, name_key}
-use Rattle.words.proofs.ListLaws.{fold-at-start, fold-at-turn, fold-at-end}
 use Rattle.apart.proofs.name_key.Goals as goal
 
-pub loop-i-init : goal.loop-i-init
-unfolding name_key
-loop-i-init c = (omega arith, sym (fold-at-start key_step 0 _))
-
-pub loop-i-preserved : goal.loop-i-preserved
-loop-i-preserved c = (
-  omega arith,
-  sym (fold-at-turn key_step _ _ 0 _ c.loop-i-test.true refl c.key_step-key.ensures)
-      ∙ c.loop-i.invariant.1,
-)
-
 pub returns : goal.returns
-returns c = sym (fold-at-end key_step _ _ _ c.loop-i-test.false) ∙ c.loop-i.invariant.1
+unfolding name_key
+returns c =
+    fold_from_yields_List _ key_step 0 c.fold.result c.fold.ensures.ran (YieldsList-from_slice c.args.name.now cc) (λ a x b q k. search rules)
+    ∙ fold_is key_step 0 c.args.name.now

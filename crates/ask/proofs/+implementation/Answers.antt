@@ -15,16 +15,16 @@ implementation-requires t c =
     (omega (arith, parent_below a.ws.now a.c (pos_of_ne-zero c.if-c-eq0.false)), tt)
 
 -- the class's own method
-pub returns-in-At : goal.returns-in-At
-returns-in-At t c =
-    implementation-hit _ _ _ _ (pos_of_ne-zero c.if-c-eq0.false) c.method_name-name.ensures
-    c.method_descriptor-descriptor.ensures
-    c.own_implementation.ensures _ c.in-At.is
+pub returns-in-Some : goal.returns-in-Some
+returns-in-Some t c =
+    implementation-hit _ _ _ _ (pos_of_ne-zero c.if-c-eq0.false) c.method_signature-signature.ensures.name
+    c.method_signature-signature.ensures.descriptor
+    c.own_implementation.ensures _ c.in-Some.is
 
 -- its parent's
-pub returns-in-Nothing : goal.returns-in-Nothing
-returns-in-Nothing t c =
+pub returns-in-None : goal.returns-in-None
+returns-in-None t c =
     let a = c.args in
     cc (implementation-up a.ws.now a.text.now a.c a.m (pos_of_ne-zero c.if-c-eq0.false)
-    c.method_name-name.ensures c.method_descriptor-descriptor.ensures
-    c.own_implementation.ensures c.in-Nothing.is)
+    c.method_signature-signature.ensures.name c.method_signature-signature.ensures.descriptor
+    c.own_implementation.ensures c.in-None.is)

@@ -5,8 +5,10 @@ use Rattle.ask.proofs.dispatch_slot.Goals as goal
 pub returns-in_default : goal.returns-in_default
 returns-in_default c = search slot_kept
 
-pub returns-in-By : goal.returns-in-By
-returns-in-By c = search slot-takes
+pub returns-in_err-d : goal.returns-in_err-d
+returns-in_err-d c =
+    rw c.from_residual.ensures (slot-missing _ _ _ _ c.in-Some.j c.method.ensures c.in-Some.is c.implementation.ensures c.in_err-d.was)
 
-pub returns-in-Nobody : goal.returns-in-Nobody
-returns-in-Nobody c = search slot-missing
+pub returns : goal.returns
+returns c =
+    slot-takes _ _ _ _ c.in-Some.j c.method.ensures c.in-Some.is c.implementation.ensures c.in_ok-d.d.class c.in_ok-d.d.method c.in_ok-d.was c.of_method.ensures.is

@@ -1,24 +1,17 @@
--- The invariant: the records and strings of the members that are left, written over what is there, give the whole; `at` is where the next
--- string begins. The measure is how many are left. Assumes nothing.
-use Rattle.class_file.proofs.Laws.{left}
-use Rattle.class_form.specs.Marks.{Near}
-use Rattle.class_members.specs.Members.{members_at, places_from}
-use Rattle.class_sheet.specs.ClassSheet.{member_width, text_limit}
+-- The records and strings of the members that are left, written over what is there, give the whole. Assumes nothing.
+use Rattle.std.proofs.Common.{◌≡◌, ℕ, ◌+◌, ◌*◌, List, length}
+use Rattle.class_sheet.specs.ClassSheet.{member_width}
+use Rattle.linking.specs.Compiler.{New}
 use Rattle.linking.specs.Set.{write_at, new_records, new_text}
-use lib.ListN.{length}
-use mathlib.Core.Path.{◌≡◌}
-use Prim.Native.Nat.{◌+◌, ◌*◌, ◌-◌, ◌≤◌}
+use Rattle.class_file.proofs.Laws.{left}
 use Rattle.class_file.proofs.put_members.Given as goal
+
+pub record Written (records₀ text₀ : List ℕ) (start : ℕ) (all : List New) (records text : List ℕ) (i at : ℕ) (rest : List New) : Type 0 where
+  pub records_are : write_at records (member_width * i) (new_records at rest) ≡ write_at records₀ 0 (new_records start all)
+  pub text_is : write_at text at (new_text rest) ≡ write_at text₀ start (new_text all)
+  pub end_is : at + length (new_text rest) ≡ start + length (new_text all)
 
 abbrev pub invariant-loop-i : goal.invariant-loop-i
 invariant-loop-i l =
-    ((l.i ≤ l.n) × (member_width * l.n ≤ length l.initial.records) × (length l.records ≡ length l.initial.records) × (length l.text ≡ length l.initial.text) × (length l.initial.text ≤ text_limit)
-    × (l.start + length (new_text (members_at l.bytes l.lasts 0 (places_from l.bytes l.n l.p))) ≤ length l.initial.text))
-    × (l.start + length (new_text (members_at l.bytes l.lasts 0 (places_from l.bytes l.n l.p))) ≡ l.at + length (new_text (left l.bytes l.lasts l.n l.i l.next)))
-    × (write_at l.records (member_width * l.i) (new_records l.at (left l.bytes l.lasts l.n l.i l.next))
-    ≡ write_at l.initial.records 0 (new_records l.start (members_at l.bytes l.lasts 0 (places_from l.bytes l.n l.p))))
-    × (write_at l.text l.at (new_text (left l.bytes l.lasts l.n l.i l.next)) ≡ write_at l.initial.text l.start (new_text (members_at l.bytes l.lasts 0 (places_from l.bytes l.n l.p))))
-    × Near l.bytes l.marks
-
-abbrev pub decreases-loop-i : goal.decreases-loop-i
-decreases-loop-i l = l.n - l.i
+    Written l.initial.records l.initial.text l.start (left l.pool.bytes.now l.lasts l.i-end 0 (l.p + 2)) l.records l.text l.i l.at
+    (left l.pool.bytes.now l.lasts l.i-end l.i l.next)

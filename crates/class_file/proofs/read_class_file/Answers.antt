@@ -1,11 +1,8 @@
--- A form that is refused is the file's refusal; else its parts are read. Assumes nothing.
-use Rattle.class_file.proofs.ReadLaws.{parted, read-form}
-use native.Mathlib.Omega.{arith}
+-- The lists hold what no row refuses. Assumes nothing.
+use mathlib.Core.Path.{sym, ◌∙◌}
+use Rattle.class_file.proofs.ReadLaws.{read_fits}
 use Rattle.class_file.proofs.read_class_file.Goals as goal
 
-pub read_parts-requires : goal.read_parts-requires
-read_parts-requires c =
-    parted _ (λ j. omega (arith, c.type_inv.bytes j)) c.form.ensures c.in-Parts.is c.pool_marks-marks.ensures
-
-pub returns-in-Refused : goal.returns-in-Refused
-returns-in-Refused c = read-form _ c.form.ensures c.in-Refused.is _ _ _ _
+pub write_lists-requires : goal.write_lists-requires
+write_lists-requires c =
+    read_fits _ _ _ _ _ _ c.in_ok-file.file.parted (sym c.head_read.ensures ∙ c.in_ok-head.was) (sym c.lists_hold.ensures ∙ c.if-not-lists_hold.false)

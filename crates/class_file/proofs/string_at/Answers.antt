@@ -1,9 +1,9 @@
--- Nothing where no constant was found; else what follows its tag and its length. Assumes nothing.
-use Rattle.class_file.proofs.Laws.{string_found, string_none, part_small, none-small}
+-- What follows the constant's tag and its length. Assumes nothing.
+use Rattle.text.specs.Text.{name_at}
+use Rattle.class_file.proofs.Laws.{after_three}
 use Rattle.class_file.proofs.string_at.Goals as goal
 
-pub returns-in-Stop : goal.returns-in-Stop
-returns-in-Stop c = record { is = search string_none; small = search none-small }
-
-pub returns-in-To : goal.returns-in-To
-returns-in-To c = record { is = search string_found; small = search part_small }
+pub returns-in-Ok-clause-is : goal.returns-in-Ok-clause-is
+unfolding name_at
+returns-in-Ok-clause-is c =
+    rw (c.part.ensures, c.part-constant.ensures, after_three, c.in-Ok.is, c.u2_after-n.ensures.is)

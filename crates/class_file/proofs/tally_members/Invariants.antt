@@ -1,19 +1,12 @@
--- The invariant: what was seen of the first i members, with the tally of those that are left, is the tally of all. The measure is how many are
--- left. Assumes nothing.
-use Rattle.class_file.proofs.Laws.{tally_from, left}
-use Rattle.class_file.specs.Walk.{tally}
-use Rattle.class_form.specs.Marks.{Near}
-use Rattle.class_members.specs.Members.{members_at, places_from}
-use mathlib.Core.Path.{◌≡◌}
-use mathlib.Core.List.{[]}
-use Prim.Native.Nat.{◌*◌, ◌-◌, ◌≤◌}
+-- What was seen of the members so far, with the tally of those that are left, is the tally of all. Assumes nothing.
+use Rattle.std.proofs.Common.{◌≡◌, ℕ, ◌+◌, ◌*◌, ◌≤◌, true, List, []}
+use Rattle.std.specs.Prelude.{Bool}
+use Rattle.class_file.proofs.Laws.{left, tally_from}
 use Rattle.class_file.proofs.tally_members.Given as goal
 
-abbrev pub invariant-loop-i : goal.invariant-loop-i
-invariant-loop-i l =
-    ((l.i ≤ l.n) × (l.text ≤ 131070 * l.i))
-    × (tally_from l.method l.typed l.text (left l.bytes [] l.n l.i l.next) ≡ tally l.method (members_at l.bytes [] 0 (places_from l.bytes l.n l.p)))
-    × Near l.bytes l.marks
+pub record Seen (method : Bool) (bs : List ℕ) (n p i next : ℕ) (typed : Bool) (text : ℕ) : Type 0 where
+  pub is : tally_from method n typed text (left bs [] n i next) ≡ tally_from method n true 0 (left bs [] n 0 p)
+  pub small : text ≤ 131070 * i
 
-abbrev pub decreases-loop-i : goal.decreases-loop-i
-decreases-loop-i l = l.n - l.i
+abbrev pub invariant-loop : goal.invariant-loop
+invariant-loop l = Seen l.method l.pool.bytes.now l.members (l.p + 2) l.counter l.next l.typed l.text

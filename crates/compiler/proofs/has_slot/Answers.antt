@@ -1,15 +1,14 @@
-use native.Mathlib.Omega.{arith}
-use Rattle.compiler.proofs.AppendLaws.{same-all, same-hit, same-miss, same_end}
+-- The slots are searched in order. Assumes nothing.
+use Rattle.std.proofs.Common.{rules, arith}
+use Rattle.std.specs.Prelude.{get_or}
+use Rattle.linking.specs.Vtable.{empty}
+use Rattle.reading.specs.Tables.{entries}
+use Rattle.text.specs.Signatures.{of_signature}
+use Rattle.compiler.specs.Methods.{of_news, same_method}
+use Rattle.compiler.proofs.EntryLaws.{some_places}
 use Rattle.compiler.proofs.has_slot.Goals as goal
 
-pub loop-i-init : goal.loop-i-init
-loop-i-init c = (omega arith, same-all _ _ _ _ _ _ _ _ _ _)
-
-pub returns-then-mark_same : goal.returns-then-mark_same
-returns-then-mark_same c = search same-hit
-
-pub loop-i-preserved : goal.loop-i-preserved
-loop-i-preserved c = (omega arith, search same-miss)
-
 pub returns : goal.returns
-returns c = search same_end
+returns c =
+    let a = c.args in
+    some_places _ _ _ _ (c.some_in.ensures (λ i. of_signature (of_news same_method a.sheets a.news.now) a.signature (get_or (entries a.table.now) i empty)) _ (omega arith) (λ i r l post. search rules))

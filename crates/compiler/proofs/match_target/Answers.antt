@@ -1,12 +1,18 @@
 -- Declared methods first, then added ones, then those of the native view. Assumes nothing.
+use Rattle.std.proofs.Common.{sym, ◌∙◌}
+use Rattle.growth.proofs.NewsLaws.{length-news}
 use Rattle.compiler.proofs.EntryLaws.{match_own, match_added, match_view}
 use Rattle.compiler.proofs.match_target.Goals as goal
 
-pub returns-in-At : goal.returns-in-At
-returns-in-At c = search match_own
+pub returns-in-Some : goal.returns-in-Some
+returns-in-Some c = search match_own
 
-pub returns-in-At-target_in : goal.returns-in-At-target_in
-returns-in-At-target_in c = search match_added
+pub returns-in-Some-target_in : goal.returns-in-Some-target_in
+returns-in-Some-target_in c =
+    match_added _ _ _ _ _ c.class_first_method-first.ensures c.method_count-count.ensures c.target_in.ensures c.in_default.is
+    (length-news _ _ _ _ _ ∙ sym c.len.ensures.is) c.target_in-2.ensures _ c.len.ensures.few c.in-Some-target_in.is c.mark_of-in-Some-target_in.ensures
 
-pub returns-in-Nothing-target_in : goal.returns-in-Nothing-target_in
-returns-in-Nothing-target_in c = search match_view
+pub returns : goal.returns
+returns c =
+    match_view _ _ _ _ _ c.class_first_method-first.ensures c.method_count-count.ensures c.target_in.ensures c.in_default.is
+    (length-news _ _ _ _ _ ∙ sym c.len.ensures.is) c.target_in-2.ensures _ c.in_default-target_in.is c.view_target.ensures

@@ -1,15 +1,20 @@
-use native.Mathlib.Omega.{arith}
-use Rattle.compiler.proofs.EntryLaws.{view-all, view-hit, view-miss, view-none}
+-- The first slot whose method has the target, if there is one. Assumes nothing.
+use Rattle.std.proofs.Common.{rules, arith}
+use Rattle.std.specs.Prelude.{get_or}
+use Rattle.linking.specs.Vtable.{empty}
+use Rattle.linking.specs.Sheets.{of_sheets}
+use Rattle.growth.specs.News.{news_of}
+use Rattle.reading.specs.Tables.{entries}
+use Rattle.compiler.specs.Methods.{has_target}
+use Rattle.compiler.proofs.EntryLaws.{view_hit, view_none}
 use Rattle.compiler.proofs.view_target.Goals as goal
 
-pub loop-i-init : goal.loop-i-init
-loop-i-init c = (omega arith, view-all _ _ _ _ _ _)
+pub returns-in-Some : goal.returns-in-Some
+returns-in-Some c =
+    let a = c.args in
+    view_hit _ _ _ _ _ _ (c.find_in.ensures (λ i. has_target a.sheets.set.now (of_sheets news_of a.sheets a.news.now) a.t (get_or (entries a.view.now) i empty)) _ (omega arith) (λ i r l post. search rules)) _ _ c.in-Some.is c.slot.ensures
 
-pub returns-then-mark_has : goal.returns-then-mark_has
-returns-then-mark_has c = search view-hit
-
-pub loop-i-preserved : goal.loop-i-preserved
-loop-i-preserved c = (omega arith, search view-miss)
-
-pub returns : goal.returns
-returns c = search view-none
+pub returns-in-None : goal.returns-in-None
+returns-in-None c =
+    let a = c.args in
+    view_none _ _ _ _ _ _ (c.find_in.ensures (λ i. has_target a.sheets.set.now (of_sheets news_of a.sheets a.news.now) a.t (get_or (entries a.view.now) i empty)) _ (omega arith) (λ i r l post. search rules)) c.in-None.is c.mark_of.ensures

@@ -1,17 +1,21 @@
--- The text fits its buffer, so that sums and rows see the whole text. Assumes nothing.
-use mathlib.Core.Path.{ap}
-use mathlib.Core.Bool.{not}
-use mathlib.Core.Path.{refl}
+-- The text fits its buffer, so that rows and sums are of the whole text: row 3 refuses, or rows 4 and 5 follow. Assumes nothing.
+use Rattle.std.proofs.Common.{refl, sym, ◌∙◌}
 use Rattle.set_rules.proofs.Laws.{text-handed}
-use Rattle.convert.proofs.Calls.{fresh_3, fresh-rest, sums_handed}
+use Rattle.convert.specs.Steps.{fresh_rows}
+use Rattle.convert.proofs.Calls.{sums_handed}
 use Rattle.convert.proofs.forward_rows.Goals as goal
 
--- row 3
-pub returns-then-not-all_fresh : goal.returns-then-not-all_fresh
-returns-then-not-all_fresh c =
-    let t = text-handed _ _ _ c.requires refl c.unpack_text.ensures c.text_length.ensures c.name_at-part.ensures in record { value = search fresh_3; sums = sums_handed _ _ t c.put_statics.ensures }
+pub returns-then-not-all_fresh-clause-sums : goal.returns-then-not-all_fresh-clause-sums
+returns-then-not-all_fresh-clause-sums c =
+    sums_handed _ _ (text-handed _ _ _ c.requires refl c.unpack_text.ensures c.text_length.ensures c.name_at-part.ensures) c.put_statics.ensures
 
--- rows 4 and 5
-pub returns : goal.returns
-returns c =
-    let t = text-handed _ _ _ c.requires refl c.unpack_text.ensures c.text_length.ensures c.name_at-part.ensures in record { value = fresh-rest _ c.all_fresh.ensures (ap not c.if-not-all_fresh.false) t c.class_refusal.ensures; sums = sums_handed _ _ t c.put_statics.ensures }
+pub returns-clause-value : goal.returns-clause-value
+unfolding fresh_rows
+returns-clause-value c =
+    let t = text-handed _ _ _ c.requires refl c.unpack_text.ensures c.text_length.ensures c.name_at-part.ensures in
+    let f = sym c.all_fresh.ensures ∙ c.if-not-all_fresh.false in
+    c.class_refusal.ensures ∙ rw (f, t)
+
+pub returns-clause-sums : goal.returns-clause-sums
+returns-clause-sums c =
+    sums_handed _ _ (text-handed _ _ _ c.requires refl c.unpack_text.ensures c.text_length.ensures c.name_at-part.ensures) c.put_statics.ensures

@@ -1,16 +1,14 @@
-use Prim.Native.Nat.{◌-◌}
-use native.Mathlib.Omega.{arith}
-use Rattle.words.proofs.FoldLaws.{stores-none}
-use Rattle.convert.specs.Convert.{forward_statics}
-use Rattle.convert.proofs.Words.{stores-done, stores-next}
+-- Each turn stores the words of one class, and the last class is the last turn's. Assumes nothing.
+use Rattle.std.proofs.Common.{◌≡◌, arith}
+use Rattle.words.proofs.FoldLaws.{stores-none, stores-turn}
+use Rattle.class_sheet.specs.ClassSheet.{class_count}
 use Rattle.convert.proofs.put_statics.Goals as goal
 
 pub loop-i-init : goal.loop-i-init
-loop-i-init c = (omega arith, stores-none _ _)
+loop-i-init c = stores-none _ _
 
 pub loop-i-preserved : goal.loop-i-preserved
-loop-i-preserved c =
-    (omega arith, stores-next c.loop-i.i _ _ c.wide.ensures c.put_word.ensures c.loop-i.invariant.1 c.forward_statics.ensures)
+loop-i-preserved c = search stores-turn
 
 pub returns : goal.returns
-returns c = stores-done _ _ c.loop-i.invariant.1 (omega arith)
+returns c = let n : c.loop-i.i ≡ class_count c.args.ws.now = omega arith in rw (← n) c.loop-i.invariant

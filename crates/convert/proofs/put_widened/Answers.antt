@@ -10,9 +10,9 @@ use Rattle.convert.proofs.put_widened.Goals as goal
 pub put_blocks-requires : goal.put_blocks-requires
 put_blocks-requires c =
     words-short _ _ c.requires
-    (part-words _ _ _ c.requires (omega arith) c.widen.ensures c.content_end.ensures.is c.word_part.ensures)
+    (part-words _ _ _ c.requires (omega arith) c.widen.ensures c.content_end.ensures.is c.part.ensures)
 
 pub returns : goal.returns
 returns c =
-    let e = part-words _ _ _ c.requires (omega arith) c.widen.ensures c.content_end.ensures.is c.word_part.ensures in
+    let e = part-words _ _ _ c.requires (omega arith) c.widen.ensures c.content_end.ensures.is c.part.ensures in
     c.put_blocks.ensures ∙ ap (λ (x : List ℕ). put_words x c.args.out.now) e

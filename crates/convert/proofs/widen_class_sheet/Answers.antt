@@ -1,17 +1,18 @@
 -- Rows 1 and 2 refuse first; where they do not, the blocks' words fit the buffer, so that the rest sees all of them. Assumes nothing.
-use native.Mathlib.Omega.{arith}
+use Rattle.std.proofs.Common.{arith, rules}
+use Rattle.class_sheet.specs.ClassSheet.{block_limit}
+use Rattle.sheet.specs.Sheet.{sheet_refusal}
+use Rattle.convert.specs.Convert.{old_sheet_refusal, blocks_or_row, widen_refusal, widen_sheet}
 use Rattle.sheet.proofs.Laws.{words-handed}
-use Rattle.convert.proofs.Calls.{widen-early, widen-rest}
+use Rattle.convert.proofs.Calls.{widen-rest}
 use Rattle.convert.proofs.widen_class_sheet.Goals as goal
 
--- rows 1 and 2
-pub returns-then-row-ne0 : goal.returns-then-row-ne0
-returns-then-row-ne0 c = search widen-early
+pub returns-in_err-block_refusal : goal.returns-in_err-block_refusal
+unfolding widen_sheet widen_refusal old_sheet_refusal sheet_refusal blocks_or_row
+returns-in_err-block_refusal c = search rules
 
 pub returns : goal.returns
 returns c =
-    let first = c.block_refusal-row.ensures in
-    widen-rest _ _ first c.if-row-ne0.false
-    (words-handed _ _ _ first c.if-row-ne0.false (omega arith) _ (omega arith) c.block_count-n.ensures c.unpack.ensures
-    c.wide.ensures c.word_part.ensures)
-    c.widen_words.ensures
+    let first = c.in_ok-block_refusal.ensures in
+    let p = words-handed block_limit _ _ (omega arith) first c.block_count-n.ensures _ (omega arith) c.unpack.ensures c.part.ensures in
+    widen-rest _ _ first p c.widen_words.ensures

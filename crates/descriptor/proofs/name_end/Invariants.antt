@@ -1,4 +1,4 @@
--- The invariant: the run of name bytes from j on ends where the one from i on does; j goes up to the length. Assumes nothing.
+-- The run of name bytes from j on ends where the one from i on does. Assumes nothing.
 use mathlib.Core.Path.{◌≡◌}
 use Prim.Native.Nat.{◌-◌}
 use lib.ListN.{length}

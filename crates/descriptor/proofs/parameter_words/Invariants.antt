@@ -1,14 +1,9 @@
--- The invariant: counting on from n in state q at i gives what counting all bytes gives; i goes up to the length. Assumes nothing.
-use Prim.Native.Nat.{◌-◌, ◌≤◌}
+-- Counting on from n in state q behind the bytes read gives what counting all bytes gives. Assumes nothing.
 use mathlib.Core.Path.{◌≡◌}
-use lib.ListN.{length}
+use lib.ListN.{drop}
 use Rattle.descriptor.specs.Words.{capped_from}
 use Rattle.descriptor.specs.declared.MethodState.TheVariants.{Begin}
-use Rattle.descriptor.proofs.Turns.{capped_at}
 use Rattle.descriptor.proofs.parameter_words.Given as goal
 
-abbrev pub invariant-loop-i : goal.invariant-loop-i
-invariant-loop-i l = (l.i ≤ length l.s) × (capped_at l.n l.q l.s l.i ≡ capped_from 0 Begin l.s)
-
-abbrev pub decreases-loop-i : goal.decreases-loop-i
-decreases-loop-i l = length l.s - l.i
+abbrev pub invariant-loop-b : goal.invariant-loop-b
+invariant-loop-b l = capped_from l.n l.q (drop l.b-index l.s) ≡ capped_from 0 Begin l.s

@@ -1,16 +1,17 @@
-use Rattle.linking.specs.Fields.{own_runtime}
+-- The library's fold over the fields' numbers is the definition's. Assumes nothing.
+use Rattle.std.proofs.Common.{rules, arith, max, ◌∙◌, ap, refl, ℕ}
+use Rattle.std.proofs.lemmas.Iterator.Consumers.{fold_from_yields_List}
+use Rattle.std.proofs.lemmas.Iterator.{YieldsList-from_range}
+use Rattle.words.specs.Lists.{fold}
+use Rattle.words.proofs.ListLaws.{fold_is, range_is}
 use Rattle.linking.specs.Chain.{own_fields}
-use Rattle.words.proofs.ListLaws.{fold_start, fold-turn, fold_end}
-use Rattle.std.proofs.Common.{◌∙◌, arith}
+use Rattle.linking.specs.Fields.{runtime_end, own_runtime}
 use Rattle.field.proofs.own_runtime.Goals as goal
 
-pub loop-i-init : goal.loop-i-init
-unfolding own_runtime own_fields
-loop-i-init c = (omega arith, omega arith, fold_start _ _ _ _ _ ∙ cc)
-
-pub loop-i-preserved : goal.loop-i-preserved
-loop-i-preserved c =
-    (omega arith, omega arith, fold-turn _ _ _ _ _ c.loop-i-test.true (cc) ∙ c.loop-i.invariant.2)
-
 pub returns : goal.returns
-returns c = fold_end _ _ _ _ _ _ c.loop-i-test.false ∙ c.loop-i.invariant.2
+unfolding own_runtime own_fields
+returns c =
+    let step = λ (k f : ℕ). max k (runtime_end c.args.ws.now c.args.text.now f) in
+    rw (← c.field_count.ensures, ← c.class_first_field-first.ensures)
+    (fold_from_yields_List _ step _ c.fold.result c.fold.ensures.ran (YieldsList-from_range _ _ c.field_count.result refl (omega arith)) (λ a x b q k. search rules)
+    ∙ fold_is step _ _ ∙ ap (fold step _) (range_is _ _))

@@ -1,21 +1,17 @@
-use Rattle.field.proofs.RuntimeLaws.{width_room}
-use Rattle.std.proofs.Common.{◌≤◌, sym, ◌∙◌, arith}
-use Rattle.linking.specs.Fields.{raised}
+-- The library's fold is the definition's. Assumes nothing.
+use Rattle.std.proofs.Common.{rules, max, ◌+◌, ◌∙◌}
+use Rattle.std.proofs.lemmas.Iterator.Consumers.{fold_from_yields_List}
+use Rattle.std.proofs.lemmas.Iterator.{YieldsList-from_slice}
+use Rattle.descriptor.specs.Words.{width}
+use Rattle.abi_sheet.specs.AbiSheet.{abi_field_descriptor}
 use Rattle.linking.specs.Abi.{fixed_field_index}
-use Rattle.words.proofs.ListLaws.{fold-at-start, fold-at-turn, fold-at-end}
+use Rattle.linking.specs.Fields.{raised}
+use Rattle.words.proofs.ListLaws.{fold_is}
 use Rattle.field.proofs.raised.Goals as goal
 
-pub loop-i-init : goal.loop-i-init
-unfolding raised
-loop-i-init c = (omega arith, sym (fold-at-start _ _ _))
-
-pub overflow_add-fixed_field_index : goal.overflow_add-fixed_field_index
-unfolding fixed_field_index
-overflow_add-fixed_field_index c = let w : c.width-w.result ≤ 2 = rw c.width-w.ensures (width_room _) in omega arith
-
-pub loop-i-preserved : goal.loop-i-preserved
-loop-i-preserved c =
-    (omega arith, sym (fold-at-turn _ _ _ 0 _ c.loop-i-test.true c.word_at-g.ensures (cc)) ∙ c.loop-i.invariant.1)
-
 pub returns : goal.returns
-returns c = sym (fold-at-end _ _ _ _ c.loop-i-test.false) ∙ c.loop-i.invariant.1
+unfolding raised
+returns c =
+    fold_from_yields_List _ (λ n g. max n (fixed_field_index c.args.abi.now g + width (abi_field_descriptor c.args.abi.now c.args.labels.now g))) c.args.running
+    c.fold.result c.fold.ensures.ran (YieldsList-from_slice c.args.gs.now cc) (λ a x b q k. search rules)
+    ∙ fold_is _ c.args.running c.args.gs.now

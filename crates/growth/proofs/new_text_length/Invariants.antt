@@ -1,15 +1,12 @@
--- The invariant: the sum is the length of the first i members' text; the measure is what is left of them. Assumes nothing.
-use Rattle.growth.specs.News.{new_count}
+-- The invariant: the sum is the length of the text of the members before. Assumes nothing.
 use Rattle.growth.proofs.NewsLaws.{text_to}
 use lib.ListN.{length}
 use mathlib.Core.Path.{◌≡◌}
-use Prim.Native.Nat.{◌*◌, ◌-◌, ◌≤◌, ◌<◌}
+use Prim.Native.Nat.{◌*◌, ◌≤◌}
 use Rattle.growth.proofs.new_text_length.Given as goal
 
-abbrev pub invariant-loop-i : goal.invariant-loop-i
-invariant-loop-i l =
-    ((l.i ≤ l.n) × (l.n ≡ new_count l.refs) × (l.n < 1025) × (l.sum ≤ 8589934592 * l.i))
-    × (l.sum ≡ length (text_to l.ws l.text l.abi l.labels l.refs l.i))
-
-abbrev pub decreases-loop-i : goal.decreases-loop-i
-decreases-loop-i l = l.n - l.i
+abbrev pub invariant-loop-new : goal.invariant-loop-new
+invariant-loop-new l = record {
+  small : l.sum ≤ 8589934592 * l.new-index;
+  sum : l.sum ≡ length (text_to l.sheets.set.now l.sheets.text.now l.sheets.abi.now l.sheets.labels.now l.news l.new-index);
+}

@@ -1,21 +1,18 @@
+-- Without room nothing is stored; else a turn packs one more word and stores it behind those written. Assumes nothing.
+use Rattle.std.proofs.Common.{◌∙◌, sym, arith}
 use Rattle.linking.proofs.Writes.{packed_none, packed-turn, packed-done}
-use native.Mathlib.Omega.{arith}
-use borrow.Author.Rules.{rules}
+use Rattle.growth.proofs.GrowthLaws.{packed_laid, packed-none}
 use Rattle.growth.proofs.put_packed.Goals as goal
 
-pub overflow_add-n : goal.overflow_add-n
-overflow_add-n c = omega arith
-
 pub loop-i-init : goal.loop-i-init
-loop-i-init c = (omega (arith, c.requires), omega arith, search packed_none)
+loop-i-init c = search packed_none
 
 pub loop-i-preserved : goal.loop-i-preserved
-loop-i-preserved c = (
-  omega arith,
-  search rules,
-  packed-turn _ _ _ c.loop-i.i (omega arith) c.loop-i.invariant.2 c.le_word.ensures c.put_word.ensures,
-)
+loop-i-preserved c =
+    packed-turn _ _ _ c.loop-i.i (omega arith) c.loop-i.invariant c.le_word.ensures c.put.ensures
+
+pub returns-then-out-n : goal.returns-then-out-n
+returns-then-out-n c = packed-none _ _ _ (omega arith)
 
 pub returns : goal.returns
-returns c =
-    packed-done _ _ _ c.loop-i.i (omega arith) c.loop-i.invariant.2
+returns c = packed-done _ _ _ c.loop-i.i (omega arith) c.loop-i.invariant ∙ sym (packed_laid _ _ _ (omega arith))

@@ -1,31 +1,32 @@
 -- The copied records, the new ones and the sections after are written one behind the other, and the text behind them. Assumes nothing.
+use Rattle.std.proofs.Common.{refl}
 use Rattle.class_sheet.specs.ClassSheet.{member_width}
 use Rattle.linking.specs.Set.{write_at}
-use Rattle.growth.specs.News.{news}
-use Rattle.growth.proofs.GrowthLaws.{room-is, front_of, front_length, front-is, text_room, tail-is}
-use mathlib.Core.Path.{◌≡◌}
+use Rattle.growth.specs.News.{news_of}
+use Rattle.growth.proofs.GrowthLaws.{room-is, front_of, front_length, front-is, text_room, tail-is, packed_laid}
+use mathlib.Core.Path.{◌≡◌, ◌∙◌}
 use lib.ListN.{length}
 use Prim.Native.Nat.{◌+◌, ◌*◌, ◌-◌}
 use native.Mathlib.Omega.{arith}
 use Rattle.growth.proofs.put_tail.Goals as goal
-use Rattle.growth.proofs.put_tail.Goals.{After-copy_words-2, After-text_at}
+use Rattle.growth.proofs.put_tail.Goals.{After-copy-2, After-text_at}
 
 -- how long the three parts before the text are, so where the text is put
 place : (c : After-text_at)
     → let a = c.args in
-    member_width * c.wide-kept.result + member_width * c.wide.result + (c.text_at.result - a.end)
-    ≡ length (front_of a.ws.now a.end a.from a.own (news a.ws.now a.text.now a.abi.now a.labels.now a.refs.now a.flags.now a.lasts.now))
+    member_width * a.own + member_width * c.len.result + (c.text_at.result - a.end)
+    ≡ length (front_of a.sheets.set.now a.end a.from a.own (news_of a.sheets.set.now a.sheets.text.now a.sheets.abi.now a.sheets.labels.now a.news.now))
 place c = search front_length
 
 -- they are written: what the second copy leaves
-written : (c : After-copy_words-2)
+written : (c : After-copy-2)
     → let a = c.args in
-    c.copy_words-2.new.dst
-    ≡ write_at a.out.now 0 (front_of a.ws.now a.end a.from a.own (news a.ws.now a.text.now a.abi.now a.labels.now a.refs.now a.flags.now a.lasts.now))
+    c.copy-2.new.dst
+    ≡ write_at a.out.now 0 (front_of a.sheets.set.now a.end a.from a.own (news_of a.sheets.set.now a.sheets.text.now a.sheets.abi.now a.sheets.labels.now a.news.now))
 written c =
-    front-is _ _ _ _ _ _ _ _ c.requires.0 _ _ _ c.requires.1 c.wide-kept.ensures
-    c.wide.ensures c.new_count.ensures.is c.text_at.ensures.is
-    c.text_length.ensures c.copy_words.ensures c.put_records.ensures c.copy_words-2.ensures
+    front-is _ _ _ _ _ _ _ _ c.requires.0 _ c.requires.1 refl
+    refl c.len.ensures.is c.text_at.ensures.is
+    c.text_length-start.ensures c.copy.ensures c.put_records.ensures c.copy-2.ensures
 
 -- the new records fit behind the copied ones, and their names into the text
 pub put_records-requires : goal.put_records-requires
@@ -42,16 +43,12 @@ overflow_add-grown-2 c =
     let room = c.requires.0 in
     omega (arith, room-is _ _ _ _ _ _ _ _ room, room.most, c.text_at.ensures.is)
 
--- the text fits behind the three parts
-pub put_packed-requires : goal.put_packed-requires
-put_packed-requires c =
-    text_room _ _ _ _ _ _ _ _ c.requires.0 _ _ _ _ c.requires.1 (written (goal.at.put_packed-requires c).After-copy_words-2) (place (goal.at.put_packed-requires c).After-text_at)
-    c.wide-2.ensures c.text_length-2.ensures c.new_text_length.ensures.is
-    c.put_text.ensures c.part.ensures
-
--- and makes the tail whole
+-- the text fits behind the three parts, and makes the tail whole
 pub returns : goal.returns
 returns c =
-    tail-is _ _ _ _ _ _ _ _ c.requires.0 _ _ _ _ c.requires.1 (written (goal.at.returns c).After-copy_words-2) (place (goal.at.returns c).After-text_at)
-    c.wide-2.ensures c.text_length-2.ensures c.new_text_length.ensures.is
-    c.put_text.ensures c.part.ensures c.put_packed.ensures
+    let w = written (goal.at.returns c).After-copy-2 in
+    let p = place (goal.at.returns c).After-text_at in
+    let room = text_room _ _ _ _ _ _ _ _ c.requires.0 _ _ c.requires.1 w p c.grown_text.ensures.is c.put_text.ensures c.part.ensures in
+    tail-is _ _ _ _ _ _ _ _ c.requires.0 _ _ c.requires.1 w p
+    c.grown_text.ensures.is
+    c.put_text.ensures c.part.ensures (c.put_packed.ensures ∙ packed_laid _ _ _ room.0)

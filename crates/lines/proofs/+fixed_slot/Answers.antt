@@ -1,3 +1,4 @@
+-- The end of the chain has none; a class has its own slot record, or its parent's, whose number is smaller.
 use native.Mathlib.Omega.{arith}
 use native.Mathlib.Nat.{pos_of_ne-zero}
 use mathlib.Core.Path.{sym, ◌∙◌}
@@ -13,15 +14,15 @@ returns-then-c-eq0 t c = sym (slot-none _ _ _ _ _ _ c.if-c-eq0.true)
 pub fixed_slot-requires : goal.fixed_slot-requires
 fixed_slot-requires t c =
     let a = c.args in
-    (omega (arith, parent_below a.ws.now a.c (pos_of_ne-zero c.if-c-eq0.false)), tt)
+    (omega (arith, parent_below a.sheets.set.now a.c (pos_of_ne-zero c.if-c-eq0.false)), tt)
 
 -- the class's own record
-pub returns-in-At : goal.returns-in-At
-returns-in-At t c =
-    sym (slot-hit _ _ _ _ _ _ _ (pos_of_ne-zero c.if-c-eq0.false) (sym c.own_slot.ensures ∙ c.in-At.is))
+pub returns-in-Some : goal.returns-in-Some
+returns-in-Some t c =
+    sym (slot-hit _ _ _ _ _ _ _ (pos_of_ne-zero c.if-c-eq0.false) (sym c.own_slot.ensures ∙ c.in-Some.is))
 
 -- its parent's
-pub returns-in-Nothing : goal.returns-in-Nothing
-returns-in-Nothing t c =
+pub returns-in-None : goal.returns-in-None
+returns-in-None t c =
     let h = pos_of_ne-zero c.if-c-eq0.false in
-    cc (slot-up _ _ _ _ _ _ h (sym c.own_slot.ensures ∙ c.in-Nothing.is))
+    cc (slot-up _ _ _ _ _ _ h (sym c.own_slot.ensures ∙ c.in-None.is))

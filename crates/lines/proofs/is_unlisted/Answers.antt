@@ -1,4 +1,4 @@
--- The tests in the definition's order. Assumes nothing.
+-- The tests in the definition's order.
 use Rattle.linking.specs.Link.{no_class}
 use Rattle.lines.specs.Lines.{is_unlisted}
 use Rattle.lines.proofs.is_unlisted.Goals as goal

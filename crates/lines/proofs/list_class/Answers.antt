@@ -1,13 +1,16 @@
--- A class that is listed has texts within their limits, as `list_unpacked` asks. Assumes nothing.
-use Rattle.lines.proofs.SlotLaws.{lines_none, texts-short, lines_whole}
+-- A class that is listed has texts within their limits, as `list_unpacked` asks.
+use Rattle.lines.specs.Lines.{class_lines}
+use Rattle.lines.proofs.OutLaws.{puts-none}
+use Rattle.lines.proofs.SlotLaws.{texts-short}
 use Rattle.lines.proofs.list_class.Goals as goal
 
-pub returns-then-is_unlisted : goal.returns-then-is_unlisted
-returns-then-is_unlisted c = search lines_none
-
 pub list_unpacked-requires : goal.list_unpacked-requires
-list_unpacked-requires c =
-    texts-short _ _ _ c.is_unlisted.ensures c.if-is_unlisted.false
+list_unpacked-requires c = texts-short _ _ _ c.is_unlisted.ensures c.if-not-is_unlisted.true
 
-pub returns : goal.returns
-returns c = search lines_whole
+pub returns-then-not-is_unlisted : goal.returns-then-not-is_unlisted
+unfolding class_lines
+returns-then-not-is_unlisted c = rw (← c.is_unlisted.ensures, c.if-not-is_unlisted.true) c.list_unpacked.ensures
+
+pub returns-else-not-is_unlisted : goal.returns-else-not-is_unlisted
+unfolding class_lines
+returns-else-not-is_unlisted c = rw (← c.is_unlisted.ensures, c.if-not-is_unlisted.false) (puts-none _)

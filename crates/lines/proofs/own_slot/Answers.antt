@@ -1,9 +1,8 @@
--- By whether the class has an ABI entry. Assumes nothing.
-use Rattle.lines.proofs.NameLaws.{own-none, own-slot}
+-- Both definitions are the lookup in the class's ABI entry.
+use Rattle.abi.specs.Abis.{class_slot}
+use Rattle.lines.specs.Lines.{own_slot}
 use Rattle.lines.proofs.own_slot.Goals as goal
 
-pub returns-in-At : goal.returns-in-At
-returns-in-At c = search own-slot
-
-pub returns-in-Nothing : goal.returns-in-Nothing
-returns-in-Nothing c = search own-none
+pub returns : goal.returns
+unfolding own_slot class_slot
+returns c = c.class_slot.ensures

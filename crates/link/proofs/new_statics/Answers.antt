@@ -2,8 +2,8 @@
 use Rattle.link.proofs.StoreLaws.{statics-built, statics-other}
 use Rattle.link.proofs.new_statics.Goals as goal
 
-pub returns-then-is_built_kind : goal.returns-then-is_built_kind
-returns-then-is_built_kind c = search statics-built
+pub returns-then-is_built : goal.returns-then-is_built
+returns-then-is_built c = search statics-built
 
 pub returns : goal.returns
 returns c = search statics-other

@@ -2,10 +2,10 @@
 use Rattle.link.proofs.StoreLaws.{record_worded, record_generated}
 use Rattle.link.proofs.record_link.Goals as goal
 
-pub returns-then-kind-ne-GENERATED : goal.returns-then-kind-ne-GENERATED
-returns-then-kind-ne-GENERATED c =
-    record_worded _ _ _ _ _ _ c.class_kind-kind.ensures c.put_class_table_place.ensures c.put_class_slot_count.ensures
-    c.if-kind-ne-GENERATED.true c.put_class_instance_words.ensures c.put_class_static_words.ensures
+pub returns-then-not-generated : goal.returns-then-not-generated
+returns-then-not-generated c =
+    record_worded _ _ _ _ _ _ c.has_kind-generated.ensures c.put_class_table_place.ensures c.put_class_slot_count.ensures
+    c.if-not-generated.true c.put_class_instance_words.ensures c.put_class_static_words.ensures
 
-pub returns-else-kind-ne-GENERATED : goal.returns-else-kind-ne-GENERATED
-returns-else-kind-ne-GENERATED c = search record_generated
+pub returns-else-not-generated : goal.returns-else-not-generated
+returns-else-not-generated c = search record_generated

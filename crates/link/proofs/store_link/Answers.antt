@@ -5,11 +5,11 @@ use Rattle.words.proofs.Bools.{and_both}
 use Rattle.link.proofs.StoreLaws.{news-is, stored-fields, stored-methods}
 use Rattle.link.proofs.store_link.Goals as goal
 
-pub returns-then-is_built_kind-refs : goal.returns-then-is_built_kind-refs
-returns-then-is_built_kind-refs c =
-    let t = and_both _ _ c.if-is_built_kind-refs.true in
-    stored-fields _ _ _ _ _ _ _ _ c.class_kind.ensures c.is_built_kind.ensures c.new_statics-statics.ensures t.0
-    (news-is _ _ _ _ _ _ _ ∙ not-true _ t.1) c.grow_fields.ensures c.record_link.ensures
+pub returns-then-is_built-len : goal.returns-then-is_built-len
+returns-then-is_built-len c =
+    let t = and_both _ _ c.if-is_built-len.true in
+    stored-fields _ _ _ _ _ _ _ _ c.is_built.ensures t.0
+    (news-is _ _ _ _ _ c.len.ensures.is ∙ not-true _ t.1) c.grow_fields.ensures c.record_link.ensures
 
 pub returns : goal.returns
 returns c = search (news-is, stored-methods)

@@ -1,7 +1,6 @@
--- The array's length is its type's. Assumes nothing.
-use mathlib.Core.Path.{sym}
-use Prim.Native.Nat.{ℕ}
-use lib.ListN.{length-replicate}
+-- The array's length is its type's.
+use Rattle.std.proofs.Common.{sym, ℕ}
+use Rattle.std.proofs.lemmas.List.{length-replicate}
 use Rattle.list.proofs.listing_bytes.Goals as goal
 
 pub returns : goal.returns

@@ -1,9 +1,10 @@
--- By the row of the reading. Assumes nothing.
-use Rattle.listing.proofs.ListingLaws.{read-row, abi-good, abi-bad}
+-- By what the reading answers.
+use Rattle.lines.proofs.OutLaws.{puts-none}
+use Rattle.listing.proofs.ListingLaws.{abi-good, abi-bad}
 use Rattle.listing.proofs.abi_line.Goals as goal
 
-pub returns-then-row-eq0 : goal.returns-then-row-eq0
-returns-then-row-eq0 c = search (read-row, abi-good)
+pub returns-in-Err : goal.returns-in-Err
+returns-in-Err c = rw (abi-bad _ _ c.in-Err.refusal c.in-Err.ensures) (rw c.from.ensures at c.put_sheet_refused.ensures)
 
-pub returns : goal.returns
-returns c = search (read-row, abi-bad)
+pub returns-in_default : goal.returns-in_default
+returns-in_default c = rw (abi-good _ _ _ c.in_default.ensures) (puts-none _)

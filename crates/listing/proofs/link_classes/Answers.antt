@@ -1,16 +1,16 @@
-use native.Mathlib.Omega.{arith}
-use Rattle.listing.proofs.ListingLaws.{links-start, links-turn, links_end}
+-- Each link adds its row to those before, and after the last the rows are all.
+use Rattle.std.proofs.Common.{arith, ◌∙◌, sym}
+use Rattle.listing.proofs.ListingLaws.{links-start, links-turn, links-end}
 use Rattle.listing.proofs.link_classes.Goals as goal
 
 pub loop-i-init : goal.loop-i-init
-loop-i-init c = (omega arith, search links-start)
+loop-i-init c = links-start _ _ _ _ _ _ _
 
 pub loop-i-preserved : goal.loop-i-preserved
-loop-i-preserved c = (
-  omega arith,
-  links-turn _ _ _ _ _ _ _ _ c.loop-i-test.true (omega arith) c.link_class-row.ensures c.wide.ensures
-      c.put_word.ensures c.loop-i.invariant.1,
-)
+loop-i-preserved c =
+    rw c.put.ensures
+    (links-turn _ _ _ c.loop-i.i c.loop-i.refusals c.link-answer.result _ _ _ _ _ _ c.loop-i-test.true (omega arith) c.link-answer.ensures c.err.ensures.value
+    ∙ c.loop-i.invariant)
 
 pub returns : goal.returns
-returns c = links_end _ _ _ _ _ _ _ _ c.loop-i-test.false (omega arith) c.loop-i.invariant.1
+returns c = sym (links-end _ _ _ c.loop-i.i _ _ _ _ c.loop-i-test.false (omega arith)) ∙ c.loop-i.invariant

@@ -1,22 +1,20 @@
--- By the row of the ABI sheet's reading. Assumes nothing.
-use Rattle.listing.proofs.ListingLaws.{read-row, read-memory, listing-put, listing-refused}
-use Rattle.listing.proofs.Longest.{abi-good, listing-few, unread_few}
-use borrow.Author.Rules.{rules}
+-- By what the reading of the ABI sheet answers.
+use Rattle.std.proofs.Common.{arith}
+use Rattle.listing.proofs.ListingLaws.{listing-good, listing-bad}
+use Rattle.listing.proofs.Longest.{abi-good, abi-few}
 use Rattle.listing.proofs.list.Goals as goal
 
 pub list_classes-requires : goal.list_classes-requires
-list_classes-requires c = search abi-good
+list_classes-requires c = abi-good _ _ _ _ c.in-Ok.ensures
 
-pub returns-then-row-eq0 : goal.returns-then-row-eq0
-returns-then-row-eq0 c = record {
-  lines = search (read-row, read-memory, listing-put);
-  longest = search (read-row, read-memory, listing-few);
-}
+pub returns-in-Ok : goal.returns-in-Ok
+returns-in-Ok c =
+    let e = listing-good _ _ _ c.in-Ok.ensures c.args.classes.now in
+    let h = c.list_classes.ensures.longest in
+    record { lines = rw e c.list_classes.ensures.lines; longest = rw e (omega arith) }
 
-pub returns : goal.returns
-returns c =
-    let r = c.read_abi_sheet in
-    let row = read-row r.result _ r.ensures c.read_row-row.ensures in record {
-      lines = listing-refused _ _ row _ c.if-row-eq0.false c.abi_line.ensures;
-      longest = unread_few _ _ row c.if-row-eq0.false (search rules);
-    }
+pub returns-in-Err : goal.returns-in-Err
+returns-in-Err c =
+    let e = listing-bad _ _ c.in-Err.refusal c.in-Err.ensures c.args.classes.now in
+    let h = abi-few c.in-Err.refusal in
+    record { lines = rw e (rw c.from.ensures at c.put_sheet_refused.ensures); longest = rw e (omega arith) }

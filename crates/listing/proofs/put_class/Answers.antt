@@ -1,9 +1,11 @@
--- The lines, or the refusal's line. Assumes nothing.
-use Rattle.listing.proofs.ListingLaws.{class-listed, class-refused}
+-- The lines, or the refusal's line.
+use Rattle.listing.specs.Listing.{class_text}
+use Rattle.listing.proofs.ListingLaws.{class-refused}
 use Rattle.listing.proofs.put_class.Goals as goal
 
-pub returns-then-row-eq0 : goal.returns-then-row-eq0
-returns-then-row-eq0 c = search class-listed
+pub returns-in-None : goal.returns-in-None
+unfolding class_text
+returns-in-None c = rw c.in-None.is c.list_class.ensures
 
-pub returns : goal.returns
-returns c = search class-refused
+pub returns-in-Some : goal.returns-in-Some
+returns-in-Some c = rw (c.in-Some.is, class-refused _ _ _ _ c.in-Some.refusal) (rw c.from.ensures at c.put_class_refused.ensures)

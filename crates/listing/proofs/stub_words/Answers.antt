@@ -1,15 +1,14 @@
-use Rattle.listing.proofs.ListingLaws.{stubs_are, stubs-turn}
-use native.Mathlib.Omega.{arith}
-use Rattle.words.proofs.FoldLaws.{stores-none}
+-- Each turn stores one word more, and after the last all are stored.
+use Rattle.std.proofs.Common.{arith}
+use Rattle.words.proofs.FoldLaws.{stores-none, stores-turn}
+use Rattle.listing.proofs.ListingLaws.{stubs_are}
 use Rattle.listing.proofs.stub_words.Goals as goal
 
 pub loop-i-init : goal.loop-i-init
-loop-i-init c = (omega arith, omega arith, stores-none _ _)
+loop-i-init c = stores-none _ _
 
 pub loop-i-preserved : goal.loop-i-preserved
-loop-i-preserved c =
-    let t = stubs-turn c.loop-i.i c.loop-i.invariant.2 c.wide.ensures c.put_word.ensures in
-    (omega arith, t.0, t.1)
+loop-i-preserved c = search stores-turn
 
 pub returns : goal.returns
-returns c = stubs_are c.loop-i.i c.loop-i.invariant.2 (omega arith)
+returns c = stubs_are c.loop-i.i c.loop-i.invariant (omega arith)

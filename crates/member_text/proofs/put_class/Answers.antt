@@ -1,7 +1,8 @@
 -- The pieces in order are the line. Assumes nothing.
-use Rattle.member_text.proofs.TextLaws.{class-put}
+use Rattle.lines.proofs.OutLaws.{then}
+use Rattle.member_text.specs.MemberText.{class_text}
 use Rattle.member_text.proofs.put_class.Goals as goal
 
 pub returns : goal.returns
-returns c =
-    class-put _ _ _ c.put_bytes-at1.ensures c.put_bytes-at2.ensures c.put_extends-at3.ensures c.put_bytes.ensures
+unfolding class_text
+returns c = search then

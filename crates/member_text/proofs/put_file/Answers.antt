@@ -1,26 +1,16 @@
 -- The class's line, its flags, the methods and then the fields, each read at the place of its part. Assumes nothing.
-use Rattle.member_text.proofs.TextLaws.{methods-here, fields-here, file-put}
-use Rattle.class_file.proofs.JudgeLaws.{name-at, parent-at, flags-read}
-use Rattle.std.proofs.Common.{rules}
+use Rattle.lines.proofs.OutLaws.{then}
+use Rattle.class_file.proofs.JudgeLaws.{name_is, parent_is, flags_are}
+use Rattle.member_text.specs.MemberText.{class_lines}
+use Rattle.member_text.proofs.TextLaws.{methods_here, fields_here}
 use Rattle.member_text.proofs.put_file.Goals as goal
 
-pub overflow_add-places-2 : goal.overflow_add-places-2
-overflow_add-places-2 c =
-    search (rules, c.requires.fields_count)
-
-pub put_members-at3-requires : goal.put_members-at3-requires
-put_members-at3-requires c =
-    c.requires.near
-
-pub put_members-requires : goal.put_members-requires
-put_members-requires c =
-    c.requires.near
-
 pub returns : goal.returns
+unfolding class_lines
 returns c =
-    let at = c.requires in
-    file-put _ _ _ _ (name-at _ at.head_is c.u2_after.ensures.is c.class_bytes-name.ensures)
-    (parent-at _ at.head_is c.u2_after-2.ensures.is c.parent_bytes-parent.ensures)
-    (flags-read _ _ _ at c.u2.ensures.is) (methods-here _ _ _ at _ _ c.u2-method_count.ensures.is)
-    (fields-here _ _ _ at c.u2-field_count.ensures.is) c.put_class-at1.ensures c.put_flags-at2.ensures c.put_members-at3.ensures
-    c.put_members.ensures
+    let bs = c.args.file.pool.bytes.now in
+    let at = c.args.file.places in
+    let parted = c.args.file.parted in
+    rw (name_is bs at parted, parent_is bs at parted, flags_are bs at parted, ← (methods_here bs at parted c.args.first c.args.step), ← (fields_here bs at parted))
+    (rw (← c.u2_after.ensures.is, ← c.u2_after-2.ensures.is, ← c.class_bytes-name.ensures.is, ← c.parent_bytes-parent.ensures.is, ← c.u2.ensures.is)
+    (then c.put_class.ensures (then c.put_flags.ensures (then c.put_members.ensures c.put_members-2.ensures))))

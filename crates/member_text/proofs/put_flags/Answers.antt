@@ -1,6 +1,9 @@
 -- The pieces in order are the line. Assumes nothing.
-use Rattle.member_text.proofs.TextLaws.{flags-put}
+use Rattle.lines.specs.Lines.{numbered}
+use Rattle.lines.proofs.OutLaws.{then}
+use Rattle.member_text.specs.MemberText.{flags_text}
 use Rattle.member_text.proofs.put_flags.Goals as goal
 
 pub returns : goal.returns
-returns c = search flags-put
+unfolding flags_text numbered
+returns c = search then

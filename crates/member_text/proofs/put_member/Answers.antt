@@ -1,8 +1,9 @@
 -- The pieces in order are the line. Assumes nothing.
-use Rattle.member_text.proofs.TextLaws.{member-put}
+use Rattle.lines.specs.Lines.{numbered}
+use Rattle.lines.proofs.OutLaws.{then}
+use Rattle.member_text.specs.MemberText.{member_text}
 use Rattle.member_text.proofs.put_member.Goals as goal
 
 pub returns : goal.returns
-returns c =
-    member-put _ _ _ _ _ _ c.put_bytes-at1.ensures c.put_bytes-at2.ensures c.put_bytes-at3.ensures c.put_bytes-at4.ensures
-    c.put_numbered-at5.ensures c.put_numbered-at6.ensures c.put_bytes.ensures
+unfolding member_text numbered
+returns c = search then depth 9

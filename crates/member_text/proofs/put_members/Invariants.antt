@@ -1,19 +1,14 @@
--- What is left to put, from the place on, ends where all lines do: the invariant. The measure is how many members are left. Assumes nothing.
-use Rattle.member_text.specs.MemberText.{member_texts, target_of, targets}
-use Rattle.lines.specs.Bytes.{put}
-use Rattle.class_file.proofs.Laws.{left}
-use Rattle.class_form.specs.Marks.{Near}
-use Rattle.class_members.specs.Members.{members_at, places_from}
-use Rattle.std.proofs.Common.{◌≡◌, ◌-◌, ◌≤◌, length}
+-- What puts the lines that are left, puts all of them from where it began. Assumes nothing.
+use Rattle.std.proofs.Common.{◌≡◌, ℕ, ◌+◌, List}
+use Rattle.lines.specs.Out.{Puts}
+use Rattle.lines.specs.declared.Out.{Out}
+use Rattle.member_text.specs.MemberText.{target_of}
+use Rattle.member_text.proofs.TextLaws.{lines_left}
 use Rattle.member_text.proofs.put_members.Given as goal
 
-abbrev pub invariant-loop-i : goal.invariant-loop-i
-invariant-loop-i l =
-    ((l.i ≤ l.n) × (length l.out ≡ length l.initial.out))
-    × (l.last ≡ target_of l.first l.step l.i)
-    × (put (l.initial.out, l.at) (member_texts l.kind (members_at l.bytes (targets l.first l.step l.n) 0 (places_from l.bytes l.n l.p)))
-    ≡ put (l.out, l.place) (member_texts l.kind (left l.bytes (targets l.first l.step l.n) l.n l.i l.next)))
-    × Near l.bytes l.marks
+pub record Put (out₀ out : Out) (bs kind : List ℕ) (first step n p i next last : ℕ) : Type 0 where
+  pub target : last ≡ target_of first step i
+  pub rest : (q : Out) → Puts out q (lines_left bs kind first step n i next) → Puts out₀ q (lines_left bs kind first step n 0 (p + 2))
 
-abbrev pub decreases-loop-i : goal.decreases-loop-i
-decreases-loop-i l = l.n - l.i
+abbrev pub invariant-loop-i : goal.invariant-loop-i
+invariant-loop-i l = Put l.initial.out l.out l.pool.bytes.now l.kind l.first l.step l.i-end l.p l.i l.next l.last

@@ -1,47 +1,27 @@
-use mathlib.Core.Path.{ap}
-use mathlib.Core.Bool.{not}
-use Rattle.members.proofs.NumberLaws.{digit_within, number-stop, number_large, number-turn, number-done, number-none, number-some}
-use mathlib.Core.Path.{refl, sym, ◌∙◌}
-use Prim.Native.Nat.{◌≤◌}
+-- Times ten, and then with the digit, the number stays below 2^32, or there is none. Assumes nothing.
+use mathlib.Core.Path.{◌≡◌, sym, ◌∙◌}
+use lib.ListN.{get_or}
+use Rattle.members.specs.Number.{with_digit}
 use native.Mathlib.Omega.{arith}
+use Rattle.members.proofs.NumberLaws.{number_large, number_turn}
 use Rattle.members.proofs.spelled.Goals as goal
-use Rattle.members.proofs.spelled.Goals.{Else-not-is_digit}
 
-pub loop-i-init : goal.loop-i-init
-loop-i-init c = (omega arith, refl)
+pub returns-in_err-checked_mul : goal.returns-in_err-checked_mul
+returns-in_err-checked_mul c =
+    let a = rw c.in_err-checked_mul.was at c.checked_mul.ensures in
+    rw c.from_residual.ensures (sym (c.loop-b.invariant ∙ number_large _ _ c.loop-b.b-index c.loop-b-test.true (omega arith)))
 
-pub returns-then-not-is_digit : goal.returns-then-not-is_digit
-returns-then-not-is_digit c =
-    number-stop _ _ _ c.loop-i-test.true c.byte_at-b.ensures c.is_digit.ensures
-    (sym (number-some _ _ c.loop-i-test.true) ∙ c.loop-i.invariant.1) (search)
+pub returns-in_err-n : goal.returns-in_err-n
+returns-in_err-n c =
+    let m = rw c.in_ok-checked_mul.was at c.checked_mul.ensures in
+    let a = rw c.in_err-n.was at c.checked_add.ensures in
+    rw c.from_residual-in_err-n.ensures (sym (c.loop-b.invariant ∙ number_large _ _ c.loop-b.b-index c.loop-b-test.true (omega (arith, m.1))))
 
--- past the first test the byte is a digit
-digit : (c : Else-not-is_digit) → (48 ≤ c.byte_at-b.result) × (c.byte_at-b.result ≤ 57)
-digit c = digit_within _ c.is_digit.ensures (ap not c.if-not-is_digit.false)
-
-pub overflow_mul-n : goal.overflow_mul-n
-overflow_mul-n c = omega arith
-
-pub overflow_sub-n : goal.overflow_sub-n
-overflow_sub-n c = omega (arith, digit c)
-
-pub overflow_add-n : goal.overflow_add-n
-overflow_add-n c = omega (arith, digit c)
-
-pub returns-then-n-gt4294967295 : goal.returns-then-n-gt4294967295
-returns-then-n-gt4294967295 c =
-    number_large _ _ _ c.loop-i-test.true c.byte_at-b.ensures c.is_digit.ensures
-    (sym (number-some _ _ c.loop-i-test.true) ∙ c.loop-i.invariant.1) (ap not c.if-not-is_digit.false) (omega (arith, c.if-n-gt4294967295.true))
-
-pub loop-i-preserved : goal.loop-i-preserved
-loop-i-preserved c = (
-  omega arith,
-  number-turn _ _ _ c.loop-i-test.true c.byte_at-b.ensures c.is_digit.ensures c.loop-i.invariant.1 (ap not c.if-not-is_digit.false)
-      (omega (arith, c.if-n-gt4294967295.false)),
-)
-
-pub returns-then-i-eq0 : goal.returns-then-i-eq0
-returns-then-i-eq0 c = search number-none
-
-pub returns : goal.returns
-returns c = search number-done
+pub loop-b-preserved : goal.loop-b-preserved
+loop-b-preserved c =
+    let m = rw c.in_ok-checked_mul.was at c.checked_mul.ensures in
+    let a = rw c.in_ok-n.was at c.checked_add.ensures in
+    let e : c.in_ok-n.n ≡ with_digit c.loop-b.n (get_or c.args.word.now c.loop-b.b-index 0) = omega (arith, a.1, m.1) in
+    c.loop-b.invariant
+    ∙ rw e
+    (number_turn _ _ c.loop-b.b-index c.loop-b-test.true (sym c.is_ascii_digit.ensures.value ∙ c.if-not-is_ascii_digit.false) (omega (arith, a.0, e, a.1)))

@@ -1,18 +1,19 @@
-use native.Mathlib.Omega.{arith}
-use mathlib.Core.Path.{◌∙◌}
+-- A turn puts one bit more below those that are there. Assumes nothing.
+use Rattle.std.proofs.Common.{arith}
 use Rattle.missing.proofs.BitLaws.{word_room, word-start, word-turn, word_end}
 use Rattle.missing.proofs.bit_word.Goals as goal
 
 pub loop-i-init : goal.loop-i-init
-loop-i-init c = (omega arith, word-start _ _)
+loop-i-init g c = word-start _ _
 
-pub push_bit-w-requires : goal.push_bit-w-requires
-push_bit-w-requires c =
-    (c.bit_at.ensures.small, word_room _ _ c.loop-i.i (omega arith) c.loop-i.invariant.1)
+pub overflow_mul-w : goal.overflow_mul-w
+overflow_mul-w g c = omega (arith, word_room _ _ c.loop-i.i (omega arith) c.loop-i.invariant)
+
+pub overflow_add-w : goal.overflow_add-w
+overflow_add-w g c = omega (arith, c.bit_at.ensures.small, word_room _ _ c.loop-i.i (omega arith) c.loop-i.invariant)
 
 pub loop-i-preserved : goal.loop-i-preserved
-loop-i-preserved c =
-    (omega arith, c.push_bit-w.ensures ∙ word-turn _ _ c.loop-i.i (omega arith) (omega arith) c.bit_at.ensures.is c.loop-i.invariant.1)
+loop-i-preserved g c = word-turn _ _ c.loop-i.i (omega arith) (omega arith) c.bit_at.ensures.is c.loop-i.invariant
 
 pub returns : goal.returns
-returns c = word_end _ _ c.loop-i.i (omega arith) c.loop-i.invariant.1
+returns g c = word_end _ _ c.loop-i.i (omega arith) c.loop-i.invariant

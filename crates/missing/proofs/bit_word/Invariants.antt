@@ -1,12 +1,9 @@
 -- The bits from the last one down to bit i are in the word; the bits left grow fewer. Assumes nothing.
 use mathlib.Core.Path.{◌≡◌}
-use Prim.Native.Nat.{◌+◌, ◌*◌, ◌-◌, ◌≤◌, ◌<◌}
+use Prim.Native.Nat.{◌+◌, ◌*◌, ◌-◌}
 use Rattle.linking.specs.Counts.{bits_from}
 use Rattle.missing.specs.Lists.{bits_in}
 use Rattle.missing.proofs.bit_word.Given as goal
 
 abbrev pub invariant-loop-i : goal.invariant-loop-i
-invariant-loop-i l = ((l.i ≤ 32) × (l.k < 32)) × (l.w ≡ bits_from (bits_in l.missing l.p l.ts l.ms l.n) (32 * l.k + l.i) (32 - l.i))
-
-abbrev pub decreases-loop-i : goal.decreases-loop-i
-decreases-loop-i l = l.i
+invariant-loop-i g l = l.w ≡ bits_from (bits_in l.missing l.p l.table) (32 * l.k + l.i) (32 - l.i)

@@ -1,15 +1,14 @@
-use native.Mathlib.Omega.{arith}
+-- A turn packs one more word. Assumes nothing.
+use Rattle.std.proofs.Common.{refl, arith, rules}
 use Rattle.missing.proofs.ListLaws.{pack_start, pack_turn, pack_end}
 use Rattle.missing.proofs.pack.Goals as goal
 
 pub loop-j-init : goal.loop-j-init
-loop-j-init c = (omega arith, pack_start _)
+loop-j-init g c = pack_start _
 
 pub loop-j-preserved : goal.loop-j-preserved
-loop-j-preserved c = (
-  (omega arith, c.loop-j.invariant.0.1, omega arith),
-  pack_turn _ _ c.loop-j.j c.loop-j.invariant.0.1 (omega arith) c.loop-j.invariant.1 c.packed_word-w.ensures c.wide.ensures c.put_word.ensures,
-)
+loop-j-preserved g c =
+    pack_turn _ _ c.loop-j.j (search rules) (omega arith) c.loop-j.invariant c.packed_word.ensures refl c.put.ensures
 
 pub returns : goal.returns
-returns c = pack_end _ _ c.loop-j.j c.loop-j.invariant.0.1 (omega arith) c.loop-j.invariant.1
+returns g c = pack_end _ _ c.loop-j.j (search rules) (omega arith) c.loop-j.invariant

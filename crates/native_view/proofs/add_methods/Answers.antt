@@ -1,21 +1,26 @@
-use native.Mathlib.Omega.{arith}
-use Rattle.native_view.proofs.AddLaws.{small-mark, rest_begin, rest-turned, rest-none}
+-- Each target's turn adds what it adds behind those so far. Assumes nothing.
+use Rattle.std.proofs.Common.{arith}
+use Rattle.growth.proofs.NewsLaws.{news_none}
+use Rattle.native_view.proofs.AddLaws.{sheet-slot, rest_begin, rest-turned, rest-none}
 use Rattle.native_view.proofs.add_methods.Goals as goal
 
 pub loop-i-init : goal.loop-i-init
-loop-i-init c = (omega arith, search, search, search rest_begin)
+loop-i-init c = record {
+  few = rw c.clear.ensures (omega arith);
+  count = c.compiler_count-count.ensures;
+  rest = rest_begin _ _ _ _ _ _ _ (rw c.clear.ensures (news_none _ _ _ _)) c.compiler_count-count.ensures;
+}
 
-pub add-new-requires : goal.add-new-requires
-add-new-requires c = (omega arith, search small-mark, omega arith, omega arith, omega arith)
+pub add-requires : goal.add-requires
+add-requires c = (omega arith, sheet-slot _ _ c.requires c.slot.ensures)
 
 pub loop-i-preserved : goal.loop-i-preserved
-loop-i-preserved c = (
-  omega arith,
-  c.loop-i.invariant.1,
-  c.loop-i.invariant.2,
-  rest-turned _ _ _ _ _ _ _ _ _ _ _ _ _ _ _ _ _ _ _ c.loop-i-test.true c.compiler_target-t.ensures
-      c.word_below-w.ensures c.word_below-k.ensures c.add-new.ensures.is c.loop-i.invariant.3,
-)
+loop-i-preserved c =
+    let v = c.loop-i.invariant in record {
+      few = omega arith;
+      count = v.count;
+      rest = rest-turned _ _ _ _ _ _ _ _ _ _ c.loop-i-test.true c.compiler_target-t.ensures c.slot.ensures c.add.ensures.is v.rest;
+    }
 
 pub returns : goal.returns
-returns c = record { is = search rest-none; count = omega arith }
+returns c = record { is = rest-none _ _ _ _ _ _ _ _ _ c.loop-i-test.false c.loop-i.invariant.rest; count = omega arith }

@@ -1,8 +1,21 @@
--- The parent's slots are read, and the view and the added methods made from them; each array keeps its length. Assumes nothing.
-use Rattle.native_view.proofs.ViewLaws.{marks_are}
+-- The view by the ABI classes of the parent's chain has methods of the sheet only, so the targets may add by it. Assumes nothing.
+use Rattle.std.proofs.Common.{refl}
+use Rattle.native_view.proofs.ViewLaws.{native_is, native_small, abis_are}
+use Rattle.native_view.proofs.AddLaws.{added_are}
 use Rattle.native_view.proofs.native_view.Goals as goal
 
-pub returns-clause-parent : goal.returns-clause-parent
-returns-clause-parent c =
-    let a = c.args in
-    marks_are a.ws.now a.text.now a.abi.now a.labels.now a.area.now a.c _ _ _ c.parent_entries-n.ensures.is
+pub add_methods-requires : goal.add_methods-requires
+add_methods-requires c = native_small _ _ _ _ _ _ c.parent_entries.ensures.is _ c.view_entries.ensures.is
+
+pub returns : goal.returns
+returns c =
+    let k = c.chain_abi-k in
+    let abis = abis_are k.new.at _ _ k.ensures.is refl c.part-abis.ensures in
+    let v = native_is _ _ _ _ _ _ c.parent_entries.ensures.is _ c.parent_of.ensures abis c.view_entries.ensures.is in record {
+      parent = c.parent_entries.ensures.is;
+      view = v;
+      len = c.view_entries.ensures.len;
+      members = added_are _ _ _ _ _ _ _ v c.add_methods.ensures.is;
+      count = c.add_methods.ensures.count;
+      rest = c.parent_entries.ensures.rest;
+    }

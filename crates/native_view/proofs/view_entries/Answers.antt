@@ -1,24 +1,20 @@
-use native.Mathlib.Omega.{arith}
-use mathlib.Core.Path.{◌≡◌}
-use Prim.Native.Nat.{◌<◌}
-use lib.ListN.{length}
-use Rattle.native_view.proofs.ViewLaws.{view-start, view-turn}
+-- Each slot's turn is one more of the view. Assumes nothing.
+use Rattle.std.proofs.Common.{◌≡◌, arith}
+use Rattle.native_view.proofs.ViewLaws.{view_start, view-turn}
 use Rattle.native_view.proofs.view_entries.Goals as goal
 
 pub loop-i-init : goal.loop-i-init
-loop-i-init c = (omega arith, view-start _ _ _ _ _ _ _ _ _)
+loop-i-init c = record { len = c.clear.ensures.len; view = view_start _ _ _ _ _ _ _ c.clear.ensures.is }
 
 pub loop-i-preserved : goal.loop-i-preserved
 loop-i-preserved c =
-    let h : c.loop-i.i < length c.loop-i.vs = omega arith in
-    let k : c.loop-i.i < length c.loop-i.vm = omega arith in (
-      omega arith,
-      view-turn _ _ _ _ _ _ _ _ _ _ _ _ h k c.loop-i.invariant.1 c.wide.ensures c.word_at-w.ensures
-          c.wide-in-loop-i.ensures c.word_at-k.ensures c.is_emptied-gone.ensures
-          c.view_slot.ensures.words c.view_slot.ensures.marks,
-    )
+    let v = c.loop-i.invariant in record {
+      len = omega (arith, c.push.ensures.len (omega arith));
+      view = view-turn _ _ _ _ _ _ _ _ _ (omega arith) v.view c.slot.ensures c.view_slot.ensures (c.push.ensures.is (omega arith));
+    }
 
 pub returns : goal.returns
 returns c =
-    let e : c.loop-i.i ≡ c.args.n = omega arith in
-    rw e at c.loop-i.invariant.1
+    let v = c.loop-i.invariant in
+    let e : c.loop-i.i ≡ c.args.parent.now.len = omega arith in
+    record { is = rw e at v.view; len = omega (arith, v.len) }

@@ -1,14 +1,8 @@
--- By cases: an empty slot, or the word and the mark. Assumes nothing.
+-- By cases: an empty slot, or the slot as it is. Assumes nothing.
 use Rattle.native_view.proofs.view_slot.Goals as goal
 
-pub returns-then-gone : goal.returns-then-gone
-returns-then-gone c = record {
-  words = rw c.if-gone.true c.clear_slot.ensures.words;
-  marks = rw c.if-gone.true c.clear_slot.ensures.marks;
-}
+pub returns-then-is_emptied : goal.returns-then-is_emptied
+returns-then-is_emptied c = rw (← c.is_emptied.ensures, c.if-is_emptied.true) c.empty.ensures
 
-pub returns-else-gone : goal.returns-else-gone
-returns-else-gone c = record {
-  words = rw c.if-gone.false c.put_slot.ensures.words;
-  marks = rw c.if-gone.false c.put_slot.ensures.marks;
-}
+pub returns : goal.returns
+returns c = rw (← c.is_emptied.ensures, c.if-is_emptied.false)

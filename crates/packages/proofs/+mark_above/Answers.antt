@@ -1,20 +1,30 @@
-use native.Mathlib.Omega.{arith}
+-- The class's own methods, and then its parent's chain's, whose number is smaller. Assumes nothing.
+use Rattle.std.proofs.Common.{arith, refl}
 use native.Mathlib.Nat.{pos_of_ne-zero}
-use Rattle.packages.proofs.OverLaws.{along-none, along-up, parent_less}
+use Rattle.packages.proofs.OverLaws.{along-none, along-up, reached_yes, reached_no, parent_less}
 use Rattle.packages.proofs.+mark_above.Goals as goal
+use Rattle.packages.proofs.+mark_above.Goals.{then-mark_class, else-mark_class}
 
--- the chain's end
 pub returns-then-a-eq0 : goal.returns-then-a-eq0
 returns-then-a-eq0 t c = along-none _ _ _ _ _ _ c.if-a-eq0.true
 
--- the parent's number is smaller
 pub mark_above-requires : goal.mark_above-requires
 mark_above-requires t c =
     let less = parent_less _ _ c.parent_of.ensures (pos_of_ne-zero c.if-a-eq0.false) in
-    (omega (arith, less), omega (arith, less))
+    elim c.if-mark_class.branch [
+      | then-mark_class w ↦ (omega (arith, less, w.k-is), omega (arith, less))
+      | else-mark_class w ↦ (omega (arith, less, w.k-is), omega (arith, less))
+    ]
 
--- the class's own, and then its parent's chain's
 pub returns : goal.returns
 returns t c =
-    along-up _ _ _ _ c.mark_class-yes.result _ _ (pos_of_ne-zero c.if-a-eq0.false) c.parent_of.ensures c.mark_class-yes.ensures.marked
-    c.mark_class-yes.ensures.is c.push_if-k.ensures.is c.mark_above.ensures
+    let some = pos_of_ne-zero c.if-a-eq0.false in
+    let own = c.mark_class.ensures in
+    elim c.if-mark_class.branch [
+      | then-mark_class w ↦
+          along-up _ _ _ _ c.mark_class.result _ _ some c.parent_of.ensures c.part.ensures own.marked own.is
+          (rw (w.k-is, w.reached-is) (reached_yes _ _ _ w.if-mark_class.true (omega (arith, c.requires)) refl w.put.ensures)) c.mark_above.ensures
+      | else-mark_class w ↦
+          along-up _ _ _ _ c.mark_class.result _ _ some c.parent_of.ensures c.part.ensures own.marked own.is
+          (rw (w.k-is, w.reached-is) (reached_no _ _ _ w.if-mark_class.false)) c.mark_above.ensures
+    ]

@@ -1,41 +1,41 @@
-use native.Mathlib.Omega.{arith}
-use mathlib.Core.Path.{ap}
-use mathlib.Core.Bool.{not}
-use lib.ListN.{take}
+-- A method's turn marks it, if it is overridden, and tests whether it is then private. Assumes nothing.
+use Rattle.std.proofs.Common.{not, ap, sym, refl, ◌∙◌, true, false}
 use Rattle.words.specs.Lists.{fold, some}
 use Rattle.class_sheet.specs.ClassSheet.{method_flags}
-use Rattle.linking.specs.Chain.{is_private, same_methods}
-use Rattle.linking.specs.Packages.{is_overridden}
+use Rattle.linking.specs.Chain.{is_private}
 use Rattle.packages.specs.Marks.{mark}
 use Rattle.packages.proofs.OverLaws.{left-fold-turn, left-fold-end, left-some-turn, left-some-end, overridden-left}
 use Rattle.packages.proofs.mark_class.Goals as goal
+use Rattle.packages.proofs.mark_class.Goals.{then-is_overridden, else-is_overridden}
 
 pub loop-i-init : goal.loop-i-init
 loop-i-init c =
     let a = c.args in
-    let e = overridden-left a.ws.now a.text.now (take a.n a.reached.now) a.m a.a _ _ c.class_first_method-first.ensures
-    c.method_count-count.ensures in (
-      omega (arith, c.method_count-count.ensures),
-      ap (fold mark a.marks.now) e,
-      ap (some (λ k. not (is_private (method_flags a.ws.now k)))) e,
-    )
+    let e = overridden-left a.ws.now a.text.now a.reached.now a.m a.a _ _ c.class_first_method-first.ensures c.method_count-count.ensures in record {
+      marked = ap (fold mark a.marks.now) e;
+      is = ap (some (λ k. not (is_private (method_flags a.ws.now k)))) e;
+    }
 
 pub loop-i-preserved : goal.loop-i-preserved
+unfolding mark
 loop-i-preserved c =
-    let a = c.args in
-    let p = is_overridden (same_methods a.ws.now a.text.now) a.ws.now a.text.now a.m (take a.n a.reached.now) a.a in (
-      omega arith,
-      left-fold-turn p c.class_first_method-first.result c.method_count-count.result mark c.loop-i.i c.loop-i.marks c.is_overridden-yes.result
-          (omega arith) c.is_overridden-yes.ensures (omega arith) c.mark_if.ensures c.loop-i.invariant.1,
-      left-some-turn p c.class_first_method-first.result c.method_count-count.result (λ k. not (is_private (method_flags a.ws.now k)))
-          c.loop-i.i c.loop-i.«open» c.is_overridden-yes.result (omega arith) c.is_overridden-yes.ensures
-          (ap (λ f. not (is_private f)) c.method_flags.ensures) c.loop-i.invariant.2,
-    )
+    let h = c.loop-i-test.true in
+    let before = c.loop-i.invariant in
+    elim c.if-is_overridden.branch [
+      | then-is_overridden w ↦
+          let e = sym w.if-is_overridden.true ∙ c.is_overridden.ensures in record {
+            marked = left-fold-turn _ _ _ mark c.loop-i.i c.loop-i.marks true h e refl (w.marks-is ∙ w.put.ensures) before.marked;
+            is = left-some-turn _ _ _ _ c.loop-i.i c.loop-i.open true h e refl (ap not (w.is_private.ensures ∙ ap is_private w.method_flags.ensures)) w.open-is before.is;
+          }
+      | else-is_overridden w ↦
+          let e = sym w.if-is_overridden.false ∙ c.is_overridden.ensures in record {
+            marked = left-fold-turn _ _ _ mark c.loop-i.i c.loop-i.marks false h e refl w.marks-is before.marked;
+            is = left-some-turn _ _ _ _ c.loop-i.i c.loop-i.open false h e refl refl w.open-is before.is;
+          }
+    ]
 
 pub returns : goal.returns
-returns c =
-    let a = c.args in
-    let p = is_overridden (same_methods a.ws.now a.text.now) a.ws.now a.text.now a.m (take a.n a.reached.now) a.a in record {
-      marked = left-fold-end p c.class_first_method-first.result c.method_count-count.result mark c.loop-i.i c.loop-i.marks (omega arith) c.loop-i.invariant.1;
-      is = left-some-end p c.class_first_method-first.result c.method_count-count.result (λ k. not (is_private (method_flags a.ws.now k))) c.loop-i.i c.loop-i.«open» (omega arith) c.loop-i.invariant.2;
-    }
+returns c = record {
+  marked = left-fold-end _ _ _ mark c.loop-i.i _ c.loop-i-test.false c.loop-i.invariant.marked;
+  is = left-some-end _ _ _ _ c.loop-i.i _ c.loop-i-test.false c.loop-i.invariant.is;
+}

@@ -1,8 +1,5 @@
 -- Marks and test of the methods from i on, over those so far, are those of all. Assumes nothing.
-use Prim.Native.Nat.{◌+◌, ◌-◌, ◌≤◌}
-use mathlib.Core.Path.{◌≡◌}
-use mathlib.Core.Bool.{not, ◌||◌}
-use lib.ListN.{length, take}
+use Rattle.std.proofs.Common.{◌≡◌, not, ◌||◌}
 use Rattle.words.specs.Lists.{fold, some}
 use Rattle.class_sheet.specs.ClassSheet.{method_flags}
 use Rattle.linking.specs.Chain.{is_private, same_methods}
@@ -12,12 +9,9 @@ use Rattle.packages.proofs.OverLaws.{left}
 use Rattle.packages.proofs.mark_class.Given as goal
 
 abbrev pub invariant-loop-i : goal.invariant-loop-i
-invariant-loop-i l =
-    ((l.i ≤ l.count) × (l.n ≤ length l.reached) × (l.first + l.count ≤ 4294967295))
-    × (fold mark l.marks (left (is_overridden (same_methods l.ws l.text) l.ws l.text l.m (take l.n l.reached) l.a) l.first l.count l.i)
-    ≡ fold mark l.initial.marks (overridden_in (same_methods l.ws l.text) l.ws l.text l.m (take l.n l.reached) l.a))
-    × ((l.open || some (λ k. not (is_private (method_flags l.ws k))) (left (is_overridden (same_methods l.ws l.text) l.ws l.text l.m (take l.n l.reached) l.a) l.first l.count l.i))
-    ≡ some (λ k. not (is_private (method_flags l.ws k))) (overridden_in (same_methods l.ws l.text) l.ws l.text l.m (take l.n l.reached) l.a))
-
-abbrev pub decreases-loop-i : goal.decreases-loop-i
-decreases-loop-i l = l.count - l.i
+invariant-loop-i l = record {
+  marked : fold mark l.marks (left (is_overridden (same_methods l.ws l.text) l.ws l.text l.m l.reached l.a) l.first l.count l.i)
+      ≡ fold mark l.initial.marks (overridden_in (same_methods l.ws l.text) l.ws l.text l.m l.reached l.a);
+  is : (l.open || some (λ k. not (is_private (method_flags l.ws k))) (left (is_overridden (same_methods l.ws l.text) l.ws l.text l.m l.reached l.a) l.first l.count l.i))
+      ≡ some (λ k. not (is_private (method_flags l.ws k))) (overridden_in (same_methods l.ws l.text) l.ws l.text l.m l.reached l.a);
+}

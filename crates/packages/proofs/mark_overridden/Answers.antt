@@ -1,18 +1,13 @@
 -- None of a method that is static or private; else those of the parent's chain, once the class itself is reached. Assumes nothing.
-use mathlib.Core.Path.{ap}
-use mathlib.Core.Bool.{not}
-use native.Mathlib.Omega.{arith}
-use mathlib.Core.Path.{refl}
+use Rattle.std.proofs.Common.{arith, refl, not, ap}
 use Rattle.packages.proofs.OverLaws.{marks_none, marks_virtual, parent-room}
 use Rattle.packages.proofs.mark_overridden.Goals as goal
 
 pub returns-then-not-is_virtual : goal.returns-then-not-is_virtual
-returns-then-not-is_virtual c =
-    marks_none _ _ _ _ c.args.marks.now c.method_flags.ensures c.is_virtual.ensures (ap not c.if-not-is_virtual.true)
+returns-then-not-is_virtual c = marks_none _ _ _ _ c.args.marks.now c.method_flags.ensures c.is_virtual.ensures (ap not c.if-not-is_virtual.true)
 
 pub mark_above-requires : goal.mark_above-requires
-mark_above-requires c =
-    omega (arith, parent-room _ _ c.parent_of.ensures (omega arith))
+mark_above-requires c = omega (arith, parent-room _ _ c.parent_of.ensures (omega arith))
 
 pub returns : goal.returns
 returns c =

@@ -1,22 +1,13 @@
-use native.Mathlib.Omega.{arith}
-use Rattle.packages.proofs.OverLaws.{reached-start, reached-found, reached-turn, reached-end}
+-- What `any` answers is the definition's test of the list. Assumes nothing.
+use Rattle.std.proofs.Common.{◌∙◌, sym, rules, tests}
+use Rattle.std.proofs.lemmas.Iterator.{YieldsList-from_slice}
+use Rattle.std.proofs.lemmas.Iterator.Search.{any_from_yields_List}
+use Rattle.linking.specs.Packages.{open_to}
+use Rattle.packages.proofs.OverLaws.{some-any}
 use Rattle.packages.proofs.open_to_some.Goals as goal
-
-pub loop-i-init : goal.loop-i-init
-loop-i-init c = (omega arith, reached-start _ c.args.reached.now c.args.n)
-
-pub returns-then-open_to : goal.returns-then-open_to
-returns-then-open_to c =
-    reached-found _ c.args.reached.now c.args.n c.loop-i.i (omega arith) (omega arith) c.wide.ensures c.word_at.ensures c.open_to.ensures c.if-open_to.true
-    c.loop-i.invariant.1
-
-pub loop-i-preserved : goal.loop-i-preserved
-loop-i-preserved c = (
-  omega arith,
-  reached-turn _ c.args.reached.now c.args.n c.loop-i.i (omega arith) (omega arith) c.wide.ensures c.word_at.ensures c.open_to.ensures c.if-open_to.false
-      c.loop-i.invariant.1,
-)
 
 pub returns : goal.returns
 returns c =
-    reached-end _ c.args.reached.now c.args.n c.loop-i.i (omega arith) c.loop-i.invariant.1
+    let a = c.args in
+    any_from_yields_List (open_to a.ws.now a.text.now a.k a.a) _ _ _ c.any.ensures.ran (YieldsList-from_slice a.classes.now cc) (λ x b q k. search (rules, tests))
+    ∙ sym (some-any (open_to a.ws.now a.text.now a.k a.a) a.classes.now)

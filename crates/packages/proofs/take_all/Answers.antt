@@ -1,22 +1,21 @@
-use native.Mathlib.Omega.{arith}
+-- A method's turn is a step of the fold. Assumes nothing.
+use Rattle.std.proofs.Common.{arith}
 use Rattle.packages.proofs.TakeLaws.{takes-start, takes-turn, takes-end}
 use Rattle.packages.proofs.take_all.Goals as goal
 
 pub loop-i-init : goal.loop-i-init
 loop-i-init c =
-    let a = c.args in (
-      omega (arith, c.method_count-count.ensures, c.class_first_method-first.ensures),
-      takes-start a.ws.now a.text.now a.c _ _ _ _ c.class_first_method-first.ensures c.method_count-count.ensures,
-    )
+    let a = c.args in record {
+      slots = omega arith;
+      rest = takes-start a.ws.now a.text.now a.c _ _ _ _ c.class_first_method-first.ensures c.method_count-count.ensures;
+    }
 
 pub loop-i-preserved : goal.loop-i-preserved
 loop-i-preserved c =
-    let a = c.args in
-    (omega arith, takes-turn a.ws.now a.text.now a.c _ _ _ c.loop-i.i (omega arith) c.take_slots-size.ensures.is c.loop-i.invariant.1)
-
-pub returns : goal.returns
-returns c =
     let a = c.args in record {
-      is = takes-end a.ws.now a.text.now a.c _ _ _ c.loop-i.i (omega arith) c.loop-i.invariant.1;
-      count = omega arith;
+      slots = omega arith;
+      rest = takes-turn a.ws.now a.text.now a.c _ _ _ c.loop-i.i c.loop-i-test.true c.take_slots.ensures.is c.loop-i.invariant.rest;
     }
+
+pub returns-clause-is : goal.returns-clause-is
+returns-clause-is c = takes-end c.args.ws.now c.args.text.now c.args.c _ _ _ c.loop-i.i c.loop-i-test.false c.loop-i.invariant.rest

@@ -1,24 +1,24 @@
--- Row 10 refuses, or the fields and the table make the plan, and the arrays hold the added fields. Assumes nothing.
-use native.Mathlib.Omega.{arith}
-use Rattle.plan.proofs.KindLaws.{few-fields, built-row, built-plan}
+-- Row 10 refuses, or a row of the table, or row 13, or the fields and the table make the plan, with the added fields. Assumes nothing.
+use Rattle.std.proofs.lemmas.Result.{err_from_is_err_and}
+use Rattle.plan.proofs.KindLaws.{row_first, row_then, built-row, built-stops, built-plan}
 use Rattle.plan.proofs.plan_built.Goals as goal
 
-pub returns-then-f-ne0 : goal.returns-then-f-ne0
-returns-then-f-ne0 c =
-    let k = c.built_fields-f.ensures.arrays in record {
-      is = built-row _ _ _ _ _ _ c.built_fields-f.result c.built_fields-f.ensures.is _ _ _ _ _ c.no_plan.ensures c.if-f-ne0.true;
-      arrays = (λ l. l, λ l. k.0, λ l. k.1, λ l. k.2);
-    }
+pub returns-in_err-fields : goal.returns-in_err-fields
+returns-in_err-fields c =
+    let p = err_from_is_err_and c.from_residual.result c.from_residual.ensures.1 in
+    rw (p.1, p.2) (built-row _ _ _ _ _ _ _ _ _ _ c.in_err-fields.ensures.is)
 
-pub planned-requires : goal.planned-requires
-planned-requires c =
-    (few-fields _ _ _ _ _ c.built_fields-f.ensures.is c.if-f-ne0.false, omega (arith, c.built_table-t.ensures.members))
+pub returns-in_err-built_table : goal.returns-in_err-built_table
+returns-in_err-built_table c =
+    let p = err_from_is_err_and c.from_residual-in_err-built_table.result c.from_residual-in_err-built_table.ensures.1 in
+    rw (p.1, p.2) (built-stops _ _ _ _ _ _ _ c.in_ok-fields.ensures.is _ _ _ _ (row_first c.in_err-built_table.ensures))
+
+pub returns-in_err-few_slots : goal.returns-in_err-few_slots
+returns-in_err-few_slots c =
+    let p = err_from_is_err_and c.from_residual-in_err-few_slots.result c.from_residual-in_err-few_slots.ensures.1 in
+    rw (p.1, p.2) (built-stops _ _ _ _ _ _ _ c.in_ok-fields.ensures.is _ _ _ _ (row_then c.in_ok-built_table.ensures c.in_err-few_slots.ensures))
 
 pub returns : goal.returns
 returns c =
-    let f = c.built_fields-f in
-    let t = c.built_table-t in
-    let k = f.ensures.arrays in record {
-      is = built-plan _ _ _ _ _ _ f.result f.ensures.is t.result _ t.ensures.is c.if-f-ne0.false _ _ _ c.requires t.ensures.members f.ensures.refs f.ensures.flags f.ensures.lasts k c.planned.ensures;
-      arrays = (λ l. t.ensures.array, λ l. k.0, λ l. k.1, λ l. k.2);
-    }
+    let f = c.in_ok-fields.ensures in
+    built-plan _ _ _ _ _ _ _ f.is _ c.in_ok-built_table.ensures c.in_ok-few_slots.ensures c.requires f.news

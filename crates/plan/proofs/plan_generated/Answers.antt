@@ -1,22 +1,25 @@
--- Rows 8 and 9 refuse, or the fields and the table make the plan, and the arrays hold the added methods. Assumes nothing.
-use Rattle.plan.proofs.KindLaws.{no_fields, generated-row, generated-plan}
+-- Rows 8 and 9 refuse, or a row of the table, or row 13, or the fields and the table make the plan, with the added methods. Assumes nothing.
+use Rattle.std.proofs.lemmas.Result.{err_from_is_err_and}
+use Rattle.plan.proofs.KindLaws.{row_first, row_then, generated-row, generated-stops, generated-plan}
 use Rattle.plan.proofs.plan_generated.Goals as goal
 
-pub returns-then-f-ne0 : goal.returns-then-f-ne0
-returns-then-f-ne0 c =
-    let f = c.generated_fields-f in record {
-      is = generated-row _ _ _ _ _ _ f.result f.ensures _ _ _ _ _ c.no_plan.ensures c.if-f-ne0.true;
-      arrays = (λ l. l, λ l. l, λ l. l, λ l. l);
-    }
+pub returns-in_err-fields : goal.returns-in_err-fields
+returns-in_err-fields c =
+    let p = err_from_is_err_and c.from_residual.result c.from_residual.ensures.1 in
+    rw (p.1, p.2) (generated-row _ _ _ _ _ _ _ _ _ _ c.in_err-fields.ensures)
 
-pub planned-requires : goal.planned-requires
-planned-requires c =
-    (no_fields _ _ _ c.generated_fields-f.ensures c.if-f-ne0.false, c.generated_table-t.ensures.count)
+pub returns-in_err-generated_table : goal.returns-in_err-generated_table
+returns-in_err-generated_table c =
+    let p = err_from_is_err_and c.from_residual-in_err-generated_table.result c.from_residual-in_err-generated_table.ensures.1 in
+    rw (p.1, p.2) (generated-stops _ _ _ _ _ _ _ c.in_ok-fields.ensures _ _ _ _ (row_first c.in_err-generated_table.ensures.is))
+
+pub returns-in_err-few_slots : goal.returns-in_err-few_slots
+returns-in_err-few_slots c =
+    let p = err_from_is_err_and c.from_residual-in_err-few_slots.result c.from_residual-in_err-few_slots.ensures.1 in
+    rw (p.1, p.2)
+    (generated-stops _ _ _ _ _ _ _ c.in_ok-fields.ensures _ _ _ _ (row_then c.in_ok-generated_table.ensures.is c.in_err-few_slots.ensures))
 
 pub returns : goal.returns
 returns c =
-    let f = c.generated_fields-f in
-    let t = c.generated_table-t in record {
-      is = generated-plan _ _ _ _ _ _ f.result f.ensures t.result _ t.ensures.is c.if-f-ne0.false _ _ _ c.requires t.ensures.members t.ensures.count c.planned.ensures;
-      arrays = t.ensures.arrays;
-    }
+    let t = c.in_ok-generated_table.ensures in
+    generated-plan _ _ _ _ _ _ _ c.in_ok-fields.ensures _ t.is c.in_ok-few_slots.ensures c.requires t.members

@@ -1,34 +1,13 @@
 -- By the class's kind, the plan of its own function. Assumes nothing.
-use mathlib.Core.Path.{◌∙◌}
-use Rattle.plan.proofs.KindLaws.{kind-is, kind-built, kind-generated, kind-array, plan-by}
+use Rattle.plan.proofs.KindLaws.{kind_built, kind_generated, kind_array}
 use Rattle.plan.proofs.plan_link.Goals as goal
 
-pub plan_built-requires : goal.plan_built-requires
-plan_built-requires c =
-    kind-is _ _ c.class_kind-kind.ensures c.is_built_kind.ensures ∙ c.if-is_built_kind.true
+pub returns-then-is_built : goal.returns-then-is_built
+returns-then-is_built c = kind_built _ _ _ _ _ _ c.is_built.ensures c.if-is_built.true c.plan_built.ensures
 
-pub returns-then-is_built_kind : goal.returns-then-is_built_kind
-returns-then-is_built_kind c = record {
-  is = plan-by (kind-built _ _ _ _ _ _ c.class_kind-kind.ensures c.is_built_kind.ensures c.if-is_built_kind.true) c.plan_built.ensures.is;
-  arrays = c.plan_built.ensures.arrays;
-}
-
-pub plan_generated-requires : goal.plan_generated-requires
-plan_generated-requires c =
-    kind-is _ _ c.class_kind-kind.ensures c.is_built_kind.ensures ∙ c.if-is_built_kind.false
-
-pub returns-then-kind-eq-GENERATED : goal.returns-then-kind-eq-GENERATED
-returns-then-kind-eq-GENERATED c = record {
-  is = plan-by (kind-generated _ _ _ _ _ _ c.class_kind-kind.ensures c.is_built_kind.ensures c.if-is_built_kind.false c.if-kind-eq-GENERATED.true) c.plan_generated.ensures.is;
-  arrays = c.plan_generated.ensures.arrays;
-}
-
-pub plan_array-requires : goal.plan_array-requires
-plan_array-requires c =
-    kind-is _ _ c.class_kind-kind.ensures c.is_built_kind.ensures ∙ c.if-is_built_kind.false
+pub returns-then-has_kind : goal.returns-then-has_kind
+returns-then-has_kind c =
+    kind_generated _ _ _ _ _ _ c.is_built.ensures c.if-is_built.false c.has_kind.ensures c.if-has_kind.true c.plan_generated.ensures
 
 pub returns : goal.returns
-returns c = record {
-  is = plan-by (kind-array _ _ _ _ _ _ c.class_kind-kind.ensures c.is_built_kind.ensures c.if-is_built_kind.false c.if-kind-eq-GENERATED.false) (c.plan_array.ensures.is _ _ _);
-  arrays = (c.plan_array.ensures.array, λ l. l, λ l. l, λ l. l);
-}
+returns c = kind_array _ _ _ _ _ _ c.is_built.ensures c.if-is_built.false c.has_kind.ensures c.if-has_kind.false c.plan_array.ensures

@@ -1,20 +1,18 @@
-use native.Mathlib.Omega.{arith}
-use mathlib.Core.Path.{◌≡◌}
+-- A slot's turn stores the mark of a copy of it. Assumes nothing.
+use Rattle.std.proofs.Common.{◌≡◌, refl, arith}
 use Rattle.reading.proofs.MarkLaws.{sources-start, sources-turn}
 use Rattle.reading.proofs.give_sources.Goals as goal
 
 pub loop-i-init : goal.loop-i-init
-loop-i-init c = (omega arith, omega arith, omega arith, search sources-start)
+loop-i-init c = record { marks = sources-start _; words = refl; len = refl }
 
 pub loop-i-preserved : goal.loop-i-preserved
-loop-i-preserved c = (
-  omega arith,
-  omega arith,
-  omega arith,
-  sources-turn c.loop-i.i _ c.loop-i.invariant.3 c.wide.ensures c.word_at-k.ensures
-      c.wide-in-loop-i.ensures c.put_word.ensures,
-)
+loop-i-preserved c =
+    let before = c.loop-i.invariant in
+    record { marks = sources-turn _ _ before.marks refl refl refl refl; words = before.words; len = before.len }
 
 pub returns : goal.returns
 returns c =
-    let e : c.loop-i.i ≡ c.args.n = omega arith in rw e at c.loop-i.invariant.3
+    let before = c.loop-i.invariant in
+    let e : c.loop-i.i ≡ c.args.table.now.len = omega arith in
+    record { marks = rw e at before.marks; words = before.words; len = before.len }

@@ -1,23 +1,19 @@
-use native.Mathlib.Omega.{arith}
-use mathlib.Core.Path.{◌≡◌, refl, ◌∙◌}
-use lib.ListN.{length-set}
+-- A slot's turn stores its mark, or the method's where it holds the target. Assumes nothing.
+use Rattle.std.proofs.Common.{◌≡◌, refl, arith}
 use Rattle.reading.proofs.MarkLaws.{marks_start, marks_turn}
 use Rattle.reading.proofs.mark_target.Goals as goal
 
 pub loop-i-init : goal.loop-i-init
-loop-i-init c = (omega arith, omega arith, omega arith, omega arith, omega arith, omega arith, marks_start _ _)
+loop-i-init c = record { marks = marks_start _ _; words = refl; len = refl }
 
 pub loop-i-preserved : goal.loop-i-preserved
-loop-i-preserved c = (
-  omega arith,
-  omega arith,
-  omega arith,
-  omega arith,
-  omega arith,
-  length-set c.loop-i.ms c.loop-i.i _ ∙ c.loop-i.invariant.5,
-  marks_turn _ c.loop-i.i _ c.loop-i.invariant.6 refl refl c.mark_if.ensures refl refl,
-)
+loop-i-preserved c =
+    let before = c.loop-i.invariant in
+    let e = rw before.words at c.mark_if.ensures in
+    record { marks = marks_turn _ _ _ before.marks refl refl e refl refl; words = before.words; len = before.len }
 
 pub returns : goal.returns
 returns c =
-    let e : c.loop-i.i ≡ c.args.n = omega arith in rw e at c.loop-i.invariant.6
+    let before = c.loop-i.invariant in
+    let e : c.loop-i.i ≡ c.args.table.now.len = omega arith in
+    record { marks = rw e at before.marks; words = before.words; len = before.len }

@@ -1,18 +1,12 @@
-use native.Mathlib.Omega.{arith}
-use Rattle.references.specs.References.{bytes_for, kept_bits}
-use Rattle.references.proofs.Laws.{ones_none, ones_turn, ones_all}
+-- The sum is at most the number of words, so it is the same modulo 2^32. Assumes nothing.
+use Rattle.std.proofs.Common.{◌∙◌, arith, rules}
+use Rattle.std.specs.Int.Count.{ones}
+use Rattle.references.specs.References.{masked_byte}
+use Rattle.references.proofs.Laws.{masked_sum}
 use Rattle.references.proofs.masked_ones.Goals as goal
 
-pub loop-j-init : goal.loop-j-init
-loop-j-init c = (omega arith, search ones_none)
-
-pub overflow_add-ones : goal.overflow_add-ones
-unfolding kept_bits bytes_for
-overflow_add-ones c = omega arith
-
-pub loop-j-preserved : goal.loop-j-preserved
-unfolding kept_bits bytes_for
-loop-j-preserved c = (omega arith, search ones_turn)
-
 pub returns : goal.returns
-returns c = ones_all _ _ _ c.loop-j.invariant.1 (omega arith)
+returns c =
+    let a = c.args in
+    rw c.bytes_for.ensures at (c.sum_of.ensures (λ j. ones (masked_byte a.bitmap.now a.n j)) (λ j r l post. search rules))
+    ∙ masked_sum _ _ (λ j. omega (arith, c.type_inv.bitmap j)) (omega arith)

@@ -1,6 +1,7 @@
--- A class is in the list exactly where its place is not 0. Assumes nothing.
-use Rattle.renumber.proofs.Placing.{placed-is}
+-- The slice has the class just where the list does. Assumes nothing.
+use Rattle.std.proofs.Common.{◌∙◌}
+use Rattle.renumber.proofs.Placing.{placed_found}
 use Rattle.renumber.proofs.is_placed.Goals as goal
 
 pub returns : goal.returns
-returns c = search placed-is
+returns c = c.contains.ensures.value ∙ placed_found _ _

@@ -5,4 +5,4 @@ use Rattle.renumber.proofs.move_records.Goals as goal
 
 pub returns : goal.returns
 returns c =
-    records-over _ _ c.requires _ (omega arith) c.put_records.ensures c.copy_words.ensures
+    records-over _ _ c.requires _ (omega arith) c.put_records.ensures c.copy.ensures

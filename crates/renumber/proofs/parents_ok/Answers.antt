@@ -1,16 +1,8 @@
-use native.Mathlib.Omega.{arith}
-use borrow.Author.Tests.{not-false}
-use Rattle.words.proofs.FoldLaws.{all_none, all-turn, all-stop, all_done}
+-- The test of each class number is the definition's. Assumes nothing.
+use Rattle.std.proofs.Common.{rules, not}
+use Rattle.renumber.specs.Renumber.{stray_parent}
 use Rattle.renumber.proofs.parents_ok.Goals as goal
 
-pub loop-i-init : goal.loop-i-init
-loop-i-init c = (omega arith, all_none _, omega arith)
-
-pub returns-then-not-parent_ok : goal.returns-then-not-parent_ok
-returns-then-not-parent_ok c = all-stop _ _ c.loop-i.i (omega arith) c.parent_ok.ensures c.if-not-parent_ok.true
-
-pub loop-i-preserved : goal.loop-i-preserved
-loop-i-preserved c = (omega arith, search (not-false, all-turn), omega arith)
-
 pub returns : goal.returns
-returns c = all_done _ _ _ c.loop-i.invariant.1 (omega arith)
+returns c =
+    rw (← c.class_count.ensures) (c.all_up_to.ensures (λ i. not (stray_parent c.args.ws.now i)) (λ i r l post. search rules))

@@ -1,14 +1,19 @@
-use native.Mathlib.Omega.{arith}
-use mathlib.Core.Path.{◌∙◌}
-use Rattle.renumber.proofs.Placing.{order-start, order-turn, order-end}
+-- The class that a search finds goes next, and where it finds none the order ends. Assumes nothing.
+use Rattle.std.proofs.Common.{◌≡◌, sym, ◌∙◌, arith}
+use Rattle.renumber.proofs.Placing.{place_start, place_end, place-turn, place-stuck}
 use Rattle.renumber.proofs.place_all.Goals as goal
 
-pub loop-i-init : goal.loop-i-init
-loop-i-init c = (omega arith, order-start _)
+pub loop-k-init : goal.loop-k-init
+loop-k-init c = place_start _
 
-pub loop-i-preserved : goal.loop-i-preserved
-loop-i-preserved c =
-    (omega arith, order-turn _ _ _ (omega arith) c.place_one-k.ensures.is ∙ c.loop-i.invariant.1)
+pub loop-k-preserved : goal.loop-k-preserved
+loop-k-preserved c =
+    place-turn _ _ _ c.part.ensures c.first_ready.ensures _ c.in-Some.is (omega arith) (omega (arith, c.requires)) c.put.ensures
+    ∙ c.loop-k.invariant
+
+pub returns-in_default : goal.returns-in_default
+returns-in_default c =
+    record { is = sym (place-stuck _ _ _ c.part.ensures c.first_ready.ensures c.in_default.is) ∙ c.loop-k.invariant; count = omega arith }
 
 pub returns : goal.returns
-returns c = record { is = order-end _ _ _ (omega arith) ∙ c.loop-i.invariant.1; count = omega arith }
+returns c = let e : c.loop-k.k ≡ c.class_count-n.result = omega arith in record { is = rw e at (sym (place_end _ _ _ (omega arith)) ∙ c.loop-k.invariant); count = omega arith }

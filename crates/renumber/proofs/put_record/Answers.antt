@@ -4,5 +4,4 @@ use Rattle.renumber.proofs.put_record.Goals as goal
 
 pub returns : goal.returns
 returns c =
-    record_put _ _ _ c.requires.2 c.requires.1 _ c.requires.3 c.before-2.ensures c.wide.ensures
-    c.copy_words.ensures c.class_parent-p.ensures c.new_number-q.ensures c.put_word.ensures
+    record_put _ _ _ c.requires.2 c.requires.1 _ c.requires.3 c.saturating_sub.ensures c.copy.ensures c.class_parent-p.ensures c.new_number.ensures c.put.ensures

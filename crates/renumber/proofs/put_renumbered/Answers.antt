@@ -7,4 +7,4 @@ map_interfaces-requires c =
     (c.requires.0.few, moved-fits _ _ c.requires.0 c.move_records.ensures)
 
 pub returns : goal.returns
-returns c = record { set = both-moved _ _ c.requires.0 c.move_records.ensures c.map_interfaces.ensures; list = list_put _ _ c.requires.1 c.copy_words.ensures }
+returns c = record { set = both-moved _ _ c.requires.0 c.move_records.ensures c.map_interfaces.ensures; list = list_put _ _ c.requires.1 c.copy.ensures }

@@ -1,29 +1,22 @@
-use mathlib.Core.Path.{refl, ◌∙◌}
-use native.Mathlib.Omega.{arith}
+-- Each turn makes the next call, from the state that the one before left. Assumes nothing.
+use mathlib.Core.Path.{◌∙◌}
 use Rattle.replay.proofs.ReplayLaws.{run-start, answers-start, run-turn, answers-turn, run_end, answers-end}
-use borrow.Author.Rules.{rules}
 use Rattle.replay.proofs.replay.Goals as goal
 
 pub loop-i-init : goal.loop-i-init
-loop-i-init c = (omega arith, refl, search run-start, search answers-start, refl, refl, refl, refl)
+loop-i-init c = record { state = search run-start; answers = search answers-start }
 
 pub loop-i-preserved : goal.loop-i-preserved
 loop-i-preserved c =
-    let w = c.word_part.ensures in
-    let o = c.one_call-a in (
-      omega arith,
-      omega arith,
-      run-turn _ _ _ _ (omega arith) w o.result _ _ _ _ o.ensures ∙ c.loop-i.invariant.2,
-      answers-turn _ _ _ _ (omega arith) w o.result _ _ _ _ o.ensures _ c.put_answer.ensures ∙ c.loop-i.invariant.3,
-      search rules,
-      search rules,
-      search rules,
-      search rules,
-    )
+    let w = c.part-call.ensures in
+    let o = c.one_call-answer in record {
+      state = run-turn _ _ _ _ c.loop-i-test.true w o.result _ _ _ _ o.ensures ∙ c.loop-i.invariant.state;
+      answers = answers-turn _ _ _ _ c.loop-i-test.true w o.result _ _ _ _ o.ensures _ c.put_answer.ensures ∙ c.loop-i.invariant.answers;
+    }
 
 pub returns : goal.returns
 returns c =
     let a = c.args in (
-      run_end a.abi.now a.calls.now a.stubs.now c.loop-i.i _ (omega arith) ∙ c.loop-i.invariant.2,
-      answers-end a.abi.now a.calls.now a.stubs.now c.loop-i.i _ _ (omega arith) ∙ c.loop-i.invariant.3,
+      run_end a.abi.now a.calls.now a.stubs.now c.loop-i.i _ c.loop-i-test.false ∙ c.loop-i.invariant.state,
+      answers-end a.abi.now a.calls.now a.stubs.now c.loop-i.i _ _ c.loop-i-test.false ∙ c.loop-i.invariant.answers,
     )

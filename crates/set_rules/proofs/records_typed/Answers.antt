@@ -13,9 +13,6 @@ pub returns-then-ws-at : goal.returns-then-ws-at
 returns-then-ws-at c =
     all-stop _ _ c.loop-i.i (omega arith) (past_typed _ _ _ _ _ _ c.loop-i.invariant.4 c.if-ws-at.true) refl
 
-pub part_typed-requires : goal.part_typed-requires
-part_typed-requires c = search
-
 pub returns-then-not-part_typed : goal.returns-then-not-part_typed
 returns-then-not-part_typed c = search (not-true, all-stop, record_typed_lem)
 

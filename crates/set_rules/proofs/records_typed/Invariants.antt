@@ -13,6 +13,3 @@ abbrev pub invariant-loop-i : goal.invariant-loop-i
 invariant-loop-i l =
     (l.i ≤ l.n) × (all_of l.i (record_typed l.kind l.ws l.first l.width l.text) ≡ true) × Known l.kind l.text l.known × (length l.known ≡ text_limit)
     × (l.at ≡ l.first + l.width * l.i) × (l.at ≤ l.first + member_width * l.i)
-
-abbrev pub decreases-loop-i : goal.decreases-loop-i
-decreases-loop-i l = l.n - l.i

@@ -1,12 +1,17 @@
--- Row 1 first, then row 2: each answer has its law. Assumes nothing.
-use Rattle.sheet.proofs.Laws.{block_1, block_2, block_0}
+-- Row 1 first, then row 2 of as many blocks as the bytes are. Assumes nothing.
+use Rattle.std.proofs.Common.{sym, ◌∙◌, arith}
+use Rattle.sheet.specs.Sheet.{block_refusal}
+use Rattle.sheet.proofs.Laws.{whole}
 use Rattle.sheet.proofs.block_refusal.Goals as goal
 
-pub returns-then-not-shape_ok : goal.returns-then-not-shape_ok
-returns-then-not-shape_ok c = search block_1
-
 pub returns-then-not-checks_ok : goal.returns-then-not-checks_ok
-returns-then-not-checks_ok c = search block_2
+unfolding block_refusal
+returns-then-not-checks_ok c =
+    let n = whole _ c.args.room c.args.limit c.block_count.ensures (sym c.shape_ok.ensures ∙ c.if-not-shape_ok.false) (omega arith) in
+    rw (← c.shape_ok.ensures, c.if-not-shape_ok.false, ← n, ← c.checks_ok.ensures, c.if-not-checks_ok.true)
 
 pub returns : goal.returns
-returns c = search block_0
+unfolding block_refusal
+returns c =
+    let n = whole _ c.args.room c.args.limit c.block_count.ensures (sym c.shape_ok.ensures ∙ c.if-not-shape_ok.false) (omega arith) in
+    rw (← c.shape_ok.ensures, c.if-not-shape_ok.false, ← n, ← c.checks_ok.ensures, c.if-not-checks_ok.false)

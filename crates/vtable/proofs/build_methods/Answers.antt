@@ -1,10 +1,11 @@
--- The first words of the array are the chain's ABI classes; the table is built by them. Assumes nothing.
-use mathlib.Core.Path.{◌∙◌}
+-- The first words of the array are the chain's ABI classes; by them the inherited table, and then the class's own methods. Assumes nothing.
+use Rattle.std.proofs.Common.{◌∙◌}
+use Rattle.vtable.proofs.TableLaws.{built-is}
 use Rattle.vtable.proofs.build_methods.Goals as goal
 
-pub build_with-requires : goal.build_with-requires
-build_with-requires c =
-    c.word_part-abis.ensures ∙ (rw c.wide.ensures c.chain_abi-n.ensures.is)
+pub inherited_table-requires : goal.inherited_table-requires
+inherited_table-requires c = c.part-abis.ensures ∙ c.chain_abi-k.ensures.is
 
-pub returns : goal.returns
-returns c = c.build_with.ensures
+pub returns-clause-is : goal.returns-clause-is
+returns-clause-is c =
+    let e = c.part-abis.ensures ∙ c.chain_abi-k.ensures.is in search built-is

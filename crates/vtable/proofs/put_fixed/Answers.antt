@@ -1,19 +1,24 @@
 -- Row 11 first, then row 12; else the method is stored at its fixed index. Assumes nothing.
 use native.Mathlib.Omega.{arith}
-use mathlib.Core.Path.{◌∙◌}
-use Rattle.vtable.proofs.BuildLaws.{put-any}
-use Rattle.vtable.proofs.AddLaws.{mark-entry, put-moved, put-taken, put-there}
+use Rattle.std.proofs.Common.{◌≡◌, not, false, eqb}
+use Rattle.std.proofs.lemmas.Grind.{common_steps}
+use Rattle.linking.specs.Chain.{on_found}
+use Rattle.vtable.proofs.AddLaws.{put-moved, put-taken, put-there}
 use Rattle.vtable.proofs.put_fixed.Goals as goal
+use Rattle.vtable.proofs.put_fixed.Goals.{After-is_some_and}
 
-pub returns-then-moved : goal.returns-then-moved
-returns-then-moved c = record { is = search put-moved; count = omega arith }
+moved : (c : After-is_some_and) → c.is_some_and.result ≡ on_found c.args.slot (λ j. not (eqb j c.args.i)) false
+moved c = grind (arith, common_steps)
 
-pub returns-then-taken : goal.returns-then-taken
-returns-then-taken c = record { is = search put-taken; count = omega arith }
+pub returns-then-is_some_and-clause-is : goal.returns-then-is_some_and-clause-is
+returns-then-is_some_and-clause-is c =
+    let moves = moved (goal.at.returns-then-is_some_and-clause-is c).After-is_some_and in search put-moved
 
-pub returns : goal.returns
-returns c =
-    let a = c.args in record {
-      is = put-there _ _ _ _ _ c.is_elsewhere-moved.ensures _ _ _ c.if-moved.false c.holds_other-taken.ensures c.if-taken.false (rw (c.put_slot.ensures.words, c.put_slot.ensures.marks) (put-any a.ts.now a.ms.now _ _ _ _ (omega arith) (omega arith) ∙ rw (mark-entry a.ws.now a.m (omega arith) c.method_target.ensures c.mark_of-k.ensures)));
-      count = omega arith;
-    }
+pub returns-then-holds_other-clause-is : goal.returns-then-holds_other-clause-is
+returns-then-holds_other-clause-is c =
+    let moves = moved (goal.at.returns-then-holds_other-clause-is c).After-is_some_and in search put-taken
+
+pub returns-clause-is : goal.returns-clause-is
+returns-clause-is c =
+    let moves = moved (goal.at.returns-clause-is c).After-is_some_and in
+    let own = c.of_method.ensures.is c.requires in search put-there

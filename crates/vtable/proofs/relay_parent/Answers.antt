@@ -4,11 +4,17 @@ use Rattle.vtable.proofs.BuildLaws.{relayed-is}
 use Rattle.abi.proofs.Laws.{minimum_size-room}
 use Rattle.vtable.proofs.relay_parent.Goals as goal
 
-pub extend-n-requires : goal.extend-n-requires
-extend-n-requires c =
+pub extend-requires : goal.extend-requires
+extend-requires c =
     let a = c.args in
-    let m = minimum_size-room a.abi.now a.abis.now in
-    let e = c.largest_size-size.ensures in (omega arith, omega arith, omega arith, omega arith)
+    let m = minimum_size-room a.sheets.abi.now a.abis.now in
+    let e = c.largest_size.ensures in omega arith
 
-pub returns : goal.returns
-returns c = record { is = search relayed-is; count = omega arith }
+pub relay-requires : goal.relay-requires
+relay-requires c =
+    let a = c.args in
+    let m = minimum_size-room a.sheets.abi.now a.abis.now in
+    let e = c.largest_size.ensures in omega arith
+
+pub returns-clause-is : goal.returns-clause-is
+returns-clause-is c = search relayed-is

@@ -1,18 +1,12 @@
 -- Each row refuses where those before it do not: 3 to 5, then 17, then 18. Assumes nothing.
-use Rattle.writer.proofs.Laws.{write-early, write_17, write_18, write_0}
+use Rattle.std.proofs.Common.{sym, ◌∙◌, arith}
+use Rattle.writer.proofs.Laws.{link-passed, counted, write-accepts}
 use Rattle.writer.proofs.write_refusal.Goals as goal
-
--- rows 3 to 5
-pub returns-then-row-ne0 : goal.returns-then-row-ne0
-returns-then-row-ne0 c = search write-early
-
--- row 17, and row 18 of a set that it let pass
-pub returns-then-not-is_storable : goal.returns-then-not-is_storable
-returns-then-not-is_storable c = search (write_17, write_18)
-
-pub returns-then-room-wide : goal.returns-then-room-wide
-returns-then-room-wide c = search (write_17, write_18)
 
 -- none
 pub returns : goal.returns
-returns c = search write_0
+returns c =
+    let p = link-passed _ (sym c.in_ok-link_rows.ensures) in
+    let n = counted _ p.0 c.content_end.ensures.is c.blocks_for-n.ensures in
+    let s = sym c.is_storable.ensures ∙ c.if-not-is_storable.false in
+    sym (write-accepts _ _ record { fits = p.0; rows = p.1; store = s; space = omega arith })

@@ -1,9 +1,0 @@
--- `corpus::lend_words` is safe and ends: each turn raises `i`, which stays below `n`.
-use Rattle.std.proofs.Common.{◌≡◌, ◌-◌, length}
-use Rattle.corpus.proofs.lend_words.Given as goal
-
-abbrev pub invariant-loop-i : goal.invariant-loop-i
-invariant-loop-i l = length l.out ≡ length l.initial.out
-
-abbrev pub decreases-loop-i : goal.decreases-loop-i
-decreases-loop-i l = l.n - l.i

@@ -1,9 +1,0 @@
--- `corpus::make_changes` is safe and ends: each turn raises `i`, which stays below the number of changes.
-use Rattle.std.proofs.Common.{◌≡◌, ◌-◌, length}
-use Rattle.corpus.proofs.make_changes.Given as goal
-
-abbrev pub invariant-loop-i : goal.invariant-loop-i
-invariant-loop-i l = length l.out ≡ length l.initial.out
-
-abbrev pub decreases-loop-i : goal.decreases-loop-i
-decreases-loop-i l = l.n - l.i

@@ -1,9 +1,0 @@
--- `judge::byte_sum` is safe and ends: each turn raises `i`, which stays within the bytes.
-use Rattle.std.proofs.Common.{◌-◌, length}
-use Rattle.judge.proofs.byte_sum.Given as goal
-
-abbrev pub invariant-loop-i : goal.invariant-loop-i
-invariant-loop-i l = Unit {0}
-
-abbrev pub decreases-loop-i : goal.decreases-loop-i
-decreases-loop-i l = length l.bytes - l.i

@@ -1,9 +1,0 @@
--- `judge::weighed_sum` is safe and ends: each turn raises `i`, which stays within the words.
-use Rattle.std.proofs.Common.{◌-◌, length}
-use Rattle.judge.proofs.weighed_sum.Given as goal
-
-abbrev pub invariant-loop-i : goal.invariant-loop-i
-invariant-loop-i l = Unit {0}
-
-abbrev pub decreases-loop-i : goal.decreases-loop-i
-decreases-loop-i l = length l.words - l.i

@@ -1,6 +1,0 @@
--- `judge::write_lent` is safe: the part that it lends has as many bytes as it says.
-use Rattle.std.proofs.Common.{sym, arith, length-take-le}
-use Rattle.judge.proofs.write_lent.Goals as goal
-
-pub slice_bounds-write_class_sheet-end-then-n-out : goal.slice_bounds-write_class_sheet-end-then-n-out
-slice_bounds-write_class_sheet-end-then-n-out c = sym (length-take-le _ _ (omega arith))

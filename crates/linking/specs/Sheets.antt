@@ -1,0 +1,7 @@
+-- The two sheets where their four lists are asked for. Assumes nothing.
+use Rattle.std.specs.Prelude.{ℕ, List}
+use Rattle.linking.specs.declared.Sheets.{Sheets}
+
+-- what f says of class words, their text, ABI words and theirs
+abbrev pub of_sheets {ℓ} : {A : Type ℓ} → (List ℕ → List ℕ → List ℕ → List ℕ → A) → Sheets → A
+of_sheets f sheets = f sheets.set.now sheets.text.now sheets.abi.now sheets.labels.now

@@ -1,0 +1,203 @@
+// A table of virtual slots as the code holds it: two arrays, its slots' words and their marks, and how many slots there are. A mark is a word that
+// stands for a method's number or for none, and for the slot that it is a copy of or none: only this crate knows how.
+
+ghost use Rattle.std.specs.Prelude.{◌≡◌, ◌≤◌, ◌<◌, ◌+◌, length, get_or, set, drop, replicate, [], ◌∷◌, ◌++◌, None, Some};
+ghost use Rattle.class_sheet.specs.ClassSheet.{method_limit, method_target};
+ghost use Rattle.linking.specs.Vtable.{empty, method_entry};
+ghost use Rattle.reading.specs.Arrays.{mark_of, method_of, source_of};
+
+// The mark of what a search found.
+#[tactic(auto, unfolding(crate::specs::Arrays::mark_of))]
+pub fn mark_of(f: Option<u32>) -> u32
+    ensures { result ≡ mark_of f }
+{
+    match f {
+        Some(m) if m < 4095 => m + 1,
+        _ => 0,
+    }
+}
+
+// The method that a mark stands for.
+#[tactic(auto, unfolding(crate::specs::Arrays::method_of))]
+pub fn method_of(k: u32) -> Option<u32>
+    ensures { result ≡ method_of k }
+{
+    (k % 4096).checked_sub(1)
+}
+
+// The slot that a slot with this mark is a copy of.
+#[tactic(auto, unfolding(crate::specs::Arrays::source_of))]
+pub fn source_of(k: u32) -> Option<u32>
+    ensures { result ≡ source_of k }
+{
+    (k / 4096).checked_sub(1)
+}
+
+// A slot: its word, 0 where it is empty, and its mark.
+#[derive(Clone, Copy)]
+pub struct Slot {
+    pub word: u32,
+    pub mark: u32,
+}
+
+impl Slot {
+    ghost use Rattle.reading.specs.Tables.{entry};
+
+    // An empty slot.
+    #[tactic(auto, using(crate::proofs::ArrayLaws::no_method, crate::proofs::ArrayLaws::sourceless))]
+    pub fn empty() -> Self
+        ensures { entry result ≡ empty }
+    {
+        Slot { word: 0, mark: 0 }
+    }
+
+    // The slot of a method of the class sheet.
+    #[tactic(auto, using(crate::proofs::ArrayLaws::mark_entry))]
+    pub fn of_method(set: &[u32], m: u32) -> Self
+        ensures is { m < method_limit → entry result ≡ method_entry set.now m }
+        ensures word { result.word ≡ method_target set.now m }
+        ensures mark { result.mark ≡ mark_of (Some m) }
+    {
+        Slot {
+            word: class_sheet::method_target(set, m),
+            mark: mark_of(Some(m)),
+        }
+    }
+
+    // Its method.
+    pub fn method(self) -> Option<u32>
+        ensures { result ≡ (entry self).method }
+    {
+        method_of(self.mark)
+    }
+
+    // The slot that it is a copy of.
+    pub fn source(self) -> Option<u32>
+        ensures { result ≡ (entry self).source }
+    {
+        source_of(self.mark)
+    }
+}
+
+// A table: the words of its slots and their marks, in the first `len` elements. Each table of an area fits.
+#[derive(Drop)]
+pub struct Table<const N: usize> {
+    pub words: [u32; N],
+    pub marks: [u32; N],
+    pub len: u32,
+    pub ghost room: { (1024 ≤ N) × (N ≤ 65535) },
+    pub ghost lengths: { (length words ≡ N) × (length marks ≡ N) },
+    pub ghost fits: { len ≤ N },
+}
+
+impl Table<1024> {
+    ghost use Rattle.reading.specs.Tables.{entries};
+
+    // A table without slots, with room for those of a table that is read.
+    #[tactic(auto, using(crate::proofs::ArrayLaws::no_entries))]
+    pub fn for_reading() -> Self
+        ensures is { entries result ≡ [] }
+        ensures len { result.len ≡ 0 }
+        ensures words { result.words ≡ replicate 1024 0 }
+        ensures marks { result.marks ≡ replicate 1024 0 }
+    {
+        Table {
+            words: [0; 1024],
+            marks: [0; 1024],
+            len: 0,
+        }
+    }
+}
+
+impl Table<3584> {
+    ghost use Rattle.reading.specs.Tables.{entries};
+
+    // A table without slots, with room for one that is built: 1,024 slots of a compiler table, 512 declared methods, 1,024 added ones and 1,024 of the parent.
+    #[tactic(auto, using(crate::proofs::ArrayLaws::no_entries))]
+    pub fn for_building() -> Self
+        ensures is { entries result ≡ [] }
+        ensures len { result.len ≡ 0 }
+        ensures words { result.words ≡ replicate 3584 0 }
+        ensures marks { result.marks ≡ replicate 3584 0 }
+    {
+        Table {
+            words: [0; 3584],
+            marks: [0; 3584],
+            len: 0,
+        }
+    }
+}
+
+impl<const N: usize> Table<N> {
+    ghost use Rattle.reading.specs.Tables.{entry, entries};
+
+    // Slot i, or an empty one past the table's end.
+    #[tactic(auto, using(crate::proofs::ArrayLaws::slot_is, crate::proofs::ArrayLaws::slot_past))]
+    pub fn slot(&self, i: u32) -> Slot
+        ensures { entry result ≡ get_or (entries self.now) i empty }
+    {
+        if i < self.len {
+            return Slot {
+                word: self.words[i as usize],
+                mark: self.marks[i as usize],
+            };
+        }
+        Slot::empty()
+    }
+
+    // Stores a slot as slot i, or past the table's slots, where there is room.
+    #[tactic(auto, using(crate::proofs::ArrayLaws::put_slot))]
+    pub fn put(&mut self, i: u32, slot: Slot)
+        ensures is { entries self.new ≡ set (entries self.old) i (entry slot) }
+        ensures words { self.new.words ≡ set self.old.words i slot.word }
+        ensures marks { self.new.marks ≡ set self.old.marks i slot.mark }
+        ensures len { self.new.len ≡ self.old.len }
+    {
+        words::put(&mut self.words, i as usize, slot.word);
+        words::put(&mut self.marks, i as usize, slot.mark);
+    }
+
+    // Adds a slot after the last, where there is room.
+    #[tactic(auto, using(crate::proofs::ArrayLaws::push_slot))]
+    pub fn push(&mut self, slot: Slot)
+        ensures is { self.old.len < N → entries self.new ≡ entries self.old ++ (entry slot ∷ []) }
+        ensures len { self.old.len < N → self.new.len ≡ self.old.len + 1 }
+        ensures full { N ≤ self.old.len → self.new ≡ self.old }
+        ensures count { self.new.len ≤ self.old.len + 1 }
+        ensures words { self.new.words ≡ set self.old.words self.old.len slot.word }
+        ensures marks { self.new.marks ≡ set self.old.marks self.old.len slot.mark }
+    {
+        let n = self.len as usize;
+        if n < N {
+            self.words[n] = slot.word;
+            self.marks[n] = slot.mark;
+            self.len += 1;
+        }
+    }
+
+    // Takes the slots of a table that was read, and no others. What the arrays hold after them stays.
+    pub fn copy(&mut self, from: &Table<1024>)
+        ensures is { entries self.new ≡ entries from.now }
+        ensures len { self.new.len ≡ from.now.len }
+        ensures rest { (drop from.now.len self.new.words ≡ drop from.now.len self.old.words)
+            × (drop from.now.len self.new.marks ≡ drop from.now.len self.old.marks) }
+    {
+        let n = from.len as usize;
+        for i in 0..n {
+            self.words[i] = from.words[i];
+            self.marks[i] = from.marks[i];
+        }
+        self.len = from.len;
+    }
+
+    // Takes all slots off.
+    #[tactic(auto, using(crate::proofs::ArrayLaws::no_entries))]
+    pub fn clear(&mut self)
+        ensures is { entries self.new ≡ [] }
+        ensures len { self.new.len ≡ 0 }
+        ensures words { self.new.words ≡ self.old.words }
+        ensures marks { self.new.marks ≡ self.old.marks }
+    {
+        self.len = 0;
+    }
+}

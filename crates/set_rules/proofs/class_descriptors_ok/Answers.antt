@@ -1,6 +1,0 @@
--- Methods and fields are member records of their sections, and each descriptor is read as the definition reads it. Assumes nothing.
-use Rattle.set_rules.proofs.KnownLaws.{class_typed}
-use Rattle.set_rules.proofs.class_descriptors_ok.Goals as goal
-
-pub returns : goal.returns
-returns c = search class_typed

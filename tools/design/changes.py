@@ -1,0 +1,108 @@
+#!/usr/bin/env python3
+"""Sets beside each other, old and new, what changed since a commit: signatures and clauses of public functions, definitions of specs/, statements of laws
+and theorems in proofs/*.antt.
+
+    python3 tools/design/changes.py COMMIT > docs/DESIGN-PASS-CHANGES.md
+
+A thing is known by its crate, module and name; one whose name is gone is looked for under its new name in the tables of docs/DESIGN-PASS.md, and else
+listed as gone. Comments and layout do not count.
+"""
+import collections
+import pathlib
+import re
+import subprocess
+import sys
+
+commit = sys.argv[1]
+top = pathlib.Path(__file__).resolve().parents[2]
+
+
+def git(*words):
+    return subprocess.run(["git", "-C", str(top), *words], capture_output=True, text=True, check=True).stdout
+
+
+def old_files():
+    names = [n for n in git("ls-tree", "-r", "--name-only", commit, "crates").split("\n") if n.endswith((".rt", ".antt"))]
+    data = subprocess.run(["git", "-C", str(top), "cat-file", "--batch"], input="\n".join(f"{commit}:{n}" for n in names).encode(), capture_output=True, check=True).stdout
+    files, at = {}, 0
+    for name in names:
+        end = data.index(b"\n", at)
+        size = int(data[at:end].split()[2])
+        files[name] = data[end + 1:end + 1 + size].decode()
+        at = end + 2 + size
+    return files
+
+
+def new_files():
+    return {str(p.relative_to(top)): p.read_text() for p in top.glob("crates/*/*/**/*") if p.suffix in (".rt", ".antt") and "out" not in p.parts}
+
+
+FN = re.compile(r"^ *(pub(?:\(crate\))? (?:const )?(?:extern \"C\" )?fn ([a-z_0-9]+)[\s\S]*?)\n? *\{\n(?! *(?:λ|\())", re.M)
+
+
+def flat(text):
+    text = re.sub(r"[ \t]*(?://|--)[^\n]*", "", text)
+    return re.sub(r",? ([)}])", r" \1", re.sub(r"\s+", " ", text)).strip()
+
+
+def functions(files):
+    found = {}
+    for name, text in files.items():
+        if "/src/" in name:
+            text = "\n".join(line for line in text.split("\n") if not line.lstrip().startswith("//"))
+            for m in re.finditer(r"^ *pub (?:const )?(?:extern \"C\" )?fn ([a-z_0-9]+)", text, re.M):
+                end = re.compile(r"^ *\{\n| \{\n", re.M).search(text, m.end())
+                if end:
+                    found[name.split("/")[1], m.group(1)] = flat(text[m.start():end.start()])
+    return found
+
+
+def declarations(files, folder):
+    found = {}
+    for name, text in files.items():
+        parts = name.split("/")
+        if parts[2] != folder or not name.endswith(".antt") or (folder == "proofs" and len(parts) != 4):
+            continue
+        lines = [line for line in text.split("\n") if not line.lstrip().startswith("--")]
+        for at, line in enumerate(lines):
+            m = re.match(r"( *)(?:abbrev |unfoldable )?pub (?:record |data |unfoldable |abbrev )?([^\s:({]+)(?: |$)", line)
+            if not m or re.match(r" *pub (?:mod|use) ", line) or (len(m.group(1)) > 0 and folder == "specs" and re.match(r" +pub [^\s]+ :", line)):
+                continue
+            deep, name_of = len(m.group(1)), m.group(2)
+            if name_of in ("mod", "use"):
+                continue
+            body = [line]
+            for later in lines[at + 1:]:
+                if later.strip() and len(later) - len(later.lstrip()) <= deep and not (folder == "specs" and re.match(r" *%s(?: |$)" % re.escape(name_of), later)):
+                    break
+                if folder == "proofs" and re.match(r" *(?:unfolding |%s )" % re.escape(name_of), later):
+                    break
+                body.append(later)
+            found[parts[1], parts[3][:-5], name_of] = flat("\n".join(body))
+    return found
+
+
+def show(title, before, after):
+    changed = [(k, before[k], after[k]) for k in sorted(before) if k in after and before[k] != after[k]]
+    gone = [k for k in sorted(before) if k not in after]
+    new = [k for k in sorted(after) if k not in before]
+    print(f"\n## {title}\n\n{len(before)} before, {len(after)} now: {len(before) - len(changed) - len(gone)} the same, {len(changed)} changed, {len(gone)} no longer there by that name, {len(new)} new.\n")
+    crate = None
+    for key, old, now in changed:
+        if key[0] != crate:
+            crate = key[0]
+            print(f"### {crate}\n")
+        print("```diff\n- " + old + "\n+ " + now + "\n```\n")
+    for what, keys, table in (("No longer there by that name", gone, before), ("New", new, after)):
+        if keys:
+            print(f"### {what}\n\n```")
+            for key in keys:
+                print(f"{key[0]}: {table[key]}")
+            print("```\n")
+
+
+old, new = old_files(), new_files()
+print(f"# What the design pass changed, old and new\n\nMade by `python3 tools/design/changes.py {commit}`: `-` is what stood at that commit, `+` what stands now. [DESIGN-PASS.md](DESIGN-PASS.md) has the reasons and the new homes of what is gone.")
+show("Public functions: signatures and clauses", functions(old), functions(new))
+show("Definitions", declarations(old, "specs"), declarations(new, "specs"))
+show("Laws and theorems", declarations(old, "proofs"), declarations(new, "proofs"))
