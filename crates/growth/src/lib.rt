@@ -118,8 +118,8 @@ pub fn put_indices(set: &mut [u32], at: usize, first: u32, indices: &[u32])
     }
 }
 
-// Two strings, one after the other, from `at` on, where there is room for them, and else nothing; answers where they end, or `at`. A call of
-// its own, by whose arguments the compiler sees that the lists do not overlap: the library asks for memcpy, and not for memmove.
+// Two strings, one after the other, from `at` on, where there is room for them, and else nothing; answers where they end, or `at`. The
+// compiled copies ask for memmove, as this call of its own does not tell the compiler that the lists are apart.
 #[inline(never)]
 #[tactic(auto, using(crate::proofs::GrowthLaws::strings_laid, crate::proofs::GrowthLaws::strings_end, crate::proofs::GrowthLaws::strings_none, crate::proofs::GrowthLaws::strings_stay))]
 pub fn put_strings(text: &mut [u8], at: usize, first: &[u8], second: &[u8]) -> usize
