@@ -1,17 +1,33 @@
 #!/usr/bin/env python3
-"""Sets beside each other, old and new, what changed since a commit: signatures and clauses of public functions, definitions of specs/, statements of laws
-and theorems in proofs/*.antt.
+"""Sets beside each other, old and new, what changed since a commit: signatures and clauses of public functions, public types and constants, the facts that
+types carry (ghost fields, invariants of `impl Model`), the clauses of trait impls, definitions of specs/, statements of laws and theorems in
+proofs/*.antt.
 
     python3 tools/design/changes.py COMMIT > docs/DESIGN-PASS-CHANGES.md
 
-A thing is known by its crate, module and name; one whose name is gone is looked for under its new name in the tables of docs/DESIGN-PASS.md, and else
-listed as gone. Comments and layout do not count.
+A thing is known by its crate, module and name. One whose name is gone is set beside the one of its crate whose name differs by dashes, underscores and
+case alone, or that RENAMED names, and else listed as gone. Comments and layout do not count.
 """
 import collections
 import pathlib
 import re
 import subprocess
 import sys
+
+# Crate, old name: what has its place now.
+RENAMED = {
+    ("class_form", "form-refusal"): "form_row",
+    ("class_form", "member-next"): "member_next",
+    ("growth", "ref_descriptor"): "ref_signature",
+    ("growth", "ref_name"): "ref_signature",
+    ("reading", "put_slot"): "put",
+    ("words", "byte_at"): "get_or",
+    ("words", "copy_words"): "copy",
+    ("words", "put_byte"): "put",
+    ("words", "put_word"): "put",
+    ("words", "word_at"): "get_or",
+    ("words", "word_part"): "part",
+}
 
 commit = sys.argv[1]
 top = pathlib.Path(__file__).resolve().parents[2]
@@ -57,6 +73,24 @@ def functions(files):
     return found
 
 
+def types(files):
+    """Public types and constants, and of any type its ghost fields, its `impl Model` and the clauses of its trait impls."""
+    found = {}
+    for name, text in files.items():
+        if "/src/" not in name or not name.endswith(".rt"):
+            continue
+        crate = name.split("/")[1]
+        text = "\n".join(line for line in text.split("\n") if not line.lstrip().startswith("//"))
+        for m in re.finditer(r"^ *(pub )?(struct|enum|type|const) (?!fn )(\w+)[^\n{;]*(?:\{\n[\s\S]*?^ *\}\n|[^\n]*\n)", text, re.M):
+            if m.group(1) or "ghost " in m.group(0):
+                found[crate, m.group(3)] = flat(m.group(0))
+        for m in re.finditer(r"^impl(?:<[^>\n]*>)? ([^\n{]+ for [^\n{]+) \{\n([\s\S]*?)^\}\n", text, re.M):
+            facts = re.findall(r"ghost \w+ = \{.*?\};", m.group(2), re.S)
+            if facts:
+                found[crate, "impl " + m.group(1)] = flat("impl " + m.group(1) + " " + " ".join(facts))
+    return found
+
+
 def declarations(files, folder):
     found = {}
     for name, text in files.items():
@@ -82,10 +116,30 @@ def declarations(files, folder):
     return found
 
 
+def plain(key):
+    return key[0], key[-1].replace("-", "_").lower()
+
+
+def renamed(before, after):
+    """Of each key that is gone the key that has its place, where there is one."""
+    place = {}
+    by_name = collections.defaultdict(list)
+    for key in after:
+        by_name[plain(key)].append(key)
+    for key in before:
+        if key not in after:
+            wanted = RENAMED.get((key[0], key[-1]), key[-1])
+            here = by_name[plain((key[0], wanted))]
+            if len(here) == 1:
+                place[key] = here[0]
+    return place
+
+
 def show(title, before, after):
-    changed = [(k, before[k], after[k]) for k in sorted(before) if k in after and before[k] != after[k]]
-    gone = [k for k in sorted(before) if k not in after]
-    new = [k for k in sorted(after) if k not in before]
+    place = renamed(before, after)
+    changed = [(k, before[k], after[place.get(k, k)]) for k in sorted(before) if (k in after or k in place) and before[k] != after[place.get(k, k)]]
+    gone = [k for k in sorted(before) if k not in after and k not in place]
+    new = [k for k in sorted(after) if k not in before and k not in place.values()]
     print(f"\n## {title}\n\n{len(before)} before, {len(after)} now: {len(before) - len(changed) - len(gone)} the same, {len(changed)} changed, {len(gone)} no longer there by that name, {len(new)} new.\n")
     crate = None
     for key, old, now in changed:
@@ -104,5 +158,6 @@ def show(title, before, after):
 old, new = old_files(), new_files()
 print(f"# What the design pass changed, old and new\n\nMade by `python3 tools/design/changes.py {commit}`: `-` is what stood at that commit, `+` what stands now. [DESIGN-PASS.md](DESIGN-PASS.md) has the reasons and the new homes of what is gone.")
 show("Public functions: signatures and clauses", functions(old), functions(new))
+show("Public types and constants, facts of types, clauses of trait impls", types(old), types(new))
 show("Definitions", declarations(old, "specs"), declarations(new, "specs"))
 show("Laws and theorems", declarations(old, "proofs"), declarations(new, "proofs"))

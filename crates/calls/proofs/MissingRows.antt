@@ -43,12 +43,9 @@ pub record Rows : Type 0 where
   pub moved : counts
       (lent (built "P" 0 (flagged 9 "k" 5 ∷ []) [] ∷ built "Q" 1 [] [] ∷ []) (abi "P" (slot "k" 0 ∷ []) [] ∷ abi "Q" (slot "k" 2 ∷ []) [] ∷ [])) 2
       ≡ (1, 1, 1) ∷ (3, 3, 7) ∷ []
-  pub arrays : counts (lent (built "java/lang/Object" 0 (method "foo" 0 ∷ method "k" 5 ∷ []) [] ∷ array "[I" 1 ∷ []) []) 2 ≡ (2, 1, 1) ∷ (2, 1, 1) ∷ []
   -- "a nonzero compiler slot is no copy", even with the word of the parent's counted slot
   pub nonzero : counts (lent (built "P" 0 (method "foo" 0 ∷ method "k" 0 ∷ []) [] ∷ compiled "G" 1 [] (901 ∷ 0 ∷ []) ∷ []) []) 2
       ≡ (2, 2, 3) ∷ (2, 1, 2) ∷ []
-  -- an emptied slot takes a stub
-  pub emptied : counts (lent (built "P" 0 (method "a" 5 ∷ []) [] ∷ compiled "G" 1 [] (0 ∷ []) ∷ []) []) 2 ≡ (1, 0, 0) ∷ (2, 1, 1) ∷ []
   -- "an appended parent method is"
   pub appended : counts
       (lent (built "P" 0 (method "k" 5 ∷ []) [] ∷ compiled "G" 1 [] [] ∷ []) (abi "P" (slot "k" 1 ∷ slot "k" 0 ∷ []) [] ∷ [])) 2
@@ -68,4 +65,4 @@ pub record Rows : Type 0 where
 
 pub rows : Rows
 unfolding opened after counts step run
-rows = record { holes = refl; copies = refl; moved = refl; arrays = refl; nonzero = refl; emptied = refl; appended = refl; several = refl; forty = refl; short = refl; enough = refl; asking = refl }
+rows = record { holes = refl; copies = refl; moved = refl; nonzero = refl; appended = refl; several = refl; forty = refl; short = refl; enough = refl; asking = refl }

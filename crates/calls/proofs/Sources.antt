@@ -15,7 +15,7 @@ use Rattle.linking.specs.Packages.{introducing, overridden, taken_slots, put_tak
 use Rattle.linking.specs.Compiler.{New, is_emptied, view_from, native_view, compiler_targets, added_methods, name_of, flags_of, target_of, class_methods, match_target, compiler_entry, compiler_entries, has_slot, append_from, append_entry, compiler_table}
 use Rattle.linking.specs.Link.{built_table, generated_table, generated_methods}
 use Rattle.linking.specs.Missing.{table_by}
-use Rattle.calls.specs.Sources.{Slot, whole, appended, hole, declared, added, compiled}
+use Rattle.calls.specs.Sources.{HasCompiler, Slot, whole, appended, hole, declared, added, compiled}
 use Rattle.slots.proofs.AddFacts.{built_on}
 use Rattle.linking.proofs.Added.{not_found}
 use Rattle.linking.proofs.ChainLaws.{own-method-room, target_room, found-method-room}
@@ -287,7 +287,7 @@ module _ (ws text abi labels : List ℕ) where
     unfolding target_of
     target-of xs m h = rw (lt-ltb m method_limit h)
 
-    module _ (g : new ≡ added_methods ws text abi labels area c) where
+    module _ (h : HasCompiler ws c) (g : new ≡ added_methods ws text abi labels area c) where
       abbrev xs : List New
       xs = added_methods ws text abi labels area c
 
@@ -298,7 +298,7 @@ module _ (ws text abi labels : List ℕ) where
           (λ k. rw (target-of xs m (own-method-room ws c m k)) (own m k))
           (λ k.
           let b = numbers-within method_limit (length xs) m k in
-          added (m - method_limit) (rw g (omega arith)) (rw g (unfold target_of in rw (le-ltb m method_limit (omega arith)))) refl)
+          added h (m - method_limit) (rw g (omega arith)) (rw g (unfold target_of in rw (le-ltb m method_limit (omega arith)))) refl)
           (mathlib.Core.List.Memᴰ.append_cases (own_methods ws c) i)
 
       parent-method : (e : Entry) → Parent e → (m : ℕ) → e.method ≡ Some m → Here (record { word = target_of ws xs m; method = Some m; source = e.source })
@@ -313,7 +313,7 @@ module _ (ws text abi labels : List ℕ) where
           (fold-keeps (All Here) (append_from ws text xs None) (class_methods ws xs c)
           (λ T m i a. append-one ws text abi labels Here blank xs None m (class-method m i) a)
           (compiler_entries ws xs c (native_view ws text abi labels area c) 0 (compiler_targets ws c))
-          (entries-all ws text abi labels Here blank xs c 0 (compiler_targets ws c) (λ t i n. compiled i n refl)
+          (entries-all ws text abi labels Here blank xs c 0 (compiler_targets ws c) (λ t i n. compiled h i n refl)
           (view-all ws text abi labels Here blank (chain_abi ws text abi labels (parent_of ws c)) 0 copies)))
 
     built-built : (T : List Entry) → built_table ws text abi labels area c ≡ built T → All Here T
@@ -324,15 +324,15 @@ module _ (ws text abi labels : List ℕ) where
         let r = rw t at e in
         by (is_interface (class_flags ws c)) (λ u. subst (All Here) (built-same (rw u at r)) interface-built) (λ u. methods-built T (rw u at r)))
 
-    generated-built : (T : List Entry) → generated_table ws text abi labels area c ≡ built T → All Here T
+    generated-built : is_generated ws c ≡ true → (T : List Entry) → generated_table ws text abi labels area c ≡ built T → All Here T
     unfolding generated_table generated_methods
-    generated-built T e =
+    generated-built g T e =
         by (eqb (class_compiler_table ws c) 0) (λ t. methods-built T (rw t at e))
-        (λ t. subst (All Here) (built-same (rw t at e)) (compiler-built (rw t)))
+        (λ t. subst (All Here) (built-same (rw t at e)) (compiler-built (record { generated = g; table = eqb-false _ _ t }) (rw t)))
 
     pub table-built : (T : List Entry) → table_by ws text abi labels area c ≡ built T → All Here T
     unfolding table_by
     table-built T e =
         by (is_built_kind (class_kind ws c)) (λ t. built-built T (rw t at e))
         (λ t.
-        let r = rw t at e in by (is_generated ws c) (λ u. generated-built T (rw u at r)) (λ u. subst (All Here) (built-same (rw u at r)) copies))
+        let r = rw t at e in by (is_generated ws c) (λ u. generated-built u T (rw u at r)) (λ u. subst (All Here) (built-same (rw u at r)) copies))

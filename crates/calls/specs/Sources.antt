@@ -11,6 +11,11 @@ use Rattle.linking.specs.Compiler.{New, no_new, native_view, compiler_targets, a
 use Rattle.linking.specs.Link.{generated_methods}
 use Rattle.linking.specs.Missing.{table_by}
 
+-- class c is linked by its compiler table; of a class of another kind the words of one are ignored
+pub record HasCompiler (ws : List ℕ) (c : ℕ) : Type 0 where
+  pub generated : is_generated ws c ≡ true
+  pub table : class_compiler_table ws c ≢ 0
+
 -- a slot of class c's table, where `new` are the methods that the link adds, and `P` the parent's entries
 pub data Slot (ws : List ℕ) (new : List New) (c : ℕ) (P : List Entry) (e : Entry) : Type 0 where
   -- "copied from parent entries": one of them, whole
@@ -18,12 +23,12 @@ pub data Slot (ws : List ℕ) (new : List New) (c : ℕ) (P : List Entry) (e : E
   -- "an appended parent method is": the method of one of them, with its own target
   appended : (j m : ℕ) → j < length P → (get_or P j empty).method ≡ Some m → e ≡ record { word = method_target ws m; method = Some m; source = Some j }
       → Slot ws new c P e
-  -- and no copies: an empty slot, a method that the class declares or the link adds, and
+  -- and no copies: an empty slot, a method that the class declares, and
   hole : e ≡ empty → Slot ws new c P e
   declared : (m : ℕ) → Memᴰ m (own_methods ws c) → e ≡ method_entry ws m → Slot ws new c P e
-  added : (j : ℕ) → j < length new → e.word ≡ (get_or new j no_new).last → e.source ≡ None → Slot ws new c P e
-  -- "a nonzero compiler slot is no copy"
-  compiled : Memᴰ e.word (compiler_targets ws c) → e.word ≢ 0 → e.source ≡ None → Slot ws new c P e
+  -- of a class with a compiler table, which a generated one alone has: a method that the link adds, and "a nonzero compiler slot is no copy"
+  added : HasCompiler ws c → (j : ℕ) → j < length new → e.word ≡ (get_or new j no_new).last → e.source ≡ None → Slot ws new c P e
+  compiled : HasCompiler ws c → Memᴰ e.word (compiler_targets ws c) → e.word ≢ 0 → e.source ≡ None → Slot ws new c P e
 
 pub record Sources : Type 0 where
   pub slots : (ws text abi labels area : List ℕ) (c : ℕ) (T : List Entry) → table_by ws text abi labels area c ≡ built T → (i : ℕ) → i < length T

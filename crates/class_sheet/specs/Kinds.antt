@@ -1,4 +1,4 @@
--- The kinds of classes by number: "kind, 0 built, 1 generated, 2 array", and 3, a class built by packages. Assumes nothing.
+-- The kinds of classes by number, a class record's word of that name: 0 built, 1 generated, 2 array, and 3, a class built by packages. Assumes nothing.
 use Rattle.std.specs.Prelude.{ℕ, cond, eqb, Result, Ok, Err}
 use Rattle.class_sheet.specs.declared.Kind.{Kind}
 use Rattle.class_sheet.specs.declared.Kind.TheVariants.{Built, Generated, Array, Packaged}

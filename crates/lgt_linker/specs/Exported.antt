@@ -16,7 +16,7 @@ abbrev pub called : ℕ → List ℕ → List ℕ → List ℕ → Outcome
 called row answer ws area =
     record { refusal = row; first = get_or answer 0 0; second = get_or answer 1 0; set = ws; area = area }
 
--- the same of a link, which also leaves the list of counts
+-- the same of a link, which also leaves the list of missing slots
 abbrev pub linked_by : ℕ → List ℕ → List ℕ → List ℕ → List ℕ → LinkOutcome
 linked_by row answer ws area missing = record { outcome = called row answer ws area; missing = missing }
 

@@ -1,4 +1,4 @@
-// `link`: rows 3 to 15 and 26 in the table's order, and what an accepted link leaves in the class words, the area and the list of counts.
+// `link`: rows 3 to 15 and 26 in the table's order, and what an accepted link leaves in the class words, the area and the list of missing slots.
 #![tactic(auto)]
 
 ghost use Rattle.std.specs.Prelude.{◌≡◌};

@@ -337,7 +337,7 @@ pub data Call : Type 0 where
   link : ℕ → Call
   ask : ℕ → ℕ → Call
 
--- what is lent: class words, ABI words, area, stubs and the list of counts
+-- what is lent: class words, ABI words, area, stubs and the list of missing slots
 pub record Lent : Type 0 where
   pub set : List ℕ
   pub abi : List ℕ
@@ -353,15 +353,15 @@ fresh n = 1 ∷ replicate n 0
 abbrev pub stubs_of : ℕ → List ℕ
 stubs_of n = list_from (λ i. 901 + i) 0 n
 
--- a list of counts for n classes, written by nobody yet
+-- a list of missing slots for n classes, written by nobody yet
 abbrev pub sevens : ℕ → List ℕ
 sevens n = replicate (33 * n) 7
 
--- a fresh area of 24 words, 8 stubs, a list of counts for the classes, and no word after the content
+-- a fresh area of 24 words, 8 stubs, a list of missing slots for the classes, and no word after the content
 abbrev pub lent : List Class → List AbiClass → Lent
 lent cs entries = record { set = class_sheet cs; abi = abi_sheet entries; area = fresh 23; stubs = stubs_of 8; missing = sevens (length cs) }
 
--- with other class words, another area, other stubs, and another list of counts
+-- with other class words, another area, other stubs, and another list of missing slots
 abbrev pub on_set : (List ℕ → List ℕ) → Lent → Lent
 on_set f d = record { set = f d.set; abi = d.abi; area = d.area; stubs = d.stubs; missing = d.missing }
 

@@ -202,7 +202,7 @@ pub record Outcome : Type 0 where
 abbrev pub refused_call : ℕ → List ℕ → List ℕ → Outcome
 refused_call n ws area = record { refusal = n; first = 0; second = 0; set = ws; area = area }
 
--- a link's, with the list of counts, which asks do not get
+-- a link's, with the list of missing slots, which asks do not get
 pub record LinkOutcome : Type 0 where
   pub outcome : Outcome
   pub missing : List ℕ

@@ -10,10 +10,11 @@ use Rattle.abi_sheet.specs.AbiSheet.{abi_slot_name, abi_slot_descriptor}
 use Rattle.linking.specs.Chain.{on_found, own_methods, parent_of, chain, eligible, method_is, own_method, find_by_target}
 use Rattle.linking.specs.Abi.{slot_at, class_abi, chain_abi, fixed_index, minimum_size}
 
--- a slot: its word, 0 where it is empty, its method where it is known, and the slot of the table read that it is a copy of
+-- a slot: its word, 0 where it is empty, and its method where it is known
 pub record Entry : Type 0 where
   pub word : ℕ
   pub method : Option ℕ
+  -- its own index in an entry that was read, and carried along: in a table that is built, the parent's slot that it is a copy of. None: no copy
   pub source : Option ℕ
 
 abbrev pub empty : Entry

@@ -25,7 +25,7 @@ fresh_area = 1 ∷ replicate 4095 0
 unfoldable pub stub_words : List ℕ
 stub_words = table 1024 (λ i. 4026531840 + i)
 
--- the list of counts: 33 words for each of 64 classes, so that it is never too short
+-- the list of missing slots: 33 words for each of 64 classes, so that it is never too short
 unfoldable pub fresh_counts : List ℕ
 fresh_counts = replicate 2112 0
 
