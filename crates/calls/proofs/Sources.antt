@@ -1,6 +1,6 @@
 -- What is a copy (specs/Sources.antt). What holds of the parent's entries, of the empty one and of own methods' holds of each entry of a table, however it is
 -- built: the builders move entries about and make none but these. Assumes nothing.
-use Rattle.std.proofs.Common.{◌≡◌, refl, sym, ap, ◌∙◌, subst, ◌≢◌, ⊎_elim, Bool, false, not, ◌&&◌, List, [], ◌∷◌, ◌++◌, ℕ, zero, suc, ◌+◌, ◌-◌, ◌<◌, min, arith, length, get_or, set, replicate, eqb, ltb, lt-ltb, le-ltb, Option, Some, None}
+use Rattle.std.proofs.Common.{◌≡◌, refl, sym, ap, ◌∙◌, subst, ◌≢◌, ⊎_elim, Bool, true, false, not, ◌&&◌, List, [], ◌∷◌, ◌++◌, ℕ, zero, suc, ◌+◌, ◌-◌, ◌<◌, min, arith, length, get_or, set, replicate, eqb, ltb, lt-ltb, le-ltb, Option, Some, None}
 use mathlib.Core.List.{Memᴰ}
 use borrow.Author.Tests.{eqb-false}
 use Rattle.words.specs.Lists.{list_from, fold, keep}
