@@ -140,10 +140,10 @@ pub fn see<'a>(bytes: &'a [u8]) -> Seen<'a>
 pub fn part_clean(text: &[u8], clean: bool, start: u32, len: u32) -> bool
     ensures { result ≡ part_clean text.now clean start len }
 {
-    1 <= len
-        && len <= 255
-        && start as usize + len as usize <= text.len()
-        && (clean || is_printable(name_at(text, start, len)))
+    if len < 1 || 255 < len || text.len() < start as usize + len as usize {
+        return false;
+    }
+    clean || is_printable(name_at(text, start, len))
 }
 
 // Whether a name and a descriptor are in order, whose starts and lengths are the four words from `at` on. Where the last of these is not
