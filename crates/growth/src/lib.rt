@@ -118,10 +118,9 @@ pub fn put_indices(set: &mut [u32], at: usize, first: u32, indices: &[u32])
     }
 }
 
-// Two strings, one after the other, from `at` on, where there is room for them, and else nothing; answers where they end, or `at`. The
-// compiled copies ask for memmove, as this call of its own does not tell the compiler that the lists are apart.
-#[inline(never)]
-#[tactic(auto, using(crate::proofs::GrowthLaws::strings_laid, crate::proofs::GrowthLaws::strings_end, crate::proofs::GrowthLaws::strings_none, crate::proofs::GrowthLaws::strings_stay))]
+// Two strings, one after the other, from `at` on, where there is room for them, and else nothing; answers where they end, or `at`. By
+// `copy_from_slice` the compiled library would need memmove too, where it needs memcpy and memset alone.
+#[tactic(auto, using(crate::proofs::GrowthLaws::strings_end, crate::proofs::GrowthLaws::strings_none, crate::proofs::GrowthLaws::strings_stay))]
 pub fn put_strings(text: &mut [u8], at: usize, first: &[u8], second: &[u8]) -> usize
     ensures is { text.new ≡ laid text.old at (first.now ++ second.now) }
     ensures end { result ≡ laid_end text.old at (first.now ++ second.now) }
@@ -132,8 +131,16 @@ pub fn put_strings(text: &mut [u8], at: usize, first: &[u8], second: &[u8]) -> u
     }
     let middle = at + first.len();
     let end = middle + second.len();
-    text[at..middle].copy_from_slice(first);
-    text[middle..end].copy_from_slice(second);
+    words::store_each(
+        &mut text[at..middle],
+        first.len(),
+        |i| words::get_or(first, i, 0),
+    );
+    words::store_each(
+        &mut text[middle..end],
+        second.len(),
+        |i| words::get_or(second, i, 0),
+    );
     end
 }
 
@@ -175,9 +182,12 @@ pub fn put_packed(out: &mut [u32], at: usize, bytes: &[u8])
     if (out.len() < n) || (out.len() - n < at) {
         return;
     }
-    for i in 0..n {
-        words::put(out, at + i, words::le_word(bytes, 4 * i));
-    }
+    let end = at + n;
+    words::store_each(
+        &mut out[at..end],
+        n,
+        |i| words::le_word(bytes, i.wrapping_mul(4)),
+    );
 }
 
 // The names and descriptors of the new members, one after the other.
