@@ -120,7 +120,7 @@ pub fn put_indices(set: &mut [u32], at: usize, first: u32, indices: &[u32])
 
 // Two strings, one after the other, from `at` on, where there is room for them, and else nothing; answers where they end, or `at`. By
 // `copy_from_slice` the compiled library would need memmove too, where it needs memcpy and memset alone.
-#[tactic(auto, using(crate::proofs::GrowthLaws::strings_end, crate::proofs::GrowthLaws::strings_none, crate::proofs::GrowthLaws::strings_stay))]
+#[tactic(auto, using(crate::proofs::GrowthLaws::strings_laid, crate::proofs::GrowthLaws::strings_end, crate::proofs::GrowthLaws::strings_none, crate::proofs::GrowthLaws::strings_stay))]
 pub fn put_strings(text: &mut [u8], at: usize, first: &[u8], second: &[u8]) -> usize
     ensures is { text.new ≡ laid text.old at (first.now ++ second.now) }
     ensures end { result ≡ laid_end text.old at (first.now ++ second.now) }
@@ -175,6 +175,7 @@ pub fn put_record(
 }
 
 // Bytes as words, four a word, lowest first, zeros after the last, where there is room for them, and else nothing.
+#[tactic(auto, using(crate::proofs::GrowthLaws::packed_none))]
 pub fn put_packed(out: &mut [u32], at: usize, bytes: &[u8])
     ensures { out.new ≡ laid out.old at (packed bytes.now) }
 {
