@@ -2,7 +2,7 @@
  * The LGT class linker, proved in Rattle (crates/lgt_linker). Link with liblgt_linker.a: `tools/library` makes it in
  * target/staticlib, `make install PREFIX=..` installs it with this header and a pkg-config file.
  *
- * What it needs. x86-64 Linux; memcpy, memmove and memset, and nothing else: no allocation, no system call. Of the stack at most 165,272
+ * What it needs. x86-64 Linux; memcpy and memset, and nothing else: no allocation, no system call. Of the stack at most 165,272
  * bytes were measured (docs/PERFORMANCE.md): give a thread that calls it LGT_STACK_BYTES. A thread of musl's default size,
  * 128 KiB, is too small for a link or a conversion back. Frames are probed page by page, so a stack that is too short ends in its guard page
  * and not in other memory.

@@ -1,7 +1,7 @@
 -- What the growth of a list leaves in the class words, where there is room for it, and else nothing. Assumes nothing.
 use Rattle.std.specs.Prelude.{ℕ, ◌+◌, ◌*◌, ◌-◌, ◌≤◌, Bool, cond, not, ◌&&◌, Option, Some, None, List, ◌++◌, length, take, drop, leb}
 use Rattle.words.specs.Words.{inside}
-use Rattle.class_sheet.specs.ClassSheet.{member_width, text_limit, sheet_words, text_length, text_at, text_of, methods_at, fields_at, interfaces_at, method_count, field_count, class_first_method, class_method_count, class_first_field, class_field_count, put_method_count, put_field_count, put_text_length, put_class_first_method, put_class_method_count, put_class_first_field, put_class_field_count}
+use Rattle.class_sheet.specs.ClassSheet.{member_width, text_limit, sheet_words, text_length, text_at, text_of, methods_at, fields_at, interfaces_at, class_kind, is_built_kind, method_count, field_count, class_first_method, class_method_count, class_first_field, class_field_count, put_method_count, put_field_count, put_text_length, put_class_first_method, put_class_method_count, put_class_first_field, put_class_field_count}
 use Rattle.linking.specs.Compiler.{New}
 use Rattle.growth.specs.declared.Section.{Section}
 use Rattle.growth.specs.declared.Grown.{Grown}
@@ -77,6 +77,10 @@ fields_of ws c =
       at = fields_at ws;
       end = interfaces_at ws;
     }
+
+-- the list that grows where members are added: fields of a built class, any other's methods
+unfoldable pub growing : List ℕ → ℕ → Section
+growing ws c = cond (is_built_kind (class_kind ws c)) (fields_of ws c) (methods_of ws c)
 
 pub record Placed (ws : List ℕ) (list : Section) : Type 0 where
   pub before : list.at + member_width * list.count ≤ list.end

@@ -7,7 +7,7 @@ ghost use Rattle.words.specs.Words.{words_for};
 ghost use Rattle.class_sheet.specs.ClassSheet.{member_width, text_limit, sheet_words, text_length, text_of, member_words};
 ghost use Rattle.linking.specs.Set.{write_at, put_indices, new_records, new_text, packed, section_full, grown_end};
 ghost use Rattle.growth.specs.News.{ref_name, ref_descriptor, news_of};
-ghost use Rattle.growth.specs.Growth.{laid, laid_end, can_grow, methods_grown, fields_grown, tail_of, methods_of, fields_of, methods_counted, fields_counted, appended, Placed, Room};
+ghost use Rattle.growth.specs.Growth.{laid, laid_end, can_grow, methods_grown, fields_grown, tail_of, methods_of, fields_of, growing, methods_counted, fields_counted, appended, Placed, Room};
 ghost use Rattle.linking.specs.Sheets.{of_sheets};
 
 use class_sheet::MEMBER_WIDTH;
@@ -77,33 +77,78 @@ fn grown_text(sheets: Sheets, news: &News) -> usize
     (class_sheet::text_length(sheets.set) as usize) + new_text_length(sheets, news)
 }
 
-// Row 14: whether a section of `count`, of which a list of `own` grows, or the text, would exceed its limit.
-#[tactic(auto, using(crate::proofs::GrowthLaws::full_is))]
-pub fn section_full(sheets: Sheets, count: u32, own: u32, news: &News) -> bool
-    ensures { result ≡ section_full sheets.entry.set.now count own (of_sheets news_of sheets.entry news.now) }
+// A section of `count` methods or fields, from word `at` on, which ends at word `end`, and a class's list in it: `own` from `first` on.
+#[derive(Clone, Copy)]
+pub struct Section {
+    pub count: u32,
+    pub first: u32,
+    pub own: u32,
+    pub at: usize,
+    pub end: usize,
+}
+
+fn methods_of(set: &[u32], c: u32) -> Section
+    ensures { result ≡ methods_of set.now c }
 {
-    let members = (count as usize) + ((own as usize) + (news.len() as usize));
+    Section {
+        count: class_sheet::method_count(set),
+        first: class_sheet::class_first_method(set, c),
+        own: class_sheet::class_method_count(set, c),
+        at: class_sheet::methods_at(set),
+        end: class_sheet::fields_at(set),
+    }
+}
+
+fn fields_of(set: &[u32], c: u32) -> Section
+    ensures { result ≡ fields_of set.now c }
+{
+    Section {
+        count: class_sheet::field_count(set),
+        first: class_sheet::class_first_field(set, c),
+        own: class_sheet::class_field_count(set, c),
+        at: class_sheet::fields_at(set),
+        end: class_sheet::interfaces_at(set),
+    }
+}
+
+// Class c's list that grows where members are added: the fields of a built class, any other's methods.
+#[tactic(auto, unfolding(crate::specs::Growth::growing))]
+pub fn growing(set: &[u32], c: u32) -> Section
+    ensures { result ≡ growing set.now c }
+{
+    if class_sheet::is_built(set, c) {
+        return fields_of(set, c);
+    }
+    methods_of(set, c)
+}
+
+// Row 14: whether the section of a list that grows, or the text, would exceed its limit.
+#[tactic(auto, using(crate::proofs::GrowthLaws::full_is))]
+pub fn section_full(sheets: Sheets, list: Section, news: &News) -> bool
+    ensures { result ≡ section_full sheets.entry.set.now list.count list.own (of_sheets news_of sheets.entry news.now) }
+{
+    let members = (list.count as usize) + ((list.own as usize) + (news.len() as usize));
     ((class_sheet::MEMBER_LIMIT as usize) < members)
         | ((class_sheet::TEXT_LIMIT as usize) < grown_text(sheets, news))
 }
 
-// How many words the content has once a list of `own` has grown.
+// How many words the content has once a list has grown.
 #[tactic(auto, using(crate::proofs::GrowthLaws::end_is))]
-pub fn grown_end(sheets: Sheets, own: u32, news: &News) -> usize
-    ensures { result ≡ grown_end sheets.entry.set.now own (of_sheets news_of sheets.entry news.now) }
+pub fn grown_end(sheets: Sheets, list: Section, news: &News) -> usize
+    ensures { result ≡ grown_end sheets.entry.set.now list.own (of_sheets news_of sheets.entry news.now) }
 {
-    let members = (own as usize) + (news.len() as usize);
+    let members = (list.own as usize) + (news.len() as usize);
     class_sheet::text_at(sheets.set) + MEMBER_WIDTH * members + (grown_text(sheets, news) + 3) / 4
 }
 
-// Whether a list of `own` from `first` on, in a section of `count`, can grow.
+// Whether a list can grow.
 #[tactic(auto, unfolding(crate::specs::Growth::can_grow))]
-fn can_grow(sheets: Sheets, count: u32, first: u32, own: u32, news: &News) -> bool
-    ensures { result ≡ can_grow sheets.entry.set.now count first own (of_sheets news_of sheets.entry news.now) }
+fn can_grow(sheets: Sheets, list: Section, news: &News) -> bool
+    ensures { result ≡ can_grow sheets.entry.set.now list.count list.first list.own (of_sheets news_of sheets.entry news.now) }
 {
-    let end = grown_end(sheets, own, news);
-    words::is_inside(first, own, count)
-        & !section_full(sheets, count, own, news)
+    let end = grown_end(sheets, list, news);
+    words::is_inside(list.first, list.own, list.count)
+        & !section_full(sheets, list, news)
         & (end <= class_sheet::SHEET_WORDS)
         & (end <= sheets.set.len())
 }
@@ -118,9 +163,8 @@ pub fn put_indices(set: &mut [u32], at: usize, first: u32, indices: &[u32])
     }
 }
 
-// Two strings, one after the other, from `at` on, where there is room for them, and else nothing; answers where they end, or `at`. The
-// compiled copies ask for memmove, as this call of its own does not tell the compiler that the lists are apart.
-#[inline(never)]
+// Two strings, one after the other, from `at` on, where there is room for them, and else nothing; answers where they end, or `at`. By
+// `copy_from_slice` the compiled library would need memmove too, where it needs memcpy and memset alone.
 #[tactic(auto, using(crate::proofs::GrowthLaws::strings_laid, crate::proofs::GrowthLaws::strings_end, crate::proofs::GrowthLaws::strings_none, crate::proofs::GrowthLaws::strings_stay))]
 pub fn put_strings(text: &mut [u8], at: usize, first: &[u8], second: &[u8]) -> usize
     ensures is { text.new ≡ laid text.old at (first.now ++ second.now) }
@@ -132,8 +176,16 @@ pub fn put_strings(text: &mut [u8], at: usize, first: &[u8], second: &[u8]) -> u
     }
     let middle = at + first.len();
     let end = middle + second.len();
-    text[at..middle].copy_from_slice(first);
-    text[middle..end].copy_from_slice(second);
+    words::store_each(
+        &mut text[at..middle],
+        first.len(),
+        |i| words::get_or(first, i, 0),
+    );
+    words::store_each(
+        &mut text[middle..end],
+        second.len(),
+        |i| words::get_or(second, i, 0),
+    );
     end
 }
 
@@ -168,6 +220,7 @@ pub fn put_record(
 }
 
 // Bytes as words, four a word, lowest first, zeros after the last, where there is room for them, and else nothing.
+#[tactic(auto, using(crate::proofs::GrowthLaws::packed_none))]
 pub fn put_packed(out: &mut [u32], at: usize, bytes: &[u8])
     ensures { out.new ≡ laid out.old at (packed bytes.now) }
 {
@@ -175,9 +228,12 @@ pub fn put_packed(out: &mut [u32], at: usize, bytes: &[u8])
     if (out.len() < n) || (out.len() - n < at) {
         return;
     }
-    for i in 0..n {
-        words::put(out, at + i, words::le_word(bytes, 4 * i));
-    }
+    let end = at + n;
+    words::store_each(
+        &mut out[at..end],
+        n,
+        |i| words::le_word(bytes, i.wrapping_mul(4)),
+    );
 }
 
 // The names and descriptors of the new members, one after the other.
@@ -254,40 +310,6 @@ fn put_tail(out: &mut [u32], end: usize, from: usize, own: u32, sheets: Sheets, 
     );
 }
 
-// A section of `count` methods or fields, from word `at` on, which ends at word `end`, and a class's list in it: `own` from `first` on.
-#[derive(Clone, Copy)]
-struct Section {
-    count: u32,
-    first: u32,
-    own: u32,
-    at: usize,
-    end: usize,
-}
-
-fn methods_of(set: &[u32], c: u32) -> Section
-    ensures { result ≡ methods_of set.now c }
-{
-    Section {
-        count: class_sheet::method_count(set),
-        first: class_sheet::class_first_method(set, c),
-        own: class_sheet::class_method_count(set, c),
-        at: class_sheet::methods_at(set),
-        end: class_sheet::fields_at(set),
-    }
-}
-
-fn fields_of(set: &[u32], c: u32) -> Section
-    ensures { result ≡ fields_of set.now c }
-{
-    Section {
-        count: class_sheet::field_count(set),
-        first: class_sheet::class_first_field(set, c),
-        own: class_sheet::class_field_count(set, c),
-        at: class_sheet::fields_at(set),
-        end: class_sheet::interfaces_at(set),
-    }
-}
-
 // How many records a grown list has, and how many bytes the text.
 #[derive(Clone, Copy)]
 struct Grown {
@@ -314,13 +336,13 @@ fn append<'a>(
         abi,
         labels,
     };
-    if !can_grow(sheets, list.count, list.first, list.own, news) {
+    if !can_grow(sheets, list, news) {
         return None;
     }
     let members = list.own + news.len();
     let bytes = grown_text(sheets, news) as u32;
     let from = list.at + MEMBER_WIDTH * (list.first as usize);
-    let n = grown_end(sheets, list.own, news) - list.end;
+    let n = grown_end(sheets, list, news) - list.end;
     let mut tail = [0u32; class_sheet::SHEET_WORDS];
     put_tail(&mut tail, list.end, from, list.own, sheets, news);
     words::copy(&tail, 0, n, set, list.end);

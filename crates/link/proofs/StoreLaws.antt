@@ -16,10 +16,11 @@ use Rattle.linking.specs.Fields.{static_words}
 use Rattle.linking.specs.Link.{is_none, new_statics, linked_record, lists_full, set_short}
 use Rattle.growth.specs.declared.news.Member.{Member}
 use Rattle.growth.specs.News.{news_of}
-use Rattle.growth.specs.Growth.{methods_grown, fields_grown}
+use Rattle.growth.specs.declared.Section.{Section}
+use Rattle.growth.specs.Growth.{methods_grown, fields_grown, growing}
+use Rattle.growth.specs.Growth as lists
 use Rattle.growth.proofs.NewsLaws.{length-news}
-use Rattle.link.specs.Stored.{members_plan, numbered, with_methods, stored, stored_news, growing}
-use Rattle.link.specs.declared.Section.{Section}
+use Rattle.link.specs.Stored.{members_plan, numbered, with_methods, stored, stored_news}
 
 -- ---- the static words
 
@@ -99,11 +100,11 @@ module _ (ws text abi labels : List ℕ) (ms : List Member) {n : ℕ} (size : n 
     full_is {b = b} e =
         by (is_built_kind (class_kind ws c))
         (λ q.
-        let k : g ≡ record { count = field_count ws; own = class_field_count ws c } = rw q at list in
+        let k : g ≡ lists.fields_of ws c = rw q at list in
         let f : b ≡ section_full ws (field_count ws) (class_field_count ws c) (news_of ws text abi labels ms) = rw k at e in
         rw q (rw (f, ← news-is)))
         (λ q.
-        let k : g ≡ record { count = method_count ws; own = class_method_count ws c } = rw q at list in
+        let k : g ≡ lists.methods_of ws c = rw q at list in
         let f : b ≡ section_full ws (method_count ws) (class_method_count ws c) (news_of ws text abi labels ms) = rw k at e in
         rw q (rw (f, ← news-is)
         (sym (or-last (not (is_none (news_of ws text abi labels ms)) && section_full ws (method_count ws) (class_method_count ws c) (news_of ws text abi labels ms))))))
@@ -114,11 +115,11 @@ module _ (ws text abi labels : List ℕ) (ms : List Member) {n : ℕ} (size : n 
     short_is {m = m} e =
         by (is_built_kind (class_kind ws c))
         (λ q.
-        let k : g ≡ record { count = field_count ws; own = class_field_count ws c } = rw q at list in
+        let k : g ≡ lists.fields_of ws c = rw q at list in
         let f : m ≡ grown_end ws (class_field_count ws c) (news_of ws text abi labels ms) = rw k at e in
         rw q (rw (f, ← news-is)))
         (λ q.
-        let k : g ≡ record { count = method_count ws; own = class_method_count ws c } = rw q at list in
+        let k : g ≡ lists.methods_of ws c = rw q at list in
         let f : m ≡ grown_end ws (class_method_count ws c) (news_of ws text abi labels ms) = rw k at e in
         rw q (rw (f, ← news-is)
         (sym (or-last (not (is_none (news_of ws text abi labels ms)) && ltb (length ws) (grown_end ws (class_method_count ws c) (news_of ws text abi labels ms)))))))

@@ -1,7 +1,7 @@
 -- What a link stores in the class words, as the code goes: what grows, then the record, then the indices; its last rows, and what it answers. Assumes
 -- nothing.
 use Rattle.std.specs.Prelude.{ℕ, ◌≡◌, true, false, cond, ◌||◌, List, [], Result, Ok, Err}
-use Rattle.class_sheet.specs.ClassSheet.{text_of, class_first_field, fields_at, class_kind, is_built_kind, method_count, field_count, class_method_count, class_field_count}
+use Rattle.class_sheet.specs.ClassSheet.{text_of, class_first_field, fields_at}
 use Rattle.abi_sheet.specs.AbiSheet.{abi_text_of}
 use Rattle.set_rules.specs.SetRules.{set_fits, set_refusal}
 use Rattle.linking.specs.Compiler.{New}
@@ -16,7 +16,6 @@ use Rattle.plan.specs.Plans.{methods_of, fields_of, Plans}
 use Rattle.field.specs.declared.Numbered.{Numbered}
 use Rattle.reading.specs.declared.table.Table.{Table}
 use Rattle.reading.specs.Tables.{entries}
-use Rattle.link.specs.declared.Section.{Section}
 use Rattle.refusal.specs.declared.Refusal.{Refusal}
 use Rattle.refusal.specs.Rows.{row}
 
@@ -42,14 +41,6 @@ stored ws c place slots words statics indices methods fields =
 
 abbrev pub stored_news : List ℕ → ℕ → ℕ → ℕ → ℕ → ℕ → List ℕ → List New → List ℕ
 stored_news ws c place slots words statics indices new = stored ws c place slots words statics indices (methods_of ws c new) (fields_of ws c new)
-
--- ---- what grows where members are added: fields of a built class, any other's methods
-
-unfoldable pub growing : List ℕ → ℕ → Section
-growing ws c =
-    cond (is_built_kind (class_kind ws c))
-    (record { count = field_count ws; own = class_field_count ws c })
-    (record { count = method_count ws; own = class_method_count ws c })
 
 -- ---- rows 14 and 15 of a plan whose table has n slots: the number that refuses it, or 0
 

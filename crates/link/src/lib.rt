@@ -5,7 +5,7 @@ ghost use Rattle.std.specs.Prelude.{◌≡◌};
 ghost use Rattle.linking.specs.Link.{new_statics, linked_record, lists_full, set_short, link_def};
 ghost use Rattle.growth.specs.News.{news_of};
 ghost use Rattle.refusal.specs.Rows.{row_of};
-ghost use Rattle.link.specs.Stored.{link_outcome, members_plan, numbered, with_methods, stored_news, growing, room_row, Fitting, Texts, Accepted, Judged};
+ghost use Rattle.link.specs.Stored.{link_outcome, members_plan, numbered, with_methods, stored_news, room_row, Fitting, Texts, Accepted, Judged};
 ghost use Rattle.linking.specs.Sheets.{of_sheets};
 
 use area::Answer;
@@ -100,38 +100,13 @@ fn store_link<'a>(
     store_indices(set, c, linked, indices);
 }
 
-// The section that grows where members are added, fields of a built class or methods of any other: how many records it has, and how many of
-// them are the class's own.
-#[derive(Clone, Copy)]
-struct Section {
-    count: u32,
-    own: u32,
-}
-
-// That of class c.
-#[tactic(auto, unfolding(crate::specs::Stored::growing))]
-fn growing(sheets: Sheets, c: u32) -> Section
-    ensures { result ≡ growing sheets.entry.set.now c }
-{
-    if class_sheet::is_built(sheets.set, c) {
-        return Section {
-            count: class_sheet::field_count(sheets.set),
-            own: class_sheet::class_field_count(sheets.set, c),
-        };
-    }
-    Section {
-        count: class_sheet::method_count(sheets.set),
-        own: class_sheet::class_method_count(sheets.set, c),
-    }
-}
-
 // Row 14: whether the list that grows, or the text, would exceed its limit.
 #[tactic(auto, using(crate::proofs::StoreLaws::full_is))]
 fn lists_full(sheets: Sheets, c: u32, news: &News) -> bool
     ensures { result ≡ lists_full sheets.entry.set.now c (members_plan sheets.entry.set.now c (of_sheets news_of sheets.entry news.now)) }
 {
-    let list = growing(sheets, c);
-    (news.len() != 0) & growth::section_full(sheets, list.count, list.own, news)
+    let list = growth::growing(sheets.set, c);
+    (news.len() != 0) & growth::section_full(sheets, list, news)
 }
 
 // Row 15, of the set: whether its slice has too few words for the grown sections.
@@ -139,8 +114,8 @@ fn lists_full(sheets: Sheets, c: u32, news: &News) -> bool
 fn set_short(sheets: Sheets, c: u32, news: &News) -> bool
     ensures { result ≡ set_short sheets.entry.set.now c (members_plan sheets.entry.set.now c (of_sheets news_of sheets.entry news.now)) }
 {
-    let list = growing(sheets, c);
-    (news.len() != 0) & (sheets.set.len() < growth::grown_end(sheets, list.own, news))
+    let list = growth::growing(sheets.set, c);
+    (news.len() != 0) & (sheets.set.len() < growth::grown_end(sheets, list, news))
 }
 
 // Rows 14 and 15 of a link with these new members and a table of n slots.
