@@ -18,7 +18,9 @@ ghost use Rattle.reading.specs.Tables.{entries};
 ghost use Rattle.linking.specs.Sheets.{of_sheets};
 
 use linking::Sheets;
-pub use table::{Slot, Table, mark_of, method_of, source_of};
+pub use table::{
+    BUILD_LIMIT, BuiltTable, ReadTable, Slot, TABLE_LIMIT, Table, mark_of, method_of, source_of,
+};
 
 mod table;
 
@@ -211,7 +213,7 @@ pub fn table_entries<const N: usize>(
     area: &[u32],
     c: u32,
     table: &mut Table<N>,
-    classes: &mut [u32; 1024],
+    classes: &mut [u32; TABLE_LIMIT],
 )
     ensures is { entries table.new ≡ of_sheets table_entries sheets.entry area.now c }
     ensures count { table.new.len ≤ 1024 }
@@ -243,6 +245,6 @@ pub fn parent_entries<const N: usize>(sheets: Sheets, area: &[u32], c: u32, tabl
         table.clear();
         return;
     }
-    let mut classes = [0u32; 1024];
+    let mut classes = [0u32; TABLE_LIMIT];
     table_entries(sheets, area, parent, table, &mut classes);
 }
