@@ -170,7 +170,7 @@ fn mark_by_index(sheets: Sheets, c: u32, marks: &mut [u32], classes: &mut [u32])
 fn slot_count(ws: &[u32], c: u32) -> u32
     ensures { result ≡ min (class_slot_count ws.now c) 1024 }
 {
-    class_sheet::class_slot_count(ws, c).min(1024)
+    class_sheet::class_slot_count(ws, c).min(TABLE_LIMIT as u32)
 }
 
 // Stores the words of the table at `place`, no marks, and no classes.
