@@ -20,7 +20,7 @@ ghost use Rattle.text.specs.Signatures.{of_signature};
 
 use area::Answer;
 use linking::{Declared, Sheets};
-use reading::{Slot, Table};
+use reading::{ReadTable, Slot, TABLE_LIMIT, Table};
 use refusal::Refusal;
 use text::Signature;
 
@@ -70,8 +70,8 @@ fn dispatch_slots(
     ws: &[u32],
     text: &[u8],
     c: u32,
-    from: &Table<1024>,
-    to: &mut Table<1024>,
+    from: &ReadTable,
+    to: &mut ReadTable,
 ) -> Result<(), Refusal>
     ensures { table_built (entries to.new) result ≡ dispatch_entries ws.now text.now c (entries from.now) }
 {
@@ -89,13 +89,13 @@ fn dispatch_table(
     area: &[u32],
     c: u32,
     i: u32,
-    to: &mut Table<1024>,
+    to: &mut ReadTable,
 ) -> Result<(), Refusal>
     ensures { table_built (entries to.new) result
         ≡ dispatch_entries sheets.entry.set.now sheets.entry.text.now c (of_sheets table_entries sheets.entry area.now i) }
 {
     let mut from = Table::for_reading();
-    let mut classes = [0u32; 1024];
+    let mut classes = [0u32; TABLE_LIMIT];
     reading::table_entries(sheets, area, i, &mut from, &mut classes);
     dispatch_slots(sheets.set, sheets.text, c, &from, to)
 }
@@ -107,7 +107,7 @@ fn dispatch_unpacked<'a>(
     area: &[u32],
     c: u32,
     i: u32,
-    to: &mut Table<1024>,
+    to: &mut ReadTable,
 ) -> Result<(), Refusal>
     requires { (text_length ws.now ≤ text_limit) × (abi_text_length abi.now ≤ abi_text_limit) }
     ensures { table_built (entries to.new) result
@@ -143,7 +143,7 @@ fn finish_ask(
     area: &mut [u32],
     stubs: &[u32],
     nodes: u32,
-    table: &Table<1024>,
+    table: &ReadTable,
 ) -> Result<Answer, Refusal>
     requires { bad_area ws.now area.old ≡ false }
     ensures { outcome result ws.now area.new ≡ finish_ask ws.now c i area.old stubs.now nodes (built (entries table.now)) }

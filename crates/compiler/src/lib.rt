@@ -16,7 +16,7 @@ ghost use Rattle.text.specs.Signatures.{of_signature};
 
 use growth::News;
 use linking::Sheets;
-use reading::{Slot, Table};
+use reading::{BuiltTable, ReadTable, Slot, Table};
 use text::Signature;
 
 // The name and descriptor of method m, of the sheet or an added one.
@@ -92,7 +92,7 @@ fn has_target(sheets: Sheets, news: &News, slot: Slot, t: u32) -> bool
 }
 
 // The mark of the first slot of the view whose method has target t.
-fn view_target(sheets: Sheets, news: &News, view: &Table<1024>, t: u32) -> u32
+fn view_target(sheets: Sheets, news: &News, view: &ReadTable, t: u32) -> u32
     ensures { method_of result ≡ first_found (entry_target sheets.entry.set.now (of_sheets news_of sheets.entry news.now) t) (entries view.now) }
 {
     match words::find_in(0, view.len, |i| has_target(sheets, news, view.slot(i), t)) {
@@ -102,7 +102,7 @@ fn view_target(sheets: Sheets, news: &News, view: &Table<1024>, t: u32) -> u32
 }
 
 // The mark of the first method with target t: declared, added, or of the native view's slots.
-fn match_target(sheets: Sheets, news: &News, c: u32, view: &Table<1024>, t: u32) -> u32
+fn match_target(sheets: Sheets, news: &News, c: u32, view: &ReadTable, t: u32) -> u32
     ensures { method_of result ≡ match_target sheets.entry.set.now (of_sheets news_of sheets.entry news.now) c (entries view.now) t }
 {
     let first = class_sheet::class_first_method(sheets.set, c);
@@ -118,7 +118,7 @@ fn match_target(sheets: Sheets, news: &News, c: u32, view: &Table<1024>, t: u32)
 
 // Slot i of the compiler table, whose target is t.
 #[tactic(auto, using(crate::proofs::EntryLaws::slot_zero, crate::proofs::EntryLaws::slot_match))]
-fn entry_slot(sheets: Sheets, news: &News, c: u32, view: &Table<1024>, i: u32, t: u32) -> Slot
+fn entry_slot(sheets: Sheets, news: &News, c: u32, view: &ReadTable, i: u32, t: u32) -> Slot
     ensures { entry result ≡ compiler_entry sheets.entry.set.now (of_sheets news_of sheets.entry news.now) c (entries view.now) i t }
 {
     if t == 0 {
@@ -136,8 +136,8 @@ fn compiler_entries(
     sheets: Sheets,
     news: &News,
     c: u32,
-    view: &Table<1024>,
-    table: &mut Table<3584>,
+    view: &ReadTable,
+    table: &mut BuiltTable,
 )
     ensures is { entries table.new
         ≡ compiler_entries sheets.entry.set.now (of_sheets news_of sheets.entry news.now) c (entries view.now) 0 (compiler_targets sheets.entry.set.now c) }
@@ -166,7 +166,7 @@ fn same_method(sheets: Sheets, news: &News, signature: Signature, slot: Slot) ->
 }
 
 // Whether a slot of the table has this name and descriptor.
-fn has_slot(sheets: Sheets, news: &News, signature: Signature, table: &Table<3584>) -> bool
+fn has_slot(sheets: Sheets, news: &News, signature: Signature, table: &BuiltTable) -> bool
     ensures { result ≡ some (of_signature (of_news same_method sheets.entry news.now) signature.entry) (entries table.now) }
 {
     words::some_in(
@@ -178,7 +178,7 @@ fn has_slot(sheets: Sheets, news: &News, signature: Signature, table: &Table<358
 
 // Whether method m takes a slot behind those of the table: it is eligible, and none of them has its signature.
 #[tactic(auto, using(crate::proofs::AppendLaws::takes_none, crate::proofs::AppendLaws::takes_new))]
-fn takes_slot(sheets: Sheets, news: &News, table: &Table<3584>, m: u32) -> bool
+fn takes_slot(sheets: Sheets, news: &News, table: &BuiltTable, m: u32) -> bool
     ensures { result ≡ of_news takes_slot sheets.entry news.now (entries table.now) m }
 {
     let signature = signature_of(sheets, news, m);
@@ -189,7 +189,7 @@ fn takes_slot(sheets: Sheets, news: &News, table: &Table<3584>, m: u32) -> bool
 }
 
 // Appends the slot's method, if it has one that takes a slot.
-fn append(sheets: Sheets, news: &News, slot: Slot, table: &mut Table<3584>)
+fn append(sheets: Sheets, news: &News, slot: Slot, table: &mut BuiltTable)
     requires { table.old.len < 3584 }
     ensures is { entries table.new ≡ of_news append_entry sheets.entry news.now (entries table.old) (entry slot) }
     ensures count { table.new.len ≤ table.old.len + 1 }
@@ -219,7 +219,7 @@ fn method_number(first: u32, own: u32, j: u32) -> u32
 }
 
 // Appends class c's declared methods and the added ones.
-fn append_methods(sheets: Sheets, news: &News, c: u32, table: &mut Table<3584>)
+fn append_methods(sheets: Sheets, news: &News, c: u32, table: &mut BuiltTable)
     requires { table.old.len ≤ 1024 }
     ensures is { entries table.new ≡ fold (of_news append_from sheets.entry news.now None) (entries table.old)
         (class_methods sheets.entry.set.now (of_sheets news_of sheets.entry news.now) c) }
@@ -235,7 +235,7 @@ fn append_methods(sheets: Sheets, news: &News, c: u32, table: &mut Table<3584>)
 }
 
 // Appends the methods of the parent's slots.
-fn append_parent(sheets: Sheets, news: &News, parent: &Table<1024>, table: &mut Table<3584>)
+fn append_parent(sheets: Sheets, news: &News, parent: &ReadTable, table: &mut BuiltTable)
     requires { table.old.len ≤ 2560 }
     ensures { entries table.new ≡ fold (of_news append_entry sheets.entry news.now) (entries table.old) (entries parent.now) }
 {
@@ -249,9 +249,9 @@ fn compiler_table(
     sheets: Sheets,
     news: &News,
     c: u32,
-    parent: &Table<1024>,
-    view: &Table<1024>,
-    table: &mut Table<3584>,
+    parent: &ReadTable,
+    view: &ReadTable,
+    table: &mut BuiltTable,
 )
     ensures { entries table.new ≡ fold (of_news append_entry sheets.entry news.now) (fold (of_news append_from sheets.entry news.now None)
         (compiler_entries sheets.entry.set.now (of_sheets news_of sheets.entry news.now) c (entries view.now) 0 (compiler_targets sheets.entry.set.now c))
@@ -267,7 +267,7 @@ pub fn prepare_generated(
     sheets: Sheets,
     area: &[u32],
     c: u32,
-    table: &mut Table<3584>,
+    table: &mut BuiltTable,
     news: &mut News,
 )
     ensures table { entries table.new ≡ of_sheets compiler_table sheets.entry area.now c }

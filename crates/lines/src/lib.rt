@@ -13,7 +13,7 @@ ghost use Rattle.lines.specs.Out.{Puts};
 ghost use Rattle.lines.specs.Lines.{shown, column, class_line, slot_line, refused, class_refused, sheet_refused, own_slot, fixed_slot, slot_name, slot_descriptor, entry_line, slot_texts, lines_of, is_unlisted, class_lines};
 
 use linking::Sheets;
-use reading::Table;
+use reading::{TABLE_LIMIT, Table};
 use text::Signature;
 
 // A part of a text as a line shows it: a dash where it is empty.
@@ -184,7 +184,7 @@ fn list_slots(sheets: Sheets, area: &[u32], c: u32, out: &mut Out)
     ensures { Puts out.old out.new (of_sheets slot_texts sheets.entry c 0 (of_sheets table_entries sheets.entry area.now c)) }
 {
     let mut table = Table::for_reading();
-    let mut classes = [0u32; 1024];
+    let mut classes = [0u32; TABLE_LIMIT];
     reading::table_entries(sheets, area, c, &mut table, &mut classes);
     for i in 0..table.len {
         let s = Slot {

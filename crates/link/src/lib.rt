@@ -13,7 +13,7 @@ use class_sheet::Kind;
 use field::Numbered;
 use growth::News;
 use linking::Sheets;
-use reading::Table;
+use reading::{BuiltTable, Table};
 use refusal::Refusal;
 
 // The static words that a link gives class c, unless it is generated.
@@ -148,7 +148,7 @@ fn judge(
     area: &[u32],
     stubs: &[u32],
     missing: &[u32],
-    table: &mut Table<3584>,
+    table: &mut BuiltTable,
     news: &mut News,
 ) -> Result<Numbered, Refusal>
     requires { Accepted sheets.set.now sheets.abi.now c area.now sheets.text.now sheets.labels.now }

@@ -17,7 +17,7 @@ ghost use Rattle.text.specs.Signatures.{of_signature};
 
 use growth::{Member, News};
 use linking::Sheets;
-use reading::{Slot, Table};
+use reading::{ReadTable, Slot};
 use text::Signature;
 
 // Whether class c's list holds method m.
@@ -80,7 +80,7 @@ fn view_slot(sheets: Sheets, abis: &[u32], i: u32, slot: Slot) -> Slot
 }
 
 // Fills the view with that of the parent's slots.
-fn view_entries(sheets: Sheets, abis: &[u32], parent: &Table<1024>, view: &mut Table<1024>)
+fn view_entries(sheets: Sheets, abis: &[u32], parent: &ReadTable, view: &mut ReadTable)
     ensures is { entries view.new ≡ of_sheets view_from sheets.entry abis.now 0 (entries parent.now) }
     ensures len { view.new.len ≡ parent.now.len }
 {
@@ -204,7 +204,7 @@ fn add(sheets: Sheets, c: u32, i: u32, t: u32, slot: Slot, news: &mut News)
 }
 
 // The methods that class c's compiler targets add, where this is the native view, and no others.
-fn add_methods(sheets: Sheets, c: u32, view: &Table<1024>, news: &mut News)
+fn add_methods(sheets: Sheets, c: u32, view: &ReadTable, news: &mut News)
     requires { SheetMethods (entries view.now) }
     ensures is { of_sheets news_of sheets.entry news.new ≡ of_sheets added_from sheets.entry c (entries view.now) 0 (compiler_targets sheets.entry.set.now c) }
     ensures count { length news.new ≤ 1024 }
@@ -223,8 +223,8 @@ pub fn native_view(
     sheets: Sheets,
     area: &[u32],
     c: u32,
-    parent: &mut Table<1024>,
-    view: &mut Table<1024>,
+    parent: &mut ReadTable,
+    view: &mut ReadTable,
     news: &mut News,
 )
     ensures parent { entries parent.new ≡ of_sheets parent_entries sheets.entry area.now c }

@@ -152,13 +152,12 @@ module _ (ws text abi labels area : List ℕ) (c : ℕ) where
   pub no_table : {U : List Entry} → class_limit < c → U ≡ [] → U ≡ build_packages (same_methods ws text) ws text abi labels area c
   no_table h e = e ∙ sym (packages-beyond (same_methods ws text) ws text abi labels area c h)
 
-  pub packages_are : (ts ms tops : List ℕ) (n p : ℕ) {T U : List Entry} → entries_of ts ms n ≡ T → T ≡ parent_entries ws text abi labels area c → n ≤ 1024
+  pub packages_are : (ts ms tops : List ℕ) (n p : ℕ) {U : List Entry} → entries_of ts ms n ≡ parent_entries ws text abi labels area c → n ≤ 1024
       → p ≡ parent_of ws c → Tops ws text abi labels area p tops
       → U ≡ fold (take_slots (same_methods ws text) ws text (top_of tops) n c) (entries_of ts ms n) (own_methods ws c)
       → c ≤ class_limit → U ≡ build_packages (same_methods ws text) ws text abi labels area c
   unfolding packages_over
-  packages_are ts ms tops n p d f l q tells u room =
-      let e = d ∙ f in
+  packages_are ts ms tops n p e l q tells u room =
       let k : n ≡ length (parent_entries ws text abi labels area c) = sym (length-entries ts ms n) ∙ ap length e in
       u
       ∙ takes-ext (top_of tops) (introducing ws text abi labels area p) n (λ i h. tells i (omega arith)) (own_methods ws c) (entries_of ts ms n)

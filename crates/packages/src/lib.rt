@@ -16,7 +16,7 @@ ghost use Rattle.linking.specs.Sheets.{of_sheets};
 
 use class_sheet::Kind;
 use linking::Sheets;
-use reading::{Slot, Table};
+use reading::{BuiltTable, ReadTable, Slot, TABLE_LIMIT, Table};
 
 // How many classes a set has at most.
 const CLASSES: usize = class_sheet::CLASS_LIMIT as usize;
@@ -147,9 +147,9 @@ fn lay_class(
     sheets: Sheets,
     area: &[u32],
     d: u32,
-    read: &mut Table<1024>,
-    classes: &mut [u32; 1024],
-    tops: &mut [u32; 1024],
+    read: &mut ReadTable,
+    classes: &mut [u32; TABLE_LIMIT],
+    tops: &mut [u32; TABLE_LIMIT],
 )
     ensures { of_sheets Laid sheets.entry area.now d tops.old tops.new }
 {
@@ -166,9 +166,9 @@ fn lay_chain(
     sheets: Sheets,
     area: &[u32],
     d: u32,
-    read: &mut Table<1024>,
-    classes: &mut [u32; 1024],
-    tops: &mut [u32; 1024],
+    read: &mut ReadTable,
+    classes: &mut [u32; TABLE_LIMIT],
+    tops: &mut [u32; TABLE_LIMIT],
 )
     ensures { of_sheets LaidUp sheets.entry area.now d tops.old tops.new }
 {
@@ -181,12 +181,12 @@ fn lay_chain(
 }
 
 // The marks of the methods that introduced the slots of class p's table: those of the tables of its chain, laid over nothing.
-fn introducing_marks(sheets: Sheets, area: &[u32], p: u32, tops: &mut [u32; 1024])
+fn introducing_marks(sheets: Sheets, area: &[u32], p: u32, tops: &mut [u32; TABLE_LIMIT])
     requires { tops.old ≡ replicate 1024 0 }
     ensures { of_sheets Tops sheets.entry area.now p tops.new }
 {
     let mut read = Table::for_reading();
-    let mut classes = [0u32; 1024];
+    let mut classes = [0u32; TABLE_LIMIT];
     lay_chain(sheets, area, p, &mut read, &mut classes, tops);
 }
 
@@ -202,10 +202,10 @@ fn is_taken(k: u32, marks: &[u32; METHODS]) -> bool
 
 // Stores the slot at each of the n inherited ones that is taken, and answers whether there is one.
 fn store_taken(
-    tops: &[u32; 1024],
+    tops: &[u32; TABLE_LIMIT],
     marks: &[u32; METHODS],
     n: u32,
-    table: &mut Table<3584>,
+    table: &mut BuiltTable,
     slot: Slot,
 ) -> bool
     ensures slots { entries table.new ≡ fold (λ l j. set l j (entry slot)) (entries table.old) (taken_in tops.now marks.now n) }
@@ -226,11 +226,11 @@ fn store_taken(
 #[tactic(auto, using(crate::proofs::TakeLaws::take_some))]
 fn put_taken(
     ws: &[u32],
-    tops: &[u32; 1024],
+    tops: &[u32; TABLE_LIMIT],
     marks: &[u32; METHODS],
     m: u32,
     n: u32,
-    table: &mut Table<3584>,
+    table: &mut BuiltTable,
 )
     requires { (m < method_limit) × (table.old.len < 3584) }
     ensures is { entries table.new ≡ put_taken (method_entry ws.now m) (entries table.old) (taken_in tops.now marks.now n) }
@@ -247,11 +247,11 @@ fn put_taken(
 fn take_slots(
     ws: &[u32],
     text: &[u8],
-    tops: &[u32; 1024],
+    tops: &[u32; TABLE_LIMIT],
     c: u32,
     m: u32,
     n: u32,
-    table: &mut Table<3584>,
+    table: &mut BuiltTable,
 )
     requires { (c ≤ class_limit) × (m < method_limit) × (table.old.len < 3584) }
     ensures is { entries table.new ≡ take_slots (same_methods ws.now text.now) ws.now text.now (top_of tops.now) n c (entries table.old) m }
@@ -266,7 +266,7 @@ fn take_slots(
 }
 
 // Gives each of class c's own methods its slots, in their order: the table holds the inherited ones.
-fn take_all(ws: &[u32], text: &[u8], tops: &[u32; 1024], c: u32, table: &mut Table<3584>)
+fn take_all(ws: &[u32], text: &[u8], tops: &[u32; TABLE_LIMIT], c: u32, table: &mut BuiltTable)
     requires { (c ≤ class_limit) × (table.old.len ≤ 1024) }
     ensures is { entries table.new
         ≡ fold (take_slots (same_methods ws.now text.now) ws.now text.now (top_of tops.now) table.old.len c) (entries table.old) (own_methods ws.now c) }
@@ -282,7 +282,7 @@ fn take_all(ws: &[u32], text: &[u8], tops: &[u32; 1024], c: u32, table: &mut Tab
 
 // Fills the table with class c's: the parent's entries, and its own methods. None for a number above the limit, which rows 3 and 6 refuse. What
 // the table's arrays hold past its slots is the program's choice and means nothing.
-pub fn build_packages(sheets: Sheets, area: &[u32], c: u32, table: &mut Table<3584>)
+pub fn build_packages(sheets: Sheets, area: &[u32], c: u32, table: &mut BuiltTable)
     ensures is { entries table.new ≡ of_sheets (build_packages (same_methods sheets.entry.set.now sheets.entry.text.now)) sheets.entry area.now c }
     ensures count { table.new.len ≤ 1536 }
 {
@@ -290,10 +290,8 @@ pub fn build_packages(sheets: Sheets, area: &[u32], c: u32, table: &mut Table<35
         table.clear();
         return;
     }
-    let mut parent = Table::for_reading();
-    reading::parent_entries(sheets, area, c, &mut parent);
-    table.copy(&parent);
-    let mut tops = [0u32; 1024];
+    reading::parent_entries(sheets, area, c, table);
+    let mut tops = [0u32; TABLE_LIMIT];
     introducing_marks(sheets, area, chain::parent_of(sheets.set, c), &mut tops);
     take_all(sheets.set, sheets.text, &tops, c, table);
 }

@@ -128,18 +128,18 @@ module _ (ws text abi labels area : List ℕ) (c : ℕ) where
 
   -- ---- an array class
 
-  pub array_plan : (ps qs : List ℕ) (n : ℕ) {T : List Entry} {ms : List Member} → is_built_kind (class_kind ws c) ≡ false → n ≤ 1024
-      → entries_of ps qs n ≡ parent_entries ws text abi labels area c → T ≡ entries_of ps qs n → ms ≡ []
+  pub array_plan : (ps qs : List ℕ) (n : ℕ) {ms : List Member} → is_built_kind (class_kind ws c) ≡ false → n ≤ 1024
+      → entries_of ps qs n ≡ parent_entries ws text abi labels area c → ms ≡ []
       → Planning ws c (L.new_words ws text abi labels c) (L.plan_array ws text abi labels area c)
-      (Ok (record { indices = replicate field_limit 0; n = 0; words = 0 })) T (news_of ws text abi labels ms)
+      (Ok (record { indices = replicate field_limit 0; n = 0; words = 0 })) (entries_of ps qs n) (news_of ws text abi labels ms)
   unfolding L.plan_array L.within_slots overlaid
-  array_plan ps qs n {T = T} {ms = ms} kind few table copied none =
+  array_plan ps qs n {ms = ms} kind few table none =
       let m : news_of ws text abi labels ms ≡ [] = rw none (news_none ws text abi labels) in
       rw (no_words kind, m)
-      (accepted-plan ws c 0 T []
+      (accepted-plan ws c 0 (entries_of ps qs n) []
       (record { table = parent_entries ws text abi labels area c; indices = []; new_methods = []; new_fields = [] })
       (record { indices = replicate field_limit 0; n = 0; words = 0 })
-      (rw (← table, length-entries ps qs n, le-ltb 1024 n few)) refl (copied ∙ table) (either (is_built_kind (class_kind ws c)))
+      (rw (← table, length-entries ps qs n, le-ltb 1024 n few)) refl table (either (is_built_kind (class_kind ws c)))
       (either (is_built_kind (class_kind ws c))))
     where
       either : (b : Bool) → [] ≡ cond {A = List New} b [] []

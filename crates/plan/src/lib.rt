@@ -15,15 +15,15 @@ use class_sheet::Kind;
 use field::Numbered;
 use growth::News;
 use linking::Sheets;
-use reading::Table;
+use reading::{BuiltTable, TABLE_LIMIT};
 use refusal::Refusal;
 
 // Row 13, more than 1,024 slots.
 #[tactic(auto, using(crate::proofs::KindLaws::few_many, crate::proofs::KindLaws::few_left))]
-fn few_slots(table: &Table<3584>) -> Result<(), Refusal>
+fn few_slots(table: &BuiltTable) -> Result<(), Refusal>
     ensures { step_of result (entries table.now) ≡ few_slots (built (entries table.now)) }
 {
-    if 1024 < table.len {
+    if (TABLE_LIMIT as u32) < table.len {
         return Err(Refusal::ManySlots);
     }
     Ok(())
@@ -31,7 +31,7 @@ fn few_slots(table: &Table<3584>) -> Result<(), Refusal>
 
 // Fills the table with a built class's, of any number of slots.
 #[tactic(auto, unfolding(linking::specs::Link::built_table))]
-fn built_table(sheets: Sheets, area: &[u32], c: u32, table: &mut Table<3584>) -> Result<(), Refusal>
+fn built_table(sheets: Sheets, area: &[u32], c: u32, table: &mut BuiltTable) -> Result<(), Refusal>
     ensures { step_of result (entries table.new) ≡ of_sheets built_table sheets.entry area.now c }
 {
     if class_sheet::has_kind(sheets.set, c, Kind::Packaged) {
@@ -51,7 +51,7 @@ fn generated_table(
     sheets: Sheets,
     area: &[u32],
     c: u32,
-    table: &mut Table<3584>,
+    table: &mut BuiltTable,
     news: &mut News,
 ) -> Result<(), Refusal>
     ensures is { step_of result (entries table.new) ≡ of_sheets generated_table sheets.entry area.now c }
@@ -70,7 +70,7 @@ fn plan_built(
     sheets: Sheets,
     area: &[u32],
     c: u32,
-    table: &mut Table<3584>,
+    table: &mut BuiltTable,
     news: &mut News,
 ) -> Result<Numbered, Refusal>
     requires { is_built_kind (class_kind sheets.set.now c) ≡ true }
@@ -88,7 +88,7 @@ fn plan_generated(
     sheets: Sheets,
     area: &[u32],
     c: u32,
-    table: &mut Table<3584>,
+    table: &mut BuiltTable,
     news: &mut News,
 ) -> Result<Numbered, Refusal>
     requires { is_built_kind (class_kind sheets.set.now c) ≡ false }
@@ -106,16 +106,14 @@ fn plan_array(
     sheets: Sheets,
     area: &[u32],
     c: u32,
-    table: &mut Table<3584>,
+    table: &mut BuiltTable,
     news: &mut News,
 ) -> Numbered
     requires { is_built_kind (class_kind sheets.set.now c) ≡ false }
     ensures { of_sheets (Plans plan_array) sheets.entry area.now c
         (Ok result) (entries table.new) (of_sheets news_of sheets.entry news.new) }
 {
-    let mut parent = Table::for_reading();
-    reading::parent_entries(sheets, area, c, &mut parent);
-    table.copy(&parent);
+    reading::parent_entries(sheets, area, c, table);
     news.clear();
     Numbered {
         indices: [0; class_sheet::FIELD_LIMIT as usize],
@@ -130,7 +128,7 @@ pub fn plan_link(
     sheets: Sheets,
     area: &[u32],
     c: u32,
-    table: &mut Table<3584>,
+    table: &mut BuiltTable,
     news: &mut News,
 ) -> Result<Numbered, Refusal>
     ensures { of_sheets (Plans plan) sheets.entry area.now c

@@ -4,18 +4,17 @@ use mathlib.Core.Logic.{◌≢◌}
 use mathlib.Core.List.{List, [], ◌∷◌, ◌++◌}
 use Prim.Native.Nat.{ℕ, ◌+◌, ◌*◌, ◌-◌, ◌/◌, ◌%◌, ◌≤◌, ◌<◌}
 use native.Mathlib.Omega.{arith}
-use lib.ListN.{length, get_or, set, drop, length-append, length-set, get_or-append}
-use lib.Seq.{ext_get_or, drop-drop, get_or-set_same, get_or-set_other, get_or_at}
+use lib.ListN.{length, get_or, set, length-append, length-set, get_or-append}
+use lib.Seq.{ext_get_or, get_or-set_same, get_or-set_other, get_or_at}
 use lib.Dec.{eqb, ltb}
 use borrow.Author.Tests.{ltb-true, ltb-false, lt-ltb, ne_eqb, eqb-true, eqb-false}
 use Rattle.class_sheet.specs.ClassSheet.{method_target, method_limit}
 use Rattle.words.proofs.Bools.{by}
 use Rattle.std.specs.Prelude.{Option}
 use Rattle.std.specs.Prelude.{Some, None}
-use Rattle.std.proofs.lemmas.List.{get_or_past, drop-set-lt}
+use Rattle.std.proofs.lemmas.List.{get_or_past}
 use Rattle.words.specs.Lists.{list_from}
 use Rattle.words.proofs.ListLaws.{length-list-from, get_d_list_from}
-use Rattle.words.proofs.Ext.{list-more}
 use Rattle.linking.specs.Vtable.{Entry, empty, method_entry}
 use Rattle.reading.specs.Arrays.{mark_of, copy_mark, method_of, source_of, entry_at, entries_of}
 
@@ -147,19 +146,3 @@ push_slot ts ms n w k r s =
     rw p
     (entry_found (set ts n w) (set ms n k) (n + 1) n empty (omega arith) ∙ stored_here ts ms n w k r s
     ∙ sym (get_or_at (entries_of ts ms n) (record { word = w; method = method_of k; source = source_of k }) [] empty n e))))
-
--- ---- slots copied, one after the other
-
--- what follows stays as it was
-pub kept_turn : (ts us : List ℕ) (i v : ℕ) → drop i ts ≡ drop i us → drop (i + 1) (set ts i v) ≡ drop (i + 1) us
-kept_turn ts us i v e =
-    drop-set-lt (i + 1) ts i v (omega arith) ∙ sym (drop-drop 1 i ts) ∙ ap (λ (l : List ℕ). drop 1 l) e ∙ drop-drop 1 i us
-
-pub copied_start : (ts ms ps qs : List ℕ) → entries_of ts ms 0 ≡ entries_of ps qs 0
-copied_start ts ms ps qs = no_entries ts ms ∙ sym (no_entries ps qs)
-
-pub copied_turn : (ts ms ps qs : List ℕ) (i : ℕ) → entries_of ts ms i ≡ entries_of ps qs i → i < length ts → i < length ms
-    → entries_of (set ts i (get_or ps i 0)) (set ms i (get_or qs i 0)) (i + 1) ≡ entries_of ps qs (i + 1)
-unfolding entry_at entries_of
-copied_turn ts ms ps qs i e r s =
-    push_slot ts ms i (get_or ps i 0) (get_or qs i 0) r s ∙ rw e (sym (list-more (entry_at ps qs) i))

@@ -1,7 +1,7 @@
 -- Laws of the marks that Reading gives, slot after slot and class after class. Assumes nothing.
 use mathlib.Core.Path.{◌≡◌, refl, sym, ◌∙◌}
 use mathlib.Core.Bool.{Bool, true, cond}
-use mathlib.Core.List.{List}
+use mathlib.Core.List.{List, ◌++◌}
 use Prim.Native.Nat.{ℕ, zero, suc, ◌+◌, ◌*◌, ◌%◌, ◌≤◌, ◌<◌}
 use native.Mathlib.Omega.{arith}
 use lib.ListN.{length, get_or, set, drop, get_or-append}
@@ -215,6 +215,13 @@ pub list-from-ext {ℓ} : {A : Type ℓ} (f g : ℕ → A) (m n : ℕ) → ((i :
 unfolding list_from
 list-from-ext f g m zero h = refl
 list-from-ext f g m (suc n) h = rw (h m (omega arith), list-from-ext f g (m + 1) n (λ i l. h i (omega arith)))
+
+-- the slots of two arrays are those of longer ones that begin with them
+pub front-entries : (us os xs ys : List ℕ) (n : ℕ) → length us ≡ n → length os ≡ n → entries_of (us ++ xs) (os ++ ys) n ≡ entries_of us os n
+unfolding entries_of entry_at
+front-entries us os xs ys n e f =
+    list-from-ext (entry_at (us ++ xs) (os ++ ys)) (entry_at us os) 0 n
+    (λ i h. rw (get_or-append us xs 0 i (omega arith), get_or-append os ys 0 i (omega arith)))
 
 module _ (ws text abi labels area : List ℕ) (place c n : ℕ) (ts ms : List ℕ) where
   module _ {us ns ks ls os : List ℕ} (t : us ≡ stores n (λ i. get_or area (place + 1 + i) 0) ts)

@@ -1,5 +1,5 @@
 -- The entries that the code's table stands for. Assumes nothing.
-use Rattle.std.specs.Prelude.{ℕ, ◌≡◌, List}
+use Rattle.std.specs.Prelude.{ℕ, List}
 use Rattle.linking.specs.Vtable.{Entry}
 use Rattle.reading.specs.declared.table.Slot.{Slot}
 use Rattle.reading.specs.declared.table.Table.{Table}
@@ -12,9 +12,3 @@ entry s = record { word = s.word; method = method_of s.mark; source = source_of 
 -- the entries of a table
 abbrev pub entries : {N : ℕ} → Table N → List Entry
 entries t = entries_of t.words t.marks t.len
-
--- a table that is marked: it has these marks, and its words and slots stay
-pub record Marked {N : ℕ} (old new : Table N) (ms : List ℕ) : Type 0 where
-  pub marks : new.marks ≡ ms
-  pub words : new.words ≡ old.words
-  pub len : new.len ≡ old.len

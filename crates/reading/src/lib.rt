@@ -12,23 +12,25 @@ ghost use Rattle.linking.specs.Abi.{class_abi};
 ghost use Rattle.chain.specs.Records.{first_target};
 ghost use Rattle.linking.specs.Vtable.{own_fixed, find_by_index, table_entries, parent_entries};
 ghost use Rattle.linking.specs.Whose.{declared_by_target, declared_by_index, slot_class};
-ghost use Rattle.reading.specs.Arrays.{copy_marks, or_mark, marks_with};
+ghost use Rattle.reading.specs.Arrays.{copy_marks, or_mark, marks_with, entries_of};
 ghost use Rattle.reading.specs.Classes.{claimed, claims, classes_with, Paired};
-ghost use Rattle.reading.specs.Tables.{entries, Marked};
+ghost use Rattle.reading.specs.Tables.{entries};
 ghost use Rattle.linking.specs.Sheets.{of_sheets};
 
 use linking::Sheets;
-pub use table::{Slot, Table, mark_of, method_of, source_of};
+pub use table::{
+    BUILD_LIMIT, BuiltTable, ReadTable, Slot, TABLE_LIMIT, Table, mark_of, method_of, source_of,
+};
 
 mod table;
 
-// Makes each slot of the table a copy of itself: what is read is what a child takes.
-fn give_sources(table: &mut Table<1024>)
-    ensures { Marked table.old table.new (copy_marks table.old.len table.old.marks) }
+// Makes each slot a copy of itself: what is read is what a child takes.
+fn give_sources(marks: &mut [u32])
+    requires { length marks.old ≤ 1024 }
+    ensures { marks.new ≡ copy_marks (length marks.old) marks.old }
 {
-    for i in 0..table.len {
-        let k = table.marks[i as usize];
-        table.marks[i as usize] = k % 4096 + 4096 * (i + 1);
+    for (i, mark) in marks.iter_mut().enumerate() {
+        *mark = *mark % 4096 + 4096 * (i as u32 + 1);
     }
 }
 
@@ -41,24 +43,29 @@ fn mark_if(k: u32, w: u32, t: u32, m: u32) -> u32
     if (k == 0) & (w == t) { m + 1 } else { k }
 }
 
-// Marks so each slot of the table. No slot ends the loop, so that the compiler takes several at a time.
-fn mark_target(m: u32, w: u32, table: &mut Table<1024>)
-    requires { m < method_limit }
-    ensures { Marked table.old table.new (marks_with (λ i. cond (eqb w (get_or table.old.words i 0)) (Some m) None) table.old.len table.old.marks) }
+// Marks so each slot. No slot ends the loop, so that the compiler takes several at a time.
+fn mark_target(m: u32, w: u32, words: &[u32], marks: &mut [u32])
+    requires { (m < method_limit) × (length words.now ≡ length marks.old) }
+    ensures { marks.new ≡ marks_with (λ i. cond (eqb w (get_or words.now i 0)) (Some m) None) (length marks.old) marks.old }
 {
-    let count = table.len as usize;
-    for i in 0..count {
-        table.marks[i] = mark_if(table.marks[i], w, table.words[i], m);
+    for (i, mark) in marks.iter_mut().enumerate() {
+        *mark = mark_if(*mark, w, words[i], m);
     }
 }
 
 // Marks each slot that has no mark with the first method that has its word as target, of the list of records.
-fn mark_targets(records: &[u32], first: u32, count: u32, table: &mut Table<1024>)
-    ensures { Marked table.old table.new (marks_with (λ i. first_target records.now first count (get_or table.old.words i 0)) table.old.len table.old.marks) }
+fn mark_targets(records: &[u32], first: u32, count: u32, words: &[u32], marks: &mut [u32])
+    requires { length words.now ≡ length marks.old }
+    ensures { marks.new ≡ marks_with (λ i. first_target records.now first count (get_or words.now i 0)) (length marks.old) marks.old }
 {
     let methods = chain::list_count(first, count, class_sheet::METHOD_LIMIT);
     for j in 0..methods {
-        mark_target(first + j, chain::record_target(records, first + j), table);
+        mark_target(
+            first + j,
+            chain::record_target(records, first + j),
+            words,
+            marks,
+        );
     }
 }
 
@@ -71,31 +78,30 @@ fn class_if(k: u32, d: u32, c: u32) -> u32
 }
 
 // Gives class c to each slot that has a mark and no class yet.
-fn claim(c: u32, table: &Table<1024>, cs: &mut [u32])
-    requires { table.now.len ≤ length cs.old }
-    ensures { cs.new ≡ claims c table.now.len table.now.marks cs.old }
+fn claim(c: u32, marks: &[u32], classes: &mut [u32])
+    requires { length marks.now ≡ length classes.old }
+    ensures { classes.new ≡ claims c (length marks.now) marks.now classes.old }
 {
-    let count = table.len as usize;
-    for i in 0..count {
-        cs[i] = class_if(table.marks[i], cs[i], c);
+    for (i, class) in classes.iter_mut().enumerate() {
+        *class = class_if(marks[i], *class, c);
     }
 }
 
 // Marks each slot that has no mark by its word: with the first method that has it as target, class c's, then its ancestors', and the class
 // that has it. The chain is gone along once for all slots.
-fn mark_by_target(ws: &[u32], c: u32, table: &mut Table<1024>, cs: &mut [u32])
-    requires { (table.old.len ≤ length cs.old) × Paired table.old.len table.old.marks cs.old }
-    ensures table { Marked table.old table.new (marks_with (λ i. find_by_target ws.now c (get_or table.old.words i 0)) table.old.len table.old.marks) }
-    ensures classes { cs.new ≡ classes_with (λ i. declared_by_target ws.now c (get_or table.old.words i 0)) table.old.len cs.old }
+fn mark_by_target(ws: &[u32], c: u32, words: &[u32], marks: &mut [u32], classes: &mut [u32])
+    requires { (length words.now ≡ length marks.old) × (length classes.old ≡ length marks.old) × Paired (length marks.old) marks.old classes.old }
+    ensures marks { marks.new ≡ marks_with (λ i. find_by_target ws.now c (get_or words.now i 0)) (length marks.old) marks.old }
+    ensures classes { classes.new ≡ classes_with (λ i. declared_by_target ws.now c (get_or words.now i 0)) (length marks.old) classes.old }
 {
     if c == 0 {
         return;
     }
     let first = class_sheet::class_first_method(ws, c);
     let count = class_sheet::class_method_count(ws, c);
-    mark_targets(chain::method_records(ws), first, count, table);
-    claim(c, table, cs);
-    mark_by_target(ws, chain::parent_of(ws, c), table, cs);
+    mark_targets(chain::method_records(ws), first, count, words, marks);
+    claim(c, marks, classes);
+    mark_by_target(ws, chain::parent_of(ws, c), words, marks, classes);
 }
 
 // Class c's own method of the signature that its ABI entry a fixes at index i.
@@ -125,72 +131,89 @@ fn fixed_mark(sheets: Sheets, a: u32, c: u32, i: u32, k: u32) -> u32
     mark_of(own_fixed(sheets, a, i, c))
 }
 
-// Marks so each slot of the table.
-fn mark_fixed(sheets: Sheets, a: u32, c: u32, table: &mut Table<1024>)
-    requires { Some a ≡ of_sheets class_abi sheets c }
-    ensures { Marked table.old table.new (marks_with (λ i. of_sheets own_fixed sheets.entry i c) table.old.len table.old.marks) }
+// Marks so each slot.
+fn mark_fixed(sheets: Sheets, a: u32, c: u32, marks: &mut [u32])
+    requires { (Some a ≡ of_sheets class_abi sheets c) × (length marks.old ≤ 1024) }
+    ensures { marks.new ≡ marks_with (λ i. of_sheets own_fixed sheets.entry i c) (length marks.old) marks.old }
 {
-    for i in 0..table.len {
-        let k = table.marks[i as usize];
-        table.marks[i as usize] = fixed_mark(sheets, a, c, i, k);
+    for (i, mark) in marks.iter_mut().enumerate() {
+        *mark = fixed_mark(sheets, a, c, i as u32, *mark);
     }
 }
 
 // Marks so each slot by class c's ABI entry, if it has one.
-fn mark_own(sheets: Sheets, c: u32, table: &mut Table<1024>)
-    ensures { Marked table.old table.new (marks_with (λ i. of_sheets own_fixed sheets.entry i c) table.old.len table.old.marks) }
+fn mark_own(sheets: Sheets, c: u32, marks: &mut [u32])
+    requires { length marks.old ≤ 1024 }
+    ensures { marks.new ≡ marks_with (λ i. of_sheets own_fixed sheets.entry i c) (length marks.old) marks.old }
 {
     if let Some(a) = abi::class_abi(sheets, c) {
-        mark_fixed(sheets, a, c, table);
+        mark_fixed(sheets, a, c, marks);
     }
 }
 
 // Marks each slot that has no mark by its index: with the own method of the first class of c's chain that has one of the signature that the
 // class's ABI entry fixes there, and that class. Each class's entry is looked up once for all slots.
-fn mark_by_index(sheets: Sheets, c: u32, table: &mut Table<1024>, cs: &mut [u32])
-    requires { (table.old.len ≤ length cs.old) × Paired table.old.len table.old.marks cs.old }
-    ensures table { Marked table.old table.new (marks_with (of_sheets find_by_index sheets.entry c) table.old.len table.old.marks) }
-    ensures classes { cs.new ≡ classes_with (of_sheets declared_by_index sheets.entry c) table.old.len cs.old }
+fn mark_by_index(sheets: Sheets, c: u32, marks: &mut [u32], classes: &mut [u32])
+    requires { (length marks.old ≤ 1024) × (length classes.old ≡ length marks.old) × Paired (length marks.old) marks.old classes.old }
+    ensures marks { marks.new ≡ marks_with (of_sheets find_by_index sheets.entry c) (length marks.old) marks.old }
+    ensures classes { classes.new ≡ classes_with (of_sheets declared_by_index sheets.entry c) (length marks.old) classes.old }
 {
     if c == 0 {
         return;
     }
-    mark_own(sheets, c, table);
-    claim(c, table, cs);
-    mark_by_index(sheets, chain::parent_of(sheets.set, c), table, cs);
+    mark_own(sheets, c, marks);
+    claim(c, marks, classes);
+    mark_by_index(sheets, chain::parent_of(sheets.set, c), marks, classes);
 }
 
 // How many slots class c's table has.
 fn slot_count(ws: &[u32], c: u32) -> u32
     ensures { result ≡ min (class_slot_count ws.now c) 1024 }
 {
-    class_sheet::class_slot_count(ws, c).min(1024)
+    class_sheet::class_slot_count(ws, c).min(TABLE_LIMIT as u32)
 }
 
-// Fills the table with the n words of the one at `place`, no marks, and no classes.
-fn copy_slots(area: &[u32], place: u32, n: u32, table: &mut Table<1024>, cs: &mut [u32])
-    requires { n ≤ 1024 }
-    ensures words { table.new.words ≡ stores n (λ i. get_or area.now (place + 1 + i) 0) table.old.words }
-    ensures marks { table.new.marks ≡ stores n (λ i. 0) table.old.marks }
-    ensures len { table.new.len ≡ n }
-    ensures classes { cs.new ≡ stores n (λ i. 0) cs.old }
+// Stores the words of the table at `place`, no marks, and no classes.
+fn copy_slots(area: &[u32], place: u32, words: &mut [u32], marks: &mut [u32], classes: &mut [u32])
+    ensures words { words.new ≡ stores (length words.old) (λ i. get_or area.now (place + 1 + i) 0) words.old }
+    ensures marks { marks.new ≡ stores (length words.old) (λ i. 0) marks.old }
+    ensures classes { classes.new ≡ stores (length words.old) (λ i. 0) classes.old }
 {
-    let count = n as usize;
-    let slots = words::part(area, (place as usize) + 1, count);
-    words::store_each(&mut table.words, count, |i| words::get_or(slots, i, 0));
-    words::store_each(&mut table.marks, count, |_| 0);
-    words::store_each(cs, count, |_| 0);
-    table.len = n;
+    let n = words.len();
+    let slots = words::part(area, (place as usize) + 1, n);
+    words::store_each(words, n, |i| words::get_or(slots, i, 0));
+    words::store_each(marks, n, |_| 0);
+    words::store_each(classes, n, |_| 0);
+}
+
+// Reads the slots of class c's table, as many as it has: their words, their marks, and the classes that declare their methods.
+fn read_slots(
+    sheets: Sheets,
+    area: &[u32],
+    c: u32,
+    words: &mut [u32],
+    marks: &mut [u32],
+    classes: &mut [u32],
+)
+    requires { (length words.old ≡ min (class_slot_count sheets.set.now c) 1024) × (length marks.old ≡ length words.old) × (length classes.old ≡ length words.old) }
+    ensures is { entries_of words.new marks.new (length words.old) ≡ of_sheets table_entries sheets.entry area.now c }
+    ensures classes { classes.new ≡ list_from (of_sheets slot_class sheets.entry area.now c) 0 (length words.old) }
+{
+    let place = class_sheet::class_table_place(sheets.set, c);
+    copy_slots(area, place, words, marks, classes);
+    mark_by_target(sheets.set, c, words, marks, classes);
+    mark_by_index(sheets, c, marks, classes);
+    give_sources(marks);
 }
 
 // Fills the table with the entries of class c's, each as Reading finds it, and the front of the array with the classes that declare their
 // methods, 0 where there is none. What the arrays hold past the table's slots stays.
-pub fn table_entries(
+pub fn table_entries<const N: usize>(
     sheets: Sheets,
     area: &[u32],
     c: u32,
-    table: &mut Table<1024>,
-    classes: &mut [u32; 1024],
+    table: &mut Table<N>,
+    classes: &mut [u32; TABLE_LIMIT],
 )
     ensures is { entries table.new ≡ of_sheets table_entries sheets.entry area.now c }
     ensures count { table.new.len ≤ 1024 }
@@ -198,17 +221,21 @@ pub fn table_entries(
     ensures classes { take table.new.len classes.new ≡ list_from (of_sheets slot_class sheets.entry area.now c) 0 table.new.len }
     ensures others { drop table.new.len classes.new ≡ drop table.new.len classes.old }
 {
-    let n = slot_count(sheets.set, c);
-    let place = class_sheet::class_table_place(sheets.set, c);
-    copy_slots(area, place, n, table, classes);
-    mark_by_target(sheets.set, c, table, classes);
-    mark_by_index(sheets, c, table, classes);
-    give_sources(table);
+    table.len = slot_count(sheets.set, c);
+    let n = table.len as usize;
+    read_slots(
+        sheets,
+        area,
+        c,
+        &mut table.words[..n],
+        &mut table.marks[..n],
+        &mut classes[..n],
+    );
 }
 
 // Fills the table with the entries of class c's parent's, read along the parent's own chain: none without a parent. What the arrays hold past
 // the table's slots stays.
-pub fn parent_entries(sheets: Sheets, area: &[u32], c: u32, table: &mut Table<1024>)
+pub fn parent_entries<const N: usize>(sheets: Sheets, area: &[u32], c: u32, table: &mut Table<N>)
     ensures is { entries table.new ≡ of_sheets parent_entries sheets.entry area.now c }
     ensures count { table.new.len ≤ 1024 }
     ensures rest { (drop table.new.len table.new.words ≡ drop table.new.len table.old.words) × (drop table.new.len table.new.marks ≡ drop table.new.len table.old.marks) }
@@ -218,6 +245,6 @@ pub fn parent_entries(sheets: Sheets, area: &[u32], c: u32, table: &mut Table<10
         table.clear();
         return;
     }
-    let mut classes = [0u32; 1024];
+    let mut classes = [0u32; TABLE_LIMIT];
     table_entries(sheets, area, parent, table, &mut classes);
 }

@@ -1,7 +1,7 @@
 // A table of virtual slots as the code holds it: two arrays, its slots' words and their marks, and how many slots there are. A mark is a word that
 // stands for a method's number or for none, and for the slot that it is a copy of or none: only this crate knows how.
 
-ghost use Rattle.std.specs.Prelude.{◌≡◌, ◌≤◌, ◌<◌, ◌+◌, length, get_or, set, drop, replicate, [], ◌∷◌, ◌++◌, None, Some};
+ghost use Rattle.std.specs.Prelude.{◌≡◌, ◌≤◌, ◌<◌, ◌+◌, length, get_or, set, replicate, [], ◌∷◌, ◌++◌, None, Some};
 ghost use Rattle.class_sheet.specs.ClassSheet.{method_limit, method_target};
 ghost use Rattle.linking.specs.Vtable.{empty, method_entry};
 ghost use Rattle.reading.specs.Arrays.{mark_of, method_of, source_of};
@@ -79,6 +79,17 @@ impl Slot {
     }
 }
 
+// How many slots a table of the area has at most.
+pub const TABLE_LIMIT: usize = 1024;
+
+// How many slots a table that is built has at most: 1,024 of a compiler table, 512 declared methods, 1,024 added ones and 1,024 of the parent.
+pub const BUILD_LIMIT: usize = 3584;
+
+// A table that is read, and one that is built.
+pub type ReadTable = Table<TABLE_LIMIT>;
+
+pub type BuiltTable = Table<BUILD_LIMIT>;
+
 // A table: the words of its slots and their marks, in the first `len` elements. Each table of an area fits.
 #[derive(Drop)]
 pub struct Table<const N: usize> {
@@ -90,7 +101,7 @@ pub struct Table<const N: usize> {
     pub ghost fits: { len ≤ N },
 }
 
-impl Table<1024> {
+impl Table<TABLE_LIMIT> {
     ghost use Rattle.reading.specs.Tables.{entries};
 
     // A table without slots, with room for those of a table that is read.
@@ -102,17 +113,17 @@ impl Table<1024> {
         ensures marks { result.marks ≡ replicate 1024 0 }
     {
         Table {
-            words: [0; 1024],
-            marks: [0; 1024],
+            words: [0; TABLE_LIMIT],
+            marks: [0; TABLE_LIMIT],
             len: 0,
         }
     }
 }
 
-impl Table<3584> {
+impl Table<BUILD_LIMIT> {
     ghost use Rattle.reading.specs.Tables.{entries};
 
-    // A table without slots, with room for one that is built: 1,024 slots of a compiler table, 512 declared methods, 1,024 added ones and 1,024 of the parent.
+    // A table without slots, with room for one that is built.
     #[tactic(auto, using(crate::proofs::ArrayLaws::no_entries))]
     pub fn for_building() -> Self
         ensures is { entries result ≡ [] }
@@ -121,8 +132,8 @@ impl Table<3584> {
         ensures marks { result.marks ≡ replicate 3584 0 }
     {
         Table {
-            words: [0; 3584],
-            marks: [0; 3584],
+            words: [0; BUILD_LIMIT],
+            marks: [0; BUILD_LIMIT],
             len: 0,
         }
     }
@@ -173,21 +184,6 @@ impl<const N: usize> Table<N> {
             self.marks[n] = slot.mark;
             self.len += 1;
         }
-    }
-
-    // Takes the slots of a table that was read, and no others. What the arrays hold after them stays.
-    pub fn copy(&mut self, from: &Table<1024>)
-        ensures is { entries self.new ≡ entries from.now }
-        ensures len { self.new.len ≡ from.now.len }
-        ensures rest { (drop from.now.len self.new.words ≡ drop from.now.len self.old.words)
-            × (drop from.now.len self.new.marks ≡ drop from.now.len self.old.marks) }
-    {
-        let n = from.len as usize;
-        for i in 0..n {
-            self.words[i] = from.words[i];
-            self.marks[i] = from.marks[i];
-        }
-        self.len = from.len;
     }
 
     // Takes all slots off.

@@ -13,7 +13,7 @@ ghost use Rattle.linking.specs.Sheets.{of_sheets};
 ghost use Rattle.text.specs.Signatures.{of_signature};
 
 use linking::Sheets;
-use reading::{Slot, Table};
+use reading::{BuiltTable, ReadTable, Slot, Table};
 use refusal::Refusal;
 use text::Signature;
 
@@ -29,7 +29,7 @@ fn slot_is(ws: &[u32], text: &[u8], signature: Signature, slot: Slot) -> bool
 }
 
 // The table's first slot that has this signature.
-fn find_slot(ws: &[u32], text: &[u8], signature: Signature, table: &Table<3584>) -> Option<u32>
+fn find_slot(ws: &[u32], text: &[u8], signature: Signature, table: &BuiltTable) -> Option<u32>
     ensures { result ≡ of_signature (slot_of ws.now text.now) signature.entry (entries table.now) }
 {
     words::find_in(0, table.len, |i| {
@@ -38,7 +38,7 @@ fn find_slot(ws: &[u32], text: &[u8], signature: Signature, table: &Table<3584>)
 }
 
 // Extends the table with empty slots to `size`.
-fn extend(table: &mut Table<3584>, size: u32)
+fn extend(table: &mut BuiltTable, size: u32)
     requires { size ≤ 1024 }
     ensures is { entries table.new ≡ entries table.old ++ replicate (size - table.old.len) empty }
     ensures count { table.new.len ≡ max table.old.len size }
@@ -50,7 +50,7 @@ fn extend(table: &mut Table<3584>, size: u32)
 
 // Puts an inherited slot at its fixed index, or after the table's; an unknown one goes.
 #[tactic(auto, unfolding(linking::specs::Vtable::relay_step))]
-fn relay_entry(sheets: Sheets, abis: &[u32], slot: Slot, table: &mut Table<3584>)
+fn relay_entry(sheets: Sheets, abis: &[u32], slot: Slot, table: &mut BuiltTable)
     requires { table.old.len < 3584 }
     ensures is { entries table.new ≡ of_sheets relay_step sheets.entry abis.now (entries table.old) (entry slot) }
     ensures count { table.new.len ≤ table.old.len + 1 }
@@ -65,7 +65,7 @@ fn relay_entry(sheets: Sheets, abis: &[u32], slot: Slot, table: &mut Table<3584>
 }
 
 // Puts each of the parent's slots so, in their order.
-fn relay(sheets: Sheets, abis: &[u32], parent: &Table<1024>, table: &mut Table<3584>)
+fn relay(sheets: Sheets, abis: &[u32], parent: &ReadTable, table: &mut BuiltTable)
     requires { table.old.len ≤ 1024 }
     ensures is { entries table.new ≡ fold (of_sheets relay_step sheets.entry abis.now) (entries table.old) (entries parent.now) }
     ensures count { table.new.len ≤ 2048 }
@@ -75,36 +75,37 @@ fn relay(sheets: Sheets, abis: &[u32], parent: &Table<1024>, table: &mut Table<3
     }
 }
 
-// Fills the table with the parent's slots, relayed by the ABI classes of the chain.
-fn relay_parent(sheets: Sheets, abis: &[u32], parent: &Table<1024>, table: &mut Table<3584>)
-    ensures is { entries table.new ≡ of_sheets relayed sheets.entry abis.now (entries parent.now) }
-    ensures count { table.new.len ≤ 2048 }
-{
-    table.clear();
-    extend(table, abi::largest_size(sheets.abi, abis));
-    relay(sheets, abis, parent, table);
-}
-
-// Fills the table with the parent's slots, extended to the minimum size.
-fn extend_parent(abi: &[u32], abis: &[u32], parent: &Table<1024>, table: &mut Table<3584>)
-    ensures is { entries table.new ≡ extended abi.now abis.now (entries parent.now) }
-    ensures count { table.new.len ≤ 1024 }
-{
-    table.copy(parent);
-    extend(table, abi::largest_size(abi, abis));
-}
-
-// Fills the table with class c's before its own methods.
-fn inherited_table(sheets: Sheets, area: &[u32], abis: &[u32], c: u32, table: &mut Table<3584>)
-    requires { abis.now ≡ of_sheets chain_abi sheets c }
-    ensures is { entries table.new ≡ of_sheets inherited_table sheets.entry area.now c }
+// Fills the table with the slots of class c's parent, relayed by the ABI classes of the chain. They are read beside the table, where no other
+// case needs room for them.
+fn relay_parent(sheets: Sheets, area: &[u32], abis: &[u32], c: u32, table: &mut BuiltTable)
+    ensures is { entries table.new ≡ of_sheets relayed sheets.entry abis.now (of_sheets parent_entries sheets.entry area.now c) }
     ensures count { table.new.len ≤ 2048 }
 {
     let mut parent = Table::for_reading();
     reading::parent_entries(sheets, area, c, &mut parent);
+    table.clear();
+    extend(table, abi::largest_size(sheets.abi, abis));
+    relay(sheets, abis, &parent, table);
+}
+
+// Fills the table with the slots of class c's parent, extended to the minimum size.
+fn extend_parent(sheets: Sheets, area: &[u32], abis: &[u32], c: u32, table: &mut BuiltTable)
+    ensures is { entries table.new ≡ extended sheets.entry.abi.now abis.now (of_sheets parent_entries sheets.entry area.now c) }
+    ensures count { table.new.len ≤ 1024 }
+{
+    reading::parent_entries(sheets, area, c, table);
+    extend(table, abi::largest_size(sheets.abi, abis));
+}
+
+// Fills the table with class c's before its own methods.
+fn inherited_table(sheets: Sheets, area: &[u32], abis: &[u32], c: u32, table: &mut BuiltTable)
+    requires { abis.now ≡ of_sheets chain_abi sheets c }
+    ensures is { entries table.new ≡ of_sheets inherited_table sheets.entry area.now c }
+    ensures count { table.new.len ≤ 2048 }
+{
     match abi::class_abi(sheets, c) {
-        Some(_) => relay_parent(sheets, abis, &parent, table),
-        None => extend_parent(sheets.abi, abis, &parent, table),
+        Some(_) => relay_parent(sheets, area, abis, c, table),
+        None => extend_parent(sheets, area, abis, c, table),
     }
 }
 
@@ -125,7 +126,7 @@ fn put_fixed(
     m: u32,
     i: u32,
     slot: Option<u32>,
-    table: &mut Table<3584>,
+    table: &mut BuiltTable,
 ) -> Result<(), Refusal>
     requires { m < method_limit }
     ensures is { step_of result (entries table.new) ≡ put_method ws.now text.now (Some i) slot m (entries table.old) }
@@ -143,7 +144,7 @@ fn put_fixed(
 
 // Puts method m, which has no fixed index, at the slot of its signature, or after the table's slots.
 #[tactic(auto, unfolding(linking::specs::Vtable::put_method))]
-fn put_found(ws: &[u32], text: &[u8], m: u32, slot: Option<u32>, table: &mut Table<3584>)
+fn put_found(ws: &[u32], text: &[u8], m: u32, slot: Option<u32>, table: &mut BuiltTable)
     requires { (m < method_limit) × (table.old.len < 3584) }
     ensures is { built (entries table.new) ≡ put_method ws.now text.now None slot m (entries table.old) }
     ensures count { table.new.len ≤ table.old.len + 1 }
@@ -156,7 +157,7 @@ fn put_found(ws: &[u32], text: &[u8], m: u32, slot: Option<u32>, table: &mut Tab
 }
 
 // Gives method m its slot, if it is eligible.
-fn add_method(sheets: Sheets, abis: &[u32], m: u32, table: &mut Table<3584>) -> Result<(), Refusal>
+fn add_method(sheets: Sheets, abis: &[u32], m: u32, table: &mut BuiltTable) -> Result<(), Refusal>
     requires { (m < method_limit) × (table.old.len < 3584) }
     ensures is { step_of result (entries table.new) ≡ of_sheets add_method sheets.entry abis.now m (entries table.old) }
     ensures count { table.new.len ≤ table.old.len + 1 }
@@ -176,7 +177,7 @@ fn add_method(sheets: Sheets, abis: &[u32], m: u32, table: &mut Table<3584>) -> 
 }
 
 // Gives each of class c's own methods its slot, in their order, or the row that refuses the first that is refused.
-fn add_methods(sheets: Sheets, abis: &[u32], c: u32, table: &mut Table<3584>) -> Result<(), Refusal>
+fn add_methods(sheets: Sheets, abis: &[u32], c: u32, table: &mut BuiltTable) -> Result<(), Refusal>
     requires { table.old.len ≤ 2048 }
     ensures is { step_of result (entries table.new) ≡ of_sheets add_methods sheets.entry abis.now (own_methods sheets.entry.set.now c) (entries table.old) }
     ensures count { table.new.len ≤ 2560 }
@@ -196,7 +197,7 @@ pub fn build_methods(
     sheets: Sheets,
     area: &[u32],
     c: u32,
-    table: &mut Table<3584>,
+    table: &mut BuiltTable,
 ) -> Result<(), Refusal>
     ensures is { step_of result (entries table.new) ≡ of_sheets build_methods sheets.entry area.now c }
     ensures count { table.new.len ≤ 2560 }
@@ -210,7 +211,7 @@ pub fn build_methods(
 
 // Puts method m after the table's slots, if it is eligible.
 #[tactic(auto, using(crate::proofs::TableLaws::eligible_no, crate::proofs::TableLaws::eligible_yes))]
-fn add_eligible(ws: &[u32], text: &[u8], m: u32, table: &mut Table<3584>)
+fn add_eligible(ws: &[u32], text: &[u8], m: u32, table: &mut BuiltTable)
     requires { (m < method_limit) × (table.old.len < 3584) }
     ensures is { entries table.new ≡ entries table.old ++ method_entries ws.now (keep (eligible ws.now text.now) (m ∷ [])) }
     ensures count { table.new.len ≤ table.old.len + 1 }
@@ -222,7 +223,7 @@ fn add_eligible(ws: &[u32], text: &[u8], m: u32, table: &mut Table<3584>)
 
 // Fills the table with that of a built interface, its eligible methods in order, whatever the ABI sheet. What the table's arrays hold past
 // its slots is the program's choice and means nothing.
-pub fn build_interface_methods(ws: &[u32], text: &[u8], c: u32, table: &mut Table<3584>)
+pub fn build_interface_methods(ws: &[u32], text: &[u8], c: u32, table: &mut BuiltTable)
     ensures is { entries table.new ≡ build_interface_methods ws.now text.now c }
     ensures count { table.new.len ≤ method_limit }
 {

@@ -4,4 +4,4 @@ use Rattle.reading.specs.Classes.{claims}
 use Rattle.reading.proofs.claim.Given as goal
 
 abbrev pub invariant-loop-i : goal.invariant-loop-i
-invariant-loop-i l = l.cs ≡ claims l.c l.i l.table.marks l.initial.cs
+invariant-loop-i l = l.classes ≡ claims l.c l.i l.marks l.initial.classes

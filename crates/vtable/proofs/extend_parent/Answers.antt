@@ -7,7 +7,7 @@ use Rattle.vtable.proofs.extend_parent.Goals as goal
 pub extend-requires : goal.extend-requires
 extend-requires c =
     let a = c.args in
-    let m = minimum_size-room a.abi.now a.abis.now in
+    let m = minimum_size-room a.sheets.abi.now a.abis.now in
     let e = c.largest_size.ensures in omega arith
 
 pub returns-clause-is : goal.returns-clause-is
@@ -16,5 +16,5 @@ returns-clause-is c = search extended-is
 pub returns-clause-count : goal.returns-clause-count
 returns-clause-count c =
     let a = c.args in
-    let m = minimum_size-room a.abi.now a.abis.now in
+    let m = minimum_size-room a.sheets.abi.now a.abis.now in
     let e = c.largest_size.ensures in omega arith
