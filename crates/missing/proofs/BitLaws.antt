@@ -1,31 +1,21 @@
 -- Laws of the bits of a table: one slot's, their number, and a word of 32. Assumes nothing.
-use mathlib.Core.Path.{◌≡◌, refl, sym, ap, ◌∙◌}
-use mathlib.Core.Bool.{Bool, true, false}
+use mathlib.Core.Path.{◌≡◌, refl, sym, ◌∙◌}
+use mathlib.Core.Bool.{Bool, false}
 use mathlib.Core.List.{List, [], ◌∷◌}
-use Prim.Native.Nat.{ℕ, zero, suc, ◌+◌, ◌*◌, ◌-◌, ◌^◌, ◌≤◌, ◌<◌}
+use Prim.Native.Nat.{ℕ, zero, suc, ◌+◌, ◌*◌, ◌-◌, ◌^◌, ◌≤◌, ◌<◌, ◌%◌}
 use native.Mathlib.Nat.{pow-succ'}
 use native.Mathlib.Omega.{arith}
-use native.Mathlib.Numerals.{add-one}
 use lib.ListN.{length, get_or, drop, get_or-eq_default}
 use lib.Seq.{drop-cons, drop-length}
 use lib.Pow.{pow_pos}
 use Rattle.linking.specs.Vtable.{Entry, empty}
 use Rattle.linking.specs.Counts.{is_counted, bits_of, bit, bit_count, bits_from}
+use Rattle.linking.proofs.MissingLaws.{length-bits, bits_at, bit-small}
 use Rattle.reading.specs.Arrays.{entries_of}
 use Rattle.reading.proofs.ArrayLaws.{length-entries}
+use Rattle.words.specs.Folds.{sum_of}
 
 -- ---- the bits of all slots
-
-pub length-bits : (f : ℕ → Bool) (T : List Entry) → length (bits_of f T) ≡ length T
-unfolding bits_of
-length-bits f [] = refl
-length-bits f (e ∷ T) = ap suc (length-bits f T)
-
-bits_at : (f : ℕ → Bool) (T : List Entry) (i : ℕ) → i < length T → get_or (bits_of f T) i false ≡ is_counted f (get_or T i empty)
-unfolding bits_of
-bits_at f [] i h = absurd (omega arith)
-bits_at f (e ∷ T) zero h = refl
-bits_at f (e ∷ T) (suc i) h = bits_at f T i (omega arith)
 
 module _ (f : ℕ → Bool) (ts ms : List ℕ) (n : ℕ) where
   abbrev bits : List Bool
@@ -37,37 +27,29 @@ module _ (f : ℕ → Bool) (ts ms : List ℕ) (n : ℕ) where
   pub bit_past : (i : ℕ) → n ≤ i → 0 ≡ bit (get_or bits i false)
   bit_past i h = let l = bits-length in rw (get_or-eq_default bits false {n = i} (omega arith))
 
-  bit_in : (i : ℕ) → i < n → get_or bits i false ≡ is_counted f (get_or (entries_of ts ms n) i empty)
-  bit_in i h = let l = length-entries ts ms n in bits_at f (entries_of ts ms n) i (omega arith)
-
-  pub bit_set : (i : ℕ) {e : Entry} {b : Bool} → i < n → e ≡ get_or (entries_of ts ms n) i empty → b ≡ is_counted f e → b ≡ true
-      → 1 ≡ bit (get_or bits i false)
-  bit_set i h e b t = let q = ap (is_counted f) (sym e) ∙ sym b ∙ t in rw (bit_in i h, q)
-
-  pub bit_clear : (i : ℕ) {e : Entry} {b : Bool} → i < n → e ≡ get_or (entries_of ts ms n) i empty → b ≡ is_counted f e → b ≡ false
-      → 0 ≡ bit (get_or bits i false)
-  bit_clear i h e b t = let q = ap (is_counted f) (sym e) ∙ sym b ∙ t in rw (bit_in i h, q)
+  pub bit_there : (i : ℕ) {e : Entry} {b : Bool} → i < n → e ≡ get_or (entries_of ts ms n) i empty → b ≡ is_counted f e → b ≡ get_or bits i false
+  bit_there i h e b = let l = length-entries ts ms n in b ∙ rw e (sym (bits_at f (entries_of ts ms n) i (omega arith)))
 
 -- ---- their number
 
-bit-small : (b : Bool) → bit b ≤ 1
-bit-small true = omega arith
-bit-small false = omega arith
+count-small : (bs : List Bool) → bit_count bs ≤ length bs
+unfolding bit_count
+count-small [] = omega arith
+count-small (b ∷ bs) = omega (arith, bit-small b, count-small bs)
 
 module _ (bs : List Bool) where
-  pub count-start : 0 + bit_count (drop 0 bs) ≡ bit_count bs
-  count-start = omega arith
+  -- what is summed so far and what is left to count make the whole
+  count_from : (n : ℕ) → n ≤ length bs → sum_of n (λ i. bit (get_or bs i false)) + bit_count (drop n bs) ≡ bit_count bs
+  unfolding sum_of bit_count
+  count_from zero h = omega arith
+  count_from (suc n) h =
+      let d : bit_count (drop n bs) ≡ bit (get_or bs n false) + bit_count (drop (suc n) bs) = rw (drop-cons bs n false (omega arith)) in
+      omega (arith, count_from n (omega arith))
 
-  pub count_turn : (i c : ℕ) {b t : ℕ} → i < length bs → b ≡ bit (get_or bs i false) → c + bit_count (drop i bs) ≡ t
-      → c + b + bit_count (drop (i + 1) bs) ≡ t
+  pub count_sum : {n r : ℕ} → length bs ≡ n → n < 2 ^ 32 → r ≡ sum_of n (λ i. bit (get_or bs i false)) % 2 ^ 32 → r ≡ bit_count bs
   unfolding bit_count
-  count_turn i c h e g =
-      let d : bit_count (drop i bs) ≡ bit (get_or bs i false) + bit_count (drop (i + 1) bs) = rw (add-one, drop-cons bs i false h) in
-      omega arith
-
-  pub count-end : (i c : ℕ) → i ≡ length bs → c + bit_count (drop i bs) ≡ bit_count bs → c ≡ bit_count bs
-  unfolding bit_count
-  count-end i c h g = let d : bit_count (drop i bs) ≡ 0 = rw (h, drop-length bs) in omega arith
+  count_sum {n = n} l h e =
+      let d : bit_count (drop n bs) ≡ 0 = rw (← l, drop-length bs) in omega (arith, count_from n (omega arith), count-small bs)
 
   -- ---- a word of 32, from its last bit down
 
