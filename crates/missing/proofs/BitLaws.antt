@@ -1,10 +1,11 @@
 -- Laws of the bits of a table: one slot's, their number, and a word of 32. Assumes nothing.
 use mathlib.Core.Path.{◌≡◌, refl, sym, ◌∙◌}
 use mathlib.Core.Bool.{Bool, false}
-use mathlib.Core.List.{List, [], ◌∷◌}
-use Prim.Native.Nat.{ℕ, zero, suc, ◌+◌, ◌*◌, ◌-◌, ◌^◌, ◌≤◌, ◌<◌, ◌%◌}
+use mathlib.Core.List.{List}
+use Prim.Native.Nat.{ℕ, zero, suc, ◌+◌, ◌*◌, ◌-◌, ◌^◌, ◌≤◌, ◌<◌}
 use native.Mathlib.Nat.{pow-succ'}
 use native.Mathlib.Omega.{arith}
+use native.Mathlib.Numerals.{add-one}
 use lib.ListN.{length, get_or, drop, get_or-eq_default}
 use lib.Seq.{drop-cons, drop-length}
 use lib.Pow.{pow_pos}
@@ -13,7 +14,6 @@ use Rattle.linking.specs.Counts.{is_counted, bits_of, bit, bit_count, bits_from}
 use Rattle.linking.proofs.MissingLaws.{length-bits, bits_at, bit-small}
 use Rattle.reading.specs.Arrays.{entries_of}
 use Rattle.reading.proofs.ArrayLaws.{length-entries}
-use Rattle.words.specs.Folds.{sum_of}
 
 -- ---- the bits of all slots
 
@@ -24,7 +24,7 @@ module _ (f : ℕ → Bool) (ts ms : List ℕ) (n : ℕ) where
   pub bits-length : length bits ≡ n
   bits-length = length-bits f (entries_of ts ms n) ∙ length-entries ts ms n
 
-  pub bit_past : (i : ℕ) → n ≤ i → 0 ≡ bit (get_or bits i false)
+  pub bit_past : (i : ℕ) → n ≤ i → false ≡ get_or bits i false
   bit_past i h = let l = bits-length in rw (get_or-eq_default bits false {n = i} (omega arith))
 
   pub bit_there : (i : ℕ) {e : Entry} {b : Bool} → i < n → e ≡ get_or (entries_of ts ms n) i empty → b ≡ is_counted f e → b ≡ get_or bits i false
@@ -32,24 +32,20 @@ module _ (f : ℕ → Bool) (ts ms : List ℕ) (n : ℕ) where
 
 -- ---- their number
 
-count-small : (bs : List Bool) → bit_count bs ≤ length bs
-unfolding bit_count
-count-small [] = omega arith
-count-small (b ∷ bs) = omega (arith, bit-small b, count-small bs)
-
 module _ (bs : List Bool) where
-  -- what is summed so far and what is left to count make the whole
-  count_from : (n : ℕ) → n ≤ length bs → sum_of n (λ i. bit (get_or bs i false)) + bit_count (drop n bs) ≡ bit_count bs
-  unfolding sum_of bit_count
-  count_from zero h = omega arith
-  count_from (suc n) h =
-      let d : bit_count (drop n bs) ≡ bit (get_or bs n false) + bit_count (drop (suc n) bs) = rw (drop-cons bs n false (omega arith)) in
-      omega (arith, count_from n (omega arith))
+  pub count-start : 0 + bit_count (drop 0 bs) ≡ bit_count bs
+  count-start = omega arith
 
-  pub count_sum : {n r : ℕ} → length bs ≡ n → n < 2 ^ 32 → r ≡ sum_of n (λ i. bit (get_or bs i false)) % 2 ^ 32 → r ≡ bit_count bs
+  pub count_turn : (i c : ℕ) {b t : ℕ} → i < length bs → b ≡ bit (get_or bs i false) → c + bit_count (drop i bs) ≡ t
+      → c + b + bit_count (drop (i + 1) bs) ≡ t
   unfolding bit_count
-  count_sum {n = n} l h e =
-      let d : bit_count (drop n bs) ≡ 0 = rw (← l, drop-length bs) in omega (arith, count_from n (omega arith), count-small bs)
+  count_turn i c h e g =
+      let d : bit_count (drop i bs) ≡ bit (get_or bs i false) + bit_count (drop (i + 1) bs) = rw (add-one, drop-cons bs i false h) in
+      omega arith
+
+  pub count-end : (i c : ℕ) → i ≡ length bs → c + bit_count (drop i bs) ≡ bit_count bs → c ≡ bit_count bs
+  unfolding bit_count
+  count-end i c h g = let d : bit_count (drop i bs) ≡ 0 = rw (h, drop-length bs) in omega arith
 
   -- ---- a word of 32, from its last bit down
 

@@ -49,20 +49,31 @@ fn is_counted(missing: &[u32], p: u32, slot: Slot) -> bool
     slot.word == 0 || slot.source().is_some_and(|j| parent_bit(missing, p, j))
 }
 
-// 1 where slot i of the table is missing, and else 0.
+// Whether slot i of the table is missing: none is past its end.
 #[tactic(auto, using(crate::proofs::BitLaws::bit_past, crate::proofs::BitLaws::bit_there))]
+fn is_missing<const N: usize>(missing: &[u32], p: u32, table: &Table<N>, i: usize) -> bool
+    ensures { result ≡ get_or (bits_in missing.now p table.now) i false }
+{
+    i < table.len as usize && is_counted(missing, p, table.slot(i as u32))
+}
+
+// 1 where slot i of the table is missing, and else 0.
 fn bit_at<const N: usize>(missing: &[u32], p: u32, table: &Table<N>, i: usize) -> u32
     ensures is { result ≡ bit (get_or (bits_in missing.now p table.now) i false) }
     ensures small { result ≤ 1 }
 {
-    u32::from(i < table.len as usize && is_counted(missing, p, table.slot(i as u32)))
+    u32::from(is_missing(missing, p, table, i))
 }
 
 // How many of its slots are missing.
 fn count_slots<const N: usize>(missing: &[u32], p: u32, table: &Table<N>) -> u32
     ensures { result ≡ bit_count (bits_in missing.now p table.now) }
 {
-    words::sum_of(table.len as usize, |i| bit_at(missing, p, table, i))
+    let mut count: u32 = 0;
+    for i in 0..table.len as usize {
+        count += bit_at(missing, p, table, i);
+    }
+    count
 }
 
 // Word k of their bits, the first slot's lowest.

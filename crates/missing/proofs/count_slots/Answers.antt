@@ -1,10 +1,17 @@
--- The sum of the slots' bits is their number. Assumes nothing.
-use Rattle.std.proofs.Common.{rules, arith}
+-- A turn counts one more bit. Assumes nothing.
+use Rattle.std.proofs.Common.{arith}
 use Rattle.linking.specs.Counts.{parent_bit}
-use Rattle.missing.proofs.BitLaws.{bits-length, count_sum}
+use Rattle.missing.proofs.BitLaws.{bits-length, count-start, count_turn, count-end}
 use Rattle.missing.proofs.count_slots.Goals as goal
 
+pub loop-i-init : goal.loop-i-init
+loop-i-init g c = record { small = omega arith; whole = count-start _ }
+
+pub loop-i-preserved : goal.loop-i-preserved
+loop-i-preserved g c = record {
+  small = omega arith;
+  whole = count_turn _ c.loop-i.i c.loop-i.count (omega (arith, bits-length (parent_bit c.args.missing.now c.args.p) c.args.table.now.words c.args.table.now.marks c.args.table.now.len)) c.bit_at-count.ensures.is c.loop-i.invariant.whole;
+}
+
 pub returns : goal.returns
-returns g c =
-    let t = c.args.table.now in
-    count_sum _ (bits-length (parent_bit c.args.missing.now c.args.p) t.words t.marks t.len) (search rules) (c.sum_of.ensures _ (λ i r l post. search rules))
+returns g c = count-end _ c.loop-i.i c.loop-i.count (omega (arith, bits-length (parent_bit c.args.missing.now c.args.p) c.args.table.now.words c.args.table.now.marks c.args.table.now.len)) c.loop-i.invariant.whole
