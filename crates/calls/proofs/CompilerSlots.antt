@@ -1,19 +1,19 @@
 -- What is a copy, of a compiler table by index (specs/Sources.antt): the compiler's slots come first, and what is appended leaves them as they are. A method
 -- that had its turn is not appended again, so an appended parent method is a copy of its first entry. Assumes nothing.
-use Rattle.std.proofs.Common.{◌≡◌, refl, sym, ap, ◌∙◌, subst, ◌≢◌, Bool, true, false, not, ◌&&◌, ◌||◌, true≢false, List, [], ◌∷◌, ◌++◌, ℕ, zero, suc, ◌+◌, ◌≤◌, ◌<◌, arith, length, get_or, length-append, eqb, eqb-true, ne_eqb, Option, Some, None}
+use Rattle.std.proofs.Common.{◌≡◌, refl, sym, ap, ◌∙◌, subst, ◌≢◌, Bool, true, false, not, ◌&&◌, true≢false, List, [], ◌∷◌, ◌++◌, ℕ, zero, suc, ◌+◌, ◌≤◌, ◌<◌, arith, length, get_or, length-append, eqb, eqb-true, ne_eqb, Option, Some, None}
 use mathlib.Core.List.{Memᴰ}
 use lib.ListN.{get_or-append, get_or-eq_default}
 use borrow.Author.Tests.{eqb-false}
 use Rattle.words.specs.Lists.{fold, some}
 use Rattle.words.proofs.Bools.{by}
-use Rattle.words.proofs.ListLaws.{by-found}
+use Rattle.words.proofs.ListLaws.{by-found, some-append}
 use Rattle.linking.specs.Chain.{on_found, is_eligible}
 use Rattle.linking.specs.Vtable.{Entry, empty, parent_entries}
 use Rattle.linking.specs.Compiler.{New, native_view, compiler_targets, added_methods, name_of, descriptor_of, flags_of, target_of, class_methods, compiler_entry, compiler_entries, same_signature, has_slot, append_from, append_entry, compiler_table}
 use Rattle.calls.specs.Sources.{Sources}
 use Rattle.text.proofs.Laws.{same_refl}
 use Rattle.slots.proofs.ListFacts.{found-same}
-use Rattle.linking.proofs.Added.{not_found}
+use Rattle.words.proofs.ListLaws.{not_found}
 use Rattle.calls.proofs.Sources.{all-at, read-parent, table-built}
 use Rattle.calls.proofs.SameIndex.{table-placed}
 
@@ -119,16 +119,11 @@ module _ (ws text : List ℕ) (new : List New) where
 
   -- ---- a method that had its turn is not appended again: it is not eligible, or has a slot by then
 
-  some_end : (p : Entry → Bool) (T U : List Entry) → some p (T ++ U) ≡ (some p T || some p U)
-  unfolding some
-  some_end p [] U = refl
-  some_end p (e ∷ T) U = by (p e) (λ t. rw t) (λ t. rw t (some_end p T U))
-
   own-slot : (source : Option ℕ) (m : ℕ) (T : List Entry) → has_slot ws text new m (T ++ (new_entry source m ∷ [])) ≡ true
   unfolding has_slot some same_signature
   own-slot source m T =
       rw (
-        some_end (λ e. on_found e.method (same_signature ws text new m) false) T (new_entry source m ∷ []),
+        some-append (λ e. on_found e.method (same_signature ws text new m) false) T (new_entry source m ∷ []),
         same_refl (name_of ws text new m),
         same_refl (descriptor_of ws text new m),
       )
@@ -147,7 +142,7 @@ module _ (ws text : List ℕ) (new : List New) where
       by (is_eligible (flags_of ws new m) (name_of ws text new m))
       (λ t.
       by (has_slot ws text new m T)
-      (λ u. rw (t, some_end (λ e. on_found e.method (same_signature ws text new m) false) T (e ∷ []), u))
+      (λ u. rw (t, some-append (λ e. on_found e.method (same_signature ws text new m) false) T (e ∷ []), u))
       (λ u. absurd (true≢false (rw (t, u) at h))))
       (λ t. rw t)
 

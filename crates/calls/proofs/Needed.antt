@@ -11,7 +11,8 @@ use Rattle.linking.proofs.Assemble.{Class, AbiClass, method, flagged, built, com
 use Rattle.linking.proofs.Packaged.{packaged, foo}
 use Rattle.linking.proofs.Opened.{opened}
 use Rattle.slots.specs.Slots.{Unique, Known, Kept}
-use Rattle.slots.proofs.ListFacts.{not_found, in_none}
+use Rattle.words.proofs.ListLaws.{not_found}
+use Rattle.slots.proofs.ListFacts.{in_none}
 use Rattle.calls.specs.Calls.{Call, link, start, run, Unlinked, LinkedIn, now, later, table_at, lent_now}
 use Rattle.calls.specs.Demand.{Conditions, Claim}
 use Rattle.calls.proofs.Tests.{is_unlinked, by_old_rule, old-holds, verdicts, shown}

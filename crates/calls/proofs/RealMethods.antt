@@ -21,7 +21,7 @@ use Rattle.linking.specs.Missing.{recounted_along, recounted}
 use Rattle.linking.proofs.ChainLaws.{parent_below, chain-none}
 use Rattle.linking.proofs.Plans.{built-same}
 use Rattle.linking.proofs.Rows.{Linked}
-use Rattle.linking.proofs.MissingLaws.{bits-ext, bit-read}
+use Rattle.linking.proofs.MissingLaws.{bits-ext, bit-read, bits_at}
 use Rattle.slots.specs.Slots.{ChainMethod}
 use Rattle.slots.specs.Made.{read_words, start_from, table_from, inherited_from, introduced_from, packages_from, made_from}
 use Rattle.slots.proofs.ChainFacts.{chain-here, chain-up}
@@ -51,12 +51,6 @@ module _ (f : ℕ → Bool) (e : Entry) where
 
   counted-copy : (j : ℕ) → e.word ≢ 0 → e.source ≡ Some j → is_counted f e ≡ f j
   counted-copy j n s = rw (ne_eqb e.word 0 n, s)
-
-bit_at : (f : ℕ → Bool) (T : List Entry) (i : ℕ) → i < length T → get_or (bits_of f T) i false ≡ is_counted f (get_or T i empty)
-unfolding bits_of
-bit_at f [] i h = absurd (omega arith)
-bit_at f (e ∷ T) zero h = refl
-bit_at f (e ∷ T) (suc i) h = bit_at f T i (omega arith)
 
 -- ---- where an entry of class d's table is from, by the words of the parent's table
 
@@ -309,7 +303,7 @@ module _ (ws₀ abi : List ℕ) (valid₀ : Valid ws₀) (P : ℕ → Type 0) wh
         let w = st.witness d l p in
         let k : i < length w.entries = omega (arith, h, ap length w.words, length-words w.stubs 0 w.entries) in
         let bit : get_or (bits_now abi s d) i false ≡ is_counted (λ j. get_or (bits_now abi s (parent_of ws₀ d)) j false) (get_or w.entries i empty) =
-        ap (λ (bs : List Bool). get_or bs i false) w.bits ∙ bit_at (λ j. get_or (bits_now abi s (parent_of ws₀ d)) j false) w.entries i k in
+        ap (λ (bs : List Bool). get_or bs i false) w.bits ∙ bits_at (λ j. get_or (bits_now abi s (parent_of ws₀ d)) j false) w.entries i k in
         let word : get_or (table_of s d) i 0 ≡ slot_word (get_or w.entries i empty).word (get_or w.stubs i 0) =
         ap (λ (t : List ℕ). get_or t i 0) w.words ∙ word_at w.stubs w.entries i k in
         rw (bit, word)

@@ -12,7 +12,7 @@ use Rattle.linking.specs.Packages.{introducing, build_packages}
 use Rattle.linking.specs.Link.{built_table, generated_table}
 use Rattle.linking.specs.Missing.{table_by}
 use Rattle.slots.proofs.ListFacts.{found-same, snoc_at, extended-at}
-use Rattle.linking.proofs.Added.{not_found}
+use Rattle.words.proofs.ListLaws.{not_found}
 use Rattle.linking.proofs.Plans.{built-same}
 use Rattle.calls.proofs.Sources.{all_get, adds, packages, interface-all, read-parent}
 

@@ -4,21 +4,19 @@ use Rattle.std.proofs.Common.{◌≡◌, refl, sym, ap, ◌∙◌, subst, ◌≢
 use mathlib.Core.List.{Memᴰ}
 use borrow.Author.Tests.{eqb-false}
 use Rattle.words.specs.Lists.{list_from, fold, keep}
-use Rattle.std.specs.Option.{option_and_then}
 use Rattle.words.proofs.Bools.{by}
-use Rattle.words.proofs.ListLaws.{by-found, found-by, length-list-from, get_d_list_from, numbers-within}
+use Rattle.words.proofs.ListLaws.{by-found, length-list-from, get_d_list_from, numbers-within}
 use Rattle.class_sheet.specs.ClassSheet.{class_kind, is_built_kind, is_packaged, is_generated, class_flags, class_compiler_table, class_table_place, class_slot_count, method_target, method_limit, method_name, method_descriptor, class_limit}
-use Rattle.linking.specs.Chain.{on_found, own_methods, parent_of, chain, is_interface, is_eligible, eligible, same_methods, find_by_target}
-use Rattle.linking.specs.Abi.{slot_at, class_abi, chain_abi, minimum_size}
-use Rattle.linking.specs.Vtable.{Entry, empty, built, own_fixed, find_by_index, read_entry, read_slot, table_entries, parent_entries, entry_is_other, method_entry, extended, put_fixed, fixed_of, slot_of, relay, relay_step, relayed, inherited_table, put_method, add_method, add_methods, build_methods, method_entries, build_interface_methods}
+use Rattle.linking.specs.Chain.{on_found, own_methods, parent_of, is_interface, is_eligible, eligible, same_methods}
+use Rattle.linking.specs.Abi.{class_abi, chain_abi, minimum_size}
+use Rattle.linking.specs.Vtable.{Entry, empty, built, read_entry, read_slot, table_entries, parent_entries, entry_is_other, method_entry, extended, put_fixed, fixed_of, slot_of, relay, relay_step, relayed, inherited_table, put_method, add_method, add_methods, build_methods, method_entries, build_interface_methods}
 use Rattle.linking.specs.Packages.{introducing, overridden, taken_slots, put_taken, take_slots, packages_over, build_packages}
 use Rattle.linking.specs.Compiler.{New, is_emptied, view_from, native_view, compiler_targets, added_methods, name_of, flags_of, target_of, class_methods, match_target, compiler_entry, compiler_entries, has_slot, append_from, append_entry, compiler_table}
 use Rattle.linking.specs.Link.{built_table, generated_table, generated_methods}
 use Rattle.linking.specs.Missing.{table_by}
 use Rattle.calls.specs.Sources.{HasCompiler, Slot, whole, appended, hole, declared, added, compiled}
 use Rattle.slots.proofs.AddFacts.{built_on}
-use Rattle.linking.proofs.Added.{not_found}
-use Rattle.linking.proofs.ChainLaws.{own-method-room, target_room, found-method-room}
+use Rattle.linking.proofs.ChainLaws.{own-method-room, entry-room}
 use Rattle.linking.proofs.Plans.{built-same, not-built}
 
 -- ---- what is kept of a list is of the list
@@ -197,18 +195,6 @@ module _ (ws text abi labels : List ℕ) (S : Entry → Type 0) (blank : S empty
 -- ---- the parent's entries: read with their own index, and their methods are of the sheet
 
 module _ (ws text abi labels : List ℕ) where
-  fixed-room : (i d m : ℕ) → own_fixed ws text abi labels i d ≡ Some m → m < method_limit
-  unfolding own_fixed
-  fixed-room i d m e =
-      by-found (option_and_then (slot_at abi i) (class_abi ws text abi labels d)) (λ s q. found-method-room ws text _ _ d m (rw q at e))
-      (λ q. not_found (rw q at e))
-
-  known-room : (c i w m : ℕ) → (read_entry ws text abi labels c i w).method ≡ Some m → m < method_limit
-  unfolding read_entry find_by_index
-  known-room c i w m e =
-      by-found (find_by_target ws c w) (λ k q. target_room ws c w m (q ∙ (rw q at e)))
-      (λ q. found-by (own_fixed ws text abi labels i) (chain ws c) m (λ d t r. fixed-room i d m r) (rw q at e))
-
   module _ (area : List ℕ) (c : ℕ) where
     abbrev P : List Entry
     P = parent_entries ws text abi labels area c
@@ -234,7 +220,7 @@ module _ (ws text abi labels : List ℕ) where
         let l = length-list-from f 0 n in
         let q : get_or (list_from f 0 n) j empty ≡ f (0 + j) = get_d_list_from f 0 n j empty (omega (arith, rw t at h)) in
         let z : 0 + j ≡ j = omega arith in
-        rw (t, q, z) (unfold read_entry in refl, λ m e. known-room p j _ m e))
+        rw (t, q, z) (unfold read_entry in refl, λ m e. entry-room ws text abi labels p j _ m e))
 
     parents : All Parent P
     parents =

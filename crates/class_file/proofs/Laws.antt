@@ -1,6 +1,6 @@
 -- Laws of the reader's strings, and of members that are left. Assumes nothing.
 use mathlib.Core.Path.{◌≡◌, refl, sym, ap, ◌∙◌}
-use mathlib.Core.Bool.{Bool, true, false, cond, ◌&&◌}
+use mathlib.Core.Bool.{Bool, true, false, cond, ◌&&◌, and_assoc}
 use mathlib.Core.List.{List, [], ◌∷◌, ◌++◌}
 use Prim.Native.Nat.{ℕ, zero, suc, ◌+◌, ◌-◌, ◌*◌, ◌/◌, ◌≤◌, ◌<◌}
 use native.Mathlib.Omega.{arith}
@@ -67,11 +67,7 @@ module _ (method : Bool) (n : ℕ) (typed : Bool) (text : ℕ) where
   tally_turn x xs =
       let e : text + length (x.name ++ (x.descriptor ++ new_text xs)) ≡ text + (length x.name + length x.descriptor) + length (new_text xs) =
       simp length-append (omega arith) in
-      by (row_four method x) (λ t. rw (t, e, and_assoc typed (row_five method x) (every (row_five method) xs))) (λ t. rw t)
-    where
-      and_assoc : (a b c : Bool) → (a && (b && c)) ≡ (a && b && c)
-      and_assoc true b c = refl
-      and_assoc false b c = refl
+      by (row_four method x) (λ t. rw (t, e, ← (and_assoc typed (row_five method x) (every (row_five method) xs)))) (λ t. rw t)
 
   pub tally_end : tally_from method n typed text [] ≡ Ok (record { members = n; typed = typed; text = text })
   unfolding tally_from every new_text

@@ -35,10 +35,11 @@ use Rattle.linking.specs.Set.{new_text, packed}
 use Rattle.linking.specs.Grown.{member_row, new_members}
 use Rattle.linking.proofs.Grown.{rows-members, length-members}
 use Rattle.linking.proofs.Packed.{length-packed, text-packed}
+use Rattle.linking.proofs.Appended.{name-here}
 use Rattle.class_members.specs.Members.{string_ok, field_ok, method_ok, every}
 use Rattle.class_members.specs.Members as file
 use Rattle.class_members.specs.SheetForm.{no_abi}
-use Rattle.class_members.proofs.Placed.{part-is, Stands, stands, part-ok, ok-bytes, every-at, members-bytes}
+use Rattle.class_members.proofs.Placed.{Stands, stands, part-ok, ok-bytes, every-at, members-bytes}
 
 -- what rows 4, 5 and 14 tell of a class and its members
 pub record Good (name parent : List ℕ) (flags : ℕ) (fs ms : List New) : Type 0 where
@@ -151,10 +152,10 @@ module _ (name parent : List ℕ) (flags : ℕ) (fs ms : List New) (rest : List 
 
   pub name_is : class_name ws text 1 ≡ name
   name_is = rw (class-is name_start_word (omega arith), class-is name_length_word (omega arith))
-      (part-is [] name (parent ++ (new_text fs ++ new_text ms)) 0 (length name) refl refl)
+      (name-here [] name (parent ++ (new_text fs ++ new_text ms)) 0 (length name) refl refl)
 
   pub parent_is : name_at text (length name) (length parent) ≡ parent
-  parent_is = part-is name parent (new_text fs ++ new_text ms) (length name) (length parent) refl refl
+  parent_is = name-here name parent (new_text fs ++ new_text ms) (length name) (length parent) refl refl
 
   pub method-name : (m : ℕ) → m < length ms → method_name ws text m ≡ (get_or ms m no_new).name
   method-name m h = rw (method-at m h name_start_word (omega arith), method-at m h name_length_word (omega arith)) (method-stands m h).name_is
@@ -212,7 +213,7 @@ module _ (name parent : List ℕ) (flags : ℕ) (fs ms : List New) (rest : List 
     unfolding class_record own_numbers class_numbers class_lists compiler_ok inside
     class-ok =
         let n : part_ok text 0 (length name) ≡ true =
-        part-ok text 0 name refl (part-is [] name (parent ++ (new_text fs ++ new_text ms)) 0 (length name) refl refl)
+        part-ok text 0 name refl (name-here [] name (parent ++ (new_text fs ++ new_text ms)) 0 (length name) refl refl)
         (rw length-append (omega arith)) good.name-ok in
         simp (
           class-is name_start_word (omega arith),

@@ -6,7 +6,7 @@ use mathlib.Core.List.{List, [], ◌∷◌, ◌++◌, append_assoc}
 use Prim.Native.Nat.{ℕ, zero, suc, ◌+◌, ◌≤◌, ◌<◌}
 use native.Mathlib.Omega.{arith}
 use lib.ListN.{length, get_or, length-append}
-use lib.Seq.{take_at, drop_at, take_all}
+use lib.Seq.{take_all}
 use lib.Dec.{leb}
 use borrow.Author.Tests.{leb-true, le-leb}
 use Rattle.words.proofs.Bools.{and_both, and_4}
@@ -17,13 +17,10 @@ use Rattle.text.proofs.Laws.{printable-each}
 use Rattle.linking.specs.Compiler.{New, no_new}
 use Rattle.linking.specs.Set.{new_text}
 use Rattle.linking.specs.Grown.{member_row, new_members}
+use Rattle.linking.proofs.Appended.{name-here}
 use Rattle.class_members.specs.Members.{string_ok, every}
 
 -- ---- a part between others
-
-pub part-is : (a b c : List ℕ) (i n : ℕ) → length a ≡ i → length b ≡ n → name_at (a ++ (b ++ c)) i n ≡ b
-unfolding name_at
-part-is a b c i n e f = rw (drop_at a (b ++ c) i e) (take_at b c n f)
 
 -- the record of a member tells where it stands
 pub record Stands (text row : List ℕ) (x : New) : Type 0 where
@@ -49,8 +46,8 @@ first-stands pre x rest {at} e =
     record {
       start = at;
       row_is = refl;
-      name_is = part-is pre x.name (x.descriptor ++ rest) at (length x.name) e refl;
-      descriptor_is = rw a (part-is (pre ++ x.name) x.descriptor rest (at + length x.name) (length x.descriptor) l refl);
+      name_is = name-here pre x.name (x.descriptor ++ rest) at (length x.name) e refl;
+      descriptor_is = rw a (name-here (pre ++ x.name) x.descriptor rest (at + length x.name) (length x.descriptor) l refl);
       within = simp length-append (omega arith);
     }
 

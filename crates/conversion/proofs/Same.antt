@@ -1,18 +1,16 @@
 -- Words laid out from sections that differ in static words alone, and in what follows the content: rows 4 and 5 judge them alike, their texts are the same, and so are the sums of a
 -- class's static field widths. Assumes nothing.
 use Rattle.std.proofs.Common.{◌≡◌, refl, sym, ap, ◌∙◌, List, [], ◌∷◌, ℕ, ◌≤◌, ◌<◌, arith, length, get_or, ltb-true}
-use mathlib.Core.List.{Memᴰ}
 use Rattle.words.specs.Rows.{Rows, row_word}
-use Rattle.words.proofs.ListLaws.{numbers-within}
 use Rattle.text.specs.Text.{descriptor_start_word, descriptor_length_word}
-use Rattle.class_sheet.specs.ClassSheet.{counts_width, class_width, member_width, static_words_word, first_field_word, field_count_word, field_limit, count_at, field_count, class_first_field, class_field_count, text_of}
+use Rattle.class_sheet.specs.ClassSheet.{counts_width, class_width, member_width, static_words_word, first_field_word, field_count_word, count_at, field_count, text_of}
 use Rattle.class_sheet.specs.Sections.{Sections, Formed, laid_out, with_classes, with_rest}
 use Rattle.class_sheet.proofs.Sections as S
 use Rattle.set_rules.specs.Valid.{IsClass, Valid}
 use Rattle.set_rules.proofs.Alike.{Alike}
-use Rattle.linking.specs.Chain.{list_count, own_fields}
+use Rattle.linking.specs.Chain.{own_fields}
 use Rattle.linking.specs.Fields.{add_static, static_words}
-use Rattle.statics.proofs.Calls.{fold-ext}
+use Rattle.statics.proofs.Calls.{fold-ext, own_below}
 use Rattle.convert.proofs.Forms.{laid-front}
 
 module _ (t : Sections) (x : List (List ℕ)) (y : List ℕ) (f : Formed class_width t) (r : Rows class_width x) (number : length x ≡ length t.classes)
@@ -57,12 +55,6 @@ module _ (vs ws : List ℕ) (a : Alike vs ws) (valid : Valid ws) where
   unfolding own_fields
   own_same c k = rw (a.classes c k.0 k.1 first_field_word refl, a.classes c k.0 k.1 field_count_word refl)
 
-  own_below : (c f : ℕ) → IsClass ws c → Memᴰ f (own_fields ws c) → f < field_count ws
-  unfolding own_fields
-  own_below c f k i =
-      let v = (valid.class c k).fields in
-      omega (arith, numbers-within (class_first_field ws c) (list_count (class_first_field ws c) (class_field_count ws c) field_limit) f i)
-
   add_same : (text : List ℕ) (n f : ℕ) → f < field_count ws → add_static vs text n f ≡ add_static ws text n f
   unfolding add_static
   add_same text n f h =
@@ -71,4 +63,4 @@ module _ (vs ws : List ℕ) (a : Alike vs ws) (valid : Valid ws) where
   pub sum_same : (text : List ℕ) (c : ℕ) → IsClass ws c → static_words vs text c ≡ static_words ws text c
   unfolding static_words
   sum_same text c k =
-      rw (own_same c k) (fold-ext (add_static vs text) (add_static ws text) (own_fields ws c) 0 (λ n f i. add_same text n f (own_below c f k i)))
+      rw (own_same c k) (fold-ext (add_static vs text) (add_static ws text) (own_fields ws c) 0 (λ n f i. add_same text n f (own_below ws valid c f k i)))

@@ -5,18 +5,18 @@ use mathlib.Core.Bool.{true, false, not, ◌&&◌, and-true}
 use mathlib.Core.List.{List, ◌++◌}
 use Prim.Native.Nat.{ℕ, ◌+◌, ◌*◌, ◌≤◌, ◌<◌}
 use native.Mathlib.Omega.{arith}
-use lib.ListN.{length, get_or, take, drop, get_or-append}
+use lib.ListN.{length, get_or, take, drop}
 use lib.Seq.{take_at}
 use lib.Dec.{eqb, leb, ltb}
 use borrow.Author.Tests.{ne_eqb, eqb-true, leb-true, not-false}
 use Rattle.words.specs.Folds.{all_of, table, stores}
 use Rattle.words.proofs.Bools.{by, and_both, and_3, and_4, passed}
-use Rattle.words.proofs.FoldLaws.{all-ext, length-table, get_d_table, stores-is}
+use Rattle.words.proofs.FoldLaws.{all-ext, length-table, stores-is, stores_at}
 use Rattle.block.specs.Block.{block_count, sheet_words, least_fit}
 use Rattle.block.proofs.Laws.{length-content}
 use Rattle.text.specs.Text.{zero_rest}
 use Rattle.class_sheet.specs.ClassSheet as layout
-use Rattle.class_sheet.specs.ClassSheet.{block_limit, class_count, text_length, text_at, content_end, class_kind, class_static_words, text_of}
+use Rattle.class_sheet.specs.ClassSheet.{block_limit, class_count, text_length, text_at, content_end, text_of}
 use Rattle.class_sheet.proofs.Laws.{content-within}
 use Rattle.class_rules.specs.ClassRules.{class_limits, unlinked, statics_clean, fresh, all_fresh, class_form}
 use Rattle.class_rules.proofs.Laws as class
@@ -49,11 +49,6 @@ pub stored-part : (n : ℕ) (f : ℕ → ℕ) (d : List ℕ) {o p : List ℕ} {e
     → p ≡ table n f
 stored-part n f d s h k part =
     part ∙ rw (k, s, stores-is n f d h) (take_at (table n f) (drop n d) n (length-table n f))
-
-pub stored_at : (n : ℕ) (f : ℕ → ℕ) (d : List ℕ) (i : ℕ) → i < n → n ≤ length d → get_or (stores n f d) i 0 ≡ f i
-stored_at n f d i h l =
-    ap (λ (x : List ℕ). get_or x i 0) (stores-is n f d l) ∙ get_or-append (table n f) (drop n d) 0 i (omega (arith, length-table n f))
-    ∙ get_d_table n f i h
 
 -- ---- forward, of words that fit
 
@@ -91,7 +86,7 @@ module _ (ws : List ℕ) (fitted : old_fits ws ≡ true) where
   unfolding forward
   forward-is d l {o} s =
       sym (widened-table ws fits-end (forward_statics (judged ws) (text_of (judged ws))) o
-      (λ i h. sym (ap (λ (x : List ℕ). get_or x i 0) s ∙ stored_at (class_count ws) _ d i h (omega (arith, few-classes)))))
+      (λ i h. sym (ap (λ (x : List ℕ). get_or x i 0) s ∙ stores_at (class_count ws) _ d i h (omega (arith, few-classes)))))
 
   -- no class of the judged words has static words, so that a fresh class is an unlinked one
   fresh-unlinked : (i : ℕ) → i < class_count ws → fresh (judged ws) (i + 1) ≡ unlinked (judged ws) (i + 1)

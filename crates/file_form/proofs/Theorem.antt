@@ -5,13 +5,14 @@ use mathlib.Core.Bool.{true, false}
 use mathlib.Core.List.{List, ◌∷◌, ◌++◌}
 use Prim.Native.Nat.{ℕ, ◌+◌, ◌-◌, ◌≤◌, ◌<◌}
 use native.Mathlib.Omega.{arith}
-use lib.ListN.{length, get_or, take, replicate, length-append, length-take, length-replicate, get_or-replicate, get_or-eq_default}
+use lib.ListN.{length, take, replicate, length-append, length-take, length-replicate}
 use lib.Seq.{take-take, take-length, length-take-le, take-append-le, take-append-add, get_or-take}
-use lib.Dec.{eqb, leb, ltb}
-use borrow.Author.Tests.{eqb-true, eqb-false, eq-eqb, ne_eqb, leb-true, leb-false, ltb-true, ltb-false, le-leb, lt-leb}
+use lib.Dec.{eqb, leb}
+use borrow.Author.Tests.{eqb-true, eqb-false, eq-eqb, ne_eqb, leb-true, leb-false, le-leb, lt-leb}
 use Rattle.words.proofs.Bools.{by}
 use Rattle.words.proofs.Bytes.{all-bytes, append-bytes}
 use Rattle.words.specs.Words.{AreBytes}
+use Rattle.words.proofs.Lists.{zeros}
 use Rattle.std.specs.Prelude.{Ok, Err}
 use Rattle.refusal.specs.declared.Refusal.TheVariants.{WrongEnd, WrongPool}
 use Rattle.class_form.specs.Form.{Step, after_file, version_ok, end_refusal, form_refusal}
@@ -128,16 +129,8 @@ verdict bs =
 
 -- ---- bytes that end early, with zeros after them
 
-zeros-at : (n i : ℕ) → ◌≡◌ {A = ℕ} (get_or (replicate n 0) i 0) 0
-zeros-at n i =
-    by (ltb i n) (λ t. get_or-replicate n i 0 0 (ltb-true i n t))
-    (λ t.
-    let none : List ℕ = replicate n 0 in
-    let past : length none ≤ i = omega (arith, length-replicate {A = ℕ} n 0, ltb-false i n t) in
-    get_or-eq_default none 0 past)
-
 zero-bytes : (n : ℕ) → AreBytes (replicate n 0)
-zero-bytes n i = rw (zeros-at n i) (omega arith)
+zero-bytes n i = rw (zeros n i) (omega arith)
 
 module _ (bs : List ℕ) (small : AreBytes bs) (ends : EndsEarly bs) where
   -- as many zeros as no file can ask for

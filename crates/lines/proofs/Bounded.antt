@@ -24,7 +24,8 @@ use Rattle.linking.specs.Vtable.{read_entry}
 use Rattle.linking.specs.Compiler.{New}
 use Rattle.linking.specs.Link.{Plan, is_none, generated_methods, linked_words}
 use Rattle.linking.specs.Grown.{methods_growing, fields_growing, record_rows, row_indices, linked_sections}
-use Rattle.linking.proofs.Added.{EachNew, not_found, read-room, slot-room, generated-each}
+use Rattle.words.proofs.ListLaws.{not_found}
+use Rattle.linking.proofs.Added.{EachNew, read-room, slot-room, generated-each}
 use Rattle.linking.proofs.Grown.{rows-indices, formed-methods_growing, formed-fields_growing}
 use Rattle.linking.proofs.Appended.{relisting, length-relisting, class-kept, word_kept}
 use Rattle.linking.proofs.MethodsBack.{methods_count, old-method, copied-method, new-method, other-class, own-word, own_first, own-count}

@@ -1,6 +1,6 @@
 -- Laws of what a link stores in the class words. Assumes nothing.
 use mathlib.Core.Path.{◌≡◌, refl, sym, ◌∙◌}
-use mathlib.Core.Bool.{Bool, true, false, not, ◌&&◌, ◌||◌}
+use mathlib.Core.Bool.{Bool, true, false, not, ◌&&◌, ◌||◌, true≢false}
 use mathlib.Core.Logic.{◌≢◌}
 use mathlib.Core.List.{List, [], ◌∷◌}
 use Prim.Native.Nat.{ℕ}
@@ -73,10 +73,7 @@ module _ (ws text abi labels : List ℕ) (ms : List Member) {n : ℕ} (size : n 
   news-is =
       by (eqb n 0)
       (λ q. news_empty (eqb-true n 0 q) ∙ sym q)
-      (λ q. news_some (λ z. apart (sym (eq-eqb n 0 z) ∙ q)) ∙ sym q)
-    where
-      apart : true ≡ false → ⊥
-      apart t = let o : ◌≡◌ {A = ℕ} 0 1 = cc in omega arith
+      (λ q. news_some (λ z. true≢false (sym (eq-eqb n 0 z) ∙ q)) ∙ sym q)
 
   pub methods_none : (c : ℕ) → n ≡ 0 → ws ≡ with_methods ws c (news_of ws text abi labels ms)
   unfolding with_methods

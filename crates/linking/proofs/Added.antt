@@ -15,7 +15,7 @@ use Rattle.std.specs.Option.{option_and_then}
 use Rattle.std.specs.Prelude.{Option}
 use Rattle.std.specs.Prelude.{Some, None}
 use Rattle.words.proofs.Bools.{by, and_both}
-use Rattle.words.proofs.ListLaws.{by-found, found-by, find-passes, find-member, find-within, numbers-within}
+use Rattle.words.proofs.ListLaws.{by-found, found-by, find-passes, find-member, find-within, numbers-within, not_found}
 use Rattle.text.specs.Text.{same_bytes}
 use Rattle.text.proofs.Laws.{same-is}
 use Rattle.descriptor.specs.Words.{receiver_words, is_method}
@@ -44,9 +44,6 @@ none-new R j h = absurd (omega arith)
 more-new : (R : New → Type 0) (x : New) (xs : List New) → R x → EachNew R xs → EachNew R (x ∷ xs)
 more-new R x xs p q zero h = p
 more-new R x xs p q (suc j) h = q j (omega arith)
-
-pub not_found : {X : Type 0} {m : ℕ} → None ≡ Some m → X
-not_found e = absurd (let z : ◌≡◌ {A = ℕ} 0 1 = cc in omega arith)
 
 -- what is found along a list that is itself found
 found-cons : {P : Type 0} (f : Option ℕ) (g : ℕ → Option ℕ) (rest : List ℕ) (s : ℕ) → ((a : ℕ) → f ≡ Some a → g a ≡ Some s → P)

@@ -19,7 +19,7 @@ use Rattle.words.proofs.ListLaws.{length-list-from, get_d_list_from}
 use Rattle.linking.specs.Chain.{on_found}
 use Rattle.linking.specs.Vtable.{Entry, empty, Built, built}
 use Rattle.linking.specs.Set.{write_at}
-use Rattle.linking.specs.Counts.{bits_of, missing_width, bit, bit_count, bits_from, pack_bits, missing_at, missing_bit, parent_bit}
+use Rattle.linking.specs.Counts.{is_counted, bits_of, missing_width, bit, bit_count, bits_from, pack_bits, missing_at, missing_bit, parent_bit}
 use Rattle.linking.specs.Missing.{entries_built}
 use Rattle.linking.proofs.Pairs.{none, pair}
 use Rattle.linking.proofs.Plans.{built-same, not-built}
@@ -71,9 +71,15 @@ unfolding bits_of
 length-bits f [] = refl
 length-bits f (e ∷ T) = ap suc (length-bits f T)
 
+pub bits_at : (f : ℕ → Bool) (T : List Entry) (i : ℕ) → i < length T → get_or (bits_of f T) i false ≡ is_counted f (get_or T i empty)
+unfolding bits_of
+bits_at f [] i h = absurd (omega arith)
+bits_at f (e ∷ T) zero h = refl
+bits_at f (e ∷ T) (suc i) h = bits_at f T i (omega arith)
+
 -- ---- packed, and read back
 
-bit-small : (b : Bool) → bit b ≤ 1
+pub bit-small : (b : Bool) → bit b ≤ 1
 bit-small true = omega arith
 bit-small false = omega arith
 

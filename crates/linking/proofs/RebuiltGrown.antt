@@ -1,6 +1,6 @@
 -- A class with a compiler table whose link added methods, built anew in the words after it: the added methods are declared now, in the same order after
 -- the copied ones, so nothing is added again, and the table has the same words from the same slots. Assumes nothing.
-use mathlib.Core.Path.{◌≡◌, refl, sym, ap, ◌∙◌}
+use mathlib.Core.Path.{◌≡◌, refl, sym, ◌∙◌}
 use mathlib.Core.Logic.{◌≢◌, ◌⊎◌, inr}
 use mathlib.Core.Bool.{Bool, true, false, ◌||◌}
 use mathlib.Core.List.{List, [], ◌∷◌, ◌++◌, append-nil, Memᴰ}
@@ -11,7 +11,7 @@ use lib.Dec.{eqb, ltb}
 use borrow.Author.Tests.{ne_eqb, lt-ltb, le-ltb}
 use Rattle.words.specs.Lists.{list_from, numbers, first_found, some}
 use Rattle.words.proofs.Bools.{by}
-use Rattle.words.proofs.ListLaws.{by-found}
+use Rattle.words.proofs.ListLaws.{by-found, numbers-split, some-append}
 use Rattle.text.proofs.Laws.{same_refl}
 use Rattle.class_sheet.specs.ClassSheet.{member_width, kind_word, compiler_table_word, method_count, text_of, class_kind, class_first_method, class_method_count, class_compiler_table, method_word, method_limit}
 use Rattle.abi_sheet.specs.AbiSheet.{abi_text_of}
@@ -33,22 +33,6 @@ use Rattle.linking.proofs.RenumberedPackages.{Held}
 use Rattle.linking.proofs.Rebuilt.{Unmoved, Stays, Any, untouched-compiler, word_same, stays-keeps, targets-same, sources-same, parents-held, view-held, signed}
 
 -- ---- lists
-
-numbers-split : (a n k : ℕ) → numbers a (n + k) ≡ numbers a n ++ numbers (a + n) k
-unfolding list_from
-numbers-split a zero k =
-    let e : 0 + k ≡ k = omega arith in
-    let f : a + 0 ≡ a = omega arith in
-    rw (e, f)
-numbers-split a (suc n) k =
-    let e : suc n + k ≡ suc (n + k) = omega arith in
-    let f : a + suc n ≡ a + 1 + n = omega arith in
-    rw (e, f) (ap (λ (l : List ℕ). a ∷ l) (numbers-split (a + 1) n k))
-
-some-append : (p : ℕ → Bool) (xs ys : List ℕ) → some p (xs ++ ys) ≡ (some p xs || some p ys)
-unfolding some
-some-append p [] ys = refl
-some-append p (x ∷ xs) ys = by (p x) (λ t. rw t) (λ t. rw t (some-append p xs ys))
 
 some_at : (p : ℕ → Bool) (a n i : ℕ) → i < n → p (a + i) ≡ true → some p (numbers a n) ≡ true
 unfolding some list_from

@@ -20,10 +20,10 @@ use Rattle.linking.specs.Vtable.{Entry, Built, built, refused, slot_words, paren
 use Rattle.linking.specs.Compiler.{New}
 use Rattle.linking.specs.Abi.{class_abi}
 use Rattle.linking.specs.Fields.{number_fields, added_fields, too_many_words, generated_refusal, generated_indices}
-use Rattle.linking.specs.Link.{next_free, Plan, planned, unplanned, on_table, within_slots, new_fields_of, built_table, generated_table, plan_built, plan_generated, plan_array, plan, generated_methods, linked_area, new_words, new_statics, LinkOutcome, link_def}
+use Rattle.linking.specs.Link.{next_free, Plan, planned, on_table, within_slots, new_fields_of, built_table, generated_table, plan_built, plan_generated, plan_array, plan, generated_methods, linked_area, new_words, new_statics, LinkOutcome, link_def}
 use Rattle.linking.specs.Set.{write_at}
 use Rattle.calls.proofs.Area.{linked-length}
-use Rattle.linking.proofs.Plans.{plans}
+use Rattle.linking.proofs.Plans.{plans, planned-same, not-planned}
 use Rattle.calls.proofs.Rows.{Refused, Accepted, link-cases}
 use Rattle.lines.proofs.Lengths.{limit, decimal-few, class-refused-few, class_lines_few}
 use Rattle.lines.proofs.Bounded.{Bounded, valid-bounded, class-short, ShortNews, news-short, link_leaves}
@@ -39,15 +39,6 @@ use Rattle.listing.specs.Listing.{link_row, fresh_area, fresh_counts, stub_words
 use Rattle.listing.specs.Small.{Small, Accepts}
 
 -- ---- the methods that a plan adds
-
-not-planned : {X : Type 0} {n : ℕ} {p : Plan} → unplanned n ≡ planned p → X
-not-planned e = absurd (omega (arith, zero_one e))
-  where
-    zero_one : {n : ℕ} {p : Plan} → unplanned n ≡ planned p → ◌≡◌ {A = ℕ} 0 1
-    zero_one e = cc
-
-planned-same : {p q : Plan} → planned p ≡ planned q → p ≡ q
-planned-same e = cc
 
 within-news : (q p : Plan) → within_slots q ≡ planned p → q.new_methods ≡ p.new_methods
 unfolding within_slots

@@ -1,7 +1,7 @@
 -- Laws of the bits of a table: one slot's, their number, and a word of 32. Assumes nothing.
-use mathlib.Core.Path.{◌≡◌, refl, sym, ap, ◌∙◌}
-use mathlib.Core.Bool.{Bool, true, false}
-use mathlib.Core.List.{List, [], ◌∷◌}
+use mathlib.Core.Path.{◌≡◌, refl, sym, ◌∙◌}
+use mathlib.Core.Bool.{Bool, false}
+use mathlib.Core.List.{List}
 use Prim.Native.Nat.{ℕ, zero, suc, ◌+◌, ◌*◌, ◌-◌, ◌^◌, ◌≤◌, ◌<◌}
 use native.Mathlib.Nat.{pow-succ'}
 use native.Mathlib.Omega.{arith}
@@ -11,21 +11,11 @@ use lib.Seq.{drop-cons, drop-length}
 use lib.Pow.{pow_pos}
 use Rattle.linking.specs.Vtable.{Entry, empty}
 use Rattle.linking.specs.Counts.{is_counted, bits_of, bit, bit_count, bits_from}
+use Rattle.linking.proofs.MissingLaws.{length-bits, bits_at, bit-small}
 use Rattle.reading.specs.Arrays.{entries_of}
 use Rattle.reading.proofs.ArrayLaws.{length-entries}
 
 -- ---- the bits of all slots
-
-pub length-bits : (f : ℕ → Bool) (T : List Entry) → length (bits_of f T) ≡ length T
-unfolding bits_of
-length-bits f [] = refl
-length-bits f (e ∷ T) = ap suc (length-bits f T)
-
-bits_at : (f : ℕ → Bool) (T : List Entry) (i : ℕ) → i < length T → get_or (bits_of f T) i false ≡ is_counted f (get_or T i empty)
-unfolding bits_of
-bits_at f [] i h = absurd (omega arith)
-bits_at f (e ∷ T) zero h = refl
-bits_at f (e ∷ T) (suc i) h = bits_at f T i (omega arith)
 
 module _ (f : ℕ → Bool) (ts ms : List ℕ) (n : ℕ) where
   abbrev bits : List Bool
@@ -34,25 +24,13 @@ module _ (f : ℕ → Bool) (ts ms : List ℕ) (n : ℕ) where
   pub bits-length : length bits ≡ n
   bits-length = length-bits f (entries_of ts ms n) ∙ length-entries ts ms n
 
-  pub bit_past : (i : ℕ) → n ≤ i → 0 ≡ bit (get_or bits i false)
+  pub bit_past : (i : ℕ) → n ≤ i → false ≡ get_or bits i false
   bit_past i h = let l = bits-length in rw (get_or-eq_default bits false {n = i} (omega arith))
 
-  bit_in : (i : ℕ) → i < n → get_or bits i false ≡ is_counted f (get_or (entries_of ts ms n) i empty)
-  bit_in i h = let l = length-entries ts ms n in bits_at f (entries_of ts ms n) i (omega arith)
-
-  pub bit_set : (i : ℕ) {e : Entry} {b : Bool} → i < n → e ≡ get_or (entries_of ts ms n) i empty → b ≡ is_counted f e → b ≡ true
-      → 1 ≡ bit (get_or bits i false)
-  bit_set i h e b t = let q = ap (is_counted f) (sym e) ∙ sym b ∙ t in rw (bit_in i h, q)
-
-  pub bit_clear : (i : ℕ) {e : Entry} {b : Bool} → i < n → e ≡ get_or (entries_of ts ms n) i empty → b ≡ is_counted f e → b ≡ false
-      → 0 ≡ bit (get_or bits i false)
-  bit_clear i h e b t = let q = ap (is_counted f) (sym e) ∙ sym b ∙ t in rw (bit_in i h, q)
+  pub bit_there : (i : ℕ) {e : Entry} {b : Bool} → i < n → e ≡ get_or (entries_of ts ms n) i empty → b ≡ is_counted f e → b ≡ get_or bits i false
+  bit_there i h e b = let l = length-entries ts ms n in b ∙ rw e (sym (bits_at f (entries_of ts ms n) i (omega arith)))
 
 -- ---- their number
-
-bit-small : (b : Bool) → bit b ≤ 1
-bit-small true = omega arith
-bit-small false = omega arith
 
 module _ (bs : List Bool) where
   pub count-start : 0 + bit_count (drop 0 bs) ≡ bit_count bs

@@ -44,12 +44,12 @@ module _ (bs : List Bool) where
       w ∙ sym (ap (λ (i : ℕ). get_or (pack_bits bs) i 0) s ∙ (rw z at g))
 
   module _ (out : List ℕ) where
-    pub pack_turn : (j : ℕ) {d e : List ℕ} {w x : ℕ} → length out ≡ 33 → j < 33 → d ≡ write_at out 0 (take j (pack_bits bs))
-        → w ≡ get_or (pack_bits bs) j 0 → x ≡ j → e ≡ set d x w → e ≡ write_at out 0 (take (j + 1) (pack_bits bs))
-    pack_turn j {x = x} l h d w i e =
+    pub pack_turn : (j : ℕ) {d e : List ℕ} {w : ℕ} → length out ≡ 33 → j < 33 → d ≡ write_at out 0 (take j (pack_bits bs))
+        → w ≡ get_or (pack_bits bs) j 0 → e ≡ set d j w → e ≡ write_at out 0 (take (j + 1) (pack_bits bs))
+    pack_turn j l h d w e =
         let n = length_pack in
-        let y : x ≡ 0 + j = omega arith in
-        each_turn out 0 (pack_bits bs) j (omega arith) (omega arith) d w (e ∙ rw y)
+        let y : 0 + j ≡ j = omega arith in
+        each_turn out 0 (pack_bits bs) j (omega arith) (omega arith) d w (rw y e)
 
     pub pack_end : (j : ℕ) {d : List ℕ} → length out ≡ 33 → 33 ≤ j → d ≡ write_at out 0 (take j (pack_bits bs)) → d ≡ pack_bits bs
     unfolding write_at

@@ -49,20 +49,20 @@ fn is_counted(missing: &[u32], p: u32, slot: Slot) -> bool
     slot.word == 0 || slot.source().is_some_and(|j| parent_bit(missing, p, j))
 }
 
+// Whether slot i of the table is missing: none is past its end.
+#[tactic(auto, using(crate::proofs::BitLaws::bit_past, crate::proofs::BitLaws::bit_there))]
+fn is_missing<const N: usize>(missing: &[u32], p: u32, table: &Table<N>, i: usize) -> bool
+    ensures { result ≡ get_or (bits_in missing.now p table.now) i false }
+{
+    i < table.len as usize && is_counted(missing, p, table.slot(i as u32))
+}
+
 // 1 where slot i of the table is missing, and else 0.
-#[tactic(auto, using(crate::proofs::BitLaws::bit_past, crate::proofs::BitLaws::bit_set, crate::proofs::BitLaws::bit_clear))]
-fn bit_at<const N: usize>(missing: &[u32], p: u32, table: &Table<N>, i: u32) -> u32
+fn bit_at<const N: usize>(missing: &[u32], p: u32, table: &Table<N>, i: usize) -> u32
     ensures is { result ≡ bit (get_or (bits_in missing.now p table.now) i false) }
     ensures small { result ≤ 1 }
 {
-    if table.len <= i {
-        return 0;
-    }
-    if is_counted(missing, p, table.slot(i)) {
-        1
-    } else {
-        0
-    }
+    u32::from(is_missing(missing, p, table, i))
 }
 
 // How many of its slots are missing.
@@ -70,14 +70,14 @@ fn count_slots<const N: usize>(missing: &[u32], p: u32, table: &Table<N>) -> u32
     ensures { result ≡ bit_count (bits_in missing.now p table.now) }
 {
     let mut count: u32 = 0;
-    for i in 0..table.len {
+    for i in 0..table.len as usize {
         count += bit_at(missing, p, table, i);
     }
     count
 }
 
 // Word k of their bits, the first slot's lowest.
-fn bit_word<const N: usize>(missing: &[u32], p: u32, table: &Table<N>, k: u32) -> u32
+fn bit_word<const N: usize>(missing: &[u32], p: u32, table: &Table<N>, k: usize) -> u32
     requires { k < 32 }
     ensures { result ≡ bits_from (bits_in missing.now p table.now) (32 * k) 32 }
 {
@@ -90,7 +90,7 @@ fn bit_word<const N: usize>(missing: &[u32], p: u32, table: &Table<N>, k: u32) -
 
 // Word j of the class's 33: the count, and then the bits.
 #[tactic(auto, using(crate::proofs::ListLaws::word_first, crate::proofs::ListLaws::word_later))]
-fn packed_word<const N: usize>(missing: &[u32], p: u32, table: &Table<N>, j: u32) -> u32
+fn packed_word<const N: usize>(missing: &[u32], p: u32, table: &Table<N>, j: usize) -> u32
     requires { j < 33 }
     ensures { result ≡ get_or (pack_bits (bits_in missing.now p table.now)) j 0 }
 {
@@ -104,8 +104,8 @@ fn packed_word<const N: usize>(missing: &[u32], p: u32, table: &Table<N>, j: u32
 fn pack<const N: usize>(missing: &[u32], p: u32, table: &Table<N>, out: &mut [u32; WIDTH])
     ensures { out.new ≡ pack_bits (bits_in missing.now p table.now) }
 {
-    for j in 0..33 {
-        words::put(out, j as usize, packed_word(missing, p, table, j));
+    for j in 0..WIDTH {
+        out[j] = packed_word(missing, p, table, j);
     }
 }
 

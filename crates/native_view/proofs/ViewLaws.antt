@@ -11,7 +11,7 @@ use Rattle.words.specs.Lists.{list_from}
 use Rattle.std.specs.Prelude.{Option}
 use Rattle.std.specs.Prelude.{Some, None}
 use Rattle.words.proofs.Bools.{by}
-use Rattle.words.proofs.ListLaws.{length-list-from, get_d_list_from}
+use Rattle.words.proofs.ListLaws.{length-list-from, get_d_list_from, not_found}
 use Rattle.words.proofs.Ext.{list-more}
 use Rattle.class_sheet.specs.ClassSheet.{class_table_place, class_slot_count, method_limit}
 use Rattle.linking.specs.Chain.{on_found, parent_of}
@@ -20,7 +20,7 @@ use Rattle.linking.specs.Vtable.{Entry, empty, read_slot, table_entries, parent_
 use Rattle.linking.specs.Compiler.{owner_state, is_emptied, view_from, native_view}
 use Rattle.reading.specs.Arrays.{entry_at, entries_of}
 use Rattle.reading.proofs.ArrayLaws.{length-entries, entry_found}
-use Rattle.reading.proofs.ReadLaws.{read-room}
+use Rattle.linking.proofs.ChainLaws.{entry-room}
 use Rattle.native_view.specs.Native.{SheetMethod, SheetMethods}
 
 -- the ABI classes of a chain, as a part of the array that holds them
@@ -94,26 +94,23 @@ module _ (ws text abi labels : List ℕ) where
   -- ---- the parent's entries
 
   module _ (area : List ℕ) (c : ℕ) where
-    not_at : (m : ℕ) {X : Type 0} → None ≡ Some m → X
-    not_at m e = absurd (let z : ◌≡◌ {A = ℕ} 0 1 = cc in omega arith)
-
     table-room : (p i m : ℕ) → (get_or (table_entries ws text abi labels area p) i empty).method ≡ Some m → m < method_limit
     unfolding table_entries read_slot
     table-room p i m e =
         by (ltb i (min (class_slot_count ws p) 1024))
         (λ q.
         let g = get_d_list_from (read_slot ws text abi labels area p) 0 (min (class_slot_count ws p) 1024) i empty (ltb-true i (min (class_slot_count ws p) 1024) q) in
-        read-room ws text abi labels p (0 + i) (get_or area (class_table_place ws p + 1 + (0 + i)) 0) m (rw g at e))
+        entry-room ws text abi labels p (0 + i) (get_or area (class_table_place ws p + 1 + (0 + i)) 0) m (rw g at e))
         (λ q.
         let l = ltb-false i (min (class_slot_count ws p) 1024) q in
         let h : length (list_from (read_slot ws text abi labels area p) 0 (min (class_slot_count ws p) 1024)) ≤ i =
         omega (arith, length-list-from (read_slot ws text abi labels area p) 0 (min (class_slot_count ws p) 1024)) in
-        not_at m (rw (get_or-eq_default (list_from (read_slot ws text abi labels area p) 0 (min (class_slot_count ws p) 1024)) empty h) at e))
+        not_found (rw (get_or-eq_default (list_from (read_slot ws text abi labels area p) 0 (min (class_slot_count ws p) 1024)) empty h) at e))
 
     parent-room : SheetMethods (parent_entries ws text abi labels area c)
     unfolding SheetMethods SheetMethod parent_entries
     parent-room i m e =
-        by (eqb (parent_of ws c) 0) (λ q. not_at m (rw q at e)) (λ q. table-room (parent_of ws c) i m (rw q at e))
+        by (eqb (parent_of ws c) 0) (λ q. not_found (rw q at e)) (λ q. table-room (parent_of ws c) i m (rw q at e))
 
     -- the view as the code has it
     module _ {P V : List Entry} (read : P ≡ parent_entries ws text abi labels area c) where

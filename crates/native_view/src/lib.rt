@@ -34,13 +34,7 @@ fn holds(ws: &[u32], m: u32, c: u32) -> bool
 fn owner(ws: &[u32], m: u32) -> Option<u32>
     ensures { result ≡ find (holds ws.now m) (numbers 1 (class_count ws.now)) }
 {
-    let n = class_sheet::class_count(ws);
-    for i in 0..n {
-        if holds(ws, m, 1 + i) {
-            return Some(1 + i);
-        }
-    }
-    None
+    words::find_up_to(class_sheet::class_count(ws), |c| holds(ws, m, c))
 }
 
 // The link state of the class that method m belongs to.

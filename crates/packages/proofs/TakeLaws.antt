@@ -15,6 +15,7 @@ use Rattle.std.specs.Prelude.{Option}
 use Rattle.std.specs.Prelude.{Some, None}
 use Rattle.words.proofs.Bools.{by}
 use Rattle.words.proofs.ListLaws.{fold_from, fold_start, fold-turn, fold_end}
+use Rattle.words.proofs.Lists.{zeros}
 use Rattle.class_sheet.specs.ClassSheet.{class_limit, class_first_method, class_method_count, method_flags, method_limit}
 use Rattle.linking.specs.Chain.{list_count, on_found, own_methods, parent_of, chain, is_virtual, eligible, same_methods}
 use Rattle.linking.specs.Vtable.{Entry, method_entry, parent_entries}
@@ -24,7 +25,6 @@ use Rattle.linking.proofs.Overriding.{keep-of}
 use Rattle.linking.proofs.Plans.{packages-within, packages-beyond}
 use Rattle.reading.specs.Arrays.{method_of, entries_of}
 use Rattle.reading.proofs.ArrayLaws.{length-entries}
-use Rattle.packages.proofs.TopLaws.{blank}
 use Rattle.packages.proofs.OverLaws.{left, left-start, left-fold-turn, left-fold-end, left-is-turn, left-is-end}
 use Rattle.packages.specs.Marks.{mark, taken_by, top_of, taken_in, is_some, Tops}
 
@@ -72,7 +72,7 @@ taken_is tops ks n room e =
   where
     one : (f : Option ℕ) → on_found f (λ m. eqb (get_or (fold mark (replicate 512 0) ks) m 0) 1) false ≡ on_found f (λ k. some (λ j. eqb j k) ks) false
     one (Some m) =
-        let z : eqb (get_or (replicate 512 0) m 0) 1 ≡ false = rw (blank 512 m) in
+        let z : eqb (get_or (replicate 512 0) m 0) 1 ≡ false = rw (zeros 512 m) in
         marks_are ks (replicate 512 0) m (λ k i. rw (length-replicate {A = ℕ} 512 0) (room k i)) ∙ rw z (or-false (some (λ j. eqb j m) ks))
     one None = refl
 

@@ -1,8 +1,8 @@
 -- The introducing methods, as the code lays them: class by class up the chain, the topmost last. Assumes nothing.
-use mathlib.Core.Path.{◌≡◌, refl, sym, ap, ◌∙◌}
+use mathlib.Core.Path.{◌≡◌, sym, ap, ◌∙◌}
 use mathlib.Core.Bool.{false}
 use mathlib.Core.List.{List}
-use Prim.Native.Nat.{ℕ, zero, suc, ◌+◌, ◌≤◌, ◌<◌, min}
+use Prim.Native.Nat.{ℕ, ◌+◌, ◌≤◌, ◌<◌, min}
 use native.Mathlib.Omega.{arith}
 use lib.ListN.{length, get_or, replicate}
 use lib.Dec.{eqb, ltb}
@@ -11,6 +11,8 @@ use Rattle.words.specs.Folds.{stores}
 use Rattle.std.specs.Prelude.{None}
 use Rattle.words.proofs.Bools.{by}
 use Rattle.words.proofs.ListLaws.{by-found, length-list-from, get_d_list_from}
+use Rattle.words.proofs.Lists.{zeros}
+use Rattle.words.proofs.FoldLaws.{stores_at}
 use Rattle.class_sheet.specs.ClassSheet.{class_table_place, class_slot_count}
 use Rattle.linking.specs.Chain.{parent_of, chain}
 use Rattle.linking.specs.Vtable.{Entry, empty, read_slot, table_entries}
@@ -18,13 +20,8 @@ use Rattle.linking.specs.Packages.{topmost, table_has, introducing}
 use Rattle.linking.proofs.ChainLaws.{chain-none, chain_more}
 use Rattle.reading.specs.Arrays.{method_of, entry_at, entries_of}
 use Rattle.reading.proofs.ArrayLaws.{length-entries, entry_found, no_method}
-use Rattle.reading.proofs.MarkLaws.{stores_at, stores-rest}
+use Rattle.reading.proofs.MarkLaws.{stores-rest}
 use Rattle.packages.specs.Marks.{top_of, Laid, LaidUp, Tops}
-
-pub blank : (n i : ℕ) → ◌≡◌ {A = ℕ} (get_or (replicate n 0) i 0) 0
-blank zero i = refl
-blank (suc n) zero = refl
-blank (suc n) (suc i) = blank n i
 
 -- ---- one class
 
@@ -84,7 +81,7 @@ module _ (ws text abi labels area : List ℕ) where
 
   blank_top : (n i : ℕ) → top_of (replicate n 0) i ≡ None
   unfolding top_of
-  blank_top n i = ap method_of (blank n i) ∙ no_method
+  blank_top n i = ap method_of (zeros n i) ∙ no_method
 
   pub laid_tops : (p : ℕ) (tops new : List ℕ) → tops ≡ replicate 1024 0 → LaidUp ws text abi labels area p tops new → Tops ws text abi labels area p new
   unfolding introducing

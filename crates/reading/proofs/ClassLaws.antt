@@ -15,7 +15,7 @@ use Rattle.std.specs.Option.{option_or}
 use Rattle.std.specs.Prelude.{Option}
 use Rattle.std.specs.Prelude.{Some, None}
 use Rattle.words.proofs.Bools.{by}
-use Rattle.words.proofs.FoldLaws.{length-table, get_d_table, stores-turn, stores-is, length-stores}
+use Rattle.words.proofs.FoldLaws.{length-table, get_d_table, stores-turn, stores-is, length-stores, stores_at}
 use Rattle.words.proofs.ListLaws.{length-list-from, get_d_list_from}
 use Rattle.class_sheet.specs.ClassSheet.{class_first_method, class_method_count, class_table_place, method_limit}
 use Rattle.linking.specs.declared.Declared.{Declared}
@@ -23,14 +23,13 @@ use Rattle.linking.specs.Whose.{declared}
 use Rattle.linking.specs.Chain.{parent_of, chain, own_target, find_by_target}
 use Rattle.linking.specs.Vtable.{own_fixed}
 use Rattle.linking.specs.Whose.{method_of, declaring_class, declared_in, first_declared, declared_by_target, declared_by_index, read_declared, slot_class}
-use Rattle.linking.proofs.ChainLaws.{chain-none, chain_more, own-target-room}
+use Rattle.linking.proofs.ChainLaws.{chain-none, chain_more, own-target-room, own-fixed-room}
 use Rattle.linking.proofs.Whose.{nearest-counts, declared-class, target_found}
 use Rattle.chain.specs.Records.{method_records, first_target}
 use Rattle.chain.proofs.RecordLaws.{record_target}
 use Rattle.reading.specs.Arrays.{mark_of, or_mark, marks_with}
 use Rattle.reading.specs.Classes.{claimed, claims, or_class, classes_with, Paired}
-use Rattle.reading.proofs.ReadLaws.{own-fixed-room}
-use Rattle.reading.proofs.MarkLaws.{stores-rest, stores_at, stores-ext, stores-past, stores-twice, stores_same, marks_at_lem, list-from-ext}
+use Rattle.reading.proofs.MarkLaws.{stores-rest, stores-ext, stores-past, stores-twice, stores_same, marks_at_lem, list-from-ext}
 
 -- ---- one slot
 

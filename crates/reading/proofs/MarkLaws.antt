@@ -4,7 +4,7 @@ use mathlib.Core.Bool.{Bool, true, cond}
 use mathlib.Core.List.{List, ◌++◌}
 use Prim.Native.Nat.{ℕ, zero, suc, ◌+◌, ◌*◌, ◌%◌, ◌≤◌, ◌<◌}
 use native.Mathlib.Omega.{arith}
-use lib.ListN.{length, get_or, set, drop, get_or-append}
+use lib.ListN.{length, get_or, set, drop}
 use lib.Seq.{get_or-set_other, set-get_or, drop_at}
 use lib.Dec.{eqb, ltb}
 use borrow.Author.Tests.{ne_eqb, lt-ltb, eqb-true}
@@ -13,18 +13,18 @@ use Rattle.words.specs.Lists.{list_from, numbers, find, first_found}
 use Rattle.std.specs.Option.{option_or}
 use Rattle.std.specs.Prelude.{Option}
 use Rattle.std.specs.Prelude.{Some, None}
-use Rattle.words.proofs.FoldLaws.{length-table, get_d_table, stores-turn, stores-is, length-stores}
+use Rattle.words.proofs.FoldLaws.{length-table, stores-turn, stores-is, length-stores, stores_at}
 use Rattle.words.proofs.ListLaws.{find-within}
 use Rattle.words.proofs.Bools.{by}
 use Rattle.class_sheet.specs.ClassSheet.{member_width, target_word, class_first_method, class_method_count, method_limit}
 use Rattle.linking.specs.Chain.{list_count, parent_of, chain, own_target, find_by_target}
 use Rattle.linking.specs.Vtable.{own_fixed, find_by_index, read_entry}
 use Rattle.chain.specs.Records.{method_records, record_word, first_target}
-use Rattle.linking.proofs.ChainLaws.{chain_more, along-none, own-target-room, target_room}
+use Rattle.linking.proofs.ChainLaws.{chain_more, along-none, own-target-room, target_room, own-fixed-room}
 use Rattle.chain.proofs.RecordLaws.{record_target}
 use Rattle.reading.specs.Arrays.{mark_of, copy_mark, copy_marks, or_mark, marks_with, entry_at, entries_of, slot_read}
 use Rattle.reading.proofs.ArrayLaws.{copy-method, copy-source}
-use Rattle.reading.proofs.ReadLaws.{own-fixed-room, read_back}
+use Rattle.reading.proofs.ReadLaws.{read_back}
 
 -- ---- stores
 
@@ -33,11 +33,6 @@ unfolding stores
 stores-rest zero f d j h = refl
 stores-rest (suc n) f d j h =
     get_or-set_other (stores n f d) n j (f n) 0 (λ (e : j ≡ n). absurd (omega arith)) ∙ stores-rest n f d j (omega arith)
-
-pub stores_at : (n : ℕ) (f : ℕ → ℕ) (d : List ℕ) (j : ℕ) → j < n → n ≤ length d → get_or (stores n f d) j 0 ≡ f j
-stores_at n f d j h g =
-    let e = length-table n f in
-    rw (stores-is n f d g) (get_or-append (table n f) (drop n d) 0 j (omega arith) ∙ get_d_table n f j h)
 
 pub stores-ext : (n : ℕ) (f g : ℕ → ℕ) (d : List ℕ) → ((i : ℕ) → i < n → f i ≡ g i) → stores n f d ≡ stores n g d
 unfolding stores

@@ -1,20 +1,16 @@
 -- Laws of Reading, as the code goes through it. Assumes nothing.
 use mathlib.Core.Path.{◌≡◌, refl, ◌∙◌}
 use mathlib.Core.List.{List, []}
-use Prim.Native.Nat.{ℕ, ◌<◌, min}
-use native.Mathlib.Omega.{arith}
+use Prim.Native.Nat.{ℕ, min}
 use borrow.Author.Tests.{eq-eqb, ne_eqb}
 use Rattle.words.specs.Lists.{list_from}
-use Rattle.std.specs.Option.{option_and_then}
-use Rattle.words.proofs.ListLaws.{by-found, found-by}
 use Rattle.std.specs.Prelude.{Option}
 use Rattle.std.specs.Prelude.{Some, None}
-use Rattle.class_sheet.specs.ClassSheet.{class_table_place, class_slot_count, method_limit}
-use Rattle.abi_sheet.specs.AbiSheet.{abi_slot_name, abi_slot_descriptor}
-use Rattle.linking.specs.Chain.{parent_of, chain, find_by_target}
-use Rattle.linking.specs.Abi.{slot_at, class_abi}
-use Rattle.linking.specs.Vtable.{Entry, own_fixed, find_by_index, read_entry, read_slot, table_entries, parent_entries}
-use Rattle.linking.proofs.ChainLaws.{target_room, found-method-room}
+use Rattle.class_sheet.specs.ClassSheet.{class_table_place, class_slot_count}
+use Rattle.linking.specs.Chain.{parent_of}
+use Rattle.linking.specs.Abi.{class_abi}
+use Rattle.linking.specs.Vtable.{Entry, own_fixed, read_entry, read_slot, table_entries, parent_entries}
+use Rattle.linking.proofs.ChainLaws.{entry-room}
 use Rattle.reading.specs.Arrays.{mark_of, method_of, slot_read}
 use Rattle.reading.proofs.ArrayLaws.{found_back}
 
@@ -26,31 +22,13 @@ module _ (ws text abi labels : List ℕ) where
     unfolding own_fixed
     fixed-none e = rw (← entry, e)
 
-  -- ---- what Reading finds is one of the sheet's methods
-
-  pub own-fixed-room : (i c m : ℕ) → own_fixed ws text abi labels i c ≡ Some m → m < method_limit
-  unfolding own_fixed
-  own-fixed-room i c m e =
-      by-found (option_and_then (slot_at abi i) (class_abi ws text abi labels c))
-      (λ s q. found-method-room ws text (abi_slot_name abi labels s) (abi_slot_descriptor abi labels s) c m (rw q at e))
-      (λ q. let z : ◌≡◌ {A = Option ℕ} None (Some m) = rw q at e in let o : ◌≡◌ {A = ℕ} 0 1 = cc in absurd (omega arith))
-
-  index-room : (c i m : ℕ) → find_by_index ws text abi labels c i ≡ Some m → m < method_limit
-  unfolding find_by_index
-  index-room c i m e = found-by (own_fixed ws text abi labels i) (chain ws c) m (λ x t q. own-fixed-room i x m q) e
-
-  pub read-room : (c i w m : ℕ) → (read_entry ws text abi labels c i w).method ≡ Some m → m < method_limit
-  unfolding read_entry
-  read-room c i w m e =
-      by-found (find_by_target ws c w) (λ k q. target_room ws c w m (q ∙ (rw q at e))) (λ q. index-room c i m (rw q at e))
-
   entry_eta : (c i w : ℕ) → ◌≡◌ {A = Entry} (record { word = w; method = (read_entry ws text abi labels c i w).method; source = Some i }) (read_entry ws text abi labels c i w)
   unfolding read_entry
   entry_eta c i w = refl
 
   -- an entry comes back from its word and mark
   pub read_back : (c i w : ℕ) → ◌≡◌ {A = Entry} (record { word = w; method = method_of (mark_of (read_entry ws text abi labels c i w).method); source = Some i }) (read_entry ws text abi labels c i w)
-  read_back c i w = read_is (found_back (read_entry ws text abi labels c i w).method (read-room c i w))
+  read_back c i w = read_is (found_back (read_entry ws text abi labels c i w).method (entry-room ws text abi labels c i w))
     where
       read_is : method_of (mark_of (read_entry ws text abi labels c i w).method) ≡ (read_entry ws text abi labels c i w).method
           → ◌≡◌ {A = Entry} (record { word = w; method = method_of (mark_of (read_entry ws text abi labels c i w).method); source = Some i }) (read_entry ws text abi labels c i w)

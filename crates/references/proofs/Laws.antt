@@ -18,6 +18,7 @@ use Rattle.words.specs.Lists.{list_from, numbers, keep}
 use Rattle.words.proofs.Bools.{by}
 use Rattle.words.proofs.FoldLaws.{sum_more}
 use Rattle.words.specs.Words.{AreBytes}
+use Rattle.words.proofs.ListLaws.{numbers-split}
 use Rattle.references.specs.References.{is_marked, marked_words, written_over, bytes_for, kept_bits, masked, masked_byte, masked_ones, too_few, Outcome, outcome, counted, read_references, count_references}
 use Rattle.std.specs.Prelude.{Result, Ok, Err}
 use Rattle.refusal.specs.Rows.{row}
@@ -27,14 +28,6 @@ use native.Mathlib.Nat.{mod-eq_of_lt}
 use Rattle.refusal.proofs.Rows.{row_above}
 
 -- ---- lists of numbers that pass a test
-
-pub numbers-split : (m a b : ℕ) → numbers m (a + b) ≡ numbers m a ++ numbers (m + a) b
-unfolding list_from
-numbers-split m zero b = let e : 0 + b ≡ b = omega arith in let g : m + 0 ≡ m = omega arith in rw (e, g)
-numbers-split m (suc a) b =
-    let e : suc a + b ≡ suc (a + b) = omega arith in
-    let g : m + 1 + a ≡ m + suc a = omega arith in
-    rw (e, ← g) (ap (λ (l : List ℕ). m ∷ l) (numbers-split (m + 1) a b))
 
 pub numbers-none : (m : ℕ) → numbers m 0 ≡ []
 unfolding list_from

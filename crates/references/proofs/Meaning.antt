@@ -2,7 +2,7 @@
 -- is marked. Assumes nothing.
 use mathlib.Core.Path.{◌≡◌, refl, sym, ap, ◌∙◌}
 use mathlib.Core.Logic.{◌⊎◌, ⊎_elim}
-use mathlib.Core.Bool.{true, false}
+use mathlib.Core.Bool.{true, false, true≢false}
 use mathlib.Core.List.{List, [], ◌∷◌, ◌++◌, Memᴰ}
 use Prim.Native.Nat.{ℕ, zero, suc, ◌+◌, ◌/◌, ◌<◌}
 use native.Mathlib.Nat.{eq-or-lt_of_le}
@@ -23,9 +23,6 @@ next bitmap i = let e : suc i ≡ i + 1 = omega arith in rw e
 
 split : {i n : ℕ} → i < suc n → (i ≡ n) ⊎ (i < n)
 split h = eq-or-lt_of_le (omega arith)
-
-differ : true ≡ false → ⊥
-differ e = let z : ◌≡◌ {A = ℕ} 0 1 = cc in omega arith
 
 module _ (bitmap : List ℕ) where
   -- each listed word is below n and marked
@@ -48,7 +45,7 @@ module _ (bitmap : List ℕ) where
       (λ t. rw (before-take bitmap n t)
       (⊎_elim (λ q. mathlib.Core.List.Memᴰ.append_right (marked_before bitmap n) (mathlib.Core.List.Memᴰ.head q)) (λ l. mathlib.Core.List.Memᴰ.append_left (n ∷ []) (member n i l e))
       (split h)))
-      (λ t. rw (before-skip bitmap n t) (⊎_elim (λ (q : i ≡ n). absurd (differ (sym (rw q at e) ∙ t))) (λ l. member n i l e) (split h))))
+      (λ t. rw (before-skip bitmap n t) (⊎_elim (λ (q : i ≡ n). absurd (true≢false (sym (rw q at e) ∙ t))) (λ l. member n i l e) (split h))))
 
   -- each element is below n
   below : (n k : ℕ) → k < length (marked_before bitmap n) → get_or (marked_before bitmap n) k 0 < n

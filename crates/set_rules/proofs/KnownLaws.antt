@@ -6,7 +6,7 @@ use Prim.Native.Nat.{ℕ, ◌+◌, ◌*◌, ◌%◌, ◌≤◌, ◌<◌}
 use native.Mathlib.Nat.{mul-suc}
 use native.Mathlib.Numerals.{add-one}
 use native.Mathlib.Omega.{arith}
-use lib.ListN.{length, get_or, set, replicate, get_or-replicate, length-replicate, get_or-eq_default}
+use lib.ListN.{length, get_or, set, replicate, get_or-eq_default}
 use lib.Dec.{eqb, ltb}
 use lib.Seq.{set_out, get_or-set_same, get_or-set_other}
 use borrow.Author.Tests.{eqb-true, eqb-false, ltb-true, ltb-false, not-false}
@@ -24,6 +24,7 @@ use Rattle.abi_sheet.specs.AbiSheet.{abi_member_width, abi_slot_count, abi_field
 use Rattle.words.specs.Folds.{all_of}
 use Rattle.words.specs.Lists.{fold}
 use Rattle.words.proofs.FoldLaws.{all-ext}
+use Rattle.words.proofs.Lists.{zeros}
 
 -- a method's descriptor, a slot's, and a field's
 module _ (n : ℕ) (s : List ℕ) {kind : Members} {r : Bool} where
@@ -47,13 +48,8 @@ any-number Slots n s h = h
 any-number Fields n s h = h
 
 -- nothing is known
-zero-at : (n s : ℕ) → ◌≡◌ {A = ℕ} (get_or (replicate n 0) s 0) 0
-zero-at n s =
-    by (ltb s n) (λ t. get_or-replicate n s 0 0 (ltb-true s n t))
-    (λ f. get_or-eq_default (replicate n 0) 0 (omega (arith, length-replicate {0} {A = ℕ} n 0, ltb-false s n f)))
-
 pub known-none : (n : ℕ) (kind : Members) (text : List ℕ) → Known kind text (replicate n 0)
-known-none n kind text = record { good = λ s l e. absurd (omega (arith, zero-at n s)) }
+known-none n kind text = record { good = λ s l e. absurd (omega (arith, zeros n s)) }
 
 module _ (kind : Members) (text known : List ℕ) (k : Known kind text known) where
   -- what is known is a descriptor

@@ -37,12 +37,12 @@ module _ (bs : List ℕ) (room : ℕ) (e : class_sheet_refusal bs room ≡ 0) wh
   abbrev ws : List ℕ
   ws = sheet_words bs
 
-  class-passed : (class_form ws ≡ true) × (class_refusal ws (text_of ws) ≡ 0)
+  pub class-passed : (class_form ws ≡ true) × (class_refusal ws (text_of ws) ≡ 0)
   unfolding class_sheet_refusal class_rows
   class-passed =
       let p = passed (not (class_form ws)) 3 _ (omega arith) (rows-passed block_limit class_rows bs room e) in (not-false _ p.0, p.1)
 
-  formed : (class_limits ws ≡ true) × (least_fit (content_end ws) (length ws) ≡ true) × (zero_rest ws (4 * text_at ws + text_length ws) ≡ true)
+  pub formed : (class_limits ws ≡ true) × (least_fit (content_end ws) (length ws) ≡ true) × (zero_rest ws (4 * text_at ws + text_length ws) ≡ true)
       × (all_fresh ws ≡ true)
   unfolding class_form
   formed =

@@ -9,10 +9,10 @@ use Rattle.linking.specs.Abi.{abi_slots, slot_index, class_abi}
 use Rattle.linking.specs.Vtable.{empty, method_entry}
 use Rattle.linking.proofs.Assemble.{Lent, method, built, array, slot, abi, lent, link, answers, after, table_of}
 use Rattle.linking.proofs.Opened.{opened}
-use Rattle.words.proofs.ListLaws.{get_d_list_from}
+use Rattle.words.proofs.ListLaws.{get_d_list_from, not_found}
 use Rattle.slots.specs.Slots.{OldRule, Unique, Keeps, Kept, ChainMethod, ChainSlot}
 use Rattle.slots.specs.Made.{Made, Conditions, read_words, start_from, table_from, inherited_from, made_from}
-use Rattle.slots.proofs.ListFacts.{not_found, found-same, in_none}
+use Rattle.slots.proofs.ListFacts.{found-same, in_none}
 use Rattle.slots.proofs.Tables.{table-unique, table_kept}
 
 -- class 1 declares foo, which its ABI entry fixes at 1; class 2 is an array of it whose ABI entry fixes bar at 2; class 3 declares foo and bar

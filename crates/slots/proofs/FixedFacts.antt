@@ -4,7 +4,7 @@ use Rattle.std.proofs.Common.{rules, ◌≡◌, refl, sym, ap, ◌∙◌, ◌⊎
 use mathlib.Core.List.{Memᴰ}
 use Rattle.words.specs.Lists.{find}
 use Rattle.words.proofs.Bools.{and_both}
-use Rattle.words.proofs.ListLaws.{by-found, find-member, find-passes, largest_member}
+use Rattle.words.proofs.ListLaws.{by-found, find-member, find-passes, largest_member, not_found}
 use Rattle.text.specs.Text.{same_bytes}
 use Rattle.text.proofs.Laws.{same-is, same_refl}
 use Rattle.class_sheet.specs.ClassSheet.{class_kind, method_name, method_descriptor}
@@ -16,7 +16,7 @@ use Rattle.linking.proofs.ChainLaws.{along-up, own-method-member, own-method-is}
 use Rattle.linking.proofs.AbiLaws.{chain-abi-whole, slot-at-is, minimum_size-member}
 use Rattle.slots.specs.Slots.{ChainSlot}
 use Rattle.slots.specs.Made.{OneSlotIndex}
-use Rattle.slots.proofs.ListFacts.{FoundBy, not_found, found-same, in_none, find-misses, found_in, found-misses, all_found_lem, found-of-all}
+use Rattle.slots.proofs.ListFacts.{FoundBy, found-same, in_none, find-misses, found_in, found-misses, all_found_lem, found-of-all}
 use Rattle.slots.proofs.ChainFacts.{chain-cases}
 use Rattle.slots.proofs.PlaceFacts.{Signature, same_parts, OneIndex}
 

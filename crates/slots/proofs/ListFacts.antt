@@ -7,15 +7,9 @@ use lib.ListN.{get_or-eq_default}
 use borrow.Author.Tests.{eqb-false}
 use Rattle.words.specs.Lists.{find, first_found, all_found, position}
 use Rattle.words.proofs.Bools.{by}
-use Rattle.words.proofs.ListLaws.{by-found}
+use Rattle.words.proofs.ListLaws.{by-found, not_found}
 
 -- ---- found or not
-
-pub not_found : {X : Type 0} {n : ℕ} → None ≡ Some n → X
-not_found e = absurd (omega (arith, zero_one e))
-  where
-    zero_one : {n : ℕ} → None ≡ Some n → ◌≡◌ {A = ℕ} 0 1
-    zero_one e = cc
 
 pub found-same : {m n : ℕ} → Some m ≡ Some n → m ≡ n
 found-same e = cc

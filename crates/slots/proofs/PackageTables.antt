@@ -5,7 +5,7 @@ use mathlib.Core.List.Memᴰ
 use mathlib.Core.List.{Memᴰ}
 use borrow.Author.Tests.{eqb-false}
 use Rattle.words.proofs.Bools.{by}
-use Rattle.words.proofs.ListLaws.{by-found}
+use Rattle.words.proofs.ListLaws.{by-found, not_found}
 use Rattle.class_sheet.specs.ClassSheet.{class_kind, method_target}
 use Rattle.linking.specs.Chain.{own_methods, parent_of, chain}
 use Rattle.linking.specs.Vtable.{Entry, read_entry, slot_words}
@@ -13,7 +13,7 @@ use Rattle.linking.specs.Packages.{topmost}
 use Rattle.linking.proofs.ChainLaws.{parent_below, parent-within, chain-none, chain_more}
 use Rattle.slots.specs.Slots.{PackageRule, Known, Redeclares, Keeps, Kept, ChainMethod}
 use Rattle.slots.specs.Made.{read_words, inherited_from, introduced_from, packages_from, made_from, Made}
-use Rattle.slots.proofs.ListFacts.{not_found, found-same}
+use Rattle.slots.proofs.ListFacts.{found-same}
 use Rattle.slots.proofs.ChainFacts.{chain-here, chain-up, chain-cases, method-up, target-own}
 use Rattle.slots.proofs.FixedFacts.{method_signature, signature-same}
 use Rattle.slots.proofs.EntryFacts.{at, own-word}

@@ -6,7 +6,7 @@ use mathlib.Core.List.{Memᴰ}
 use borrow.Author.Tests.{eqb-false}
 use Rattle.words.specs.Lists.{list_from, numbers, first_found, fold}
 use Rattle.words.proofs.Bools.{by, and_both}
-use Rattle.words.proofs.ListLaws.{by-found}
+use Rattle.words.proofs.ListLaws.{by-found, not_found}
 use Rattle.class_sheet.specs.ClassSheet.{class_first_method, class_method_count, method_name, method_flags, method_limit}
 use Rattle.linking.specs.Chain.{list_count, own_methods, parent_of, chain, is_virtual, is_eligible, eligible, same_methods}
 use Rattle.linking.specs.Abi.{fixed_index}
@@ -16,7 +16,7 @@ use Rattle.linking.proofs.Overriding.{virtual_of, overrides-overridden}
 use Rattle.linking.proofs.ChainLaws.{parent_below}
 use Rattle.slots.specs.Slots.{PackageRule, ChainMethod}
 use Rattle.slots.specs.Made.{read_words, inherited_from, introduced_from, packages_from, Made}
-use Rattle.slots.proofs.ListFacts.{not_found, found-same}
+use Rattle.slots.proofs.ListFacts.{found-same}
 use Rattle.slots.proofs.ChainFacts.{chain-here, chain-up, method-here, method-up}
 use Rattle.slots.proofs.PlaceFacts.{Signature, Good, good_less, good_none}
 use Rattle.slots.proofs.FixedFacts.{method_signature, signature-same}

@@ -4,7 +4,7 @@ use Rattle.std.proofs.Common.{rules, ◌≡◌, refl, sym, ap, ◌∙◌, ◌⊎
 use mathlib.Core.List.{Memᴰ}
 use lib.ListN.{get_or-eq_default}
 use Rattle.words.proofs.Bools.{by}
-use Rattle.words.proofs.ListLaws.{length-list-from, get_d_list_from}
+use Rattle.words.proofs.ListLaws.{length-list-from, get_d_list_from, not_found}
 use Rattle.class_sheet.specs.ClassSheet.{class_kind, method_target}
 use Rattle.linking.specs.Chain.{own_methods, parent_of, chain}
 use Rattle.linking.specs.Abi.{class_abi}
@@ -12,7 +12,6 @@ use Rattle.linking.specs.Vtable.{Entry, empty, find_by_index, read_entry, slot_w
 use Rattle.linking.proofs.ChainLaws.{along-none, target_none}
 use Rattle.slots.specs.Slots.{Known, ChainMethod}
 use Rattle.slots.specs.Made.{read_words, Conditions}
-use Rattle.slots.proofs.ListFacts.{not_found}
 use Rattle.slots.proofs.ChainFacts.{method-up, conditions-up, target_absent, target-own}
 use Rattle.slots.proofs.PlaceFacts.{Signature, OneIndex, Good, good-fixed}
 use Rattle.slots.proofs.FixedFacts.{method_signature, Live, index_live, index-parent}

@@ -4,7 +4,7 @@ use Rattle.std.proofs.Common.{rules, ◌≡◌, refl, sym, ap, ◌∙◌, inl, i
 use mathlib.Core.List.{Memᴰ}
 use borrow.Author.Tests.{eqb-false}
 use Rattle.words.proofs.Bools.{by}
-use Rattle.words.proofs.ListLaws.{by-found}
+use Rattle.words.proofs.ListLaws.{by-found, not_found}
 use Rattle.class_sheet.specs.ClassSheet.{class_kind}
 use Rattle.linking.specs.Chain.{own_methods, parent_of, chain}
 use Rattle.linking.specs.Abi.{class_abi, chain_abi, minimum_size}
@@ -13,7 +13,6 @@ use Rattle.linking.proofs.ChainLaws.{parent_below, parent-within}
 use Rattle.linking.proofs.Plans.{built-same}
 use Rattle.slots.specs.Slots.{OldRule, Unique, Redeclares, Keeps, Kept}
 use Rattle.slots.specs.Made.{read_words, start_from, table_from, inherited_from, made_from, Made, Conditions}
-use Rattle.slots.proofs.ListFacts.{not_found}
 use Rattle.slots.proofs.ChainFacts.{chain-here, chain-up, method-here, conditions-up}
 use Rattle.slots.proofs.PlaceFacts.{OneIndex, Good, one-sub, good-sub, good_none}
 use Rattle.slots.proofs.FixedFacts.{method_signature, same_signature_lem, signature-same, Fixes, Live, live_fixes, fixes-once, live_up}

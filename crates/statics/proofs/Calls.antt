@@ -8,7 +8,7 @@ use Rattle.words.proofs.Bools.{by}
 use Rattle.words.proofs.ListLaws.{numbers-within}
 use Rattle.text.specs.Text.{descriptor_start_word, descriptor_length_word}
 use Rattle.class_sheet.specs.ClassSheet.{class_width, kind_word, first_field_word, field_count_word, table_place_word, static_words_word, index_word, field_limit, field_count, text_of, class_word, class_kind, class_first_field, class_field_count, class_table_place, field_word}
-use Rattle.set_rules.specs.Valid.{IsClass}
+use Rattle.set_rules.specs.Valid.{IsClass, Valid}
 use Rattle.linking.specs.Chain.{list_count, own_fields}
 use Rattle.linking.specs.Fields.{add_static, static_words}
 use Rattle.linking.specs.Link.{link_def, LinkOutcome}
@@ -24,6 +24,13 @@ pub fold-ext : (f g : ℕ → ℕ → ℕ) (xs : List ℕ) (n : ℕ) → ((k x :
 unfolding fold
 fold-ext f g [] n h = refl
 fold-ext f g (x ∷ xs) n h = rw (h n x (Memᴰ.head refl)) (fold-ext f g xs (g n x) (λ k y i. h k y (Memᴰ.tail i)))
+
+-- a class's own fields are of the sheet
+pub own_below : (ws : List ℕ) → Valid ws → (c f : ℕ) → IsClass ws c → Memᴰ f (own_fields ws c) → f < field_count ws
+unfolding own_fields
+own_below ws valid c f k i =
+    let v = (valid.class c k).fields in
+    omega (arith, numbers-within (class_first_field ws c) (list_count (class_first_field ws c) (class_field_count ws c) field_limit) f i)
 
 module _ (ws abi : List ℕ) (start : Start ws) where
   -- what a list of calls has left
@@ -63,12 +70,6 @@ module _ (ws abi : List ℕ) (start : Start ws) where
           name-same ws now start.valid (alike inv.like) _ _ p,
         )
 
-    own_below : (c f : ℕ) → IsClass ws c → Memᴰ f (own_fields ws c) → f < field_count ws
-    unfolding own_fields
-    own_below c f k i =
-        let v = (start.valid.class c k).fields in
-        omega (arith, numbers-within (class_first_field ws c) (list_count (class_first_field ws c) (class_field_count ws c) field_limit) f i)
-
     own_same : (c : ℕ) → IsClass ws c → class_table_place now c ≡ 0 → own_fields now c ≡ own_fields ws c
     unfolding own_fields
     own_same c k z = rw (inv.still c first_field_word k z (omega arith), inv.still c field_count_word k z (omega arith))
@@ -77,7 +78,7 @@ module _ (ws abi : List ℕ) (start : Start ws) where
     unfolding static_words
     sum_same c k z =
         rw (own_same c k z)
-        (fold-ext (add_static now (text_of now)) (add_static ws (text_of ws)) (own_fields ws c) 0 (λ n f i. add_same n f (own_below c f k i)))
+        (fold-ext (add_static now (text_of now)) (add_static ws (text_of ws)) (own_fields ws c) 0 (λ n f i. add_same n f (own_below ws start.valid c f k i)))
 
   -- ---- an accepted link
 

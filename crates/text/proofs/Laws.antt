@@ -3,7 +3,7 @@ use borrow.Rule.Slice.PartMut.{put_mid}
 use Rattle.std.specs.Int.{w32, to_le_bytes}
 use Rattle.std.specs.List.{fold as std_fold, list_all, range_with_len}
 use mathlib.Core.Path.{◌≡◌, refl, sym, ap, ◌∙◌}
-use mathlib.Core.Bool.{Bool, true, false, ◌&&◌, false≢true, and-false, and-true}
+use mathlib.Core.Bool.{Bool, true, false, ◌&&◌, false≢true, and-false, and-true, and_assoc}
 use mathlib.Core.List.{List, [], ◌∷◌, ◌++◌}
 use Prim.Native.Nat.{ℕ, zero, suc, ◌+◌, ◌*◌, ◌-◌, ◌/◌, ◌%◌, ◌^◌, ◌≤◌, ◌<◌}
 use native.Mathlib.Omega.{arith}
@@ -238,17 +238,13 @@ name_is text start len e f g = rw (← e, ← f) g
 
 -- ---- zeros to the end
 
-and-both : (a b c : Bool) → (a && (b && c)) ≡ (a && b && c)
-and-both true b c = refl
-and-both false b c = refl
-
 -- a test of each number, taken apart at the front
 all-front : (n : ℕ) (p : ℕ → Bool) → (p 0 && all_of n (λ k. p (k + 1))) ≡ all_of (suc n) p
 unfolding all_of
 all-front zero p = and-true (p 0)
 all-front (suc n) p =
     let e : n + 1 ≡ suc n = add-one n in
-    rw e (and-both (p 0) (all_of n (λ k. p (k + 1))) (p (suc n)) ∙ ap (λ b. b && p (suc n)) (all-front n p))
+    rw e (sym (and_assoc (p 0) (all_of n (λ k. p (k + 1))) (p (suc n))) ∙ ap (λ b. b && p (suc n)) (all-front n p))
 
 -- and of the numbers from a on, as the library goes along them
 pub all-range : (p : ℕ → Bool) (a n : ℕ) → list_all p (range_with_len a n) ≡ all_of n (λ k. p (a + k))

@@ -2,10 +2,10 @@
 -- A loop's invariant is that the rest of the search, or of the fold, answers what the whole does. Assumes nothing.
 use Rattle.std.specs.List.{fold as list_fold, range_with_len}
 use mathlib.Core.Path.{◌≡◌, refl, ap, ◌∙◌}
-use mathlib.Core.Bool.{Bool, true, false}
+use mathlib.Core.Bool.{Bool, true, false, ◌||◌}
 use mathlib.Core.Logic.{⊎_elim}
 use mathlib.Core.List.Memᴰ
-use mathlib.Core.List.{List, [], ◌∷◌, Memᴰ}
+use mathlib.Core.List.{List, [], ◌∷◌, ◌++◌, Memᴰ}
 use Prim.Native.Nat.{ℕ, zero, suc, ◌+◌, ◌-◌, ◌≤◌, ◌<◌, max}
 use native.Mathlib.Omega.{arith}
 use native.Mathlib.Numerals.{add-one}
@@ -13,6 +13,7 @@ use lib.ListN.{length, get_or, drop, drop_of_length-le}
 use lib.Seq.{drop-cons}
 use Rattle.words.specs.Lists.{list_from, numbers, find, first_found, all_found, fold, some}
 use Rattle.std.specs.Prelude.{Option, Some, None, is_some}
+use Rattle.std.proofs.lemmas.Option.{none-some}
 use Rattle.words.proofs.Bools.{by}
 
 -- what is left of a count, one less each turn
@@ -50,6 +51,28 @@ get_d_list_from f m zero i d h = absurd (omega arith)
 get_d_list_from f m (suc n) zero d h = let e : m + 0 ≡ m = omega arith in rw e
 get_d_list_from f m (suc n) (suc i) d h =
     let e : m + 1 + i ≡ m + suc i = omega arith in get_d_list_from f (m + 1) n i d (omega arith) ∙ ap f e
+
+-- the first n and then k more
+pub numbers-split : (m n k : ℕ) → numbers m (n + k) ≡ numbers m n ++ numbers (m + n) k
+unfolding list_from
+numbers-split m zero k =
+    let e : 0 + k ≡ k = omega arith in
+    let f : m + 0 ≡ m = omega arith in
+    rw (e, f)
+numbers-split m (suc n) k =
+    let e : suc n + k ≡ suc (n + k) = omega arith in
+    let f : m + suc n ≡ m + 1 + n = omega arith in
+    rw (e, f) (ap (λ (l : List ℕ). m ∷ l) (numbers-split (m + 1) n k))
+
+-- a test along a list, and then along another
+pub some-append : {A : Type 0} (p : A → Bool) (xs ys : List A) → some p (xs ++ ys) ≡ (some p xs || some p ys)
+unfolding some
+some-append p [] ys = refl
+some-append p (x ∷ xs) ys = by (p x) (λ t. rw t) (λ t. rw t (some-append p xs ys))
+
+-- nothing found is no number
+pub not_found : {X : Type 0} {m : ℕ} → ◌≡◌ {A = Option ℕ} None (Some m) → X
+not_found {m = m} e = absurd (none-some m e)
 
 -- ---- the first number that passes a test
 

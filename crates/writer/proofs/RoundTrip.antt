@@ -1,7 +1,7 @@
 -- The blocks that were written are the content packed, so reading them gives it back padded with zeros; what a reading accepted is its own content
 -- padded, so writing it gives the blocks back. Assumes nothing.
 use mathlib.Core.Path.{◌≡◌, refl, ap, ◌∙◌}
-use mathlib.Core.Bool.{Bool, true, false, not, ◌&&◌}
+use mathlib.Core.Bool.{Bool, true, false, ◌&&◌}
 use mathlib.Core.List.{List, ◌++◌, append_assoc}
 use mathlib.Core.Logic.{◌↔◌}
 use Prim.Native.Nat.{ℕ, ◌+◌, ◌*◌, ◌-◌, ◌≤◌}
@@ -9,21 +9,21 @@ use native.Mathlib.Omega.{arith}
 use lib.ListN.{length, get_or, take, drop, length-append, length-drop, get_or-eq_default}
 use lib.Seq.{take_at, take-append-le, get_or-take, get_or-drop}
 use lib.Dec.{eqb, ltb}
-use borrow.Author.Tests.{eqb-true, eqb-false, ltb-true, ltb-false, le-leb, not-false}
-use Rattle.words.proofs.Bools.{by, and_4, passed}
+use borrow.Author.Tests.{eqb-true, eqb-false, ltb-true, ltb-false, le-leb}
+use Rattle.words.proofs.Bools.{by}
 use Rattle.words.proofs.Lists.{skip}
 use Rattle.words.specs.Words.{AreWords, AreBytes}
 use Rattle.block.specs.Block.{block_count, sheet_words, least_fit, blocks_for, sheet_bytes}
 use Rattle.block.proofs.Laws.{blocks-least}
 use Rattle.block.proofs.PackLaws.{length-bytes}
-use Rattle.text.specs.Text.{zero_rest}
 use Rattle.class_sheet.specs.ClassSheet.{block_limit, text_length, text_at, content_end, text_of}
-use Rattle.class_rules.specs.ClassRules.{class_limits, class_fits, all_fresh, class_form, class_records}
+use Rattle.class_rules.specs.ClassRules.{class_fits, class_records}
 use Rattle.set_rules.specs.SetRules.{class_descriptors, class_refusal, set_fits, records_refusal, set_refusal}
 use Rattle.set_rules.specs.Valid.{ValidAbi}
 use Rattle.set_rules.proofs.Kept.{class-fits-kept}
 use Rattle.set_rules.proofs.Valid.{abi-tests}
 use Rattle.sheet.specs.Sheet.{block_refusal, read_sheet, class_rows, class_sheet_refusal, read_class_sheet}
+use Rattle.sheet.proofs.Valid.{class-passed, formed}
 use Rattle.writer.specs.Writer as writer
 use Rattle.writer.specs.Writer.{content_of, blocks_of, link_rows, storable, write_refusal, write_class_sheet}
 use Rattle.writer.specs.RoundTrip.{padded_content, blocks_written, sheet_written, RoundTrip}
@@ -114,29 +114,18 @@ module _ (bs out : List ℕ) (small : AreBytes bs) (e : class_sheet_refusal bs (
   unfolding class_sheet_refusal
   rows-passed = sheet-passed class_rows bs (length out) e
 
-  passed-rows : (class_form ws ≡ true) × (class_refusal ws (text_of ws) ≡ 0)
-  unfolding class_rows
-  passed-rows =
-      let p = passed (not (class_form ws)) 3 _ (omega arith) rows-passed.1 in (not-false _ p.0, p.1)
-
-  formed : (class_limits ws ≡ true) × (least_fit (content_end ws) (length ws) ≡ true) × (zero_rest ws (4 * text_at ws + text_length ws) ≡ true)
-      × (all_fresh ws ≡ true)
-  unfolding class_form
-  formed =
-      and_4 (class_limits ws) (least_fit (content_end ws) (length ws)) (zero_rest ws (4 * text_at ws + text_length ws)) (all_fresh ws) passed-rows.0
-
   abbrev start : ℕ
   start = 4 * text_at ws + text_length ws
 
   least : (content_end ws ≤ 127 * block_count bs) × (blocks_of ws ≡ block_count bs)
-  least = again-blocks bs (length out) small rows-passed.0 (content_end ws) start formed.1 (text-inside ws) formed.2
+  least = again-blocks bs (length out) small rows-passed.0 (content_end ws) start (formed bs (length out) e).1 (text-inside ws) (formed bs (length out) e).2
 
   fits : class_fits ws ≡ true
   unfolding class_fits
-  fits = rw formed.0 (le-leb (content_end ws) (length ws) (omega (arith, words-length bs (length out) small rows-passed.0, least.0)))
+  fits = rw (formed bs (length out) e).0 (le-leb (content_end ws) (length ws) (omega (arith, words-length bs (length out) small rows-passed.0, least.0)))
 
   same : (i : ℕ) → get_or ws i 0 ≡ get_or (content_of ws) i 0
-  same = again-same bs (length out) small rows-passed.0 (content_end ws) start formed.1 (text-inside ws) formed.2
+  same = again-same bs (length out) small rows-passed.0 (content_end ws) start (formed bs (length out) e).1 (text-inside ws) (formed bs (length out) e).2
 
   -- the lent words that the reading left, of which the sheet's words are the front
   abbrev left : List ℕ
@@ -155,8 +144,8 @@ module _ (bs out : List ℕ) (small : AreBytes bs) (e : class_sheet_refusal bs (
         fresh-longer ws rest fits,
         left-content,
         text-end-longer ws rest fits,
-        formed.3,
-        zero_same ws (content_of ws) (4 * text_at ws + text_length ws) same formed.2,
+        (formed bs (length out) e).3,
+        zero_same ws (content_of ws) (4 * text_at ws + text_length ws) same (formed bs (length out) e).2,
       )
 
   left-blocks : blocks_of left ≡ block_count bs
@@ -166,7 +155,7 @@ module _ (bs out : List ℕ) (small : AreBytes bs) (e : class_sheet_refusal bs (
   left_passed room l =
       record {
         fits = class-fits-kept ws rest fits;
-        rows = refusal-longer ws rest fits ∙ passed-rows.1;
+        rows = refusal-longer ws rest fits ∙ (class-passed bs (length out) e).1;
         store = left-storable;
         space = omega (arith, left-blocks, whole bs (length out) small rows-passed.0);
       }
@@ -174,7 +163,7 @@ module _ (bs out : List ℕ) (small : AreBytes bs) (e : class_sheet_refusal bs (
   left-bytes : sheet_bytes (content_of left) (blocks_of left) ≡ bs
   left-bytes =
       rw (left-content, left_end)
-      (again bs (length out) small rows-passed.0 (content_end ws) start formed.1 (text-inside ws) formed.2)
+      (again bs (length out) small rows-passed.0 (content_end ws) start (formed bs (length out) e).1 (text-inside ws) (formed bs (length out) e).2)
 
   left-written : (lent : List ℕ) → length bs ≤ length lent
       → write_class_sheet left lent ≡ record { refusal = 0; blocks = block_count bs; memory = bs ++ drop (length bs) lent }
