@@ -132,13 +132,7 @@ fn entry_slot(sheets: Sheets, news: &News, c: u32, view: &ReadTable, i: u32, t: 
 }
 
 // Fills the table with the slots of class c's compiler table.
-fn compiler_entries(
-    sheets: Sheets,
-    news: &News,
-    c: u32,
-    view: &ReadTable,
-    table: &mut BuiltTable,
-)
+fn compiler_entries(sheets: Sheets, news: &News, c: u32, view: &ReadTable, table: &mut BuiltTable)
     ensures is { entries table.new
         ≡ compiler_entries sheets.entry.set.now (of_sheets news_of sheets.entry news.now) c (entries view.now) 0 (compiler_targets sheets.entry.set.now c) }
     ensures count { table.new.len ≤ 1024 }
