@@ -15,10 +15,8 @@ use Rattle.class_rules.specs.ClassRules.{class_limits, class_fits, compiler_ok, 
 use Rattle.class_rules.specs.ClassRules.{field_record, interface_names, class_records}
 use Rattle.apart.specs.Apart.{apart, methods_apart, fields_apart, classes_apart, apart_before}
 use Rattle.abi_rules.specs.AbiRules.{abi_limits, abi_fits, abi_class_record, abi_slot_record, abi_field_record, abi_records}
-use Rattle.set_rules.specs.SetRules.{method_typed, field_typed, class_descriptors, abi_slot_typed, abi_field_typed, abi_descriptors, set_fits, records_refusal}
-use Rattle.set_rules.specs.SetRules.{set_refusal}
-use Rattle.linking.specs.Chain.{own_methods, own_fields, own_interfaces, parent_of, chain_of, chain, is_virtual, is_eligible, eligible, method_is, same_methods}
-use Rattle.linking.specs.Chain.{own_target, find_by_target, own_method}
+use Rattle.set_rules.specs.SetRules.{method_typed, field_typed, class_descriptors, abi_slot_typed, abi_field_typed, abi_descriptors, set_fits, records_refusal, set_refusal}
+use Rattle.linking.specs.Chain.{own_methods, own_fields, own_interfaces, parent_of, chain_of, chain, is_virtual, is_eligible, eligible, method_is, same_methods, own_target, find_by_target, own_method}
 use Rattle.linking.specs.Abi.{abi_named, abi_slots, abi_fields, slot_index, fixed_field_index, slot_is, vtable_index, slot_at, field_is, fixed_field}
 use Rattle.linking.specs.Abi.{class_size, given_words, class_abi, chain_abi, fixed_index, minimum_size}
 use Rattle.linking.specs.Vtable.{own_fixed, find_by_index, read_entry, read_slot, table_entries, parent_entries, entry_is, slot_of, entry_is_other}

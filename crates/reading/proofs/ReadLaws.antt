@@ -7,8 +7,7 @@ use borrow.Author.Tests.{eq-eqb, ne_eqb}
 use Rattle.words.specs.Lists.{list_from}
 use Rattle.std.specs.Option.{option_and_then}
 use Rattle.words.proofs.ListLaws.{by-found, found-by}
-use Rattle.std.specs.Prelude.{Option}
-use Rattle.std.specs.Prelude.{Some, None}
+use Rattle.std.specs.Prelude.{Option, Some, None}
 use Rattle.class_sheet.specs.ClassSheet.{class_table_place, class_slot_count, method_limit}
 use Rattle.abi_sheet.specs.AbiSheet.{abi_slot_name, abi_slot_descriptor}
 use Rattle.linking.specs.Chain.{parent_of, chain, find_by_target}

@@ -12,8 +12,7 @@ use borrow.Author.Tests.{eq-eqb, ne_eqb, eqb-true, eqb-false}
 use Rattle.std.specs.List.{list_any}
 use Rattle.renumber.proofs.OrderLaws.{order_stuck, order-turn}
 use Rattle.words.specs.Lists.{position, some}
-use Rattle.std.specs.Prelude.{Option}
-use Rattle.std.specs.Prelude.{Some, None}
+use Rattle.std.specs.Prelude.{Option, Some, None}
 use Rattle.words.proofs.Bools.{by}
 use Rattle.class_sheet.specs.ClassSheet.{class_count}
 use Rattle.renumber.specs.Renumber.{placed, next_class, order_from, order_of, or_none, new_number}

@@ -1,21 +1,39 @@
--- Each turn reads a byte, and inside an identifier passes over bytes that leave the state as it is. Assumes nothing.
-use Rattle.std.proofs.Common.{◌+◌, sym, ◌∙◌, arith}
-use Rattle.words.proofs.ListLaws.{fold-at-start, fold-at-end}
-use Rattle.descriptor.proofs.Names.{run-on, read-turn, read-over}
+use Rattle.std.proofs.Common.{rules, ◌≡◌, ℕ, ◌+◌, ◌-◌, ◌*◌, ◌<◌, ◌≤◌, length, ◌/◌, ◌%◌, Bool, true, false, nat_eq, nat_lt, List, [], ◌∷◌, ◌++◌, slice_index_or, slice_set, bit_and, bit_or, Fits, w8, w32, w64, Bor, MutBor}
+use Rattle.words.specs.Lists.{fold}
+use Rattle.descriptor.specs.Bytes.{is_base_byte, is_name_byte}
+use Rattle.descriptor.specs.Machine.{field_next, is_field_descriptor, method_next, method_done, is_method_descriptor}
+use Rattle.descriptor.specs.Names.{name_run, field_inside, method_inside}
+use Rattle.descriptor.specs.Words.{receiver_words, byte_width, width, between_parameters, begun_words, is_method, capped, capped_from, answer, argument_answer}
 use Rattle.descriptor.proofs.accepts.Goals as goal
 
-pub loop-i-init : goal.loop-i-init
-loop-i-init c = sym (fold-at-start _ _ _)
+-- src/lib.rt:147:5
+pub loop-b-init : goal.loop-b-init
+loop-b-init c = ?
 
-pub loop-i-smaller-then-is_inside : goal.loop-i-smaller-then-is_inside
-loop-i-smaller-then-is_inside c = omega (arith, run-on c.args.s.now (c.loop-i.i + 1))
+-- src/lib.rt:150:13
+pub slice_bounds-rest-count : goal.slice_bounds-rest-count
+slice_bounds-rest-count c = ?
 
-pub loop-i-preserved-then-is_inside : goal.loop-i-preserved-then-is_inside
-loop-i-preserved-then-is_inside c =
-    rw c.name_end-i.ensures (read-over _ _ _ _ (sym c.if-is_inside.ensures) c.loop-i-test.true c.next-q.ensures c.loop-i.invariant)
+-- src/lib.rt:150:13
+pub slice_bounds-rest-start : goal.slice_bounds-rest-start
+slice_bounds-rest-start c = ?
 
-pub loop-i-preserved : goal.loop-i-preserved
-loop-i-preserved c = read-turn _ _ _ _ c.loop-i-test.true c.next-q.ensures c.loop-i.invariant
+-- src/lib.rt:147:5
+pub loop-b-smaller-then-is_inside : goal.loop-b-smaller-then-is_inside
+loop-b-smaller-then-is_inside c = ?
 
+-- src/lib.rt:147:5
+pub loop-b-preserved-then-is_inside : goal.loop-b-preserved-then-is_inside
+loop-b-preserved-then-is_inside c = ?
+
+-- src/lib.rt:147:5
+pub loop-b-smaller : goal.loop-b-smaller
+loop-b-smaller c = ?
+
+-- src/lib.rt:147:5
+pub loop-b-preserved : goal.loop-b-preserved
+loop-b-preserved c = ?
+
+-- src/lib.rt:142:1
 pub returns : goal.returns
-returns c = rw (sym c.loop-i.invariant ∙ fold-at-end _ _ _ _ c.loop-i-test.false) c.is_done.ensures
+returns c = ?
