@@ -2,7 +2,7 @@
 // function takes any bytes. specs/Grammar.antt has the grammar, and specs/Meaning.antt says what the definitions cited here mean.
 #![tactic(auto)]
 
-ghost use Rattle.std.specs.Prelude.{◌≡◌};
+ghost use Rattle.std.specs.Prelude.{◌≡◌, ◌≤◌, length};
 ghost use Rattle.words.specs.Lists.{fold};
 ghost use Rattle.descriptor.specs.Bytes.{is_base_byte, is_name_byte};
 ghost use Rattle.descriptor.specs.Machine.{
@@ -132,10 +132,14 @@ impl MethodState {
 }
 
 // How many bytes that a name may have are in front.
+#[tactic(auto, using(crate::proofs::Names::run_within))]
 fn name_run(s: &[u8]) -> usize
-    ensures { result ≡ name_run s.now }
+    ensures is { result ≡ name_run s.now }
+    ensures within { result ≤ length s.now }
 {
-    s.iter().take_while(|b| is_name_byte(**b)).count()
+    s.iter()
+        .position(|b| !is_name_byte(*b))
+        .unwrap_or(s.len())
 }
 
 // Whether a reader that stands at `from` may end after the bytes. Inside an identifier it passes over the bytes that leave it where it stands.

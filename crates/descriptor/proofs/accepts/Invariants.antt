@@ -1,13 +1,13 @@
-use Rattle.std.proofs.Common.{◌≡◌, ℕ, ◌+◌, ◌-◌, ◌*◌, ◌<◌, ◌≤◌, length}
+-- The state after all bytes is that of reading the rest from state q; the rest gets shorter, also where bytes of an identifier are passed
+-- over. Assumes nothing.
+use mathlib.Core.Path.{◌≡◌}
+use lib.ListN.{length}
+use Rattle.descriptor.specs.Machine.{method_next}
 use Rattle.words.specs.Lists.{fold}
-use Rattle.descriptor.specs.Bytes.{is_base_byte, is_name_byte}
-use Rattle.descriptor.specs.Machine.{field_next, is_field_descriptor, method_next, method_done, is_method_descriptor}
-use Rattle.descriptor.specs.Names.{name_run, field_inside, method_inside}
-use Rattle.descriptor.specs.Words.{receiver_words, byte_width, width, between_parameters, begun_words, is_method, capped, capped_from, answer, argument_answer}
 use Rattle.descriptor.proofs.accepts.Given as goal
 
 abbrev pub invariant-loop-b : goal.invariant-loop-b
-invariant-loop-b l = ?
+invariant-loop-b l = fold method_next l.q l.rest ≡ fold method_next l.fn.from l.s
 
 abbrev pub decreases-loop-b : goal.decreases-loop-b
-decreases-loop-b l = ?
+decreases-loop-b l = length l.rest

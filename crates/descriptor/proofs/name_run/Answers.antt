@@ -1,11 +1,16 @@
-use Rattle.std.proofs.Common.{rules, ◌≡◌, ℕ, ◌+◌, ◌-◌, ◌*◌, ◌<◌, ◌≤◌, length, ◌/◌, ◌%◌, Bool, true, false, nat_eq, nat_lt, List, [], ◌∷◌, ◌++◌, slice_index_or, slice_set, bit_and, bit_or, Fits, w8, w32, w64, Bor, MutBor}
-use Rattle.words.specs.Lists.{fold}
-use Rattle.descriptor.specs.Bytes.{is_base_byte, is_name_byte}
-use Rattle.descriptor.specs.Machine.{field_next, is_field_descriptor, method_next, method_done, is_method_descriptor}
-use Rattle.descriptor.specs.Names.{name_run, field_inside, method_inside}
-use Rattle.descriptor.specs.Words.{receiver_words, byte_width, width, between_parameters, begun_words, is_method, capped, capped_from, answer, argument_answer}
+-- The first byte that is no name's ends the run. Assumes nothing.
+use Rattle.std.proofs.Common.{rules, ◌∙◌, ap, length}
+use Rattle.std.specs.Prelude.{not}
+use Rattle.std.specs.Option.{unwrap_or}
+use Rattle.std.proofs.lemmas.Iterator.Search.{position_from_yields_List}
+use Rattle.std.proofs.lemmas.Iterator.{YieldsList-from_slice}
+use Rattle.descriptor.specs.Bytes.{is_name_byte}
+use Rattle.descriptor.proofs.Names.{run_found}
 use Rattle.descriptor.proofs.name_run.Goals as goal
 
--- src/lib.rt:135:1
-pub returns : goal.returns
-returns c = ?
+pub returns-clause-is : goal.returns-clause-is
+returns-clause-is c =
+    c.unwrap_or.ensures
+    ∙ ap (λ o. unwrap_or o (length c.args.s.now)) (position_from_yields_List (λ b. not (is_name_byte b)) _ _ c.position.result c.position.ensures.ran
+    (YieldsList-from_slice c.args.s.now cc) (λ x b q k. search rules))
+    ∙ run_found c.args.s.now
