@@ -137,9 +137,7 @@ fn name_run(s: &[u8]) -> usize
     ensures is { result ≡ name_run s.now }
     ensures within { result ≤ length s.now }
 {
-    s.iter()
-        .position(|b| !is_name_byte(*b))
-        .unwrap_or(s.len())
+    s.iter().position(|b| !is_name_byte(*b)).unwrap_or(s.len())
 }
 
 // Whether a reader that stands at `from` may end after the bytes. Inside an identifier it passes over the bytes that leave it where it stands.
