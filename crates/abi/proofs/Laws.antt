@@ -10,8 +10,7 @@ use lib.Seq.{take_all, take-append-le, take-suc-set, length-take-le, drop-drop}
 use lib.Dec.{eqb}
 use Rattle.class_sheet.specs.ClassSheet.{class_limit}
 use Rattle.words.specs.Lists.{cons_found, all_found}
-use Rattle.std.specs.Prelude.{Option}
-use Rattle.std.specs.Prelude.{Some, None}
+use Rattle.std.specs.Prelude.{Option, Some, None}
 use Rattle.abi_sheet.specs.AbiSheet.{abi_class_table_size_plus_one, abi_class_first_slot, abi_class_slot_count, abi_slot_limit}
 use Rattle.linking.specs.Chain.{list_count, parent_of, chain}
 use Rattle.linking.specs.Abi.{abi_slots, slot_index, slot_at, class_size, minimum_size}

@@ -1,9 +1,9 @@
 // The words of an ABI sheet by name: the one place of the code that knows its layout. Every read is total: 0 outside the words.
 #![tactic(auto)]
 
-ghost use Rattle.std.specs.Prelude.{◌≡◌, ◌<◌, ◌^◌};
+ghost use Rattle.std.specs.Prelude.{◌≡◌, ◌<◌, ◌≤◌, ◌^◌};
 ghost use Rattle.text.specs.Text.{unpacked_text};
-ghost use Rattle.abi_sheet.specs.AbiSheet.{abi_count_at, abi_class_count, abi_slot_count, abi_field_count, abi_text_length, abi_slots_at, abi_fields_at, abi_text_at, abi_content_end, abi_class_word, abi_slot_word, abi_field_word, abi_text_words, abi_class_name_start, abi_class_name_length, abi_class_table_size_plus_one, abi_class_instance_words_plus_one, abi_class_first_slot, abi_class_slot_count, abi_class_first_field, abi_class_field_count, abi_slot_name_start, abi_slot_name_length, abi_slot_descriptor_start, abi_slot_descriptor_length, abi_slot_index, abi_field_name_start, abi_field_name_length, abi_field_descriptor_start, abi_field_descriptor_length, abi_field_index, abi_class_name, abi_slot_name, abi_slot_descriptor, abi_field_name, abi_field_descriptor};
+ghost use Rattle.abi_sheet.specs.AbiSheet.{abi_count_at, abi_class_count, abi_slot_count, abi_field_count, abi_text_length, abi_slots_at, abi_fields_at, abi_text_at, abi_content_end, abi_class_word, abi_slot_word, abi_field_word, abi_text_words, abi_text_of, abi_text_limit, abi_class_name_start, abi_class_name_length, abi_class_table_size_plus_one, abi_class_instance_words_plus_one, abi_class_first_slot, abi_class_slot_count, abi_class_first_field, abi_class_field_count, abi_slot_name_start, abi_slot_name_length, abi_slot_descriptor_start, abi_slot_descriptor_length, abi_slot_index, abi_field_name_start, abi_field_name_length, abi_field_descriptor_start, abi_field_descriptor_length, abi_field_index, abi_class_name, abi_slot_name, abi_slot_descriptor, abi_field_name, abi_field_descriptor};
 
 use text::Signature;
 
@@ -136,6 +136,14 @@ pub fn unpack_text(abi: &[u32], text: &mut [u8])
     let at = text_at(abi);
     let n = abi.len();
     text::unpack_text(words::part(abi, at, n), text_length(abi), text);
+}
+
+// The text, unpacked into bytes that have room for as much as a sheet may have.
+pub fn text_bytes<'a>(abi: &[u32], room: &'a mut [u8; TEXT_LIMIT as usize]) -> &'a [u8]
+    ensures { abi_text_length abi.now ≤ abi_text_limit → result.now ≡ abi_text_of abi.now }
+{
+    unpack_text(abi, room);
+    text::name_at(room, 0, text_length(abi))
 }
 
 // The words of a class record.

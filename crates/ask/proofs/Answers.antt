@@ -18,8 +18,7 @@ use Rattle.set_rules.specs.SetRules.{set_refusal}
 use Rattle.linking.specs.Chain.{on_found}
 use Rattle.linking.specs.Vtable.{Entry, Built, built, refused, table_entries}
 use Rattle.linking.specs.Link.{refused_call, next_free, bad_area, no_room}
-use Rattle.linking.specs.Ask.{Walk, hit, missed, broken, walk, head_place, implementation, dispatch_entry, cons_entry, dispatch_entries, asked_area}
-use Rattle.linking.specs.Ask.{on_dispatch, build_node, on_walk, bad_ask, ask_def}
+use Rattle.linking.specs.Ask.{Walk, hit, missed, broken, walk, head_place, implementation, dispatch_entry, cons_entry, dispatch_entries, asked_area, on_dispatch, build_node, on_walk, bad_ask, ask_def}
 use Rattle.area.specs.Area.{outcome}
 use Rattle.area.specs.declared.Answer.{Answer}
 use Rattle.area.proofs.Answers.{Tells, answer_unique}

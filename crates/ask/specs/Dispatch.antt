@@ -1,6 +1,5 @@
 -- What the ask's functions compute: a slot, a table, and the rows of an ask. Assumes nothing.
-use Rattle.std.specs.Prelude.{ℕ, ◌+◌, cond, not, List, [], ◌∷◌, length, eqb}
-use Rattle.std.specs.Prelude.{Option, Some, None, Result, Ok, Err}
+use Rattle.std.specs.Prelude.{ℕ, ◌+◌, cond, not, List, [], ◌∷◌, length, eqb, Option, Some, None, Result, Ok, Err}
 use Rattle.refusal.specs.declared.Refusal.{Refusal}
 use Rattle.refusal.specs.Rows.{row}
 use Rattle.set_rules.specs.SetRules.{set_refusal}

@@ -6,14 +6,13 @@ ghost use Rattle.class_sheet.specs.ClassSheet.{method_flags, text_length, text_o
 ghost use Rattle.abi_sheet.specs.AbiSheet.{abi_text_length, abi_text_of, abi_text_limit};
 ghost use Rattle.set_rules.specs.SetRules.{set_refusal};
 ghost use Rattle.linking.specs.Chain.{is_virtual, method_is};
-ghost use Rattle.linking.specs.Vtable.{table_entries};
+ghost use Rattle.linking.specs.Vtable.{table_entries, built};
 ghost use Rattle.linking.specs.Link.{bad_area};
 ghost use Rattle.linking.specs.Ask.{head_place, own_implementation, dispatch_entries, build_node, ask_def};
 ghost use Rattle.linking.specs.Whose.{declared_implementation};
 ghost use Rattle.reading.specs.Tables.{entry, entries};
 ghost use Rattle.area.specs.Area.{outcome};
 ghost use Rattle.refusal.specs.Rows.{row_of};
-ghost use Rattle.linking.specs.Vtable.{built};
 ghost use Rattle.linking.specs.Sheets.{of_sheets};
 ghost use Rattle.ask.specs.Dispatch.{slot_built, dispatched, table_built, ask_refusal, finish_ask};
 ghost use Rattle.text.specs.Signatures.{of_signature};
@@ -113,16 +112,9 @@ fn dispatch_unpacked<'a>(
     ensures { table_built (entries to.new) result
         ≡ dispatch_entries ws.now (text_of ws.now) c (table_entries ws.now (text_of ws.now) abi.now (abi_text_of abi.now) area.now i) }
 {
-    let mut bytes = [0u8; class_sheet::TEXT_LIMIT as usize];
-    class_sheet::unpack_text(ws, &mut bytes);
-    let mut abi_bytes = [0u8; abi_sheet::TEXT_LIMIT as usize];
-    abi_sheet::unpack_text(abi, &mut abi_bytes);
-    let sheets = Sheets {
-        set: ws,
-        text: text::name_at(&bytes, 0, class_sheet::text_length(ws)),
-        abi,
-        labels: text::name_at(&abi_bytes, 0, abi_sheet::text_length(abi)),
-    };
+    let mut room = [0u8; class_sheet::TEXT_LIMIT as usize];
+    let mut label_room = [0u8; abi_sheet::TEXT_LIMIT as usize];
+    let sheets = Sheets::unpack(ws, abi, &mut room, &mut label_room);
     dispatch_table(sheets, area, c, i, to)
 }
 

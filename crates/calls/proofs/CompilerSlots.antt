@@ -6,14 +6,13 @@ use lib.ListN.{get_or-append, get_or-eq_default}
 use borrow.Author.Tests.{eqb-false}
 use Rattle.words.specs.Lists.{fold, some}
 use Rattle.words.proofs.Bools.{by}
-use Rattle.words.proofs.ListLaws.{by-found, some-append}
+use Rattle.words.proofs.ListLaws.{by-found, some-append, not_found}
 use Rattle.linking.specs.Chain.{on_found, is_eligible}
 use Rattle.linking.specs.Vtable.{Entry, empty, parent_entries}
 use Rattle.linking.specs.Compiler.{New, native_view, compiler_targets, added_methods, name_of, descriptor_of, flags_of, target_of, class_methods, compiler_entry, compiler_entries, same_signature, has_slot, append_from, append_entry, compiler_table}
 use Rattle.calls.specs.Sources.{Sources}
 use Rattle.text.proofs.Laws.{same_refl}
 use Rattle.slots.proofs.ListFacts.{found-same}
-use Rattle.words.proofs.ListLaws.{not_found}
 use Rattle.calls.proofs.Sources.{all-at, read-parent, table-built}
 use Rattle.calls.proofs.SameIndex.{table-placed}
 

@@ -1,7 +1,6 @@
 -- Member records read from the part of the words that begins with the first of them. Assumes nothing.
-use Rattle.std.specs.Prelude.{ℕ, ◌+◌, ◌*◌, Bool, ◌&&◌, List, get_or, drop, eqb}
+use Rattle.std.specs.Prelude.{ℕ, ◌+◌, ◌*◌, Bool, ◌&&◌, List, get_or, drop, eqb, Option}
 use Rattle.words.specs.Lists.{numbers, find}
-use Rattle.std.specs.Prelude.{Option}
 use Rattle.text.specs.Text.{name_start_word, name_length_word, descriptor_start_word, descriptor_length_word, name_at, same_bytes}
 use Rattle.class_sheet.specs.ClassSheet.{member_width, method_limit, target_word, methods_at}
 use Rattle.linking.specs.Chain.{list_count}

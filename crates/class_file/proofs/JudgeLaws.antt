@@ -19,9 +19,7 @@ use Rattle.linking.specs.Set.{new_text}
 use Rattle.class_form.specs.declared.Places.{Places}
 use Rattle.class_form.specs.Form.{◌>>=◌, u2, form_refusal}
 use Rattle.class_members.specs.declared.FileHead.{FileHead}
-use Rattle.class_members.specs.Members.{member_places, field_places, method_places, class_bytes, file_flags, file_name, parent_index, file_parent, members_at}
-use Rattle.class_members.specs.Members.{file_fields, file_methods, file_text, string_ok, field_ok, method_ok, every, names_ok, descriptors_ok, sheet_holds}
-use Rattle.class_members.specs.Members.{file_refusal, file_outcome, class_file_head}
+use Rattle.class_members.specs.Members.{member_places, field_places, method_places, class_bytes, file_flags, file_name, parent_index, file_parent, members_at, file_fields, file_methods, file_text, string_ok, field_ok, method_ok, every, names_ok, descriptors_ok, sheet_holds, file_refusal, file_outcome, class_file_head}
 use Rattle.class_members.proofs.Answers.{answer_unique, head_tells}
 use Rattle.class_file.proofs.Laws.{length_members}
 use Rattle.class_file.specs.Walk.{row_five, tally, parent_of, head_read, Parted}

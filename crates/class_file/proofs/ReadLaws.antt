@@ -20,9 +20,7 @@ use Rattle.class_form.specs.Parts.{form_of}
 use Rattle.refusal.proofs.Rows.{row_above}
 use Rattle.class_form.proofs.PartLaws.{form_row, form_parts, form_near, members_there}
 use Rattle.class_members.specs.declared.FileHead.{FileHead}
-use Rattle.class_members.specs.Members.{head_place, fields_place, methods_place, file_name, file_parent, file_fields, file_methods, file_text}
-use Rattle.class_members.specs.Members.{sheet_holds, lists_hold, file_refusal, read_refusal, refused_by, file_outcome, fields_start, methods_start}
-use Rattle.class_members.specs.Members.{read_class_file, class_file_head}
+use Rattle.class_members.specs.Members.{head_place, fields_place, methods_place, file_name, file_parent, file_fields, file_methods, file_text, sheet_holds, lists_hold, file_refusal, read_refusal, refused_by, file_outcome, fields_start, methods_start, read_class_file, class_file_head}
 use Rattle.class_members.proofs.Targets.{refusal-same, methods-length, text_same}
 use Rattle.class_members.proofs.SheetForm.{file-passed}
 use Rattle.class_file.specs.Walk.{holds, head_read, Parted, Fits}

@@ -9,8 +9,7 @@ use Rattle.linking.specs.Set.{new_text}
 use Rattle.class_form.specs.declared.Places.{Places}
 use Rattle.class_form.specs.Form.{◌>>=◌, u2, form_refusal}
 use Rattle.class_members.specs.declared.FileHead.{FileHead}
-use Rattle.class_members.specs.Members.{head_place, fields_place, methods_place, member_places, class_bytes, members_at}
-use Rattle.class_members.specs.Members.{file_fields, file_methods, file_text, string_ok, field_ok, method_ok, field_typed, method_typed, every}
+use Rattle.class_members.specs.Members.{head_place, fields_place, methods_place, member_places, class_bytes, members_at, file_fields, file_methods, file_text, string_ok, field_ok, method_ok, field_typed, method_typed, every}
 use Rattle.class_file.specs.declared.Tally.{Tally}
 
 -- ---- rows 4 and 5 of a method, or else of a field

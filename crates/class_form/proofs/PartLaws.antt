@@ -13,8 +13,7 @@ use Rattle.refusal.specs.declared.Refusal.{Refusal}
 use Rattle.refusal.specs.declared.Refusal.TheVariants.{WrongEnd}
 use Rattle.refusal.specs.Rows.{row, row_of}
 use Rattle.class_form.specs.declared.Places.{Places}
-use Rattle.class_form.specs.Form.{Step, ◌>>=◌, u2, taken, utf8_at, after_name, after_pool, after_counted, after_attributes, after_member}
-use Rattle.class_form.specs.Form.{after_members, after_head, after_body, after_file, version_ok, end_refusal, form_refusal}
+use Rattle.class_form.specs.Form.{Step, ◌>>=◌, u2, taken, utf8_at, after_name, after_pool, after_counted, after_attributes, after_member, after_members, after_head, after_body, after_file, version_ok, end_refusal, form_refusal}
 use Rattle.class_form.specs.Parts.{Judged, class_of, file_of, form_of, member_at}
 use Rattle.class_form.specs.Marks.{pool_marks, Near}
 use Rattle.class_form.proofs.MarkLaws.{pool_near, count_small}

@@ -14,8 +14,7 @@ use Rattle.refusal.specs.declared.Refusal.{Refusal}
 use Rattle.words.proofs.Bools.{by, and_4}
 use Rattle.text.specs.Text.{name_at, printable, part_ok}
 use Rattle.refusal.proofs.Rows.{row_unique}
-use Rattle.class_members.specs.Members.{FileOutcome, file_name, parent_index, file_parent, file_fields, file_methods, string_ok, field_ok, method_ok, every}
-use Rattle.class_members.specs.Members.{names_ok, file_refusal, file_outcome, read_class_file, class_file_head}
+use Rattle.class_members.specs.Members.{FileOutcome, file_name, parent_index, file_parent, file_fields, file_methods, string_ok, field_ok, method_ok, every, names_ok, file_refusal, file_outcome, read_class_file, class_file_head}
 use Rattle.class_members.specs.declared.FileHead.{FileHead}
 use Rattle.class_members.proofs.SheetForm.{file-passed, read-passed}
 

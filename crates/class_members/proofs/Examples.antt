@@ -11,15 +11,9 @@ use Rattle.descriptor.specs.Machine.{field_next, is_field_descriptor, method_nex
 use Rattle.descriptor.specs.Words.{byte_width, begun_words, begun_from, is_method}
 use Rattle.class_rules.specs.ClassRules.{method_flags_ok}
 use Rattle.linking.specs.Set.{new_records, new_text, packed, overlaid}
-use Rattle.class_form.specs.Form.{u2, u4, taken, is_tag, is_wide, places, body_size, tag_ok, after_constant, after_constants, pool_count, after_pool}
-use Rattle.class_form.specs.Form.{constant_from, constant_at, tagged_at, utf8_at, class_at, after_name, after_class, after_parent, after_interfaces}
-use Rattle.class_form.specs.Form.{after_attribute, after_each, after_counted, after_attributes, after_member, after_members, after_head, after_body, after_file}
-use Rattle.class_form.specs.Form.{version_ok, form_refusal}
+use Rattle.class_form.specs.Form.{u2, u4, taken, is_tag, is_wide, places, body_size, tag_ok, after_constant, after_constants, pool_count, after_pool, constant_from, constant_at, tagged_at, utf8_at, class_at, after_name, after_class, after_parent, after_interfaces, after_attribute, after_each, after_counted, after_attributes, after_member, after_members, after_head, after_body, after_file, version_ok, form_refusal}
 use Rattle.class_form.specs.Parts.{member_at}
-use Rattle.class_members.specs.Members.{head_place, fields_place, methods_place, places_from, field_places, method_places, utf8_bytes}
-use Rattle.class_members.specs.Members.{class_bytes, file_flags, file_name, parent_index, file_parent, members_at, file_fields, file_methods, file_text}
-use Rattle.class_members.specs.Members.{string_ok, field_ok, method_ok, field_typed, method_typed, every, names_ok, descriptors_ok, sheet_holds, lists_hold}
-use Rattle.class_members.specs.Members.{file_refusal, read_refusal, fields_start, methods_start, read_class_file}
+use Rattle.class_members.specs.Members.{head_place, fields_place, methods_place, places_from, field_places, method_places, utf8_bytes, class_bytes, file_flags, file_name, parent_index, file_parent, members_at, file_fields, file_methods, file_text, string_ok, field_ok, method_ok, field_typed, method_typed, every, names_ok, descriptors_ok, sheet_holds, lists_hold, file_refusal, read_refusal, fields_start, methods_start, read_class_file}
 
 -- CAFEBABE, version 48.0, and the pool's count
 abbrev front : ℕ → List ℕ

@@ -14,19 +14,11 @@ use Rattle.words.proofs.Bools.{and_both, and_3}
 use Rattle.words.proofs.Bytes.{append-bytes}
 use Rattle.words.proofs.FoldLaws.{all-if}
 use Rattle.text.specs.Text.{name_at, part_ok, name_start_word, name_length_word, descriptor_start_word, descriptor_length_word}
-use Rattle.class_sheet.specs.ClassSheet.{class_width, member_width, class_limit, method_limit, field_limit, interface_limit, compiler_limit, text_limit}
-use Rattle.class_sheet.specs.ClassSheet.{parent_word, flags_word, kind_word, first_method_word, method_count_word, first_field_word}
-use Rattle.class_sheet.specs.ClassSheet.{field_count_word, first_interface_word, interface_count_word, link_state_word, instance_words_word, compiler_table_word}
-use Rattle.class_sheet.specs.ClassSheet.{compiler_slots_word, table_place_word}
-use Rattle.class_sheet.specs.ClassSheet.{class_count, method_count, field_count, interface_count, compiler_count, text_length, content_end, text_of, class_word}
-use Rattle.class_sheet.specs.ClassSheet.{method_flags, method_target, field_flags, field_index, target_word, index_word}
-use Rattle.class_sheet.specs.ClassSheet.{method_word, field_word, class_name, method_name, method_descriptor, field_name, field_descriptor}
+use Rattle.class_sheet.specs.ClassSheet.{class_width, member_width, class_limit, method_limit, field_limit, interface_limit, compiler_limit, text_limit, parent_word, flags_word, kind_word, first_method_word, method_count_word, first_field_word, field_count_word, first_interface_word, interface_count_word, link_state_word, instance_words_word, compiler_table_word, compiler_slots_word, table_place_word, class_count, method_count, field_count, interface_count, compiler_count, text_length, content_end, text_of, class_word, method_flags, method_target, field_flags, field_index, target_word, index_word, method_word, field_word, class_name, method_name, method_descriptor, field_name, field_descriptor}
 use Rattle.class_sheet.specs.Sections.{Sections, Formed, laid_out}
-use Rattle.class_sheet.proofs.Sections.{number_of_classes, number_of_methods, number_of_fields, number_of_interfaces, number_of_compilers, length_of_text, class-word, method-word}
-use Rattle.class_sheet.proofs.Sections.{field-word, text-of, length-laid}
+use Rattle.class_sheet.proofs.Sections.{number_of_classes, number_of_methods, number_of_fields, number_of_interfaces, number_of_compilers, length_of_text, class-word, method-word, field-word, text-of, length-laid}
 use Rattle.abi_sheet.specs.AbiSheet.{abi_count_at, abi_slots_at, abi_fields_at, abi_text_at, abi_content_end, abi_text_of}
-use Rattle.class_rules.specs.ClassRules.{class_limits, class_fits, compiler_ok, own_numbers, class_numbers, class_lists, class_record, method_flags_ok, method_record}
-use Rattle.class_rules.specs.ClassRules.{field_record, interface_names, class_records}
+use Rattle.class_rules.specs.ClassRules.{class_limits, class_fits, compiler_ok, own_numbers, class_numbers, class_lists, class_record, method_flags_ok, method_record, field_record, interface_names, class_records}
 use Rattle.apart.specs.Apart.{apart_before, classes_apart}
 use Rattle.abi_rules.specs.AbiRules.{abi_limits, abi_fits, abi_records}
 use Rattle.set_rules.specs.SetRules.{method_typed, field_typed, class_descriptors, abi_descriptors, set_fits, records_refusal, set_refusal}

@@ -13,8 +13,7 @@ use Rattle.words.specs.Words.{words_for, AreBytes}
 use Rattle.words.specs.Rows.{cut}
 use Rattle.words.proofs.Bools.{by, and_both, and_3, and_4, passed}
 use Rattle.words.proofs.Rows.{cut-joined}
-use Rattle.class_sheet.specs.ClassSheet.{member_width, field_limit, method_limit, text_limit, text_of, flags_word, method_count_word, field_count_word}
-use Rattle.class_sheet.specs.ClassSheet.{method_name, method_descriptor, method_flags, field_name, field_descriptor, field_flags}
+use Rattle.class_sheet.specs.ClassSheet.{member_width, field_limit, method_limit, text_limit, text_of, flags_word, method_count_word, field_count_word, method_name, method_descriptor, method_flags, field_name, field_descriptor, field_flags}
 use Rattle.linking.specs.Compiler.{New, no_new}
 use Rattle.linking.specs.Set.{new_records, new_text, packed, overlaid}
 use Rattle.linking.specs.Grown.{new_members}
@@ -22,10 +21,7 @@ use Rattle.linking.proofs.Grown.{joined-members, rows-members, length-members}
 use Rattle.linking.proofs.Packed.{length-packed}
 use Rattle.class_form.specs.Form.{u2, form_refusal}
 use Rattle.class_form.specs.Parts.{member_at}
-use Rattle.class_members.specs.Members.{FileOutcome, field_places, method_places, file_flags, file_name, parent_index, file_parent, new_of, members_at}
-use Rattle.class_members.specs.Members.{file_fields, file_methods, file_text, string_ok, field_ok, method_ok, field_typed, method_typed, every}
-use Rattle.class_members.specs.Members.{names_ok, descriptors_ok, sheet_holds, file_refusal, read_refusal, members_by, fields_start}
-use Rattle.class_members.specs.Members.{methods_start, read_class_file}
+use Rattle.class_members.specs.Members.{FileOutcome, field_places, method_places, file_flags, file_name, parent_index, file_parent, new_of, members_at, file_fields, file_methods, file_text, string_ok, field_ok, method_ok, field_typed, method_typed, every, names_ok, descriptors_ok, sheet_holds, file_refusal, read_refusal, members_by, fields_start, methods_start, read_class_file}
 use Rattle.class_members.specs.SheetForm.{one_class, SheetForm, MemberIs, Yields}
 use Rattle.class_members.proofs.Placed.{ok-bytes}
 use Rattle.class_members.proofs.OneClass as one

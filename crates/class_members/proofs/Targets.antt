@@ -9,8 +9,7 @@ use Rattle.linking.specs.Compiler.{New}
 use Rattle.linking.specs.Set.{new_text}
 use Rattle.class_form.specs.declared.Member.{Member}
 use Rattle.class_form.specs.Parts.{member_at}
-use Rattle.class_members.specs.Members.{method_places, new_of, members_at, file_methods, file_text}
-use Rattle.class_members.specs.Members.{method_ok, method_typed, every, names_ok, descriptors_ok, sheet_holds, file_refusal}
+use Rattle.class_members.specs.Members.{method_places, new_of, members_at, file_methods, file_text, method_ok, method_typed, every, names_ok, descriptors_ok, sheet_holds, file_refusal}
 
 -- a test that does not ask for the last word
 module _ (bs : List ℕ) (p : New → Bool) (same : (m : Member) (a b : ℕ) → p (new_of bs m a) ≡ p (new_of bs m b)) where

@@ -4,9 +4,7 @@ use Rattle.std.specs.Prelude.{ℕ, ◌<◌, ◌≡◌, List, [], ◌∷◌, leng
 use Rattle.words.specs.Words.{words_for, AreBytes}
 use Rattle.words.specs.Rows.{cut}
 use Rattle.text.specs.Text.{name_at, name_length_word}
-use Rattle.class_sheet.specs.ClassSheet.{class_width, member_width, flags_word, method_count_word, field_count_word, method_count, field_count}
-use Rattle.class_sheet.specs.ClassSheet.{text_of, class_flags, class_method_count, class_field_count, class_name, method_name, method_descriptor, method_flags}
-use Rattle.class_sheet.specs.ClassSheet.{method_target, field_name, field_descriptor, field_flags, field_index}
+use Rattle.class_sheet.specs.ClassSheet.{class_width, member_width, flags_word, method_count_word, field_count_word, method_count, field_count, text_of, class_flags, class_method_count, class_field_count, class_name, method_name, method_descriptor, method_flags, method_target, field_name, field_descriptor, field_flags, field_index}
 use Rattle.class_sheet.specs.Sections.{Sections, laid_out}
 use Rattle.set_rules.specs.SetRules.{set_refusal}
 use Rattle.class_form.specs.Parts.{member_at}

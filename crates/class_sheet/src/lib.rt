@@ -1,11 +1,11 @@
 // The words of a class sheet by name: the one place of the code that knows its layout. Every read is total: 0 outside the words.
 #![tactic(auto)]
 
-ghost use Rattle.std.specs.Prelude.{◌≡◌, eqb, ◌<◌, ◌^◌};
+ghost use Rattle.std.specs.Prelude.{◌≡◌, eqb, ◌<◌, ◌≤◌, ◌^◌};
 ghost use Rattle.text.specs.Text.{unpacked_text};
 ghost use Rattle.class_sheet.specs.Flags.{is_private, is_static, is_interface, is_abstract};
 ghost use Rattle.class_sheet.specs.Kinds.{kind_at, kind_number};
-ghost use Rattle.class_sheet.specs.ClassSheet.{count_at, class_count, method_count, field_count, interface_count, compiler_count, text_length, methods_at, fields_at, interfaces_at, compilers_at, text_at, content_end, class_word, method_word, field_word, interface_word, text_words, class_name_start, class_name_length, class_parent, class_flags, class_kind, class_first_method, class_method_count, class_first_field, class_field_count, class_first_interface, class_interface_count, class_link_state, class_instance_words, class_compiler_table, class_compiler_slots, class_table_place, class_slot_count, class_static_words, is_built_kind, method_name_start, method_name_length, method_descriptor_start, method_descriptor_length, method_flags, method_target, field_name_start, field_name_length, field_descriptor_start, field_descriptor_length, field_flags, field_index, class_name, method_name, method_descriptor, field_name, field_descriptor, put_count, put_method_count, put_field_count, put_text_length, put_class_word, put_class_first_method, put_class_method_count, put_class_first_field, put_class_field_count, put_class_instance_words, put_class_table_place, put_class_slot_count, put_class_static_words, put_member};
+ghost use Rattle.class_sheet.specs.ClassSheet.{count_at, class_count, method_count, field_count, interface_count, compiler_count, text_length, methods_at, fields_at, interfaces_at, compilers_at, text_at, content_end, class_word, method_word, field_word, interface_word, text_words, text_of, text_limit, class_name_start, class_name_length, class_parent, class_flags, class_kind, class_first_method, class_method_count, class_first_field, class_field_count, class_first_interface, class_interface_count, class_link_state, class_instance_words, class_compiler_table, class_compiler_slots, class_table_place, class_slot_count, class_static_words, is_built_kind, method_name_start, method_name_length, method_descriptor_start, method_descriptor_length, method_flags, method_target, field_name_start, field_name_length, field_descriptor_start, field_descriptor_length, field_flags, field_index, class_name, method_name, method_descriptor, field_name, field_descriptor, put_count, put_method_count, put_field_count, put_text_length, put_class_word, put_class_first_method, put_class_method_count, put_class_first_field, put_class_field_count, put_class_instance_words, put_class_table_place, put_class_slot_count, put_class_static_words, put_member};
 
 use text::Signature;
 
@@ -268,6 +268,14 @@ pub fn unpack_text(ws: &[u32], text: &mut [u8])
     let at = text_at(ws);
     let n = ws.len();
     text::unpack_text(words::part(ws, at, n), text_length(ws), text);
+}
+
+// The text, unpacked into bytes that have room for as much as a sheet may have.
+pub fn text_bytes<'a>(ws: &[u32], room: &'a mut [u8; TEXT_LIMIT as usize]) -> &'a [u8]
+    ensures { text_length ws.now ≤ text_limit → result.now ≡ text_of ws.now }
+{
+    unpack_text(ws, room);
+    text::name_at(room, 0, text_length(ws))
 }
 
 // The words of a class record.

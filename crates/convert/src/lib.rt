@@ -133,14 +133,13 @@ fn forward_rows(ws: &[u32], statics: &mut [u32]) -> Result<(), Refusal>
     ensures value { row_of result ≡ fresh_rows ws.now }
     ensures sums { statics.new ≡ stores (class_count ws.now) (λ i. forward_statics ws.now (text_of ws.now) (i + 1)) statics.old }
 {
-    let mut text = [0u8; class_sheet::TEXT_LIMIT as usize];
-    class_sheet::unpack_text(ws, &mut text);
-    let part = text::name_at(&text, 0, class_sheet::text_length(ws));
-    put_statics(ws, part, statics);
+    let mut room = [0u8; class_sheet::TEXT_LIMIT as usize];
+    let text = class_sheet::text_bytes(ws, &mut room);
+    put_statics(ws, text, statics);
     if !class_rules::all_fresh(ws) {
         return Err(Refusal::Form);
     }
-    set_rules::class_refusal(ws, part)
+    set_rules::class_refusal(ws, text)
 }
 
 // The blocks of these words, where there is room for them, and how many they are.
@@ -219,10 +218,9 @@ fn drops_statics(ws: &[u32]) -> bool
     requires { text_length ws.now ≤ 8192 }
     ensures { result ≡ drops_statics ws.now }
 {
-    let mut text = [0u8; class_sheet::TEXT_LIMIT as usize];
-    class_sheet::unpack_text(ws, &mut text);
-    let part = text::name_at(&text, 0, class_sheet::text_length(ws));
-    !words::all_up_to(class_sheet::class_count(ws), |c| keeps_statics(ws, part, c))
+    let mut room = [0u8; class_sheet::TEXT_LIMIT as usize];
+    let text = class_sheet::text_bytes(ws, &mut room);
+    !words::all_up_to(class_sheet::class_count(ws), |c| keeps_statics(ws, text, c))
 }
 
 // Rows 23 and 18 for the words of a class sheet that a reading accepted, and its blocks in the old form.

@@ -10,8 +10,7 @@ use Rattle.words.proofs.Bools.{by}
 use Rattle.descriptor.specs.declared.FieldState.{FieldState}
 use Rattle.descriptor.specs.declared.FieldState.TheVariants.{Open, Done}
 use Rattle.descriptor.specs.declared.MethodState.TheVariants.{Begin, Parameters, Return, Returned}
-use Rattle.descriptor.specs.Grammar.{FieldType, type_spelling, FieldDescriptor, field, field_spelling, ParameterDescriptor, parameter}
-use Rattle.descriptor.specs.Grammar.{parameter_spelling, parameters_spelling, result_spelling, MethodDescriptor, method_spelling}
+use Rattle.descriptor.specs.Grammar.{FieldType, type_spelling, FieldDescriptor, field, field_spelling, ParameterDescriptor, parameter, parameter_spelling, parameters_spelling, result_spelling, MethodDescriptor, method_spelling}
 use Rattle.descriptor.specs.Machine.{field_next, method_next}
 use Rattle.descriptor.specs.Words.{type_words, field_words, parameter_words, parameters_words, byte_width, width, begun_words, begun_from}
 use Rattle.descriptor.proofs.Fields.{Steps, type_read, headed}

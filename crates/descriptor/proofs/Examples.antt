@@ -7,10 +7,7 @@ use Prim.Native.Nat.{ℕ, zero, suc}
 use Prim.Native.String.{String}
 use Rattle.words.specs.Lists.{fold, some}
 use Rattle.descriptor.specs.Bytes.{byte, text, is_base_byte, is_name_byte}
-use Rattle.descriptor.specs.Grammar.{UnqualifiedName, I, J, L, base, object, array, of, component, FieldDescriptor, field, parameter}
-use Rattle.descriptor.specs.Grammar.{«V», void, MethodDescriptor, name_bytes, name_spelling, rest_spelling, class_spelling, base_byte}
-use Rattle.descriptor.specs.Grammar.{object_spelling, type_spelling, field_spelling, parameter_spelling, parameters_spelling}
-use Rattle.descriptor.specs.Grammar.{void_spelling, result_spelling, method_spelling}
+use Rattle.descriptor.specs.Grammar.{UnqualifiedName, I, J, L, base, object, array, of, component, FieldDescriptor, field, parameter, «V», void, MethodDescriptor, name_bytes, name_spelling, rest_spelling, class_spelling, base_byte, object_spelling, type_spelling, field_spelling, parameter_spelling, parameters_spelling, void_spelling, result_spelling, method_spelling}
 use Rattle.descriptor.specs.Machine.{field_next, method_next, is_method_descriptor}
 use Rattle.descriptor.specs.Words.{byte_width, width, begun_words, begun_from, is_method, counted, refused, argument_answer}
 

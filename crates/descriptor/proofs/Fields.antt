@@ -14,10 +14,7 @@ use Rattle.descriptor.specs.declared.FieldState.TheVariants.{Open, Start, Inside
 use Rattle.descriptor.specs.Bytes.{is_base_byte, is_name_byte}
 use Rattle.descriptor.specs.Machine.{field_next}
 use Rattle.descriptor.specs.Words.{byte_width, type_words}
-use Rattle.descriptor.specs.Grammar.{NameByte, UnqualifiedName, ClassName, BaseType, B, C, D, F, I, J, S, Z, ObjectType, L}
-use Rattle.descriptor.specs.Grammar.{FieldType, base, object, array, ArrayType, of, ComponentType, component, name_bytes}
-use Rattle.descriptor.specs.Grammar.{name_spelling, rest_spelling, class_spelling, base_byte, object_spelling, type_spelling}
-use Rattle.descriptor.specs.Grammar.{array_spelling, component_spelling}
+use Rattle.descriptor.specs.Grammar.{NameByte, UnqualifiedName, ClassName, BaseType, B, C, D, F, I, J, S, Z, ObjectType, L, FieldType, base, object, array, ArrayType, of, ComponentType, component, name_bytes, name_spelling, rest_spelling, class_spelling, base_byte, object_spelling, type_spelling, array_spelling, component_spelling}
 
 -- ---- a step at a byte of the grammar
 

@@ -11,8 +11,7 @@ use lib.ListN.{length}
 use borrow.Author.Tests.{leb-true, leb-false, ltb-true, ltb-false, le-leb, lt-leb}
 use Rattle.words.proofs.Bools.{by, and_both}
 use Rattle.descriptor.specs.Machine.{method_next, is_method_descriptor}
-use Rattle.descriptor.specs.Words.{receiver_words, argument_words, argument_limit, ValidDescriptor, between_parameters, begun_words, begun_from}
-use Rattle.descriptor.specs.Words.{is_method, capped, capped_from}
+use Rattle.descriptor.specs.Words.{receiver_words, argument_words, argument_limit, ValidDescriptor, between_parameters, begun_words, begun_from, is_method, capped, capped_from}
 use Rattle.descriptor.specs.declared.MethodState.{MethodState}
 use Rattle.descriptor.specs.declared.MethodState.TheVariants.{Begin}
 use Rattle.descriptor.proofs.Counts.{method-begins, method-small, byte_small}

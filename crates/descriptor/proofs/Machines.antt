@@ -13,9 +13,7 @@ use Rattle.descriptor.specs.declared.FieldState.{FieldState}
 use Rattle.descriptor.specs.declared.FieldState.TheVariants.{Open, Done, Bad}
 use Rattle.descriptor.specs.declared.MethodState.{MethodState}
 use Rattle.descriptor.specs.declared.MethodState.TheVariants.{Begin, Parameters, Return, Returned}
-use Rattle.descriptor.specs.Grammar.{FieldType, type_spelling, FieldDescriptor, field, field_spelling, FieldDerivation}
-use Rattle.descriptor.specs.Grammar.{ParameterDescriptor, parameter, parameter_spelling, parameters_spelling, «V», ReturnDescriptor}
-use Rattle.descriptor.specs.Grammar.{value, void, void_spelling, result_spelling, MethodDescriptor, method_spelling, MethodDerivation}
+use Rattle.descriptor.specs.Grammar.{FieldType, type_spelling, FieldDescriptor, field, field_spelling, FieldDerivation, ParameterDescriptor, parameter, parameter_spelling, parameters_spelling, «V», ReturnDescriptor, value, void, void_spelling, result_spelling, MethodDescriptor, method_spelling, MethodDerivation}
 use Rattle.descriptor.specs.Machine.{field_next, field_done, is_field_descriptor, method_next, method_done, is_method_descriptor}
 use Rattle.descriptor.proofs.Fields.{type_read, Accepts, type_of, headed}
 

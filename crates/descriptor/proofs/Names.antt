@@ -1,39 +1,42 @@
 -- Laws of runs of name bytes. Assumes nothing.
 use mathlib.Core.Path.{◌≡◌, refl, sym, ap, ◌∙◌}
-use mathlib.Core.Bool.{Bool, true, false, false≢true}
+use mathlib.Core.Bool.{Bool, true, false, not, false≢true}
 use mathlib.Core.List.{List, [], ◌∷◌}
 use Prim.Native.Nat.{ℕ, ◌+◌, ◌≤◌, ◌<◌}
 use native.Mathlib.Numerals.{add-one}
 use native.Mathlib.Omega.{arith}
-use lib.Dec.{eqb}
-use lib.ListN.{length, get_or, drop, drop_of_length-le}
-use lib.Seq.{drop-cons, drop-drop}
-use borrow.Author.Tests.{eqb-true}
+use lib.Dec.{eqb, ltb}
+use lib.ListN.{length, drop}
+use borrow.Author.Tests.{eqb-true, ltb-false}
+use Rattle.std.specs.Prelude.{position}
+use Rattle.std.specs.Option.{unwrap_or}
+use Rattle.std.specs.List.{position_or_len}
 use Rattle.words.specs.Lists.{fold, some}
 use Rattle.words.proofs.Bools.{by}
-use Rattle.words.proofs.ListLaws.{fold_at, fold-at-turn}
 use Rattle.descriptor.specs.Bytes.{is_name_byte}
 use Rattle.descriptor.specs.Machine.{field_next, method_next}
-use Rattle.descriptor.specs.Names.{name_run, name_end, field_inside, method_inside}
+use Rattle.descriptor.specs.Names.{name_run, field_inside, method_inside}
 use Rattle.descriptor.specs.declared.FieldState.{FieldState}
 use Rattle.descriptor.specs.declared.FieldState.TheVariants.{Open, Start, Inside, Done, Bad}
 use Rattle.descriptor.specs.declared.MethodState.{MethodState}
 use Rattle.descriptor.specs.declared.MethodState.TheVariants.{Begin, Parameters, Return, Returned}
 
--- ---- the run, a byte at a time
+-- ---- the run
 
-module _ (s : List ℕ) (j : ℕ) {b : Bool} where
-  pub run_turn : j < length s → b ≡ is_name_byte (get_or s j 0) → b ≡ true → name_end s (j + 1) ≡ name_end s j
-  unfolding name_end name_run
-  run_turn h e t = rw (drop-cons s j 0 h, ← e, t, add-one) (omega arith)
+pub run_within : (s : List ℕ) → name_run s ≤ length s
+unfolding name_run
+run_within [] = omega arith
+run_within (b ∷ s) = by (is_name_byte b) (λ t. rw t (omega (arith, run_within s))) (λ t. rw t (omega arith))
 
-  pub run_stop : j < length s → b ≡ is_name_byte (get_or s j 0) → b ≡ false → j ≡ name_end s j
-  unfolding name_end name_run
-  run_stop h e t = rw (drop-cons s j 0 h, ← e, t) (omega arith)
+run_is : (s : List ℕ) → position_or_len (λ b. not (is_name_byte b)) s ≡ name_run s
+unfolding name_run
+run_is [] = refl
+run_is (b ∷ s) = by (is_name_byte b) (λ t. rw (t, run_is s) (omega arith)) (λ t. rw t refl)
 
-pub run_end : (s : List ℕ) (j : ℕ) → length s ≤ j → j ≡ name_end s j
-unfolding name_end name_run
-run_end s j h = rw (drop_of_length-le s h) (omega arith)
+-- where no other byte is found, the run is all of them
+pub run_found : (s : List ℕ) → unwrap_or (position (λ b. not (is_name_byte b)) s) (length s) ≡ name_run s
+run_found s =
+    rw (run_is s) (by (ltb (name_run s) (length s)) (λ t. rw t refl) (λ t. rw t (omega (arith, run_within s, ltb-false _ _ t))))
 
 -- ---- a machine that name bytes leave where it is may pass a run over
 
@@ -42,10 +45,6 @@ module _ {S : Type 0} (f : S → ℕ → S) (q : S) (stays : (b : ℕ) → is_na
   unfolding name_run fold
   fold-run [] = refl
   fold-run (b ∷ s) = by (is_name_byte b) (λ t. rw (t, stays b t, add-one) (fold-run s)) (λ t. rw t refl)
-
-  fold_over : (s : List ℕ) (i : ℕ) → fold_at f q s i ≡ fold_at f q s (name_end s i)
-  unfolding fold_at name_end
-  fold_over s i = fold-run (drop i s) ∙ ap (fold f q) (drop-drop (name_run (drop i s)) i s)
 
 -- ---- the machine does
 
@@ -79,15 +78,17 @@ method-stays (Parameters Bad) e b h = absurd (false≢true e)
 method-stays Return e b h = absurd (false≢true e)
 method-stays (Returned q) e b h = ap Returned (field-stays q e b h)
 
-pub run-on : (s : List ℕ) (i : ℕ) → i ≤ name_end s i
-unfolding name_end
-run-on s i = omega arith
+-- a turn of the loop: a byte is read, and inside an identifier the run behind it is passed over
+module _ (s : List ℕ) (q p : MethodState) {b : ℕ} {r : List ℕ} {x : MethodState} where
+  pub read-turn : s ≡ b ∷ r → p ≡ method_next q b → fold method_next q s ≡ x → fold method_next p r ≡ x
+  unfolding fold
+  read-turn e f g = rw f (rw e at g)
 
--- a turn of the loop: the next byte is read, and inside an identifier the run behind it is passed over
-module _ (s : List ℕ) (i : ℕ) (q p : MethodState) {x : MethodState} where
-  pub read-turn : i < length s → p ≡ method_next q (get_or s i 0) → fold_at method_next q s i ≡ x → fold_at method_next p s (i + 1) ≡ x
-  read-turn h e f = sym (fold-at-turn method_next q s 0 i h refl e) ∙ f
+  pub read-over : {n : ℕ} → method_inside p ≡ true → n ≡ name_run r → s ≡ b ∷ r → p ≡ method_next q b → fold method_next q s ≡ x
+      → fold method_next p (drop n r) ≡ x
+  read-over t m e f g = rw m (sym (fold-run method_next p (method-stays p t) r) ∙ read-turn e f g)
 
-  pub read-over : method_inside p ≡ true → i < length s → p ≡ method_next q (get_or s i 0) → fold_at method_next q s i ≡ x
-      → fold_at method_next p s (name_end s (i + 1)) ≡ x
-  read-over t h e f = sym (fold_over method_next p (method-stays p t) s (i + 1)) ∙ read-turn h e f
+pub read-end : (s : List ℕ) (q : MethodState) {x : MethodState} → length s ≡ 0 → fold method_next q s ≡ x → q ≡ x
+unfolding fold
+read-end [] q h g = g
+read-end (b ∷ s) q h g = absurd (omega arith)

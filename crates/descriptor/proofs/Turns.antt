@@ -14,8 +14,7 @@ use Rattle.descriptor.specs.declared.MethodState.{MethodState}
 use Rattle.descriptor.specs.declared.FieldState.TheVariants.{Open, Start, Inside, Done, Bad}
 use Rattle.descriptor.specs.declared.MethodState.TheVariants.{Begin, Parameters}
 use Rattle.descriptor.specs.Machine.{field_next, method_next, is_method_descriptor}
-use Rattle.descriptor.specs.Words.{receiver_words, argument_limit, begun_words, is_method, capped, capped_from, counted, refused}
-use Rattle.descriptor.specs.Words.{argument_answer}
+use Rattle.descriptor.specs.Words.{receiver_words, argument_limit, begun_words, is_method, capped, capped_from, counted, refused, argument_answer}
 use Rattle.descriptor.proofs.Limit.{parts, short_within, capped-exact, capped-within}
 
 -- ---- the method machine inside a type

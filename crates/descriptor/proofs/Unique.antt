@@ -11,12 +11,7 @@ use lib.Dec.{eqb}
 use borrow.Author.Tests.{eqb-false}
 use Rattle.words.specs.Lists.{some}
 use Rattle.descriptor.specs.Bytes.{is_base_byte, is_name_byte}
-use Rattle.descriptor.specs.Grammar.{NameByte, UnqualifiedName, ClassName, BaseType, B, C, D, F, I, J, S, Z, ObjectType, L}
-use Rattle.descriptor.specs.Grammar.{FieldType, base, object, array, ArrayType, of, ComponentType, component, FieldDescriptor, field}
-use Rattle.descriptor.specs.Grammar.{ParameterDescriptor, parameter, «V», ReturnDescriptor, value, void, MethodDescriptor}
-use Rattle.descriptor.specs.Grammar.{name_bytes, name_spelling, rest_spelling, class_spelling, base_byte, object_spelling, type_spelling}
-use Rattle.descriptor.specs.Grammar.{array_spelling, component_spelling, field_spelling, parameter_spelling, parameters_spelling}
-use Rattle.descriptor.specs.Grammar.{void_spelling, result_spelling, method_spelling}
+use Rattle.descriptor.specs.Grammar.{NameByte, UnqualifiedName, ClassName, BaseType, B, C, D, F, I, J, S, Z, ObjectType, L, FieldType, base, object, array, ArrayType, of, ComponentType, component, FieldDescriptor, field, ParameterDescriptor, parameter, «V», ReturnDescriptor, value, void, MethodDescriptor, name_bytes, name_spelling, rest_spelling, class_spelling, base_byte, object_spelling, type_spelling, array_spelling, component_spelling, field_spelling, parameter_spelling, parameters_spelling, void_spelling, result_spelling, method_spelling}
 use Rattle.descriptor.proofs.Fields.{headed}
 
 head : {a b : ℕ} {s t : List ℕ} → a ∷ s ≡ b ∷ t → a ≡ b

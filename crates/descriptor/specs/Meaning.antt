@@ -1,8 +1,7 @@
 -- What is claimed of the definitions that the contracts cite: they are the Specification's grammar and its count of words.
 -- proofs/Meaning.antt proves it. Assumes nothing.
 use Rattle.std.specs.Prelude.{◌≡◌, true, List, ◌↔◌, ℕ, ◌≤◌, length, Result}
-use Rattle.descriptor.specs.Grammar.{FieldDescriptor, field_spelling, FieldDerivation, MethodDescriptor, method_spelling}
-use Rattle.descriptor.specs.Grammar.{MethodDerivation}
+use Rattle.descriptor.specs.Grammar.{FieldDescriptor, field_spelling, FieldDerivation, MethodDescriptor, method_spelling, MethodDerivation}
 use Rattle.descriptor.specs.Machine.{is_field_descriptor, is_method_descriptor}
 use Rattle.descriptor.specs.Words.{field_words, argument_words, argument_limit, ValidDescriptor, width, is_method, counted, answer, argument_answer}
 use Rattle.refusal.specs.declared.Refusal.{Refusal}

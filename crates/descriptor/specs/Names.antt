@@ -1,6 +1,6 @@
 -- Runs of the bytes that an identifier has: a machine that stands in an identifier reads them and stays where it is, so they may be
 -- passed over. Assumes nothing.
-use Rattle.std.specs.Prelude.{ℕ, ◌+◌, Bool, true, false, cond, List, [], ◌∷◌, drop}
+use Rattle.std.specs.Prelude.{ℕ, ◌+◌, Bool, true, false, cond, List, [], ◌∷◌}
 use Rattle.descriptor.specs.Bytes.{is_name_byte}
 use Rattle.descriptor.specs.declared.FieldState.{FieldState}
 use Rattle.descriptor.specs.declared.FieldState.TheVariants.{Open, Start, Inside, Done, Bad}
@@ -11,10 +11,6 @@ use Rattle.descriptor.specs.declared.MethodState.TheVariants.{Begin, Parameters,
 unfoldable pub name_run : List ℕ → ℕ
 name_run [] = 0
 name_run (b ∷ s) = cond (is_name_byte b) (name_run s + 1) 0
-
--- where the run from i on ends
-unfoldable pub name_end : List ℕ → ℕ → ℕ
-name_end s i = i + name_run (drop i s)
 
 -- a machine stands after a byte of an identifier
 abbrev pub field_inside : FieldState → Bool

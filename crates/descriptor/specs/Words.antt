@@ -2,8 +2,7 @@
 -- bytes. Assumes nothing.
 use Rattle.std.specs.Prelude.{ℕ, ◌+◌, ◌-◌, ◌/◌, ◌%◌, ◌≤◌, ◌≡◌, Bool, false, not, ◌&&◌, ◌||◌, cond, List, [], ◌∷◌, eqb, leb, ltb, get_or, Result, Ok, Err}
 use Rattle.descriptor.specs.Bytes.{byte}
-use Rattle.descriptor.specs.Grammar.{BaseType, B, C, D, F, I, J, S, Z, FieldType, base, object, array, FieldDescriptor, field}
-use Rattle.descriptor.specs.Grammar.{ParameterDescriptor, parameter, MethodDescriptor, method_spelling}
+use Rattle.descriptor.specs.Grammar.{BaseType, B, C, D, F, I, J, S, Z, FieldType, base, object, array, FieldDescriptor, field, ParameterDescriptor, parameter, MethodDescriptor, method_spelling}
 use Rattle.descriptor.specs.Machine.{field_done, method_next, is_method_descriptor}
 use Rattle.descriptor.specs.declared.MethodState.{MethodState}
 use Rattle.descriptor.specs.declared.MethodState.TheVariants.{Begin, Parameters, Return, Returned}

@@ -2,7 +2,7 @@
 // function takes any bytes. specs/Grammar.antt has the grammar, and specs/Meaning.antt says what the definitions cited here mean.
 #![tactic(auto)]
 
-ghost use Rattle.std.specs.Prelude.{◌≡◌};
+ghost use Rattle.std.specs.Prelude.{◌≡◌, ◌≤◌, length};
 ghost use Rattle.words.specs.Lists.{fold};
 ghost use Rattle.descriptor.specs.Bytes.{is_base_byte, is_name_byte};
 ghost use Rattle.descriptor.specs.Machine.{
@@ -12,7 +12,7 @@ ghost use Rattle.descriptor.specs.Machine.{
   method_done,
   is_method_descriptor,
 };
-ghost use Rattle.descriptor.specs.Names.{name_end, field_inside, method_inside};
+ghost use Rattle.descriptor.specs.Names.{name_run, field_inside, method_inside};
 ghost use Rattle.descriptor.specs.Words.{
   receiver_words,
   byte_width,
@@ -131,16 +131,13 @@ impl MethodState {
     }
 }
 
-// Where the run of bytes from i on ends that a name may have.
-#[tactic(auto, using(crate::proofs::Names::run_turn, crate::proofs::Names::run_stop, crate::proofs::Names::run_end))]
-fn name_end(s: &[u8], i: usize) -> usize
-    ensures { result ≡ name_end s.now i }
+// How many bytes that a name may have are in front.
+#[tactic(auto, using(crate::proofs::Names::run_within))]
+fn name_run(s: &[u8]) -> usize
+    ensures is { result ≡ name_run s.now }
+    ensures within { result ≤ length s.now }
 {
-    let mut j = i;
-    while j < s.len() && is_name_byte(s[j]) {
-        j += 1;
-    }
-    j
+    s.iter().position(|b| !is_name_byte(*b)).unwrap_or(s.len())
 }
 
 // Whether a reader that stands at `from` may end after the bytes. Inside an identifier it passes over the bytes that leave it where it stands.
@@ -148,13 +145,14 @@ fn accepts(from: MethodState, s: &[u8]) -> bool
     ensures { result ≡ method_done (fold method_next from s.now) }
 {
     let mut q = from;
-    let mut i: usize = 0;
-    while i < s.len() {
-        q = q.next(s[i]);
-        i += 1;
-        if q.is_inside() {
-            i = name_end(s, i);
-        }
+    let mut rest = s;
+    while let Some((b, after)) = rest.split_first() {
+        q = q.next(*b);
+        rest = if q.is_inside() {
+            &after[name_run(after)..]
+        } else {
+            after
+        };
     }
     q.is_done()
 }

@@ -1,8 +1,7 @@
 -- Laws of the ABI fields that are added to a class: which are, how far they raise the running word, and their records. Assumes nothing.
 use Rattle.std.proofs.Common.{◌≡◌, ℕ, zero, suc, ◌+◌, ◌-◌, ◌<◌, ◌≤◌, Bool, false, cond, not, List, [], ◌∷◌, ◌++◌, length, get_or, take, drop, set, ap, sym, refl, ◌∙◌, append_assoc, append-nil, add-one, arith, length-append, length-take, take-suc-set, le-ltb}
 use Rattle.words.specs.Lists.{list_from, numbers, keep}
-use Rattle.std.specs.Prelude.{Option}
-use Rattle.std.specs.Prelude.{Some, None, Result}
+use Rattle.std.specs.Prelude.{Option, Some, None, Result}
 use Rattle.words.proofs.Bools.{by}
 use Rattle.std.proofs.Math.Seq.{take-suc}
 use Rattle.std.proofs.lemmas.List.{take_all}

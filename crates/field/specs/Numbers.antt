@@ -1,8 +1,7 @@
 -- What a class's fields come to, as the code has it: their indices and the instance words, or the row that refuses them. Assumes nothing.
-use Rattle.std.specs.Prelude.{◌≡◌, ℕ, ◌+◌, ◌-◌, ◌^◌, ◌<◌, Bool, true, false, cond, not, ◌&&◌, List, [], ◌∷◌, length, replicate, ◌==◌, slice_index, Result, Ok, Err}
+use Rattle.std.specs.Prelude.{◌≡◌, ℕ, ◌+◌, ◌-◌, ◌^◌, ◌<◌, Bool, true, false, cond, not, ◌&&◌, List, [], ◌∷◌, length, replicate, ◌==◌, slice_index, Result, Ok, Err, Option}
 use Rattle.abi_sheet.specs.AbiSheet.{abi_field_limit}
 use Rattle.std.specs.Option.{option_and_then}
-use Rattle.std.specs.Prelude.{Option}
 use Rattle.class_sheet.specs.ClassSheet.{class_first_field, class_field_count, field_name, field_descriptor, field_flags, field_index, field_limit}
 use Rattle.linking.specs.Chain.{on_found, list_count, parent_of, is_static}
 use Rattle.linking.specs.Abi.{fixed_field_index, fixed_field, given_words, class_abi, field_is}

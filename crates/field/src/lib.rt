@@ -9,11 +9,8 @@ ghost use Rattle.words.specs.Lists.{fold};
 ghost use Rattle.class_sheet.specs.ClassSheet.{field_flags, field_index, field_limit};
 ghost use Rattle.linking.specs.Chain.{on_found, own_fields, chain, is_static};
 ghost use Rattle.linking.specs.Abi.{given_words, fixed_field_index};
-ghost use Rattle.linking.specs.Fields.{below_zero, field_width, instance_words, runtime_end, own_runtime, number_instance, number_field, number_fields};
-ghost use Rattle.linking.specs.Fields.{declares_field, added_fields, raised, static_words, stand_from, moved_index, indices_plus};
-ghost use Rattle.field.specs.Numbers.{signed_of, counting, first_numbering, declared_by, own_count, fixed_by, Holds, Fits, Movable, undeclared};
-ghost use Rattle.field.specs.Numbers.{Small, members_of, words_from, added_to};
-ghost use Rattle.field.specs.Numbers.{by_row, numbering_of, numbered_of, fields_by, add_words, built_fields, generated_fields};
+ghost use Rattle.linking.specs.Fields.{below_zero, field_width, instance_words, runtime_end, own_runtime, number_instance, number_field, number_fields, declares_field, added_fields, raised, static_words, stand_from, moved_index, indices_plus};
+ghost use Rattle.field.specs.Numbers.{signed_of, counting, first_numbering, declared_by, own_count, fixed_by, Holds, Fits, Movable, undeclared, Small, members_of, words_from, added_to, by_row, numbering_of, numbered_of, fields_by, add_words, built_fields, generated_fields};
 ghost use Rattle.linking.specs.Sheets.{of_sheets};
 
 use growth::{Member, News};

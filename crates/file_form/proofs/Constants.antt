@@ -11,11 +11,9 @@ use Rattle.words.proofs.Bools.{by, and_both}
 use Rattle.words.specs.Words.{AreBytes}
 use Rattle.std.specs.Prelude.{Ok}
 use Rattle.class_form.specs.Form.{u2, u4, is_tag, is_wide, places, body_size, tag_ok, after_constant}
-use Rattle.file_form.specs.Grammar.{u2_bytes, u4_bytes, Constant, Utf8, Integer, Float, Long, Double, Class, String, Fieldref, Methodref}
-use Rattle.file_form.specs.Grammar.{InterfaceMethodref, NameAndType, tag_of, info_of, constant_spelling, entries_of}
+use Rattle.file_form.specs.Grammar.{u2_bytes, u4_bytes, Constant, Utf8, Integer, Float, Long, Double, Class, String, Fieldref, Methodref, InterfaceMethodref, NameAndType, tag_of, info_of, constant_spelling, entries_of}
 use Rattle.file_form.proofs.Items.{constant_to}
-use Rattle.file_form.proofs.Spelled.{Spelled, join, split, ends_at, first_byte, spelled-taken, spelled-u2, some_bytes, some-length, some_byte}
-use Rattle.file_form.proofs.Spelled.{some-u2, some-u4}
+use Rattle.file_form.proofs.Spelled.{Spelled, join, split, ends_at, first_byte, spelled-taken, spelled-u2, some_bytes, some-length, some_byte, some-u2, some-u4}
 
 -- ---- each of the eleven is taken
 

@@ -11,8 +11,7 @@ use Rattle.words.proofs.Bools.{by, and_3}
 use Rattle.words.specs.Words.{AreBytes}
 use Rattle.std.specs.Prelude.{Ok, Err}
 use Rattle.class_form.specs.Form.{Step, u2, u4, pool_count, after_pool, after_head, after_file, version_ok, end_refusal, form_refusal}
-use Rattle.file_form.specs.Grammar.{u2_bytes, u4_bytes, counted, attribute_spelling, member_spelling, pool_spelling, ClassFile, file_spelling, Holds}
-use Rattle.file_form.specs.Grammar.{Derivation}
+use Rattle.file_form.specs.Grammar.{u2_bytes, u4_bytes, counted, attribute_spelling, member_spelling, pool_spelling, ClassFile, file_spelling, Holds, Derivation}
 use Rattle.file_form.specs.Derived.{Derived}
 use Rattle.class_form.proofs.Laws.{step_to}
 use Rattle.refusal.proofs.Rows.{row_above}

@@ -5,9 +5,7 @@ use mathlib.Core.List.{List, [], ◌∷◌, ◌++◌}
 use Prim.Native.Nat.{ℕ}
 use native.Mathlib.Omega.{arith}
 use Rattle.class_form.specs.Form.{form_refusal}
-use Rattle.file_form.specs.Grammar.{u2_bytes, u4_bytes, each, counted, Utf8, Class, tag_of, info_of, constant_spelling, entries_of, pool_entries}
-use Rattle.file_form.specs.Grammar.{pool_spelling, attribute_spelling, member_spelling, ClassFile, file_spelling, here, there, all_none, all_more}
-use Rattle.file_form.specs.Grammar.{Holds}
+use Rattle.file_form.specs.Grammar.{u2_bytes, u4_bytes, each, counted, Utf8, Class, tag_of, info_of, constant_spelling, entries_of, pool_entries, pool_spelling, attribute_spelling, member_spelling, ClassFile, file_spelling, here, there, all_none, all_more, Holds}
 use Rattle.file_form.proofs.Derived.{derived}
 
 -- magic and version 48.0, the pool's count, a Class of name 2 and the Utf8 A

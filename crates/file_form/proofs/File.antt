@@ -9,8 +9,7 @@ use lib.ListN.{length, take}
 use lib.Dec.{eqb}
 use Rattle.words.proofs.Bools.{by}
 use Rattle.std.specs.Prelude.{Ok, Err}
-use Rattle.class_form.specs.Form.{Step, u2, u4, ◌>>=◌, taken, after_pool, utf8_at, class_at, after_name, after_class, after_parent, after_interfaces}
-use Rattle.class_form.specs.Form.{after_attribute, after_attributes, after_member, after_members, after_head, after_body, after_file}
+use Rattle.class_form.specs.Form.{Step, u2, u4, ◌>>=◌, taken, after_pool, utf8_at, class_at, after_name, after_class, after_parent, after_interfaces, after_attribute, after_attributes, after_member, after_members, after_head, after_body, after_file}
 use Rattle.class_form.proofs.Laws.{taken_to}
 use Rattle.file_form.proofs.Outcome.{agree_less, agree-u2, agree-u4, Outcome, swap, stays, stopped, then_on, takes, counted}
 use Rattle.file_form.proofs.Items.{pool}

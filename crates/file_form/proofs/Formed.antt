@@ -10,13 +10,10 @@ use borrow.Author.Tests.{eqb-true, eq-eqb}
 use Rattle.words.proofs.Bools.{by}
 use Rattle.words.specs.Words.{AreBytes}
 use Rattle.std.specs.Prelude.{Ok}
-use Rattle.class_form.specs.Form.{Step, u2, u4, ◌>>=◌, taken, pool_count, utf8_at, class_at, after_name, after_class, after_parent, after_interfaces, after_attribute}
-use Rattle.class_form.specs.Form.{after_each, after_counted, after_attributes, after_member, after_members, after_head, after_body}
-use Rattle.file_form.specs.Grammar.{u2_bytes, u4_bytes, each, counted, Constant, Attribute, Member, attribute_spelling, member_spelling}
-use Rattle.file_form.specs.Grammar.{IsUtf8, IsClassInfo, MemberHolds, All, all_none, all_more}
+use Rattle.class_form.specs.Form.{Step, u2, u4, ◌>>=◌, taken, pool_count, utf8_at, class_at, after_name, after_class, after_parent, after_interfaces, after_attribute, after_each, after_counted, after_attributes, after_member, after_members, after_head, after_body}
+use Rattle.file_form.specs.Grammar.{u2_bytes, u4_bytes, each, counted, Constant, Attribute, Member, attribute_spelling, member_spelling, IsUtf8, IsClassInfo, MemberHolds, All, all_none, all_more}
 use Rattle.class_form.proofs.Laws.{ok_same, step_to, taken_to}
-use Rattle.file_form.proofs.Spelled.{Spelled, nothing, join, split, ends_at, spelled-taken, spelled-u2, spelled-u4, some_bytes, some-length}
-use Rattle.file_form.proofs.Spelled.{some-u2, some-u4}
+use Rattle.file_form.proofs.Spelled.{Spelled, nothing, join, split, ends_at, spelled-taken, spelled-u2, spelled-u4, some_bytes, some-length, some-u2, some-u4}
 use Rattle.file_form.proofs.Pool.{Constants, utf8-found, utf8-stands, class-found, class-stands, number_of_classes}
 
 -- ---- a number that was taken

@@ -13,9 +13,7 @@ use Rattle.words.specs.Words.{AreBytes}
 use Rattle.words.proofs.Bools.{by}
 use Rattle.std.specs.Prelude.{Ok, Err}
 use Rattle.refusal.specs.declared.Refusal.TheVariants.{WrongEnd, WrongPool}
-use Rattle.class_form.specs.Form.{Step, u2, u4, ◌>>=◌, taken, is_wide, places, body_size, tag_ok, after_constant, after_constants, pool_count, after_pool, utf8_at, class_at}
-use Rattle.class_form.specs.Form.{after_name, after_class, after_parent, after_interfaces, after_attribute, after_each, after_counted, after_attributes, after_member}
-use Rattle.class_form.specs.Form.{after_members, after_head, after_body, after_file}
+use Rattle.class_form.specs.Form.{Step, u2, u4, ◌>>=◌, taken, is_wide, places, body_size, tag_ok, after_constant, after_constants, pool_count, after_pool, utf8_at, class_at, after_name, after_class, after_parent, after_interfaces, after_attribute, after_each, after_counted, after_attributes, after_member, after_members, after_head, after_body, after_file}
 use Rattle.class_form.proofs.Laws.{ok_same, not_ok}
 use Rattle.file_form.proofs.Lookup.{Settled, found_at, refused, utf8_settled, class_settled}
 

@@ -11,8 +11,7 @@ use borrow.Author.Tests.{eqb-true, ltb-true, lt-ltb}
 use Rattle.words.proofs.Bools.{by, and_both}
 use Rattle.std.specs.Prelude.{Ok, Err}
 use Rattle.refusal.specs.declared.Refusal.TheVariants.{WrongPool}
-use Rattle.class_form.specs.Form.{Step, u2, ◌>>=◌, taken, is_wide, places, body_size, after_constant, after_constants, pool_count, after_pool, constant_from}
-use Rattle.class_form.specs.Form.{constant_at, tagged_at, utf8_at, class_at}
+use Rattle.class_form.specs.Form.{Step, u2, ◌>>=◌, taken, is_wide, places, body_size, after_constant, after_constants, pool_count, after_pool, constant_from, constant_at, tagged_at, utf8_at, class_at}
 use Rattle.class_form.proofs.Laws.{places_few, step_to, taken_to}
 use Rattle.file_form.proofs.Outcome.{agree_less, agree_at, agree-u2, ended}
 use Rattle.file_form.proofs.Items.{constant, constant_to, constants}

@@ -13,9 +13,7 @@ use Rattle.words.specs.Words.{AreBytes}
 use Rattle.std.specs.Prelude.{Ok, Err}
 use Rattle.refusal.specs.declared.Refusal.TheVariants.{WrongPool}
 use Rattle.class_form.specs.Form.{Step, u2, taken, places, after_constant, after_constants, pool_count, after_pool, constant_from, constant_at, tagged_at, utf8_at, class_at}
-use Rattle.file_form.specs.Grammar.{u2_bytes, each, Constant, Utf8, Integer, Float, Long, Double, Class, String, Fieldref, Methodref}
-use Rattle.file_form.specs.Grammar.{InterfaceMethodref, NameAndType, tag_of, info_of, constant_spelling, entries_of, pool_entries, pool_spelling}
-use Rattle.file_form.specs.Grammar.{Stands, here, there, IsUtf8, IsClassInfo}
+use Rattle.file_form.specs.Grammar.{u2_bytes, each, Constant, Utf8, Integer, Float, Long, Double, Class, String, Fieldref, Methodref, InterfaceMethodref, NameAndType, tag_of, info_of, constant_spelling, entries_of, pool_entries, pool_spelling, Stands, here, there, IsUtf8, IsClassInfo}
 use Rattle.class_form.proofs.Laws.{ok_same, not_ok, step_to, taken_to}
 use Rattle.file_form.proofs.Spelled.{Spelled, nothing, join, split, ends_at, begins-at, first_byte, spelled-taken, spelled-u2, some-u2}
 use Rattle.file_form.proofs.Constants.{constant-taken, spelled-entries, constant-read}

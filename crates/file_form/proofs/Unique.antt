@@ -9,9 +9,7 @@ use lib.Seq.{drop-append_seam, take-append_seam, take_at}
 use lib.Dec.{eqb}
 use borrow.Author.Tests.{eq-eqb, ne_eqb}
 use Rattle.class_form.specs.Form.{u2, u4}
-use Rattle.file_form.specs.Grammar.{u2_bytes, u4_bytes, each, counted, Constant, Utf8, Integer, Float, Long, Double, Class, String, Fieldref}
-use Rattle.file_form.specs.Grammar.{Methodref, InterfaceMethodref, NameAndType, tag_of, info_of, constant_spelling, entries_of, pool_entries, pool_spelling}
-use Rattle.file_form.specs.Grammar.{Attribute, Member, attribute_spelling, member_spelling, ClassFile, file_spelling, Stands, here, there}
+use Rattle.file_form.specs.Grammar.{u2_bytes, u4_bytes, each, counted, Constant, Utf8, Integer, Float, Long, Double, Class, String, Fieldref, Methodref, InterfaceMethodref, NameAndType, tag_of, info_of, constant_spelling, entries_of, pool_entries, pool_spelling, Attribute, Member, attribute_spelling, member_spelling, ClassFile, file_spelling, Stands, here, there}
 use Rattle.file_form.proofs.Spelled.{split, whole, spelled-u2, spelled-u4}
 use Rattle.file_form.proofs.Pool.{some-entries, stands-low}
 

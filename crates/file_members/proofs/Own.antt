@@ -11,10 +11,8 @@ use Rattle.text.specs.Text.{name_at}
 use Rattle.std.specs.Prelude.{Ok}
 use Rattle.class_form.specs.Form.{u2, pool_count}
 use Rattle.class_form.specs.Parts.{member_at}
-use Rattle.class_members.specs.Members.{head_place, fields_place, methods_place, places_from, member_places, field_places, method_places, string_at}
-use Rattle.class_members.specs.Members.{utf8_bytes, class_bytes, file_flags, file_name, parent_index, file_parent, new_of, members_at, file_fields, file_methods}
-use Rattle.file_form.specs.Grammar.{u2_bytes, each, counted, Constant, Utf8, tag_of, info_of, constant_spelling, Member, ClassFile}
-use Rattle.file_form.specs.Grammar.{attribute_spelling, member_spelling, file_spelling, IsUtf8, IsClassInfo, MemberHolds, All, all_none, all_more, Holds, Derivation}
+use Rattle.class_members.specs.Members.{head_place, fields_place, methods_place, places_from, member_places, field_places, method_places, string_at, utf8_bytes, class_bytes, file_flags, file_name, parent_index, file_parent, new_of, members_at, file_fields, file_methods}
+use Rattle.file_form.specs.Grammar.{u2_bytes, each, counted, Constant, Utf8, tag_of, info_of, constant_spelling, Member, ClassFile, attribute_spelling, member_spelling, file_spelling, IsUtf8, IsClassInfo, MemberHolds, All, all_none, all_more, Holds, Derivation}
 use Rattle.file_form.proofs.Spelled.{Spelled, split, begins-at, whole, spelled-u2}
 use Rattle.file_form.proofs.Pool.{Constants, utf8-found, class-found}
 use Rattle.file_form.proofs.Formed.{attributes-taken, members-taken}

@@ -16,8 +16,7 @@ use Rattle.text.specs.Text.{name_at, printable, part_ok}
 use Rattle.linking.specs.Compiler.{New, no_new}
 use Rattle.class_form.specs.Parts.{member_at}
 use Rattle.class_sheet.specs.ClassSheet.{method_count, field_count}
-use Rattle.class_members.specs.Members.{FileOutcome, field_places, method_places, file_name, parent_index, file_parent, new_of, members_at, file_fields, file_methods}
-use Rattle.class_members.specs.Members.{string_ok, field_ok, method_ok, every, names_ok, read_class_file}
+use Rattle.class_members.specs.Members.{FileOutcome, field_places, method_places, file_name, parent_index, file_parent, new_of, members_at, file_fields, file_methods, string_ok, field_ok, method_ok, every, names_ok, read_class_file}
 use Rattle.class_members.specs.SheetForm.{Yields}
 use Rattle.class_members.proofs.SheetForm.{file-passed, read-passed, length_at, member-at, sheet-form}
 use Rattle.file_form.proofs.Derived.{derived}

@@ -4,8 +4,7 @@ use Rattle.std.specs.Prelude.{ℕ, ◌<◌, ◌≡◌, ◌≢◌, ◌↔◌, Lis
 use Rattle.words.specs.Lists.{list_from}
 use Rattle.words.specs.Words.{AreBytes}
 use Rattle.text.specs.Text.{name_at}
-use Rattle.class_sheet.specs.ClassSheet.{method_count, field_count, text_of, class_flags, class_name, method_name, method_descriptor, method_flags, method_target}
-use Rattle.class_sheet.specs.ClassSheet.{field_name, field_descriptor, field_flags, field_index}
+use Rattle.class_sheet.specs.ClassSheet.{method_count, field_count, text_of, class_flags, class_name, method_name, method_descriptor, method_flags, method_target, field_name, field_descriptor, field_flags, field_index}
 use Rattle.class_sheet.specs.Sections.{laid_out}
 use Rattle.set_rules.specs.SetRules.{set_refusal}
 use Rattle.linking.specs.Compiler.{New}

@@ -10,7 +10,7 @@ use lib.Dec.{eqb, ltb}
 use borrow.Author.Tests.{eqb-true, eqb-false, ltb-true, ltb-false}
 use Rattle.std.specs.Prelude.{Some}
 use Rattle.words.proofs.Bools.{by}
-use Rattle.words.proofs.ListLaws.{by-found, found-by}
+use Rattle.words.proofs.ListLaws.{by-found, found-by, not_found}
 use Rattle.class_sheet.specs.ClassSheet.{class_width, first_method_word, method_count_word, first_field_word, field_count_word, slot_count_word, class_count, method_count, field_count, content_end, class_name_length, class_first_method, class_method_count, class_first_field, class_slot_count, method_name_length, method_descriptor_length, class_word}
 use Rattle.words.specs.Rows.{row_word}
 use Rattle.text.specs.Text.{name_length_word, descriptor_length_word}
@@ -24,7 +24,6 @@ use Rattle.linking.specs.Vtable.{read_entry}
 use Rattle.linking.specs.Compiler.{New}
 use Rattle.linking.specs.Link.{Plan, is_none, generated_methods, linked_words}
 use Rattle.linking.specs.Grown.{methods_growing, fields_growing, record_rows, row_indices, linked_sections}
-use Rattle.words.proofs.ListLaws.{not_found}
 use Rattle.linking.proofs.Added.{EachNew, read-room, slot-room, generated-each}
 use Rattle.linking.proofs.Grown.{rows-indices, formed-methods_growing, formed-fields_growing}
 use Rattle.linking.proofs.Appended.{relisting, length-relisting, class-kept, word_kept}

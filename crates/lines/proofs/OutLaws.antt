@@ -7,8 +7,7 @@ use lib.ListN.{length, set}
 use Rattle.lines.specs.Bytes.{decimal}
 use Rattle.lines.specs.Out.{standing, Puts}
 use Rattle.lines.specs.declared.Out.{Out}
-use Rattle.lines.proofs.ByteLaws.{byte_put, byte_full, put_one, put-none, decimal-one, decimal-more}
-use Rattle.lines.proofs.ByteLaws.{then as append}
+use Rattle.lines.proofs.ByteLaws.{byte_put, byte_full, put_one, put-none, decimal-one, decimal-more, then as append}
 
 pub puts-none : (o : Out) → Puts o o []
 puts-none o = record { puts = put-none (standing o); same = refl }

@@ -1,11 +1,9 @@
 -- The lines of the listing: "writes class number, name, words, slots; then slot, name, descriptor, target", and after the target the number of
 -- the class that declares the slot's method. Assumes nothing.
-use Rattle.std.specs.Prelude.{ℕ, ◌+◌, List, [], ◌∷◌, ◌++◌, Bool, cond, ◌||◌, ltb}
+use Rattle.std.specs.Prelude.{ℕ, ◌+◌, List, [], ◌∷◌, ◌++◌, Bool, cond, ◌||◌, ltb, Option, Some, None}
 use Prim.Native.String.{String}
 use Rattle.words.specs.Lists.{first_found}
 use Rattle.std.specs.Option.{option_and_then}
-use Rattle.std.specs.Prelude.{Option}
-use Rattle.std.specs.Prelude.{Some, None}
 use Rattle.descriptor.specs.Bytes.{text}
 use Rattle.class_sheet.specs.ClassSheet.{class_count, text_of, text_length, class_name, class_instance_words, class_slot_count, method_name, method_descriptor, class_limit, text_limit}
 use Rattle.abi_sheet.specs.AbiSheet.{abi_text_of, abi_text_length, abi_slot_name, abi_slot_descriptor, abi_text_limit}

@@ -212,16 +212,9 @@ fn list_unpacked(ws: &[u32], abi: &[u32], area: &[u32], c: u32, out: &mut Out)
     requires { (text_length ws.now ≤ text_limit) × (abi_text_length abi.now ≤ abi_text_limit) }
     ensures { Puts out.old out.new (lines_of ws.now (text_of ws.now) abi.now (abi_text_of abi.now) area.now c) }
 {
-    let mut bytes = [0u8; class_sheet::TEXT_LIMIT as usize];
-    class_sheet::unpack_text(ws, &mut bytes);
-    let mut abi_bytes = [0u8; abi_sheet::TEXT_LIMIT as usize];
-    abi_sheet::unpack_text(abi, &mut abi_bytes);
-    let sheets = Sheets {
-        set: ws,
-        text: text::name_at(&bytes, 0, class_sheet::text_length(ws)),
-        abi,
-        labels: text::name_at(&abi_bytes, 0, abi_sheet::text_length(abi)),
-    };
+    let mut room = [0u8; class_sheet::TEXT_LIMIT as usize];
+    let mut label_room = [0u8; abi_sheet::TEXT_LIMIT as usize];
+    let sheets = Sheets::unpack(ws, abi, &mut room, &mut label_room);
     list_with(sheets, area, c, out);
 }
 

@@ -268,11 +268,9 @@ pub fn link(
     if !set_rules::set_fits(set, abi) {
         return Err(Refusal::Form);
     }
-    let mut bytes = [0u8; class_sheet::TEXT_LIMIT as usize];
-    class_sheet::unpack_text(set, &mut bytes);
-    let mut abi_bytes = [0u8; abi_sheet::TEXT_LIMIT as usize];
-    abi_sheet::unpack_text(abi, &mut abi_bytes);
-    let text = text::name_at(&bytes, 0, class_sheet::text_length(set));
-    let labels = text::name_at(&abi_bytes, 0, abi_sheet::text_length(abi));
+    let mut room = [0u8; class_sheet::TEXT_LIMIT as usize];
+    let text = class_sheet::text_bytes(set, &mut room);
+    let mut label_room = [0u8; abi_sheet::TEXT_LIMIT as usize];
+    let labels = abi_sheet::text_bytes(abi, &mut label_room);
     link_fitting(set, class, text, abi, labels, area, stubs, missing)
 }

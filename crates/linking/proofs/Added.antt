@@ -12,8 +12,7 @@ use lib.Dec.{eqb, leb, ltb}
 use borrow.Author.Tests.{eqb-true, ltb-true}
 use Rattle.words.specs.Lists.{list_from, numbers, find, first_found, cons_found, all_found}
 use Rattle.std.specs.Option.{option_and_then}
-use Rattle.std.specs.Prelude.{Option}
-use Rattle.std.specs.Prelude.{Some, None}
+use Rattle.std.specs.Prelude.{Option, Some, None}
 use Rattle.words.proofs.Bools.{by, and_both}
 use Rattle.words.proofs.ListLaws.{by-found, found-by, find-passes, find-member, find-within, numbers-within, not_found}
 use Rattle.text.specs.Text.{same_bytes}

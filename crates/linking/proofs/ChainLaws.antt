@@ -11,8 +11,7 @@ use lib.ListN.{length, get_or}
 use lib.Dec.{eqb, ltb}
 use borrow.Author.Tests.{lt-ltb, ltb-true}
 use Rattle.words.specs.Lists.{numbers, first_found, all_found}
-use Rattle.std.specs.Prelude.{Option}
-use Rattle.std.specs.Prelude.{Some, None}
+use Rattle.std.specs.Prelude.{Option, Some, None}
 use Rattle.std.specs.Option.{option_and_then}
 use Rattle.words.proofs.Bools.{by}
 use Rattle.class_sheet.specs.ClassSheet.{method_limit, field_limit, interface_limit, class_parent, class_first_field, class_field_count, class_first_interface, class_interface_count, method_target}

@@ -6,8 +6,7 @@ use Prim.Native.Nat.{ℕ}
 use lib.ListN.{replicate}
 use Rattle.descriptor.specs.Bytes.{text}
 use Rattle.descriptor.specs.Words.{argument_answer, counted, refused}
-use Rattle.linking.proofs.Assemble.{Lent, Call, Member, method, field, built, interface, generated, compiled, implementing}
-use Rattle.linking.proofs.Assemble.{slot, abi, worded, lent, link, ask, answers, after, indices_of, words_of, table_of}
+use Rattle.linking.proofs.Assemble.{Lent, Call, Member, method, field, built, interface, generated, compiled, implementing, slot, abi, worded, lent, link, ask, answers, after, indices_of, words_of, table_of}
 use Rattle.linking.proofs.Opened.{opened}
 
 -- ---- fields

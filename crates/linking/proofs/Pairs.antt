@@ -8,8 +8,7 @@ use native.Mathlib.Omega.{arith}
 use lib.ListN.{length, get_or, set, replicate}
 use Rattle.words.specs.Lists.{list_from, find, first_found, position, fold, keep, some}
 use Rattle.std.specs.Option.{option_or}
-use Rattle.std.specs.Prelude.{Option}
-use Rattle.std.specs.Prelude.{Some, None}
+use Rattle.std.specs.Prelude.{Option, Some, None}
 use Rattle.words.proofs.Bools.{by}
 
 -- ---- what is found on both sides

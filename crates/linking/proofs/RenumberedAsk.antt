@@ -3,8 +3,7 @@ use mathlib.Core.Path.{refl}
 use mathlib.Core.Bool.{◌&&◌}
 use mathlib.Core.List.{List}
 use Prim.Native.Nat.{ℕ}
-use Rattle.std.specs.Prelude.{Option}
-use Rattle.std.specs.Prelude.{None}
+use Rattle.std.specs.Prelude.{Option, None}
 use Rattle.class_sheet.specs.ClassSheet.{method_name, method_descriptor, method_flags}
 use Rattle.linking.specs.Chain.{on_found, chain, is_virtual, method_is}
 use Rattle.linking.specs.Vtable.{Entry, Built}

@@ -5,8 +5,7 @@ use mathlib.Core.List.{List, [], ◌∷◌, ◌++◌}
 use Prim.Native.String.{String}
 use Prim.Native.Nat.{ℕ}
 use lib.ListN.{replicate}
-use Rattle.linking.proofs.Assemble.{Class, Lent, Call, method, field, built, linked_at, slot, fixed, abi, lent, on_area, spare, link, after}
-use Rattle.linking.proofs.Assemble.{table_of, classes_of}
+use Rattle.linking.proofs.Assemble.{Class, Lent, Call, method, field, built, linked_at, slot, fixed, abi, lent, on_area, spare, link, after, table_of, classes_of}
 use Rattle.linking.proofs.Opened.{opened}
 
 abbrev both : List Call

@@ -12,21 +12,19 @@ use lib.Dec.{eqb, leb, ltb}
 use borrow.Author.Tests.{eqb-true, eqb-false, leb-true, ltb-true, le-leb, lt-ltb}
 use Rattle.words.specs.Lists.{list_from, numbers, find, first_found}
 use Rattle.std.specs.Option.{option_or}
-use Rattle.std.specs.Prelude.{Option}
-use Rattle.std.specs.Prelude.{Some, None}
+use Rattle.std.specs.Prelude.{Option, Some, None}
 use Rattle.words.proofs.Bools.{by, and_both}
 use Rattle.words.proofs.ListLaws.{by-found, find-member, find-passes, numbers-within}
 use Rattle.class_sheet.specs.ClassSheet.{class_count, class_first_method, class_method_count, class_link_state, class_table_place, method_name, method_descriptor, method_flags, method_target, method_limit}
 use Rattle.abi_sheet.specs.AbiSheet.{abi_slot_name, abi_slot_descriptor}
 use Rattle.set_rules.specs.Valid.{IsClass}
 use Rattle.linking.specs.declared.Declared.{Declared}
-use Rattle.linking.specs.Whose.{declared}
+use Rattle.linking.specs.Whose.{declared, method_of, declaring_class, first_declared, declared_by_target, declared_implementation, declared_by_index, read_declared, slot_class, Nearest, Declares, MethodsApart, FixedThere, Column, unknown_slot, known_slot, Whose}
 use Rattle.linking.specs.Chain.{list_count, own_methods, chain, is_virtual, method_is, own_target, own_method, find_by_target}
 use Rattle.linking.specs.Abi.{class_abi, slot_at}
 use Rattle.linking.specs.Vtable.{own_fixed, find_by_index, read_entry, read_slot}
 use Rattle.linking.specs.Compiler.{holds, owner_state}
 use Rattle.linking.specs.Ask.{own_implementation, implementation}
-use Rattle.linking.specs.Whose.{method_of, declaring_class, first_declared, declared_by_target, declared_implementation, declared_by_index, read_declared, slot_class, Nearest, Declares, MethodsApart, FixedThere, Column, unknown_slot, known_slot, Whose}
 use Rattle.linking.proofs.ChainLaws.{chain-within, own-target-member, own-method-member, own-method-is}
 
 -- ---- every answer remains

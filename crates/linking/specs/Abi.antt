@@ -1,9 +1,8 @@
 -- The ABI sheet's lookups (abi.rs): "The first ABI class of a name, and in it the first match, counts." Indices and sizes above row 4's
 -- limits, which it refuses, count as the limit, so that every definition is total. Assumes nothing.
-use Rattle.std.specs.Prelude.{ℕ, ◌+◌, ◌-◌, max, min, Bool, ◌&&◌, List, take, eqb}
+use Rattle.std.specs.Prelude.{ℕ, ◌+◌, ◌-◌, max, min, Bool, ◌&&◌, List, take, eqb, Option}
 use Rattle.words.specs.Lists.{numbers, find, first_found, all_found, fold}
 use Rattle.std.specs.Option.{option_map}
-use Rattle.std.specs.Prelude.{Option}
 use Rattle.text.specs.Text.{same_bytes}
 use Rattle.class_sheet.specs.ClassSheet.{class_name, class_limit}
 use Rattle.abi_sheet.specs.AbiSheet.{abi_class_count, abi_class_name, abi_class_table_size_plus_one, abi_class_instance_words_plus_one, abi_class_first_slot, abi_class_slot_count, abi_class_first_field, abi_class_field_count, abi_slot_name, abi_slot_descriptor, abi_slot_index, abi_field_name, abi_field_descriptor, abi_field_index, abi_field_limit, abi_slot_limit}

@@ -1,9 +1,7 @@
 -- A class's own members, its parents, and what its methods are. Every definition is total: a list that runs past its section's limit,
 -- which row 4 refuses, is cut there, and a parent that is not below its child, which row 4 refuses too, counts as none. Assumes nothing.
-use Rattle.std.specs.Prelude.{ℕ, zero, suc, ◌-◌, ◌/◌, ◌%◌, min, ◌≡◌, Bool, cond, not, ◌&&◌, List, [], ◌∷◌, get_or, eqb, ltb}
+use Rattle.std.specs.Prelude.{ℕ, zero, suc, ◌-◌, ◌/◌, ◌%◌, min, ◌≡◌, Bool, cond, not, ◌&&◌, List, [], ◌∷◌, get_or, eqb, ltb, Option, Some, None}
 use Rattle.words.specs.Lists.{numbers, find, first_found}
-use Rattle.std.specs.Prelude.{Option}
-use Rattle.std.specs.Prelude.{Some, None}
 use Rattle.text.specs.Text.{same_bytes}
 pub use Rattle.class_sheet.specs.Flags.{is_private, is_static, is_interface, is_abstract}
 use Rattle.class_sheet.specs.ClassSheet.{class_parent, class_first_method, class_method_count, class_first_field, class_field_count, class_first_interface, class_interface_count, method_name, method_descriptor, method_flags, method_target, method_limit, field_limit, interface_limit}

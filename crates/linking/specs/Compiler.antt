@@ -1,10 +1,8 @@
 -- A generated class with a compiler table (`prepare_generated`, `build_from_compiler_vtable`). Methods are numbered on: below 512 those of
 -- the sheet, 512 + j the j-th that is added. Assumes nothing.
-use Rattle.std.specs.Prelude.{ℕ, ◌+◌, ◌-◌, min, Bool, false, cond, not, ◌&&◌, ◌||◌, List, [], ◌∷◌, ◌++◌, length, get_or, eqb, leb, ltb}
+use Rattle.std.specs.Prelude.{ℕ, ◌+◌, ◌-◌, min, Bool, false, cond, not, ◌&&◌, ◌||◌, List, [], ◌∷◌, ◌++◌, length, get_or, eqb, leb, ltb, Option, Some, None}
 use Rattle.words.specs.Lists.{list_from, numbers, find, first_found, cons_found, all_found, fold, some}
 use Rattle.std.specs.Option.{option_or}
-use Rattle.std.specs.Prelude.{Option}
-use Rattle.std.specs.Prelude.{Some, None}
 use Rattle.text.specs.Text.{same_bytes}
 use Rattle.class_sheet.specs.ClassSheet.{class_count, class_first_method, class_method_count, class_link_state, class_compiler_table, class_compiler_slots, compiler_word, interface_word, method_name, method_descriptor, method_flags, method_target, method_limit}
 use Rattle.abi_sheet.specs.AbiSheet.{abi_slot_name, abi_slot_descriptor}

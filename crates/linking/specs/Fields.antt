@@ -1,9 +1,8 @@
 -- Field words (field.rs, `new`, `patch_declared_instance_field_word_indices`). Instance words above row 4's limit, which it refuses,
 -- count as the limit. Assumes nothing.
-use Rattle.std.specs.Prelude.{ℕ, ◌+◌, ◌-◌, max, min, Bool, true, cond, not, ◌&&◌, ◌||◌, List, [], ◌∷◌, ◌++◌, eqb, leb, ltb}
+use Rattle.std.specs.Prelude.{ℕ, ◌+◌, ◌-◌, max, min, Bool, true, cond, not, ◌&&◌, ◌||◌, List, [], ◌∷◌, ◌++◌, eqb, leb, ltb, Option}
 use Rattle.words.specs.Lists.{fold, keep, some}
 use Rattle.std.specs.Option.{option_and_then}
-use Rattle.std.specs.Prelude.{Option}
 use Rattle.descriptor.specs.Words.{width}
 use Rattle.class_sheet.specs.ClassSheet.{class_instance_words, field_name, field_descriptor, field_flags, field_index}
 use Rattle.abi_sheet.specs.AbiSheet.{abi_field_descriptor}

@@ -1,7 +1,6 @@
 -- `link`: rows 3 to 15 and 26 in the table's order, and what an accepted link leaves. Assumes nothing.
-use Rattle.std.specs.Prelude.{ℕ, ◌+◌, ◌-◌, Bool, true, false, cond, not, ◌&&◌, ◌||◌, List, [], ◌∷◌, ◌++◌, length, get_or, set, eqb, leb, ltb}
+use Rattle.std.specs.Prelude.{ℕ, ◌+◌, ◌-◌, Bool, true, false, cond, not, ◌&&◌, ◌||◌, List, [], ◌∷◌, ◌++◌, length, get_or, set, eqb, leb, ltb, Option}
 use Rattle.words.specs.Folds.{all_of}
-use Rattle.std.specs.Prelude.{Option}
 use Rattle.text.specs.Text.{same_bytes}
 use Rattle.class_sheet.specs.ClassSheet.{class_count, method_count, field_count, text_of, class_flags, class_kind, class_first_field, class_method_count, class_field_count, class_compiler_table, class_table_place, class_slot_count, is_built_kind, is_generated, is_array, is_packaged, class_name, fields_at, put_class_instance_words, put_class_table_place, put_class_slot_count, put_class_static_words}
 use Rattle.abi_sheet.specs.AbiSheet.{abi_text_of, abi_field_name, abi_field_descriptor}

@@ -2,12 +2,10 @@
 -- the chain; the method that introduced a slot; the table; row 26; and beside the walk the section itself, as a type. The section is that of the
 -- Java SE 8 edition, told here in our words (docs/DECISIONS.md has what earlier editions say). `same` compares the signatures of two methods. Assumes
 -- nothing.
-use Rattle.std.specs.Prelude.{ℕ, ◌/◌, ◌%◌, ◌<◌, min, ◌≡◌, ◌≢◌, ◌↔◌, Bool, true, false, cond, not, ◌&&◌, ◌||◌, length, get_or, set, take, eqb, ltb}
+use Rattle.std.specs.Prelude.{ℕ, ◌/◌, ◌%◌, ◌<◌, min, ◌≡◌, ◌≢◌, ◌↔◌, Bool, true, false, cond, not, ◌&&◌, ◌||◌, length, get_or, set, take, eqb, ltb, Option, Some, None}
 use mathlib.Core.List.{List, [], ◌∷◌, ◌++◌, Memᴰ}
 use Rattle.words.specs.Lists.{numbers, fold, keep, some}
 use Rattle.std.specs.Option.{option_or, option_and_then}
-use Rattle.std.specs.Prelude.{Option}
-use Rattle.std.specs.Prelude.{Some, None}
 use Rattle.text.specs.Text.{same_bytes}
 use Rattle.class_sheet.specs.ClassSheet.{class_limit, text_of, class_flags, is_packaged, class_table_place, class_slot_count, class_name, method_flags}
 use Rattle.set_rules.specs.Valid.{IsClass, Valid}

@@ -1,10 +1,8 @@
 -- Virtual tables (vtable.rs): Reading, `build_methods`, `build_interface_methods`, and the words written. A known entry's method is a
 -- number of the class sheet's method section. Assumes nothing.
-use Rattle.std.specs.Prelude.{ℕ, ◌+◌, ◌-◌, min, Bool, false, cond, not, List, [], ◌∷◌, ◌++◌, length, get_or, set, replicate, eqb}
+use Rattle.std.specs.Prelude.{ℕ, ◌+◌, ◌-◌, min, Bool, false, cond, not, List, [], ◌∷◌, ◌++◌, length, get_or, set, replicate, eqb, Option, Some, None}
 use Rattle.words.specs.Lists.{list_from, first_found, position, fold, keep}
 use Rattle.std.specs.Option.{option_or, option_and_then}
-use Rattle.std.specs.Prelude.{Option}
-use Rattle.std.specs.Prelude.{Some, None}
 use Rattle.class_sheet.specs.ClassSheet.{class_table_place, class_slot_count, method_name, method_descriptor, method_target}
 use Rattle.abi_sheet.specs.AbiSheet.{abi_slot_name, abi_slot_descriptor}
 use Rattle.linking.specs.Chain.{on_found, own_methods, parent_of, chain, eligible, method_is, own_method, find_by_target}

@@ -1,9 +1,8 @@
 -- Whose a method is: "Each chain search for a method, by target or signature, shall answer the declaring class's number together with the
 -- method, and the nearest class on the chain counts." The searches, and the theorems on them as one record. Assumes nothing.
-use Rattle.std.specs.Prelude.{ℕ, ◌+◌, ◌≤◌, ◌<◌, ◌≡◌, ◌↔◌, true, get_or}
+use Rattle.std.specs.Prelude.{ℕ, ◌+◌, ◌≤◌, ◌<◌, ◌≡◌, ◌↔◌, true, get_or, Option, Some, None, option_map}
 use mathlib.Core.List.{List, [], ◌∷◌, ◌++◌, Memᴰ}
 use Rattle.words.specs.Lists.{numbers, find, first_found}
-use Rattle.std.specs.Prelude.{Option, Some, None, option_map}
 use Rattle.std.specs.Option.{option_or}
 use Rattle.class_sheet.specs.ClassSheet.{class_count, class_first_method, class_method_count, class_link_state, class_table_place, method_name, method_descriptor, method_flags, method_target}
 use Rattle.abi_sheet.specs.AbiSheet.{abi_slot_name, abi_slot_descriptor}

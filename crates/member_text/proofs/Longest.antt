@@ -17,8 +17,7 @@ use Rattle.class_members.specs.declared.FileHead.{FileHead}
 use Rattle.class_file.specs.Walk.{head_read}
 use Rattle.class_file.proofs.JudgeLaws.{Judges, head_is}
 use Rattle.refusal.proofs.Rows.{row_above}
-use Rattle.class_members.specs.Members.{new_of, members_at, field_places, method_places, file_name, file_parent, file_flags, file_fields, file_methods}
-use Rattle.class_members.specs.Members.{file_text, sheet_holds, file_refusal}
+use Rattle.class_members.specs.Members.{new_of, members_at, field_places, method_places, file_name, file_parent, file_flags, file_fields, file_methods, file_text, sheet_holds, file_refusal}
 use Rattle.class_members.proofs.SheetForm.{file-passed, length_at}
 use Rattle.class_members.proofs.Targets.{methods-text}
 use Rattle.class_file.proofs.ReadLaws.{form_parted, form_told, fields_start_is, methods_start_is, text_ends}

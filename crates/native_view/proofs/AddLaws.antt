@@ -9,8 +9,7 @@ use lib.Dec.{eqb}
 use borrow.Author.Tests.{eq-eqb, ne_eqb, lt-ltb, le-ltb}
 use Rattle.words.specs.Lists.{first_found, all_found, some}
 use Rattle.std.specs.Option.{option_or, option_and_then}
-use Rattle.std.specs.Prelude.{Option}
-use Rattle.std.specs.Prelude.{Some, None}
+use Rattle.std.specs.Prelude.{Option, Some, None}
 use Rattle.words.proofs.Bools.{by}
 use Rattle.words.proofs.ListLaws.{by-found, found-by, rest_from, rest-start, rest-turn, rest_end}
 use Rattle.class_sheet.specs.ClassSheet.{class_first_interface, class_interface_count, class_compiler_table, class_compiler_slots, compiler_word, interface_word, method_flags, method_limit, interface_limit}

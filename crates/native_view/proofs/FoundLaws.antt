@@ -4,8 +4,7 @@ use mathlib.Core.List.{List, [], ◌∷◌}
 use Prim.Native.Nat.{ℕ}
 use Rattle.words.specs.Lists.{first_found, cons_found, all_found}
 use Rattle.std.specs.Option.{option_or, option_and_then}
-use Rattle.std.specs.Prelude.{Option}
-use Rattle.std.specs.Prelude.{Some, None}
+use Rattle.std.specs.Prelude.{Option, Some, None}
 
 -- the first found along a list of what was found
 pub found-cons : (g : ℕ → Option ℕ) (r : Option ℕ) (xs : List ℕ) → first_found g (cons_found r xs) ≡ option_or (option_and_then g r) (first_found g xs)

@@ -8,8 +8,7 @@ use lib.ListN.{length, get_or, take, drop, get_or-eq_default}
 use lib.Dec.{eqb, ltb}
 use borrow.Author.Tests.{ltb-true, ltb-false}
 use Rattle.words.specs.Lists.{list_from}
-use Rattle.std.specs.Prelude.{Option}
-use Rattle.std.specs.Prelude.{Some, None}
+use Rattle.std.specs.Prelude.{Option, Some, None}
 use Rattle.words.proofs.Bools.{by}
 use Rattle.words.proofs.ListLaws.{length-list-from, get_d_list_from, not_found}
 use Rattle.words.proofs.Ext.{list-more}

@@ -1,9 +1,7 @@
 -- The method that one compiler target adds, as the code makes it: what names its signature is a number, as in `growth`. Assumes nothing.
-use Rattle.std.specs.Prelude.{◌≡◌, ℕ, ◌+◌, ◌<◌, cond, ◌||◌, List, [], get_or, eqb, ltb}
+use Rattle.std.specs.Prelude.{◌≡◌, ℕ, ◌+◌, ◌<◌, cond, ◌||◌, List, [], get_or, eqb, ltb, Option, Some}
 use Rattle.words.specs.Lists.{first_found}
 use Rattle.std.specs.Option.{option_or, option_and_then, option_map}
-use Rattle.std.specs.Prelude.{Option}
-use Rattle.std.specs.Prelude.{Some}
 use Rattle.class_sheet.specs.ClassSheet.{method_flags, interface_word, method_limit}
 use Rattle.linking.specs.Abi.{slot_at, class_abi}
 use Rattle.linking.specs.Vtable.{Entry, empty}

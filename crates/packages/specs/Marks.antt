@@ -1,8 +1,7 @@
 -- What the table of a class of kind 3 is built with: overridden methods as marks in an array, and the introducing methods as an array of the marks
 -- that Reading gives. Assumes nothing.
-use Rattle.std.specs.Prelude.{ℕ, ◌<◌, ◌≡◌, Bool, true, false, List, [], ◌∷◌, cond, get_or, set, eqb}
+use Rattle.std.specs.Prelude.{ℕ, ◌<◌, ◌≡◌, Bool, true, false, List, [], ◌∷◌, cond, get_or, set, eqb, Option}
 use Rattle.words.specs.Lists.{numbers, keep}
-use Rattle.std.specs.Prelude.{Option}
 use Rattle.linking.specs.Chain.{on_found, chain}
 use Rattle.linking.specs.Vtable.{read_slot}
 use Rattle.linking.specs.Packages.{topmost, table_has, introducing}

@@ -10,8 +10,7 @@ use lib.Dec.{eqb, ltb}
 use borrow.Author.Tests.{ltb-true, ltb-false, lt-ltb, ne_eqb, eqb-true, eqb-false}
 use Rattle.class_sheet.specs.ClassSheet.{method_target, method_limit}
 use Rattle.words.proofs.Bools.{by}
-use Rattle.std.specs.Prelude.{Option}
-use Rattle.std.specs.Prelude.{Some, None}
+use Rattle.std.specs.Prelude.{Option, Some, None}
 use Rattle.std.proofs.lemmas.List.{get_or_past}
 use Rattle.words.specs.Lists.{list_from}
 use Rattle.words.proofs.ListLaws.{length-list-from, get_d_list_from}

@@ -12,17 +12,15 @@ use borrow.Author.Tests.{eqb-true, ne_eqb, lt-ltb}
 use Rattle.words.specs.Folds.{table, stores}
 use Rattle.words.specs.Lists.{list_from}
 use Rattle.std.specs.Option.{option_or}
-use Rattle.std.specs.Prelude.{Option}
-use Rattle.std.specs.Prelude.{Some, None}
+use Rattle.std.specs.Prelude.{Option, Some, None}
 use Rattle.words.proofs.Bools.{by}
 use Rattle.words.proofs.FoldLaws.{length-table, get_d_table, stores-turn, stores-is, length-stores, stores_at}
 use Rattle.words.proofs.ListLaws.{length-list-from, get_d_list_from}
 use Rattle.class_sheet.specs.ClassSheet.{class_first_method, class_method_count, class_table_place, method_limit}
 use Rattle.linking.specs.declared.Declared.{Declared}
-use Rattle.linking.specs.Whose.{declared}
+use Rattle.linking.specs.Whose.{declared, method_of, declaring_class, declared_in, first_declared, declared_by_target, declared_by_index, read_declared, slot_class}
 use Rattle.linking.specs.Chain.{parent_of, chain, own_target, find_by_target}
 use Rattle.linking.specs.Vtable.{own_fixed}
-use Rattle.linking.specs.Whose.{method_of, declaring_class, declared_in, first_declared, declared_by_target, declared_by_index, read_declared, slot_class}
 use Rattle.linking.proofs.ChainLaws.{chain-none, chain_more, own-target-room, own-fixed-room}
 use Rattle.linking.proofs.Whose.{nearest-counts, declared-class, target_found}
 use Rattle.chain.specs.Records.{method_records, first_target}

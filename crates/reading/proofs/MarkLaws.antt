@@ -11,8 +11,7 @@ use borrow.Author.Tests.{ne_eqb, lt-ltb, eqb-true}
 use Rattle.words.specs.Folds.{table, stores}
 use Rattle.words.specs.Lists.{list_from, numbers, find, first_found}
 use Rattle.std.specs.Option.{option_or}
-use Rattle.std.specs.Prelude.{Option}
-use Rattle.std.specs.Prelude.{Some, None}
+use Rattle.std.specs.Prelude.{Option, Some, None}
 use Rattle.words.proofs.FoldLaws.{length-table, stores-turn, stores-is, length-stores, stores_at}
 use Rattle.words.proofs.ListLaws.{find-within}
 use Rattle.words.proofs.Bools.{by}

@@ -4,8 +4,7 @@ use mathlib.Core.List.{List, []}
 use Prim.Native.Nat.{ℕ, min}
 use borrow.Author.Tests.{eq-eqb, ne_eqb}
 use Rattle.words.specs.Lists.{list_from}
-use Rattle.std.specs.Prelude.{Option}
-use Rattle.std.specs.Prelude.{Some, None}
+use Rattle.std.specs.Prelude.{Option, Some, None}
 use Rattle.class_sheet.specs.ClassSheet.{class_table_place, class_slot_count}
 use Rattle.linking.specs.Chain.{parent_of}
 use Rattle.linking.specs.Abi.{class_abi}

@@ -1,9 +1,7 @@
 -- A table as the code holds it: two arrays, the slots' words and their methods' marks, and a count. Assumes nothing.
-use Rattle.std.specs.Prelude.{ℕ, ◌+◌, ◌*◌, ◌-◌, ◌/◌, ◌%◌, cond, List, get_or, eqb, ltb}
+use Rattle.std.specs.Prelude.{ℕ, ◌+◌, ◌*◌, ◌-◌, ◌/◌, ◌%◌, cond, List, get_or, eqb, ltb, Option, Some, None}
 use Rattle.words.specs.Folds.{stores}
 use Rattle.words.specs.Lists.{list_from}
-use Rattle.std.specs.Prelude.{Option}
-use Rattle.std.specs.Prelude.{Some, None}
 use Rattle.linking.specs.Vtable.{Entry, read_entry}
 
 -- a method's mark: its number plus 1; 0 for none, and for numbers above those of methods

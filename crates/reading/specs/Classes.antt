@@ -1,8 +1,7 @@
 -- The classes that declare the slots' methods, in an array beside words and marks: a number for each slot, 0 where there is none.
 -- Assumes nothing.
-use Rattle.std.specs.Prelude.{ℕ, ◌<◌, ◌≡◌, cond, not, ◌&&◌, List, get_or, eqb}
+use Rattle.std.specs.Prelude.{ℕ, ◌<◌, ◌≡◌, cond, not, ◌&&◌, List, get_or, eqb, Option}
 use Rattle.words.specs.Folds.{stores}
-use Rattle.std.specs.Prelude.{Option}
 use Rattle.linking.specs.declared.Declared.{Declared}
 use Rattle.linking.specs.Whose.{declaring_class}
 

@@ -2,10 +2,9 @@
 // that declare the methods, 0 where there is none.
 #![tactic(auto)]
 
-ghost use Rattle.std.specs.Prelude.{◌≡◌, ◌≤◌, ◌<◌, ◌+◌, min, length, get_or, take, drop, cond, eqb};
+ghost use Rattle.std.specs.Prelude.{◌≡◌, ◌≤◌, ◌<◌, ◌+◌, min, length, get_or, take, drop, cond, eqb, Some, None};
 ghost use Rattle.words.specs.Folds.{stores};
 ghost use Rattle.words.specs.Lists.{list_from};
-ghost use Rattle.std.specs.Prelude.{Some, None};
 ghost use Rattle.class_sheet.specs.ClassSheet.{class_slot_count, method_limit};
 ghost use Rattle.linking.specs.Chain.{find_by_target};
 ghost use Rattle.linking.specs.Abi.{class_abi};

@@ -6,8 +6,7 @@ use mathlib.Core.List.{List, [], ◌∷◌}
 use lib.Count.{ones}
 use Rattle.words.specs.Folds.{sum_of}
 use Rattle.words.specs.Lists.{list_from, keep}
-use Rattle.references.specs.References.{is_marked, marked_words, bytes_for, kept_bits, masked, masked_ones, too_few, Outcome, written_over, read_references}
-use Rattle.references.specs.References.{count_references}
+use Rattle.references.specs.References.{is_marked, marked_words, bytes_for, kept_bits, masked, masked_ones, too_few, Outcome, written_over, read_references, count_references}
 
 -- both answers for a bitmap and n words, where a list is lent
 abbrev both : List ℕ → ℕ → List ℕ → Outcome × Outcome

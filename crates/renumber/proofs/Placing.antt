@@ -1,5 +1,5 @@
 -- The place of a class in the list, and the list as it is filled, a turn at a time. Assumes nothing.
-use mathlib.Core.Path.{◌≡◌, refl, sym, ◌∙◌}
+use mathlib.Core.Path.{◌≡◌, refl, sym, ap, ◌∙◌}
 use mathlib.Core.Bool.{true, false}
 use mathlib.Core.List.{List, [], ◌∷◌, ◌++◌}
 use Prim.Native.Nat.{ℕ, suc, ◌+◌, ◌-◌, ◌≤◌, ◌<◌}
@@ -7,43 +7,42 @@ use native.Mathlib.Omega.{arith}
 use native.Mathlib.Numerals.{add-one}
 use lib.ListN.{length, get_or, take, drop, set, drop_of_length-le}
 use lib.Seq.{drop-cons, take-suc-set}
-use lib.Dec.{eqb}
-use borrow.Author.Tests.{eq-eqb, ne_eqb, eqb-true, eqb-false}
-use Rattle.std.specs.List.{list_any}
+use lib.Dec.{eqb, ltb}
+use borrow.Author.Tests.{eq-eqb, ne_eqb, eqb-true, eqb-false, lt-ltb, le-ltb, ltb-true, ltb-false}
+use Rattle.std.specs.List.{list_any, position as first_place, position_or_len}
 use Rattle.renumber.proofs.OrderLaws.{order_stuck, order-turn}
 use Rattle.words.specs.Lists.{position, some}
-use Rattle.std.specs.Prelude.{Option}
-use Rattle.std.specs.Prelude.{Some, None}
+use Rattle.std.specs.Option.{option_map}
+use Rattle.std.specs.Prelude.{Option, Some, None}
 use Rattle.words.proofs.Bools.{by}
 use Rattle.class_sheet.specs.ClassSheet.{class_count}
 use Rattle.renumber.specs.Renumber.{placed, next_class, order_from, order_of, or_none, new_number}
 
 -- ---- the place of a class in the list
 
--- the search at place i of the list
-unfoldable pub number_from : List ℕ → ℕ → ℕ → ℕ
-number_from l c i = or_none (position (eqb c) (1 + i) (drop i l))
+-- the library's search, counted from 0, finds the place that the definition finds, counted from k
+place_is : (l : List ℕ) (c k : ℕ) → position (eqb c) k l ≡ option_map (λ i. k + i) (first_place (λ x. eqb x c) l)
+unfolding position
+place_is [] c k = refl
+place_is (x ∷ l) c k =
+    let m = position_or_len (λ y. eqb y c) l in
+    let n = length l in
+    by (eqb x c) (λ t. rw (t, eq-eqb c x (sym (eqb-true x c t)), lt-ltb 0 (suc n) (omega arith)) (ap Some (omega arith)))
+    (λ t. rw (t, ne_eqb c x (λ e. eqb-false x c t (sym e)), place_is l c (k + 1))
+    (by (ltb m n) (λ u. rw (u, lt-ltb (1 + m) (suc n) (omega (arith, ltb-true m n u))) (ap Some (omega arith)))
+    (λ u. rw (u, le-ltb (1 + m) (suc n) (omega (arith, ltb-false m n u))) refl)))
 
-module _ (l : List ℕ) (c : ℕ) where
-  pub number_start : number_from l c 0 ≡ new_number l c
-  unfolding number_from new_number
-  number_start = refl
+abbrev counted : Option ℕ → ℕ
+counted (Some i) = i + 1
+counted None = 0
 
-  pub number_hit : (i : ℕ) {w : ℕ} → i < length l → w ≡ get_or l i 0 → w ≡ c → i + 1 ≡ number_from l c i
-  unfolding number_from position
-  number_hit i {w} h e t =
-      let q : eqb c (get_or l i 0) ≡ true = eq-eqb c (get_or l i 0) (sym t ∙ e) in rw (drop-cons l i 0 h, q) (omega arith)
+none_counted : (r : Option ℕ) → or_none (option_map (λ i. 1 + i) r) ≡ counted r
+none_counted (Some i) = omega arith
+none_counted None = refl
 
-  pub number_miss : (i : ℕ) {w : ℕ} → i < length l → w ≡ get_or l i 0 → (w ≡ c → ⊥) → number_from l c (i + 1) ≡ number_from l c i
-  unfolding number_from position
-  number_miss i {w} h e t =
-      let q : eqb c (get_or l i 0) ≡ false = ne_eqb c (get_or l i 0) (λ z. t (e ∙ sym z)) in
-      let k : 1 + (i + 1) ≡ 1 + i + 1 = omega arith in
-      rw (drop-cons l i 0 h, q, k, add-one i)
-
-  pub number_end : (i : ℕ) → length l ≤ i → 0 ≡ number_from l c i
-  unfolding number_from position
-  number_end i h = rw (drop_of_length-le l h)
+pub number_counted : (l : List ℕ) (c : ℕ) {r : Option ℕ} → r ≡ first_place (λ x. eqb x c) l → counted r ≡ new_number l c
+unfolding new_number
+number_counted l c e = rw (place_is l c 1, e) (sym (none_counted (first_place (λ x. eqb x c) l)))
 
 -- a class is placed where the list has it
 pub placed_found : (l : List ℕ) (c : ℕ) → list_any (λ y. eqb y c) l ≡ placed l c

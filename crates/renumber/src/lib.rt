@@ -16,17 +16,14 @@ use refusal::Refusal;
 const RECORD_WORDS: usize = class_sheet::CLASS_WIDTH * class_sheet::CLASS_LIMIT as usize;
 
 // The place of class c in the list, counted from 1, or 0 where it is not there.
-#[tactic(auto, using(crate::proofs::Placing::number_start, crate::proofs::Placing::number_hit, crate::proofs::Placing::number_miss, crate::proofs::Placing::number_end))]
 fn new_number(list: &[u32], c: u32) -> u32
     requires { length list.now ≤ class_limit }
     ensures { result ≡ new_number list.now c }
 {
-    for i in 0..list.len() {
-        if list[i] == c {
-            return i as u32 + 1;
-        }
+    match list.iter().position(|x| *x == c) {
+        Some(i) => i as u32 + 1,
+        None => 0,
     }
-    0
 }
 
 // Whether class c is in the list.

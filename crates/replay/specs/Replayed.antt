@@ -1,7 +1,6 @@
 -- DEMAND 3 OF WHAT `replay` LEAVES: `Replayed`, at the end, is the statement; proofs/Demand.antt proves it from demand 3 (crate calls) and the
 -- contract of `replay`. Assumes nothing.
-use Rattle.std.specs.Prelude.{ℕ, ◌+◌, ◌*◌, ◌/◌, ◌<◌, ◌≡◌, ◌≢◌, List, length, get_or}
-use Rattle.std.specs.Prelude.{None}
+use Rattle.std.specs.Prelude.{ℕ, ◌+◌, ◌*◌, ◌/◌, ◌<◌, ◌≡◌, ◌≢◌, List, length, get_or, None}
 use Rattle.class_sheet.specs.ClassSheet.{text_of}
 use Rattle.abi_sheet.specs.AbiSheet.{abi_text_of}
 use Rattle.linking.specs.Chain.{parent_of}

@@ -202,14 +202,9 @@ pub fn set_refusal(ws: &[u32], abi: &[u32]) -> Result<(), Refusal>
     if !set_fits(ws, abi) {
         return Err(Refusal::Form);
     }
-    let mut text = [0u8; class_sheet::TEXT_LIMIT as usize];
-    class_sheet::unpack_text(ws, &mut text);
-    let mut labels = [0u8; abi_sheet::TEXT_LIMIT as usize];
-    abi_sheet::unpack_text(abi, &mut labels);
-    records_refusal(
-        ws,
-        text::name_at(&text, 0, class_sheet::text_length(ws)),
-        abi,
-        text::name_at(&labels, 0, abi_sheet::text_length(abi)),
-    )
+    let mut room = [0u8; class_sheet::TEXT_LIMIT as usize];
+    let text = class_sheet::text_bytes(ws, &mut room);
+    let mut label_room = [0u8; abi_sheet::TEXT_LIMIT as usize];
+    let labels = abi_sheet::text_bytes(abi, &mut label_room);
+    records_refusal(ws, text, abi, labels)
 }

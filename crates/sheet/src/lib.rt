@@ -31,9 +31,8 @@ fn class_rows(ws: &[u32]) -> Result<(), Refusal>
     if !class_rules::form_ok(ws) {
         return Err(Refusal::Form);
     }
-    let mut text = [0u8; class_sheet::TEXT_LIMIT as usize];
-    class_sheet::unpack_text(ws, &mut text);
-    set_rules::class_refusal(ws, text::name_at(&text, 0, class_sheet::text_length(ws)))
+    let mut room = [0u8; class_sheet::TEXT_LIMIT as usize];
+    set_rules::class_refusal(ws, class_sheet::text_bytes(ws, &mut room))
 }
 
 // Row 3 for the words of a class sheet.
@@ -56,9 +55,8 @@ fn abi_rows(abi: &[u32]) -> Result<(), Refusal>
     if !abi_rules::form_ok(abi) {
         return Err(Refusal::Form);
     }
-    let mut text = [0u8; abi_sheet::TEXT_LIMIT as usize];
-    abi_sheet::unpack_text(abi, &mut text);
-    set_rules::abi_refusal(abi, text::name_at(&text, 0, abi_sheet::text_length(abi)))
+    let mut room = [0u8; abi_sheet::TEXT_LIMIT as usize];
+    set_rules::abi_refusal(abi, abi_sheet::text_bytes(abi, &mut room))
 }
 
 // Reads a sheet of at most `limit` blocks, whose words are judged by `rows` after rows 1 and 2, and answers how many words were written.

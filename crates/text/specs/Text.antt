@@ -1,9 +1,7 @@
 -- The text section, and names as parts of it. Assumes nothing.
-use Rattle.std.specs.Prelude.{ℕ, zero, suc, ◌+◌, ◌*◌, ◌-◌, ◌/◌, ◌%◌, Bool, true, false, ◌&&◌, ◌||◌, cond, List, [], ◌∷◌, ◌++◌, get_or, set, take, drop, length, eqb, leb, ltb}
+use Rattle.std.specs.Prelude.{ℕ, zero, suc, ◌+◌, ◌*◌, ◌-◌, ◌/◌, ◌%◌, Bool, true, false, ◌&&◌, ◌||◌, cond, List, [], ◌∷◌, ◌++◌, get_or, set, take, drop, length, eqb, leb, ltb, Option, Some, None}
 use Rattle.words.specs.Folds.{all_of, table}
 use Rattle.words.specs.Words.{byte_of}
-use Rattle.std.specs.Prelude.{Option}
-use Rattle.std.specs.Prelude.{Some, None}
 
 -- byte k of the text in the words: "text is four bytes a word, lowest byte first"
 unfoldable pub text_byte : List ℕ → ℕ → ℕ

@@ -6,8 +6,7 @@ use Prim.Native.Nat.{ℕ, ◌+◌, ◌≤◌, ◌<◌}
 use lib.ListN.{get_or, set}
 use lib.Dec.{eqb}
 use Rattle.words.proofs.ListLaws.{rest_from, rest-start, rest-turn, rest_end}
-use Rattle.std.specs.Prelude.{Option}
-use Rattle.std.specs.Prelude.{Some, Result, Ok, Err}
+use Rattle.std.specs.Prelude.{Option, Some, Result, Ok, Err}
 use Rattle.class_sheet.specs.ClassSheet.{class_first_method, class_method_count, method_name, method_descriptor, method_limit}
 use Rattle.linking.specs.Chain.{on_found, list_count, own_methods, eligible}
 use Rattle.linking.specs.Vtable.{Entry, Built, built, refused, empty, entry_is_other, fixed_of, slot_of, method_entry, put_method, add_method, add_methods}

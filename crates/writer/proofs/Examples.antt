@@ -9,8 +9,7 @@ use Rattle.words.specs.Folds.{sum_of, all_of, table}
 use Rattle.block.specs.Block.{blocks_for, check_word, packed_word, block_byte, sheet_bytes}
 use Rattle.text.specs.Text.{text_byte, text_of_words, zero_at, zero_rest, name_at, printable, part_ok}
 use Rattle.class_sheet.specs.ClassSheet.{count_at, methods_at, fields_at, interfaces_at, compilers_at, text_at, content_end, class_word, is_built_kind}
-use Rattle.class_rules.specs.ClassRules.{class_limits, class_fits, unlinked, statics_clean, fresh, compiler_ok, own_numbers, class_numbers}
-use Rattle.class_rules.specs.ClassRules.{class_lists, class_record, class_records}
+use Rattle.class_rules.specs.ClassRules.{class_limits, class_fits, unlinked, statics_clean, fresh, compiler_ok, own_numbers, class_numbers, class_lists, class_record, class_records}
 use Rattle.apart.specs.Apart.{apart_before}
 use Rattle.set_rules.specs.SetRules.{class_descriptors, class_refusal}
 use Rattle.writer.specs.Writer.{link_rows, storable, write_refusal, write_class_sheet}

@@ -30,8 +30,7 @@ use Rattle.writer.specs.RoundTrip.{padded_content, blocks_written, sheet_written
 use Rattle.writer.proofs.Laws.{Passed, few-blocks, write-passed, write-accepts}
 use Rattle.writer.proofs.Blocks.{sheet-passed, blocks-count, blocks-words, blocks-rows, whole, words-length, again-blocks, again-same, again}
 use Rattle.writer.proofs.Zeros.{zero_same}
-use Rattle.writer.proofs.Content.{content-length, content-longer, padded-rows, rows-padded}
-use Rattle.writer.proofs.Content.{refusal-longer, fresh-longer, end-longer, text-end-longer}
+use Rattle.writer.proofs.Content.{content-length, content-longer, padded-rows, rows-padded, refusal-longer, fresh-longer, end-longer, text-end-longer}
 
 -- ---- writings and readings that are not refused
 

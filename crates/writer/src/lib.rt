@@ -15,9 +15,8 @@ fn link_rows(set: &[u32]) -> Result<(), Refusal>
     if !class_rules::fits_ok(set) {
         return Err(Refusal::Form);
     }
-    let mut text = [0u8; class_sheet::TEXT_LIMIT as usize];
-    class_sheet::unpack_text(set, &mut text);
-    set_rules::class_refusal(set, text::name_at(&text, 0, class_sheet::text_length(set)))
+    let mut room = [0u8; class_sheet::TEXT_LIMIT as usize];
+    set_rules::class_refusal(set, class_sheet::text_bytes(set, &mut room))
 }
 
 // Row 17: whether each class is as a sheet may bring it, and the bytes after the text in its last word are 0.

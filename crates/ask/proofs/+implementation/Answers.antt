@@ -1,3 +1,4 @@
+-- A class has its own method, or its parent's, whose number is smaller: the recursion ends at class 0. Assumes nothing.
 use Rattle.linking.proofs.ChainLaws.{parent_below}
 use native.Mathlib.Nat.{pos_of_ne-zero}
 use native.Mathlib.Omega.{arith}

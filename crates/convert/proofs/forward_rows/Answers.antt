@@ -1,21 +1,19 @@
 -- The text fits its buffer, so that rows and sums are of the whole text: row 3 refuses, or rows 4 and 5 follow. Assumes nothing.
-use Rattle.std.proofs.Common.{refl, sym, ◌∙◌}
-use Rattle.set_rules.proofs.Laws.{text-handed}
+use Rattle.std.proofs.Common.{sym, ◌∙◌}
 use Rattle.convert.specs.Steps.{fresh_rows}
 use Rattle.convert.proofs.Calls.{sums_handed}
 use Rattle.convert.proofs.forward_rows.Goals as goal
 
 pub returns-then-not-all_fresh-clause-sums : goal.returns-then-not-all_fresh-clause-sums
 returns-then-not-all_fresh-clause-sums c =
-    sums_handed _ _ (text-handed _ _ _ c.requires refl c.unpack_text.ensures c.text_length.ensures c.name_at-part.ensures) c.put_statics.ensures
+    sums_handed _ _ (c.text_bytes-text.ensures c.requires) c.put_statics.ensures
 
 pub returns-clause-value : goal.returns-clause-value
 unfolding fresh_rows
 returns-clause-value c =
-    let t = text-handed _ _ _ c.requires refl c.unpack_text.ensures c.text_length.ensures c.name_at-part.ensures in
     let f = sym c.all_fresh.ensures ∙ c.if-not-all_fresh.false in
-    c.class_refusal.ensures ∙ rw (f, t)
+    c.class_refusal.ensures ∙ rw (f, c.text_bytes-text.ensures c.requires)
 
 pub returns-clause-sums : goal.returns-clause-sums
 returns-clause-sums c =
-    sums_handed _ _ (text-handed _ _ _ c.requires refl c.unpack_text.ensures c.text_length.ensures c.name_at-part.ensures) c.put_statics.ensures
+    sums_handed _ _ (c.text_bytes-text.ensures c.requires) c.put_statics.ensures

@@ -1,21 +1,19 @@
 -- Each turn reads a byte, and inside an identifier passes over bytes that leave the state as it is. Assumes nothing.
-use Rattle.std.proofs.Common.{◌+◌, sym, ◌∙◌, arith}
-use Rattle.words.proofs.ListLaws.{fold-at-start, fold-at-end}
-use Rattle.descriptor.proofs.Names.{run-on, read-turn, read-over}
+use Rattle.std.proofs.Common.{sym, ap, ◌∙◌, ◌-◌, arith, length, drop, length-drop}
+use lib.Seq.{take_all}
+use Rattle.descriptor.specs.Machine.{method_done}
+use Rattle.descriptor.proofs.Names.{read-turn, read-over, read-end}
 use Rattle.descriptor.proofs.accepts.Goals as goal
 
-pub loop-i-init : goal.loop-i-init
-loop-i-init c = sym (fold-at-start _ _ _)
+pub loop-b-preserved-then-is_inside : goal.loop-b-preserved-then-is_inside
+loop-b-preserved-then-is_inside c =
+    let n = c.name_run.result in
+    let after = c.in-Some.after.now in
+    rw (take_all (length after - n) (drop n after) (omega (arith, length-drop n after)))
+    (read-over _ _ _ (sym c.if-is_inside.ensures) c.name_run.ensures.is c.in-Some.ensures.cases.0 c.next-q.ensures c.loop-b.invariant)
 
-pub loop-i-smaller-then-is_inside : goal.loop-i-smaller-then-is_inside
-loop-i-smaller-then-is_inside c = omega (arith, run-on c.args.s.now (c.loop-i.i + 1))
-
-pub loop-i-preserved-then-is_inside : goal.loop-i-preserved-then-is_inside
-loop-i-preserved-then-is_inside c =
-    rw c.name_end-i.ensures (read-over _ _ _ _ (sym c.if-is_inside.ensures) c.loop-i-test.true c.next-q.ensures c.loop-i.invariant)
-
-pub loop-i-preserved : goal.loop-i-preserved
-loop-i-preserved c = read-turn _ _ _ _ c.loop-i-test.true c.next-q.ensures c.loop-i.invariant
+pub loop-b-preserved : goal.loop-b-preserved
+loop-b-preserved c = read-turn _ _ _ c.in-Some.ensures.cases.0 c.next-q.ensures c.loop-b.invariant
 
 pub returns : goal.returns
-returns c = rw (sym c.loop-i.invariant ∙ fold-at-end _ _ _ _ c.loop-i-test.false) c.is_done.ensures
+returns c = c.is_done.ensures ∙ ap method_done (read-end _ _ c.in_default.ensures.cases c.loop-b.invariant)

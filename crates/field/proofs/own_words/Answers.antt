@@ -3,8 +3,7 @@ use Rattle.std.proofs.Common.{rules, arith, ◌%◌, ◌^◌, ◌∙◌, ap, ref
 use Rattle.std.proofs.lemmas.Iterator.Consumers.{fold_from_yields_List}
 use Rattle.std.proofs.lemmas.Iterator.{YieldsList-from_range}
 use Rattle.words.specs.Lists.{fold}
-use Rattle.words.proofs.ListLaws.{length-list-from}
-use Rattle.words.proofs.ListLaws.{fold_is, range_is}
+use Rattle.words.proofs.ListLaws.{length-list-from, fold_is, range_is}
 use Rattle.field.proofs.MovedLaws.{fold-wraps}
 use Rattle.field.specs.Numbers.{add_words}
 use Rattle.linking.specs.Chain.{own_fields}

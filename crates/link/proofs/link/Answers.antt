@@ -1,9 +1,8 @@
 -- Row 3 bounds the texts, so both are unpacked whole; the rest is `link_fitting`'s. Assumes nothing.
-use mathlib.Core.Path.{ap}
+use mathlib.Core.Path.{ap, sym, ◌∙◌}
 use mathlib.Core.Bool.{not}
-use mathlib.Core.Path.{refl, sym, ◌∙◌}
 use borrow.Author.Tests.{not-false}
-use Rattle.set_rules.proofs.Laws.{text-handed, set-text, set-abi-text}
+use Rattle.set_rules.proofs.Laws.{set-text, set-abi-text}
 use Rattle.link.proofs.PlannedLaws.{link_3}
 use Rattle.link.proofs.link.Goals as goal
 
@@ -16,8 +15,6 @@ link_fitting-requires c =
     let h = (ap not c.if-not-set_fits.false) in
     record {
       fits = sym f ∙ not-false _ h;
-      text_is = text-handed _ _ _ (set-text _ _ f h) refl c.unpack_text.ensures c.text_length.ensures
-          c.name_at-text.ensures;
-      labels_are = text-handed _ _ _ (set-abi-text _ _ f h) refl c.unpack_text-2.ensures
-          c.text_length-2.ensures c.name_at-labels.ensures;
+      text_is = c.text_bytes-text.ensures (set-text _ _ f h);
+      labels_are = c.text_bytes-labels.ensures (set-abi-text _ _ f h);
     }

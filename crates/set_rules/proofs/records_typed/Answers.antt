@@ -1,3 +1,5 @@
+-- The first i records have descriptors and what is known of the text is true; one without, or past the words, ends the loop. Assumes
+-- nothing.
 use native.Mathlib.Omega.{arith}
 use borrow.Author.Tests.{not-true, not-false}
 use mathlib.Core.Path.{refl}

@@ -1,8 +1,7 @@
 -- Row 3 refuses first; where it does not, both texts fit their buffers, so rows 4 and 5 see the whole texts. Assumes nothing.
 use mathlib.Core.Path.{ap}
 use mathlib.Core.Bool.{not}
-use mathlib.Core.Path.{refl}
-use Rattle.set_rules.proofs.Laws.{set_3, set-text, set-abi-text, set_rest, text-handed}
+use Rattle.set_rules.proofs.Laws.{set_3, set-text, set-abi-text, set_rest}
 use Rattle.set_rules.proofs.set_refusal.Goals as goal
 
 pub returns-then-not-set_fits : goal.returns-then-not-set_fits
@@ -12,9 +11,4 @@ pub returns : goal.returns
 returns c =
     let f = c.set_fits.ensures in
     let h = (ap not c.if-not-set_fits.false) in
-    set_rest _ _ f h
-    (text-handed _ _ _ (set-text _ _ f h) refl c.unpack_text.ensures c.text_length.ensures
-    c.name_at.ensures)
-    (text-handed _ _ _ (set-abi-text _ _ f h) refl c.unpack_text-2.ensures c.text_length-2.ensures
-    c.name_at-2.ensures)
-    c.records_refusal.ensures
+    set_rest _ _ f h (c.text_bytes-text.ensures (set-text _ _ f h)) (c.text_bytes-labels.ensures (set-abi-text _ _ f h)) c.records_refusal.ensures

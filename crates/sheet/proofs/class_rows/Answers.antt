@@ -1,7 +1,6 @@
 -- Row 3 refuses first; where it does not, the text fits its buffer, so rows 4 and 5 see the whole text. Assumes nothing.
-use Rattle.std.proofs.Common.{refl, sym, ◌∙◌}
+use Rattle.std.proofs.Common.{sym, ◌∙◌}
 use Rattle.class_rules.proofs.Laws.{formed}
-use Rattle.set_rules.proofs.Laws.{text-handed}
 use Rattle.sheet.specs.Sheet.{class_rows}
 use Rattle.sheet.proofs.class_rows.Goals as goal
 
@@ -9,5 +8,4 @@ pub returns : goal.returns
 unfolding class_rows
 returns c =
     let f = sym c.form_ok.ensures ∙ c.if-not-form_ok.false in
-    let t = text-handed _ _ _ (formed _ f).text refl c.unpack_text.ensures c.text_length.ensures c.name_at.ensures in
-    c.class_refusal.ensures ∙ rw (f, t)
+    c.class_refusal.ensures ∙ rw (f, c.text_bytes.ensures (formed _ f).text)
