@@ -12,10 +12,10 @@ use borrow.Author.Tests.{ltb-true, ltb-false, le-leb, leb-true, leb-false}
 use Rattle.std.specs.Prelude.{Ok}
 use Rattle.words.proofs.Bools.{by, and_both}
 use Rattle.class_form.specs.declared.Mark.{Mark}
-use Rattle.class_form.specs.Form.{Step, u2, taken, places, after_constant, after_constants, pool_count, after_pool, constant_at}
-use Rattle.class_form.specs.Marks.{marked, marks_from, no_mark, no_marks, pool_marks, mark_of, constant_near, Near}
+use Rattle.class_form.specs.Form.{Step, u2, taken, places, after_constant, after_constants, pool_count, after_pool, constant_at, tagged_at, utf8_at, class_at}
+use Rattle.class_form.specs.Marks.{marked, marks_from, no_mark, no_marks, pool_marks, mark_of, constant_near, tagged_near, utf8_near, class_near, Near}
 use Rattle.class_form.proofs.Laws.{step_to, places_few, taken_to}
-use Rattle.class_form.proofs.WalkLaws.{look_at, look_turn, look_whole}
+use Rattle.class_form.proofs.WalkLaws.{on_same, look_at, look_turn, look_whole}
 
 -- ---- one mark
 
@@ -118,3 +118,18 @@ pub walked_near : (bs : List ℕ) {s : Step} {e : ℕ} {ms : List Mark} → ((j 
     → ms ≡ marks_from bs (pool_count bs) (pool_count bs) 1 10 no_marks → Near bs ms
 unfolding pool_marks
 walked_near bs {ms = ms} h e t m = let n = marks_near bs (count_small bs h) (sym e ∙ t) in rw m n
+
+-- ---- by near marks a Utf8 and a Class are found as by a walk from the pool's front
+
+module _ {bs : List ℕ} {ms : List Mark} (near : Near bs ms) where
+  tagged_is : (t i : ℕ) → tagged_near bs ms t i ≡ tagged_at bs t i
+  unfolding tagged_near tagged_at
+  tagged_is t i = rw (near.found i)
+
+  pub utf8_is : (i : ℕ) → utf8_near bs ms i ≡ utf8_at bs i
+  unfolding utf8_near utf8_at
+  utf8_is i = tagged_is 1 i
+
+  pub class_is : (i : ℕ) → class_near bs ms i ≡ class_at bs i
+  unfolding class_near class_at
+  class_is i = rw (tagged_is 7 i) (on_same (tagged_at bs 7 i) _ _ (λ p. utf8_is (u2 bs (p + 1))))

@@ -11,7 +11,7 @@ use Rattle.std.specs.Prelude.{Result, Ok, Err}
 use Rattle.words.proofs.Bools.{by}
 use Rattle.refusal.specs.declared.Refusal.{Refusal}
 use Rattle.refusal.specs.declared.Refusal.TheVariants.{WrongEnd}
-use Rattle.refusal.specs.Rows.{row, row_of}
+use Rattle.refusal.specs.Rows.{row_of}
 use Rattle.class_form.specs.declared.Places.{Places}
 use Rattle.class_form.specs.Form.{Step, ◌>>=◌, u2, taken, utf8_at, after_name, after_pool, after_counted, after_attributes, after_member, after_members, after_head, after_body, after_file, version_ok, end_refusal, form_refusal}
 use Rattle.class_form.specs.Parts.{Judged, class_of, file_of, form_of, member_at}

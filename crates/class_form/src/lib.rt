@@ -2,8 +2,8 @@
 #![tactic(auto)]
 
 ghost use Rattle.std.specs.Prelude.{◌≡◌, ◌+◌, ◌<◌, get_or, ℕ};
-ghost use Rattle.class_form.specs.Form.{Step, u2, u4, taken, is_tag, is_wide, places, body_size, tag_ok, after_constant, after_constants, pool_count, constant_from, tagged_at, utf8_at, class_at, after_name, after_class, after_parent, after_interfaces, after_attribute, after_counted, after_attributes, after_member, after_members, after_head, version_ok};
-ghost use Rattle.class_form.specs.Marks.{marked, marks_from, pool_marks, constant_near, Near};
+ghost use Rattle.class_form.specs.Form.{Step, u2, u4, taken, is_tag, is_wide, places, body_size, tag_ok, after_constant, after_constants, pool_count, constant_from, utf8_at, class_at, after_name, after_class, after_parent, after_interfaces, after_attribute, after_counted, after_attributes, after_member, after_members, after_head, version_ok};
+ghost use Rattle.class_form.specs.Marks.{marked, marks_from, pool_marks, constant_near, tagged_near, utf8_near, class_near, Near};
 ghost use Rattle.class_form.specs.Parts.{class_of, file_of, form_of, ended, member_at};
 
 use refusal::Refusal;
@@ -45,9 +45,20 @@ const COUNT_PLACE: usize = 8;
 
 const POOL_PLACE: usize = 10;
 
+// The tags that are told apart, and those at both ends of the others (JVMS 4.4).
 const UTF8: u32 = 1;
 
+const INTEGER: u32 = 3;
+
+const LONG: u32 = 5;
+
+const DOUBLE: u32 = 6;
+
 const CLASS: u32 = 7;
+
+const STRING: u32 = 8;
+
+const NAME_AND_TYPE: u32 = 12;
 
 // The number of two bytes at p.
 #[tactic(auto, unfolding(crate::specs::Form::u2))]
@@ -112,7 +123,7 @@ fn tag_at(bytes: &[u8], p: usize) -> u32
 fn is_tag(t: u32) -> bool
     ensures { result ≡ is_tag t }
 {
-    (t == 1) | (3 <= t) & (t <= 12)
+    matches!(t, UTF8 | INTEGER..=NAME_AND_TYPE)
 }
 
 // Whether a constant takes two places.
@@ -120,7 +131,7 @@ fn is_tag(t: u32) -> bool
 fn is_wide(t: u32) -> bool
     ensures { result ≡ is_wide t }
 {
-    (t == 5) | (t == 6)
+    matches!(t, LONG | DOUBLE)
 }
 
 // How many places of the pool a constant takes.
@@ -132,20 +143,16 @@ fn places_of(t: u32) -> usize
 }
 
 // How many bytes follow the tag t, from p on.
-#[tactic(auto, unfolding(crate::specs::Form::body_size))]
+#[tactic(auto, unfolding(crate::specs::Form::body_size, crate::specs::Form::is_wide))]
 fn body_size(bytes: &[u8], t: u32, p: usize) -> usize
     ensures { result ≡ body_size bytes.now t p }
 {
-    if t == UTF8 {
-        return 2 + (u2(bytes, p) as usize);
+    match t {
+        UTF8 => 2 + u2(bytes, p) as usize,
+        LONG | DOUBLE => 8,
+        CLASS | STRING => 2,
+        _ => 4,
     }
-    if is_wide(t) {
-        return 8;
-    }
-    if (t == CLASS) | (t == 8) {
-        return 2;
-    }
-    4
 }
 
 // Whether t may be the tag of the constant of index i.
@@ -238,14 +245,6 @@ fn constant_from(bytes: &[u8], i: u32, j: usize, p: usize) -> Result<usize, Refu
     }
 }
 
-// The bytes of a file whose pool was taken, and the pool's marks: by them a constant is found where a walk from the pool's front finds it.
-#[derive(Clone, Copy)]
-pub struct Pool<'a> {
-    pub bytes: &'a [u8],
-    pub marks: &'a [Mark; MARKS],
-    pub ghost near: { Near bytes.now marks.now },
-}
-
 // The place of constant i, by the walk on from the mark before it.
 #[tactic(auto, unfolding(crate::specs::Marks::constant_near))]
 fn constant_near(bytes: &[u8], marks: &[Mark; MARKS], i: u32) -> Result<usize, Refusal>
@@ -260,33 +259,57 @@ fn constant_near(bytes: &[u8], marks: &[Mark; MARKS], i: u32) -> Result<usize, R
 }
 
 // The place of constant i, if it has this tag.
-#[tactic(auto, unfolding(crate::specs::Form::tagged_at))]
-fn tagged_at(pool: Pool, t: u32, i: u32) -> Result<usize, Refusal>
-    ensures { result ≡ tagged_at pool.entry.bytes.now t i }
+#[tactic(auto, unfolding(crate::specs::Marks::tagged_near))]
+fn tagged_near(bytes: &[u8], marks: &[Mark; MARKS], t: u32, i: u32) -> Result<usize, Refusal>
+    ensures { result ≡ tagged_near bytes.now marks.now t i }
 {
-    let p = constant_near(pool.bytes, pool.marks, i)?;
-    if tag_at(pool.bytes, p) == t {
+    let p = constant_near(bytes, marks, i)?;
+    if tag_at(bytes, p) == t {
         Ok(p)
     } else {
         Err(Refusal::WrongPool)
     }
 }
 
+// The place of the Utf8 constant i, by any marks.
+#[tactic(auto, unfolding(crate::specs::Marks::utf8_near))]
+pub fn utf8_near(bytes: &[u8], marks: &[Mark; MARKS], i: u32) -> Result<usize, Refusal>
+    ensures { result ≡ utf8_near bytes.now marks.now i }
+{
+    tagged_near(bytes, marks, UTF8, i)
+}
+
+// The place of the name of the Class constant i, by any marks.
+#[tactic(auto, unfolding(crate::specs::Marks::class_near))]
+pub fn class_near(bytes: &[u8], marks: &[Mark; MARKS], i: u32) -> Result<usize, Refusal>
+    ensures { result ≡ class_near bytes.now marks.now i }
+{
+    let p = tagged_near(bytes, marks, CLASS, i)?;
+    utf8_near(bytes, marks, u2_after(bytes, p, 1))
+}
+
+// The bytes of a file whose pool was taken, and the pool's marks: by them a constant is found where a walk from the pool's front finds it.
+#[derive(Clone, Copy)]
+pub struct Pool<'a> {
+    pub bytes: &'a [u8],
+    pub marks: &'a [Mark; MARKS],
+    pub ghost near: { Near bytes.now marks.now },
+}
+
 // The place of the Utf8 constant i.
-#[tactic(auto, unfolding(crate::specs::Form::utf8_at))]
+#[tactic(auto, using(crate::proofs::MarkLaws::utf8_is))]
 pub fn utf8_at(pool: Pool, i: u32) -> Result<usize, Refusal>
     ensures { result ≡ utf8_at pool.entry.bytes.now i }
 {
-    tagged_at(pool, UTF8, i)
+    utf8_near(pool.bytes, pool.marks, i)
 }
 
 // The place of the name of the Class constant i.
-#[tactic(auto, unfolding(crate::specs::Form::class_at))]
+#[tactic(auto, using(crate::proofs::MarkLaws::class_is))]
 pub fn class_at(pool: Pool, i: u32) -> Result<usize, Refusal>
     ensures { result ≡ class_at pool.entry.bytes.now i }
 {
-    let p = tagged_at(pool, CLASS, i)?;
-    utf8_at(pool, u2_after(pool.bytes, p, 1))
+    class_near(pool.bytes, pool.marks, i)
 }
 
 // ---- the items after the pool
