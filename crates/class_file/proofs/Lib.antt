@@ -1,3 +1,4 @@
+pub mod Head
 pub mod JudgeLaws
 pub mod Laws
 pub mod ReadLaws
