@@ -8,4 +8,5 @@ returns-then-c-gt-CLASS_LIMIT-clause-is c = no_table _ _ _ _ _ _ (omega arith) c
 
 pub returns-clause-is : goal.returns-clause-is
 returns-clause-is c =
-    packages_are _ _ _ _ _ _ _ _ _ _ _ c.parent_entries.ensures.is (omega arith) c.parent_of.ensures c.introducing_marks.ensures c.take_all.ensures.is (omega arith)
+    packages_are _ _ _ _ _ _ _ _ _ _ _ c.parent_entries.ensures.is (omega arith) c.parent_of.ensures
+    c.introducing_marks.ensures c.take_all.ensures.is (omega arith)
