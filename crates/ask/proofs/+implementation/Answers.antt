@@ -1,3 +1,4 @@
+-- The class itself first, and then its parent, whose number is smaller. Assumes nothing.
 use Rattle.linking.proofs.ChainLaws.{parent_below}
 use native.Mathlib.Nat.{pos_of_ne-zero}
 use native.Mathlib.Omega.{arith}

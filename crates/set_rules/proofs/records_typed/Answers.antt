@@ -1,3 +1,4 @@
+-- Each turn judges one record by what is known so far, which stays good; the first that fails ends the search. Assumes nothing.
 use native.Mathlib.Omega.{arith}
 use borrow.Author.Tests.{not-true, not-false}
 use mathlib.Core.Path.{refl}
