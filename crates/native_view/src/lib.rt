@@ -124,10 +124,7 @@ fn interface_slot(sheets: Sheets, i: u32, c: u32) -> Option<u32>
 fn signature_slot(sheets: Sheets, i: u32, c: u32) -> Option<u32>
     ensures { result ≡ first_found (slot_at sheets.entry.abi.now i) (of_sheets signature_sources sheets.entry c) }
 {
-    match abi::class_slot(sheets, i, c) {
-        Some(s) => Some(s),
-        None => interface_slot(sheets, i, c),
-    }
+    abi::class_slot(sheets, i, c).or_else(|| interface_slot(sheets, i, c))
 }
 
 // What a target at index i takes its signature from, where the view has this slot.
@@ -136,10 +133,7 @@ fn source_ref(sheets: Sheets, c: u32, i: u32, slot: Slot) -> Option<u32>
 {
     match slot.method() {
         Some(m) => Some(m),
-        None => match signature_slot(sheets, i, c) {
-            Some(s) => Some(class_sheet::METHOD_LIMIT + s),
-            None => None,
-        },
+        None => Some(class_sheet::METHOD_LIMIT + signature_slot(sheets, i, c)?),
     }
 }
 
