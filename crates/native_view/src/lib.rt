@@ -124,7 +124,10 @@ fn interface_slot(sheets: Sheets, i: u32, c: u32) -> Option<u32>
 fn signature_slot(sheets: Sheets, i: u32, c: u32) -> Option<u32>
     ensures { result ≡ first_found (slot_at sheets.entry.abi.now i) (of_sheets signature_sources sheets.entry c) }
 {
-    abi::class_slot(sheets, i, c).or_else(|| interface_slot(sheets, i, c))
+    match abi::class_slot(sheets, i, c) {
+        Some(s) => Some(s),
+        None => interface_slot(sheets, i, c),
+    }
 }
 
 // What a target at index i takes its signature from, where the view has this slot.

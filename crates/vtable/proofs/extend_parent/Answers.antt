@@ -5,10 +5,16 @@ use Rattle.abi.proofs.Laws.{minimum_size-room}
 use Rattle.vtable.proofs.extend_parent.Goals as goal
 
 pub extend-requires : goal.extend-requires
-extend-requires c = omega (arith, minimum_size-room c.args.abi.now c.args.abis.now, c.largest_size.ensures)
+extend-requires c =
+    let a = c.args in
+    let m = minimum_size-room a.abi.now a.abis.now in
+    let e = c.largest_size.ensures in omega arith
 
 pub returns-clause-is : goal.returns-clause-is
 returns-clause-is c = search extended-is
 
 pub returns-clause-count : goal.returns-clause-count
-returns-clause-count c = omega (arith, minimum_size-room c.args.abi.now c.args.abis.now, c.largest_size.ensures)
+returns-clause-count c =
+    let a = c.args in
+    let m = minimum_size-room a.abi.now a.abis.now in
+    let e = c.largest_size.ensures in omega arith
