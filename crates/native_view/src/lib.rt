@@ -136,10 +136,7 @@ fn source_ref(sheets: Sheets, c: u32, i: u32, slot: Slot) -> Option<u32>
 {
     match slot.method() {
         Some(m) => Some(m),
-        None => match signature_slot(sheets, i, c) {
-            Some(s) => Some(class_sheet::METHOD_LIMIT + s),
-            None => None,
-        },
+        None => Some(class_sheet::METHOD_LIMIT + signature_slot(sheets, i, c)?),
     }
 }
 

@@ -1,5 +1,5 @@
 -- The library's fold is the definition's. Assumes nothing.
-use Rattle.std.proofs.Common.{rules, max, ◌∙◌}
+use Rattle.std.proofs.Common.{rules, ℕ, max, ◌∙◌}
 use Rattle.std.proofs.lemmas.Iterator.Consumers.{fold_from_yields_List}
 use Rattle.std.proofs.lemmas.Iterator.{YieldsList-from_slice}
 use Rattle.words.proofs.ListLaws.{fold_is}
@@ -9,5 +9,6 @@ use Rattle.abi.proofs.largest_size.Goals as goal
 pub returns : goal.returns
 unfolding minimum_size
 returns c =
-    fold_from_yields_List _ (λ n a. max n (class_size c.args.abi.now a)) 0 c.fold.result c.fold.ensures.ran (YieldsList-from_slice c.args.abis.now cc) (λ a x b q k. search rules)
-    ∙ fold_is _ 0 c.args.abis.now
+    let step : ℕ → ℕ → ℕ = λ n a. max n (class_size c.args.abi.now a) in
+    fold_from_yields_List _ step 0 c.fold.result c.fold.ensures.ran (YieldsList-from_slice c.args.abis.now cc) (λ a x b q k. search rules)
+    ∙ fold_is step 0 c.args.abis.now

@@ -10,7 +10,8 @@ dispatch_unpacked-requires c =
 
 pub returns-in_err-dispatch_unpacked : goal.returns-in_err-dispatch_unpacked
 returns-in_err-dispatch_unpacked c =
-    let p = err_from_is_err_and c.from_residual.result c.from_residual.ensures.1 in rw (p.1, p.2) (node-refused _ _ _ _ _ _ _ _ c.in_err-dispatch_unpacked.ensures)
+    let p = err_from_is_err_and c.from_residual.result c.from_residual.ensures.1 in
+    rw (p.1, p.2) (node-refused _ _ _ _ _ _ _ _ c.in_err-dispatch_unpacked.ensures)
 
 pub returns : goal.returns
 returns c =

@@ -11,4 +11,5 @@ returns-in_err-d c =
 
 pub returns : goal.returns
 returns c =
-    slot-takes _ _ _ _ c.in-Some.j c.method.ensures c.in-Some.is c.implementation.ensures c.in_ok-d.d.class c.in_ok-d.d.method c.in_ok-d.was c.of_method.ensures.is
+    slot-takes _ _ _ _ c.in-Some.j c.method.ensures c.in-Some.is c.implementation.ensures
+    c.in_ok-d.d.class c.in_ok-d.d.method c.in_ok-d.was c.of_method.ensures.is

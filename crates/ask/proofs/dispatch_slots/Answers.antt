@@ -14,12 +14,11 @@ pub returns-in_err-slot : goal.returns-in_err-slot
 returns-in_err-slot c =
     let a = c.args in
     let t = a.from.now in
-    let n = length-entries t.words t.marks t.len in
     let p = err_from_is_err_and c.from_residual.result c.from_residual.ensures.1 in
     let o = was-none c.dispatch_slot.result _ (sym c.ok_or.ensures.value ∙ c.in_err-slot.was) in
     rw (p.1, p.2, o.1)
-    (dispatch_stop a.ws.now a.text.now a.c (entries t) c.loop-i.i c.dispatch_slot.result (omega arith) c.slot.ensures c.dispatch_slot.ensures
-    (entries c.loop-i.to) o.0
+    (dispatch_stop a.ws.now a.text.now a.c (entries t) c.loop-i.i c.dispatch_slot.result (omega (arith, length-entries t.words t.marks t.len))
+    c.slot.ensures c.dispatch_slot.ensures (entries c.loop-i.to) o.0
     ∙ c.loop-i.invariant.slots)
 
 -- a slot more
@@ -27,12 +26,11 @@ pub loop-i-preserved : goal.loop-i-preserved
 loop-i-preserved c =
     let a = c.args in
     let t = a.from.now in
-    let n = length-entries t.words t.marks t.len in
     let i = c.loop-i.invariant.count in
     let o = was-some c.dispatch_slot.result _ (sym c.ok_or.ensures.value ∙ c.in_ok-slot.was) in record {
       count = c.push.ensures.len (omega arith) ∙ omega arith;
-      slots = dispatch_turn a.ws.now a.text.now a.c (entries t) c.loop-i.i c.dispatch_slot.result (omega arith) c.slot.ensures c.dispatch_slot.ensures
-          (entries c.loop-i.to) c.in_ok-slot.slot o (c.push.ensures.is (omega arith))
+      slots = dispatch_turn a.ws.now a.text.now a.c (entries t) c.loop-i.i c.dispatch_slot.result (omega (arith, length-entries t.words t.marks t.len))
+          c.slot.ensures c.dispatch_slot.ensures (entries c.loop-i.to) c.in_ok-slot.slot o (c.push.ensures.is (omega arith))
           ∙ c.loop-i.invariant.slots;
     }
 
@@ -41,5 +39,5 @@ pub returns : goal.returns
 returns c =
     let a = c.args in
     let t = a.from.now in
-    let n = length-entries t.words t.marks t.len in
-    dispatch_end a.ws.now a.text.now a.c (entries t) (entries c.loop-i.to) c.loop-i.i (omega arith) ∙ c.loop-i.invariant.slots
+    dispatch_end a.ws.now a.text.now a.c (entries t) (entries c.loop-i.to) c.loop-i.i (omega (arith, length-entries t.words t.marks t.len))
+    ∙ c.loop-i.invariant.slots

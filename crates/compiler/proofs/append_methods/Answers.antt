@@ -10,7 +10,8 @@ loop-j-init c = record {
   end = omega arith;
   own = omega arith;
   total = omega (arith, c.len.ensures.few);
-  table = numbers-start _ _ _ _ _ (methods-in _ _ _ _ c.class_first_method-first.ensures c.method_count-own.ensures (omega arith) (length-news _ _ _ _ _ ∙ sym c.len.ensures.is));
+  table = numbers-start _ _ _ _ _
+      (methods-in _ _ _ _ c.class_first_method-first.ensures c.method_count-own.ensures (omega arith) (length-news _ _ _ _ _ ∙ sym c.len.ensures.is));
 }
 
 pub method_number-requires : goal.method_number-requires

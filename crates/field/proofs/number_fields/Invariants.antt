@@ -11,7 +11,8 @@ invariant-loop-i l = record {
   statics : l.k.statics ≤ 2 * l.i;
   runtime : l.k.runtime ≤ 2147483649 + 2 * l.i;
   running : l.k.running ≤ 65535 + 2 * l.i;
-  number : number_at l.sheets.set.now l.sheets.text.now l.sheets.abi.now l.sheets.labels.now l.own l.first l.n l.indices l.k l.i ≡ number_fields l.sheets.set.now l.sheets.text.now l.sheets.abi.now l.sheets.labels.now l.own l.c;
+  number : number_at l.sheets.set.now l.sheets.text.now l.sheets.abi.now l.sheets.labels.now l.own l.first l.n l.indices l.k l.i
+      ≡ number_fields l.sheets.set.now l.sheets.text.now l.sheets.abi.now l.sheets.labels.now l.own l.c;
   rest : drop l.i l.indices ≡ drop l.i l.initial.indices;
   room : length l.indices ≡ field_limit;
 }

@@ -13,5 +13,6 @@ unfolding own_runtime own_fields
 returns c =
     let step = λ (k f : ℕ). max k (runtime_end c.args.ws.now c.args.text.now f) in
     rw (← c.field_count.ensures, ← c.class_first_field-first.ensures)
-    (fold_from_yields_List _ step _ c.fold.result c.fold.ensures.ran (YieldsList-from_range _ _ c.field_count.result refl (omega arith)) (λ a x b q k. search rules)
+    (fold_from_yields_List _ step _ c.fold.result c.fold.ensures.ran (YieldsList-from_range _ _ c.field_count.result refl (omega arith))
+    (λ a x b q k. search rules)
     ∙ fold_is step _ _ ∙ ap (fold step _) (range_is _ _))

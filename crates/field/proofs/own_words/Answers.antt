@@ -14,6 +14,7 @@ unfolding own_fields
 returns c =
     let step = λ (k f : ℕ). add_words c.args.ws.now c.args.text.now c.args.statics k f % 2 ^ 32 in
     rw (← c.field_count.ensures, ← c.class_first_field-first.ensures)
-    (fold_from_yields_List _ step _ c.fold.result c.fold.ensures.ran (YieldsList-from_range _ _ c.field_count.result refl (omega arith)) (λ a x b q k. search rules)
+    (fold_from_yields_List _ step _ c.fold.result c.fold.ensures.ran (YieldsList-from_range _ _ c.field_count.result refl (omega arith))
+    (λ a x b q k. search rules)
     ∙ fold_is step _ _ ∙ ap (fold step _) (range_is _ _)
     ∙ fold-wraps _ _ _ 0 _ (omega (arith, length-list-from (λ (j : ℕ). j) c.class_first_field-first.result c.field_count.result)))

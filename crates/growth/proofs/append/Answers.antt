@@ -16,7 +16,8 @@ returns-then-not-can_grow c = appended-none _ _ _ _ _ _ c.can_grow.ensures c.if-
 
 -- what the test says, and what room there is then
 grown : (c : After-can_grow) → c.can_grow.result ≡ true
-    → Grows c.args.set.now c.args.list.count c.args.list.first c.args.list.own (news_of c.args.set.now c.args.text.now c.args.abi.now c.args.labels.now c.args.news.now)
+    → Grows c.args.set.now c.args.list.count c.args.list.first c.args.list.own
+    (news_of c.args.set.now c.args.text.now c.args.abi.now c.args.labels.now c.args.news.now)
 grown c t = code-grows _ _ _ _ _ c.can_grow.ensures t
 
 fits : (c : After-can_grow) → c.can_grow.result ≡ true

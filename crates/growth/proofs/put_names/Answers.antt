@@ -27,7 +27,8 @@ loop-new-preserved c =
     let turn = c.loop-new.invariant in
     let r = room (goal.at.loop-new-preserved c).After-put_strings-next in record {
       next = c.put_strings-next.ensures.end ∙ strings_next _ _ _ _ r ∙ parts-turn _ _ _ _ _ _ _ _ all c.loop-new-test.true refl s.name s.descriptor _ turn.next;
-      bytes = names-turn _ _ _ _ _ _ _ _ all c.loop-new-test.true refl s.name s.descriptor _ turn.next _ _ c.requires turn.bytes (c.put_strings-next.ensures.is ∙ strings_put _ _ _ _ r);
+      bytes = names-turn _ _ _ _ _ _ _ _ all c.loop-new-test.true refl s.name s.descriptor _ turn.next _ _ c.requires turn.bytes
+          (c.put_strings-next.ensures.is ∙ strings_put _ _ _ _ r);
     }
 
 pub returns : goal.returns

@@ -22,7 +22,8 @@ place c = search front_length
 written : (c : After-copy-2)
     → let a = c.args in
     c.copy-2.new.dst
-    ≡ write_at a.out.now 0 (front_of a.sheets.set.now a.end a.from a.own (news_of a.sheets.set.now a.sheets.text.now a.sheets.abi.now a.sheets.labels.now a.news.now))
+    ≡ write_at a.out.now 0
+    (front_of a.sheets.set.now a.end a.from a.own (news_of a.sheets.set.now a.sheets.text.now a.sheets.abi.now a.sheets.labels.now a.news.now))
 written c =
     front-is _ _ _ _ _ _ _ _ c.requires.0 _ c.requires.1 refl
     refl c.len.ensures.is c.text_at.ensures.is

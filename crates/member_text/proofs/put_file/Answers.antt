@@ -11,6 +11,7 @@ returns c =
     let bs = c.args.file.pool.bytes.now in
     let at = c.args.file.places in
     let parted = c.args.file.parted in
-    rw (name_is bs at parted, parent_is bs at parted, flags_are bs at parted, ← (methods_here bs at parted c.args.first c.args.step), ← (fields_here bs at parted))
+    rw (name_is bs at parted, parent_is bs at parted, flags_are bs at parted, ← (methods_here bs at parted c.args.first c.args.step),
+    ← (fields_here bs at parted))
     (rw (← c.u2_after.ensures.is, ← c.u2_after-2.ensures.is, ← c.class_bytes-name.ensures.is, ← c.parent_bytes-parent.ensures.is, ← c.u2.ensures.is)
     (then c.put_class.ensures (then c.put_flags.ensures (then c.put_members.ensures c.put_members-2.ensures))))

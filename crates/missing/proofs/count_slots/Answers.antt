@@ -8,10 +8,15 @@ pub loop-i-init : goal.loop-i-init
 loop-i-init g c = record { small = omega arith; whole = count-start _ }
 
 pub loop-i-preserved : goal.loop-i-preserved
-loop-i-preserved g c = record {
-  small = omega arith;
-  whole = count_turn _ c.loop-i.i c.loop-i.count (omega (arith, bits-length (parent_bit c.args.missing.now c.args.p) c.args.table.now.words c.args.table.now.marks c.args.table.now.len)) c.bit_at-count.ensures.is c.loop-i.invariant.whole;
-}
+loop-i-preserved g c =
+    let t = c.args.table.now in
+    let many = bits-length (parent_bit c.args.missing.now c.args.p) t.words t.marks t.len in record {
+      small = omega arith;
+      whole = count_turn _ c.loop-i.i c.loop-i.count (omega (arith, many)) c.bit_at-count.ensures.is c.loop-i.invariant.whole;
+    }
 
 pub returns : goal.returns
-returns g c = count-end _ c.loop-i.i c.loop-i.count (omega (arith, bits-length (parent_bit c.args.missing.now c.args.p) c.args.table.now.words c.args.table.now.marks c.args.table.now.len)) c.loop-i.invariant.whole
+returns g c =
+    let t = c.args.table.now in
+    let many = bits-length (parent_bit c.args.missing.now c.args.p) t.words t.marks t.len in
+    count-end _ c.loop-i.i c.loop-i.count (omega (arith, many)) c.loop-i.invariant.whole

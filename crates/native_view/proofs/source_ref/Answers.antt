@@ -1,23 +1,25 @@
 -- The view's method first, then an ABI slot; a slot's number leaves room for 512 more. Assumes nothing.
-use mathlib.Core.Path.{sym, ◌∙◌}
-use native.Mathlib.Omega.{arith}
+use Rattle.std.proofs.Common.{sym, arith, ◌∙◌}
 use Rattle.native_view.proofs.AddLaws.{source-room, ref_method, ref_slot, ref_none}
 use Rattle.native_view.proofs.source_ref.Goals as goal
 
 pub returns-in-Some : goal.returns-in-Some
 returns-in-Some c = search ref_method
 
+pub returns-in_err-signature_slot-in-None : goal.returns-in_err-signature_slot-in-None
+returns-in_err-signature_slot-in-None c =
+    c.from_residual.ensures
+    ∙ ref_none _ _ _ _ _ _ _ c.method.ensures c.in-None.is c.signature_slot.ensures c.in_err-signature_slot-in-None.was
+
 pub overflow_add-result : goal.overflow_add-result
 overflow_add-result c =
-    let a = c.args in
+    let s = c.args.sheets in
     omega (
       arith,
-      source-room a.sheets.set.now a.sheets.text.now a.sheets.abi.now a.sheets.labels.now a.i a.c _
-          (sym c.signature_slot.ensures ∙ c.in-Some-signature_slot.is),
+      source-room s.set.now s.text.now s.abi.now s.labels.now c.args.i c.args.c _
+          (sym c.signature_slot.ensures ∙ c.in_ok-signature_slot-in-None.was),
     )
 
-pub returns-in-Some-signature_slot : goal.returns-in-Some-signature_slot
-returns-in-Some-signature_slot c = search ref_slot
-
-pub returns-in-None-signature_slot : goal.returns-in-None-signature_slot
-returns-in-None-signature_slot c = search ref_none
+pub returns-in_ok-signature_slot-in-None : goal.returns-in_ok-signature_slot-in-None
+returns-in_ok-signature_slot-in-None c =
+    ref_slot _ _ _ _ _ _ _ c.method.ensures c.in-None.is c.signature_slot.ensures _ c.in_ok-signature_slot-in-None.was

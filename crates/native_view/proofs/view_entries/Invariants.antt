@@ -8,5 +8,6 @@ use Rattle.native_view.proofs.view_entries.Given as goal
 abbrev pub invariant-loop-i : goal.invariant-loop-i
 invariant-loop-i l = record {
   len : l.view.len ≡ l.i;
-  view : entries l.view ≡ view_from l.sheets.set.now l.sheets.text.now l.sheets.abi.now l.sheets.labels.now l.abis 0 (entries_of l.parent.words l.parent.marks l.i);
+  view : entries l.view
+      ≡ view_from l.sheets.set.now l.sheets.text.now l.sheets.abi.now l.sheets.labels.now l.abis 0 (entries_of l.parent.words l.parent.marks l.i);
 }

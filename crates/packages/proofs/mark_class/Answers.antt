@@ -25,7 +25,8 @@ loop-i-preserved c =
       | then-is_overridden w ↦
           let e = sym w.if-is_overridden.true ∙ c.is_overridden.ensures in record {
             marked = left-fold-turn _ _ _ mark c.loop-i.i c.loop-i.marks true h e refl (w.marks-is ∙ w.put.ensures) before.marked;
-            is = left-some-turn _ _ _ _ c.loop-i.i c.loop-i.open true h e refl (ap not (w.is_private.ensures ∙ ap is_private w.method_flags.ensures)) w.open-is before.is;
+            is = left-some-turn _ _ _ _ c.loop-i.i c.loop-i.open true h e refl
+                (ap not (w.is_private.ensures ∙ ap is_private w.method_flags.ensures)) w.open-is before.is;
           }
       | else-is_overridden w ↦
           let e = sym w.if-is_overridden.false ∙ c.is_overridden.ensures in record {

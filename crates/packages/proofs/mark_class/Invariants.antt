@@ -12,6 +12,8 @@ abbrev pub invariant-loop-i : goal.invariant-loop-i
 invariant-loop-i l = record {
   marked : fold mark l.marks (left (is_overridden (same_methods l.ws l.text) l.ws l.text l.m l.reached l.a) l.first l.count l.i)
       ≡ fold mark l.initial.marks (overridden_in (same_methods l.ws l.text) l.ws l.text l.m l.reached l.a);
-  is : (l.open || some (λ k. not (is_private (method_flags l.ws k))) (left (is_overridden (same_methods l.ws l.text) l.ws l.text l.m l.reached l.a) l.first l.count l.i))
+  is : (l.open
+      || some (λ k. not (is_private (method_flags l.ws k)))
+      (left (is_overridden (same_methods l.ws l.text) l.ws l.text l.m l.reached l.a) l.first l.count l.i))
       ≡ some (λ k. not (is_private (method_flags l.ws k))) (overridden_in (same_methods l.ws l.text) l.ws l.text l.m l.reached l.a);
 }

@@ -9,5 +9,6 @@ use Rattle.packages.proofs.open_to_some.Goals as goal
 pub returns : goal.returns
 returns c =
     let a = c.args in
-    any_from_yields_List (open_to a.ws.now a.text.now a.k a.a) _ _ _ c.any.ensures.ran (YieldsList-from_slice a.classes.now cc) (λ x b q k. search (rules, tests))
+    any_from_yields_List (open_to a.ws.now a.text.now a.k a.a) _ _ _ c.any.ensures.ran (YieldsList-from_slice a.classes.now cc)
+    (λ x b q k. search (rules, tests))
     ∙ sym (some-any (open_to a.ws.now a.text.now a.k a.a) a.classes.now)

@@ -6,4 +6,5 @@ use Rattle.packages.proofs.put_taken.Goals as goal
 pub returns-clause-is : goal.returns-clause-is
 returns-clause-is c =
     let few = c.store_taken.ensures.len in
-    take_new _ _ _ (c.of_method-slot.ensures.is (omega arith)) c.store_taken.ensures.slots c.store_taken.ensures.is c.if-store_taken.false (c.push.ensures.is (omega arith))
+    take_new _ _ _ (c.of_method-slot.ensures.is (omega arith)) c.store_taken.ensures.slots c.store_taken.ensures.is
+    c.if-store_taken.false (c.push.ensures.is (omega arith))

@@ -16,4 +16,6 @@ returns-in_default c =
     record { is = sym (place-stuck _ _ _ c.part.ensures c.first_ready.ensures c.in_default.is) ∙ c.loop-k.invariant; count = omega arith }
 
 pub returns : goal.returns
-returns c = let e : c.loop-k.k ≡ c.class_count-n.result = omega arith in record { is = rw e at (sym (place_end _ _ _ (omega arith)) ∙ c.loop-k.invariant); count = omega arith }
+returns c =
+    let e : c.loop-k.k ≡ c.class_count-n.result = omega arith in
+    record { is = rw e at (sym (place_end _ _ _ (omega arith)) ∙ c.loop-k.invariant); count = omega arith }

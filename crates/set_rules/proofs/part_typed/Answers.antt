@@ -15,7 +15,11 @@ returns-then-not-is_descriptor c = record { is = cc; kept = search }
 
 -- good for any, and known from here on
 pub returns-then-len-lt255 : goal.returns-then-len-lt255
-returns-then-len-lt255 c = record { is = search read_typed; kept = known_more _ _ _ c.requires c.args.start c.args.len c.name_at.ensures c.is_descriptor.ensures (ap not c.if-not-is_descriptor.false) (search) (cc) }
+returns-then-len-lt255 c = record {
+  is = search read_typed;
+  kept = known_more _ _ _ c.requires c.args.start c.args.len c.name_at.ensures c.is_descriptor.ensures
+      (ap not c.if-not-is_descriptor.false) (search) (cc);
+}
 
 -- good for any, and too long to be remembered
 pub returns-else-len-lt255 : goal.returns-else-len-lt255

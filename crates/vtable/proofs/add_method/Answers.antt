@@ -8,7 +8,13 @@ pub returns-then-not-eligible-clause-is : goal.returns-then-not-eligible-clause-
 returns-then-not-eligible-clause-is c = search add_none
 
 pub returns-in-Some-clause-is : goal.returns-in-Some-clause-is
-returns-in-Some-clause-is c = add-put _ _ _ _ _ _ _ c.eligible.ensures _ c.if-not-eligible.false c.fixed_of.ensures c.method_signature-signature.ensures.name c.method_signature-signature.ensures.descriptor c.find_slot-slot.ensures (c.put_fixed.ensures.is ∙ rw c.in-Some.is)
+returns-in-Some-clause-is c =
+    let s = c.method_signature-signature.ensures in
+    add-put _ _ _ _ _ _ _ c.eligible.ensures _ c.if-not-eligible.false c.fixed_of.ensures s.name s.descriptor c.find_slot-slot.ensures
+    (c.put_fixed.ensures.is ∙ rw c.in-Some.is)
 
 pub returns-in-None-clause-is : goal.returns-in-None-clause-is
-returns-in-None-clause-is c = add-put _ _ _ _ _ _ _ c.eligible.ensures _ c.if-not-eligible.false c.fixed_of.ensures c.method_signature-signature.ensures.name c.method_signature-signature.ensures.descriptor c.find_slot-slot.ensures (c.put_found.ensures.is ∙ rw c.in-None.is)
+returns-in-None-clause-is c =
+    let s = c.method_signature-signature.ensures in
+    add-put _ _ _ _ _ _ _ c.eligible.ensures _ c.if-not-eligible.false c.fixed_of.ensures s.name s.descriptor c.find_slot-slot.ensures
+    (c.put_found.ensures.is ∙ rw c.in-None.is)

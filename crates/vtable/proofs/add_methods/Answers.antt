@@ -17,7 +17,8 @@ loop-i-preserved c = record {
 pub returns-in_err-add_method : goal.returns-in_err-add_method
 returns-in_err-add_method c =
     let p = err_from_is_err_and c.from_residual.result c.from_residual.ensures.1 in record {
-      is = rw (p.1, p.2) (adds-stop _ _ _ _ _ _ _ c.loop-i.i _ _ _ c.loop-i-test.true c.in_err-add_method.was c.add_method.ensures.is ∙ c.loop-i.invariant.rest);
+      is = rw (p.1, p.2)
+          (adds-stop _ _ _ _ _ _ _ c.loop-i.i _ _ _ c.loop-i-test.true c.in_err-add_method.was c.add_method.ensures.is ∙ c.loop-i.invariant.rest);
       count = omega arith;
     }
 
