@@ -1,16 +1,13 @@
 -- Laws of what is written into a list from a place on: `write_at` and `overlaid`. Assumes nothing.
-use mathlib.Core.Path.{◌≡◌, refl, sym, ap, ◌∙◌}
+use mathlib.Core.Path.{◌≡◌, sym, ap, ◌∙◌}
 use mathlib.Core.List.{List, [], ◌∷◌, ◌++◌, append_assoc}
-use Prim.Native.Nat.{ℕ, ◌+◌, ◌*◌, ◌/◌, ◌≤◌, ◌<◌}
+use Prim.Native.Nat.{ℕ, ◌+◌, ◌≤◌, ◌<◌}
 use native.Mathlib.Omega.{arith}
 use native.Mathlib.Numerals.{add-one}
 use lib.ListN.{length, get_or, set, take, drop, length-append, length-take, length-drop, take-append-drop, get_or-append}
 use lib.Seq.{take_at, drop_at, drop-drop, length-take-le, get_or-take, set_split, take-suc, take_all, drop-append-add}
-use Rattle.words.specs.Words.{le_word, pasted}
-use Rattle.words.specs.Lists.{list_from}
-use Rattle.words.proofs.ListLaws.{length-list-from}
-use Rattle.words.proofs.Ext.{list-more}
-use Rattle.linking.specs.Set.{write_at, packed, overlaid}
+use Rattle.words.specs.Words.{pasted}
+use Rattle.linking.specs.Set.{write_at, overlaid}
 
 -- ---- nothing written, and what is written next to it
 
@@ -57,11 +54,8 @@ write-next l k xs m v h e =
     write-set (write_at l k xs) m v (omega (arith, length-write l k xs (omega arith)))
     ∙ write-more l k xs (v ∷ []) m (omega arith) e
 
--- a turn of a loop that writes a list element by element, its start and its end
+-- a turn of a loop that writes a list element by element, and its end
 module _ (l : List ℕ) (k : ℕ) (xs : List ℕ) where
-  pub each_none : l ≡ write_at l k (take 0 xs)
-  each_none = sym (write-none l k)
-
   pub each_turn : (j : ℕ) {d e : List ℕ} {v : ℕ} → k + length xs ≤ length l → j < length xs → d ≡ write_at l k (take j xs)
       → v ≡ get_or xs j 0 → e ≡ set d (k + j) v → e ≡ write_at l k (take (j + 1) xs)
   each_turn j {v = v} room h p q r =
@@ -71,36 +65,6 @@ module _ (l : List ℕ) (k : ℕ) (xs : List ℕ) where
 
   pub each-done : (j : ℕ) {d : List ℕ} → length xs ≤ j → d ≡ write_at l k (take j xs) → d ≡ write_at l k xs
   each-done j h p = p ∙ ap (write_at l k) (take_all j xs h)
-
--- two parts, one after the other, that are n and m
-pub write_two : (l : List ℕ) (k : ℕ) {p q n m d e : List ℕ} → k ≤ length l → p ≡ n → q ≡ m → d ≡ write_at l k p → e ≡ write_at d (k + length p) q
-    → e ≡ write_at l k (n ++ m)
-write_two l k {p = p} {q = q} h a b u v = v ∙ rw (u, ← a, ← b) (write-more l k p q (k + length p) h refl)
-
-pub length_two : {p q n m : List ℕ} → p ≡ n → q ≡ m → length (n ++ m) ≡ length p + length q
-length_two {p = p} {q = q} a b = rw (← a, ← b) (length-append p q)
-
--- ---- bytes packed into words, a word at a time
-
-unfoldable pub packed_to : List ℕ → ℕ → List ℕ
-packed_to bytes n = list_from (λ i. le_word bytes (4 * i)) 0 n
-
-module _ (l : List ℕ) (k : ℕ) (bytes : List ℕ) where
-  pub packed_none : l ≡ write_at l k (packed_to bytes 0)
-  unfolding packed_to list_from
-  packed_none = sym (write-none l k)
-
-  pub packed-turn : (i : ℕ) {d e : List ℕ} {w : ℕ} → k + i < length l → d ≡ write_at l k (packed_to bytes i) → w ≡ le_word bytes (4 * i)
-      → e ≡ set d (k + i) w → e ≡ write_at l k (packed_to bytes (i + 1))
-  unfolding packed_to
-  packed-turn i {w = w} h p q r =
-      let n : length (packed_to bytes i) ≡ i = length-list-from (λ j. le_word bytes (4 * j)) 0 i in
-      let m : packed_to bytes (i + 1) ≡ packed_to bytes i ++ (w ∷ []) = rw q (list-more (λ j. le_word bytes (4 * j)) i) in
-      r ∙ rw (p, m) (write-next l k (packed_to bytes i) (k + i) w h (omega arith))
-
-  pub packed-done : (i : ℕ) {d : List ℕ} → i ≡ (length bytes + 3) / 4 → d ≡ write_at l k (packed_to bytes i) → d ≡ write_at l k (packed bytes)
-  unfolding packed_to packed
-  packed-done i e p = p ∙ rw e
 
 -- ---- a copy of words is a part written
 

@@ -1,6 +1,6 @@
 -- A class's own members, its parents, and what its methods are. Every definition is total: a list that runs past its section's limit,
 -- which row 4 refuses, is cut there, and a parent that is not below its child, which row 4 refuses too, counts as none. Assumes nothing.
-use Rattle.std.specs.Prelude.{ℕ, zero, suc, ◌-◌, ◌/◌, ◌%◌, min, ◌≡◌, Bool, cond, not, ◌&&◌, List, [], ◌∷◌, get_or, eqb, ltb, Option, Some, None}
+use Rattle.std.specs.Prelude.{ℕ, zero, suc, ◌-◌, min, ◌≡◌, Bool, cond, not, ◌&&◌, List, [], ◌∷◌, get_or, eqb, ltb, Option, Some, None}
 use Rattle.words.specs.Lists.{numbers, find, first_found}
 use Rattle.text.specs.Text.{same_bytes}
 pub use Rattle.class_sheet.specs.Flags.{is_private, is_static, is_interface, is_abstract}
