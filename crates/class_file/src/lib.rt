@@ -253,7 +253,7 @@ fn put_members(
 }
 
 // The class's and the parent's name at the front of the text; answers where they end.
-#[tactic(auto, using(crate::proofs::JudgeLaws::name_is, crate::proofs::JudgeLaws::parent_is, crate::proofs::ReadLaws::fields_start_is, growth::proofs::GrowthLaws::strings_put))]
+#[tactic(auto, using(crate::proofs::JudgeLaws::name_is, crate::proofs::JudgeLaws::parent_is, crate::proofs::ReadLaws::fields_start_is, growth::proofs::GrowthLaws::strings_put, growth::proofs::GrowthLaws::strings_next))]
 fn put_head(text: &mut [u8], file: File) -> usize
     requires { (fields_start file.pool.bytes.now ≤ length text.old) × (length text.old ≤ text_limit) }
     ensures is { text.new ≡ write_at text.old 0 (file_name file.entry.pool.bytes.now ++ file_parent file.entry.pool.bytes.now) }
