@@ -1,5 +1,5 @@
 -- The library's test of each number is the definition's. Assumes nothing.
-use Rattle.std.proofs.Common.{◌≡◌, ◌<◌, true, false, refl, ap, rules, of_calls, arith, ◌∙◌}
+use Rattle.std.proofs.Common.{◌≡◌, ◌<◌, true, false, refl, ap, of_calls, arith}
 use Rattle.std.proofs.lemmas.Iterator.{cases_from_all, YieldsList-from_range}
 use Rattle.words.proofs.Ranges.{all_along}
 use Rattle.words.proofs.all_of.Goals as goal

@@ -1,5 +1,5 @@
 -- The first number that the library's search passes is the definition's. Assumes nothing.
-use Rattle.std.proofs.Common.{◌≡◌, ◌<◌, ◌+◌, true, false, refl, rules, arith}
+use Rattle.std.proofs.Common.{◌≡◌, ◌<◌, ◌+◌, true, false, rules, arith}
 use Rattle.std.proofs.lemmas.Iterator.{first_from_find}
 use Rattle.words.proofs.Ranges.{find_along, YieldsList-from_inclusive}
 use Rattle.words.proofs.find_up_to.Goals as goal

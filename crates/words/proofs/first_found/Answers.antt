@@ -1,5 +1,5 @@
 -- The library's search along the elements is the definition's. Assumes nothing.
-use Rattle.std.proofs.Common.{◌≡◌, rules, ap, subst, ◌∙◌}
+use Rattle.std.proofs.Common.{rules, ap, subst, ◌∙◌}
 use Rattle.std.specs.Iterator.Runs.{ItemsMapTo}
 use Rattle.words.proofs.Ranges.{found_along}
 use Rattle.words.proofs.first_found.Goals as goal

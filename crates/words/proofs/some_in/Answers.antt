@@ -1,5 +1,5 @@
 -- The library's search for a number that passes is the definition's. Assumes nothing.
-use Rattle.std.proofs.Common.{◌≡◌, ◌<◌, ◌-◌, true, false, refl, of_calls, arith}
+use Rattle.std.proofs.Common.{◌≡◌, ◌<◌, true, false, refl, of_calls, arith}
 use Rattle.std.proofs.lemmas.Iterator.{cases_from_any, YieldsList-from_range}
 use Rattle.words.proofs.Ranges.{some_along}
 use Rattle.words.proofs.some_in.Goals as goal
