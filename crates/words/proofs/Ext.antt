@@ -5,7 +5,7 @@ use mathlib.Core.List.{List, [], ◌∷◌, ◌++◌, Memᴰ}
 use Prim.Native.Nat.{ℕ, zero, suc, ◌+◌, ◌<◌}
 use native.Mathlib.Omega.{arith}
 use native.Mathlib.Numerals.{add-one}
-use Rattle.words.specs.Lists.{list_from, find, first_found, all_found}
+use Rattle.words.specs.Lists.{list_from, find, all_found}
 use Rattle.std.specs.Prelude.{Option}
 
 -- ---- lists by a count
@@ -32,11 +32,6 @@ pub find-ext : (p q : ℕ → Bool) (xs : List ℕ) → ((x : ℕ) → Memᴰ x 
 unfolding find
 find-ext p q [] h = refl
 find-ext p q (x ∷ xs) h = rw (h x (Memᴰ.head refl), find-ext p q xs (λ y i. h y (Memᴰ.tail i)))
-
-pub first-ext : (f g : ℕ → Option ℕ) (xs : List ℕ) → ((x : ℕ) → Memᴰ x xs → f x ≡ g x) → first_found f xs ≡ first_found g xs
-unfolding first_found
-first-ext f g [] h = refl
-first-ext f g (x ∷ xs) h = rw (h x (Memᴰ.head refl), first-ext f g xs (λ y i. h y (Memᴰ.tail i)))
 
 pub founds_ext : (f g : ℕ → Option ℕ) (xs : List ℕ) → ((x : ℕ) → Memᴰ x xs → f x ≡ g x) → all_found f xs ≡ all_found g xs
 unfolding all_found

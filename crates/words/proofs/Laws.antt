@@ -4,8 +4,8 @@ use mathlib.Core.Path.{◌≡◌, sym}
 use mathlib.Core.List.{List, append_assoc}
 use Prim.Native.Nat.{ℕ, ◌+◌, ◌*◌, ◌/◌, ◌%◌, ◌^◌, ◌≤◌, ◌<◌}
 use native.Mathlib.Omega.{arith}
-use lib.ListN.{length, get_or, set, take, drop, length-drop, get_or-eq_default}
-use lib.Seq.{take_all, set_out, drop-drop}
+use lib.ListN.{length, get_or, take, drop, length-drop, get_or-eq_default}
+use lib.Seq.{take_all, drop-drop}
 use Rattle.words.proofs.Lists.{part_at}
 use Rattle.words.specs.Words.{le_word, byte_of, inside, pasted, copy_fits, copy_elements}
 use mathlib.Core.Bool.{Bool, true, false, and-false}
@@ -24,10 +24,6 @@ word_of_part l b {p = p} e f g h i k =
     let q : b + 0 ≡ b = omega arith in
     let at : (j : ℕ) → j < 4 → get_or p j 0 ≡ get_or l (b + j) 0 = λ j t. rw e (part_at l b 4 j 0 t) in
     rw (k, f, g, h, i, at 0 (omega arith), at 1 (omega arith), at 2 (omega arith), at 3 (omega arith), q) (omega arith)
-
--- a store past the end changes nothing
-pub set_past : (l : List ℕ) (i v : ℕ) → length l ≤ i → l ≡ set l i v
-set_past l i v h = sym (set_out l i v h)
 
 -- ---- bytes of words
 

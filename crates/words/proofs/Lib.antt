@@ -5,4 +5,5 @@ pub mod FoldLaws
 pub mod Laws
 pub mod ListLaws
 pub mod Lists
+pub mod Ranges
 pub mod Rows

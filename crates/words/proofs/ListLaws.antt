@@ -97,27 +97,6 @@ module _ (p : ℕ → Bool) where
   unfolding find_from find
   find-end m n i h = rw (rest_end (λ (k : ℕ). k) m n i h)
 
-  -- the same where the numbers start at 0: the loop's counter is the number itself
-  pub seek_hit : (n i : ℕ) {b : Bool} → i < n → b ≡ p i → b ≡ true → Some i ≡ find_from 0 n i
-  seek_hit n i h e t = let z : 0 + i ≡ i = omega arith in rw z at (find-hit 0 n i h (rw z e) t)
-
-  pub seek_miss : (n i : ℕ) {b : Bool} → i < n → b ≡ p i → b ≡ false → find_from 0 n (i + 1) ≡ find_from 0 n i
-  seek_miss n i h e t = let z : 0 + i ≡ i = omega arith in find-miss 0 n i h (rw z e) t
-
--- a search along the numbers from m on, below `end`: it goes on, or stops at m, or there are none
-module _ (p : ℕ → Bool) (m end : ℕ) where
-  pub find-later : m < end → false ≡ p m → find p (numbers (m + 1) (end - (m + 1))) ≡ find p (numbers m (end - m))
-  unfolding find list_from
-  find-later h e = let k : end - m ≡ suc (end - (m + 1)) = omega arith in rw (k, ← e) refl
-
-  pub find-here : m < end → true ≡ p m → Some m ≡ find p (numbers m (end - m))
-  unfolding find list_from
-  find-here h e = let k : end - m ≡ suc (end - (m + 1)) = omega arith in rw (k, ← e) refl
-
-  pub find-past : end ≤ m → None ≡ find p (numbers m (end - m))
-  unfolding find list_from
-  find-past h = let k : end - m ≡ 0 = omega arith in rw k refl
-
 -- a number passes if and only if one is found
 some_found : (p : ℕ → Bool) (xs : List ℕ) → is_some (find p xs) ≡ some p xs
 unfolding find some
@@ -126,17 +105,6 @@ some_found p (x ∷ xs) = by (p x) (λ t. rw t refl) (λ f. rw f (some_found p x
 
 pub found-some : (p : ℕ → Bool) (xs : List ℕ) {f : Option ℕ} {b : Bool} → f ≡ find p xs → b ≡ is_some f → b ≡ some p xs
 found-some p xs e q = q ∙ ap is_some e ∙ some_found p xs
-
--- a turn of a search along records: b is what the code reads of the i-th record, x what that is in the sheet's words, and F what is found from there on
-module _ (p : ℕ → Bool) (m n i : ℕ) {b x : Bool} {F : Option ℕ} where
-  pub turn-hit : i < n → b ≡ x → x ≡ p (m + i) → b ≡ true → find_from p m n i ≡ F → Some (m + i) ≡ F
-  turn-hit h e f t g = find-hit p m n i h (e ∙ f) t ∙ g
-
-  pub turn-miss : i < n → b ≡ x → x ≡ p (m + i) → b ≡ false → find_from p m n i ≡ F → find_from p m n (i + 1) ≡ F
-  turn-miss h e f t g = find-miss p m n i h (e ∙ f) t ∙ g
-
-pub turn_end : (p : ℕ → Bool) (m n i : ℕ) {F : Option ℕ} → n ≤ i → find_from p m n i ≡ F → None ≡ F
-turn_end p m n i h g = find-end p m n i h ∙ g
 
 -- a found number passes the test, and is in the list
 pub find-passes : (p : ℕ → Bool) (xs : List ℕ) (m : ℕ) → find p xs ≡ Some m → p m ≡ true
@@ -188,16 +156,6 @@ module _ {ℓ} {A : Type ℓ} (f : A → Option ℕ) (xs : List A) where
   pub found-end : (i : ℕ) → length xs ≤ i → None ≡ found_from f xs i
   unfolding found_from first_found
   found-end i h = rw (drop_of_length-le xs h)
-
-  -- as a loop has it, which asks whether the element gives something
-  pub found-some-here : (i : ℕ) (d : A) {r : Option ℕ} {b : Bool} → i < length xs → r ≡ f (get_or xs i d) → b ≡ is_some r → b ≡ true → r ≡ found_from f xs i
-  found-some-here i d {r = Some k} h e g t = found-hit i d k h e refl
-  found-some-here i d {r = None} h e g t = cc
-
-  pub found-none-here : (i : ℕ) (d : A) {r : Option ℕ} {b : Bool} → i < length xs → r ≡ f (get_or xs i d) → b ≡ is_some r → b ≡ false
-      → found_from f xs (i + 1) ≡ found_from f xs i
-  found-none-here i d {r = Some k} h e g t = cc
-  found-none-here i d {r = None} h e g t = found-miss i d h e refl
 
 -- what is found is what some element finds
 pub found-by {ℓ} : {A : Type ℓ} {P : Type 0} (f : A → Option ℕ) (xs : List A) (m : ℕ) → ((x : A) → Memᴰ x xs → f x ≡ Some m → P)
@@ -278,10 +236,6 @@ module _ {ℓ} {A : Type ℓ} (p : A → Bool) (s : List A) where
   pub some_turn : (d : A) (i : ℕ) {x : A} → i < length s → x ≡ get_or s i d → p x ≡ false → some_from p s i ≡ some_from p s (i + 1)
   unfolding some_from some
   some_turn d i h e n = let u : p (get_or s i d) ≡ false = rw e at n in rw (add-one, drop-cons s i d h, u)
-
-  pub some-found : (d : A) (i : ℕ) {x : A} → i < length s → x ≡ get_or s i d → p x ≡ true → some_from p s i ≡ true
-  unfolding some_from some
-  some-found d i h e n = let u : p (get_or s i d) ≡ true = rw e at n in rw (drop-cons s i d h, u)
 
   pub some_end : (i : ℕ) → length s ≤ i → some_from p s i ≡ false
   unfolding some_from some

@@ -78,12 +78,7 @@ pub fn all_of<F: Fn(u32) -> bool>(n: u32, test: F) -> bool
     requires { F.IsAlwaysCallable test }
     ensures { (p : ℕ → Bool) → Gives (F.post test) n p → result ≡ all_of n p }
 {
-    for i in 0..n {
-        if !test(i) {
-            return false;
-        }
-    }
-    true
+    (0..n).all(test)
 }
 
 // Whether each number from 1 to n passes the test.
@@ -91,12 +86,7 @@ pub fn all_up_to<F: Fn(u32) -> bool>(n: u32, test: F) -> bool
     requires { F.IsAlwaysCallable test }
     ensures { (p : ℕ → Bool) → Gives (F.post test) (n + 1) p → result ≡ all_of n (λ i. p (i + 1)) }
 {
-    for c in 1..=n {
-        if !test(c) {
-            return false;
-        }
-    }
-    true
+    (1..=n).all(test)
 }
 
 // The first number from `first` on, below `end`, that passes the test.
@@ -104,12 +94,7 @@ pub fn find_in<F: Fn(u32) -> bool>(first: u32, end: u32, test: F) -> Option<u32>
     requires { F.IsAlwaysCallable test }
     ensures { (p : ℕ → Bool) (n : ℕ) → n ≡ end - first → Gives (F.post test) end p → result ≡ find p (numbers first n) }
 {
-    for m in first..end {
-        if test(m) {
-            return Some(m);
-        }
-    }
-    None
+    (first..end).find(|m| test(*m))
 }
 
 // The first number from 1 to n that passes the test.
@@ -117,12 +102,7 @@ pub fn find_up_to<F: Fn(u32) -> bool>(n: u32, test: F) -> Option<u32>
     requires { F.IsAlwaysCallable test }
     ensures { (p : ℕ → Bool) → Gives (F.post test) (n + 1) p → result ≡ find p (numbers 1 n) }
 {
-    for i in 1..=n {
-        if test(i) {
-            return Some(i);
-        }
-    }
-    None
+    (1..=n).find(|i| test(*i))
 }
 
 // What the first of the elements gives that gives anything.
@@ -130,13 +110,7 @@ pub fn first_found<F: Fn(u32) -> Option<u32>>(s: &[u32], value: F) -> Option<u32
     requires { F.IsAlwaysCallable value }
     ensures { (f : ℕ → Option ℕ) → Computes (F.post value) f → result ≡ first_found f s.now }
 {
-    for x in s {
-        let found = value(*x);
-        if found.is_some() {
-            return found;
-        }
-    }
-    None
+    s.iter().find_map(|x| value(*x))
 }
 
 // Whether some number from `first` on, below `end`, passes the test.
@@ -144,7 +118,7 @@ pub fn some_in<F: Fn(u32) -> bool>(first: u32, end: u32, test: F) -> bool
     requires { F.IsAlwaysCallable test }
     ensures { (p : ℕ → Bool) (n : ℕ) → n ≡ end - first → Gives (F.post test) end p → result ≡ some p (numbers first n) }
 {
-    find_in(first, end, test).is_some()
+    (first..end).any(test)
 }
 
 // Stores the value that each number below n gives at its place, as far as there is room.
@@ -162,9 +136,5 @@ pub fn sum_of<F: Fn(usize) -> u32>(n: usize, value: F) -> u32
     requires { F.IsAlwaysCallable value }
     ensures { (f : ℕ → ℕ) → Gives (F.post value) n f → result ≡ sum_of n f % 2 ^ 32 }
 {
-    let mut sum: u32 = 0;
-    for i in 0..n {
-        sum = sum.wrapping_add(value(i));
-    }
-    sum
+    (0..n).fold(0, |sum: u32, i| sum.wrapping_add(value(i)))
 }

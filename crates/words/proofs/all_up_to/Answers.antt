@@ -1,24 +1,14 @@
--- A number that fails ends the loop; at its end each has passed. Assumes nothing.
-use Rattle.std.proofs.Common.{true, false, arith}
-use Rattle.words.proofs.FoldLaws.{all_none, up-turn, up-stop, up_end}
+-- The library's test of each number from 1 on is the definition's. Assumes nothing.
+use Rattle.std.proofs.Common.{◌≡◌, ◌+◌, ◌<◌, true, false, ap, of_calls, arith}
+use Rattle.std.proofs.lemmas.Iterator.{cases_from_all}
+use Rattle.words.proofs.Ranges.{all_along, YieldsList-from_inclusive}
 use Rattle.words.proofs.all_up_to.Goals as goal
-use Rattle.words.proofs.all_up_to.Goals.{else-loop-c-test, then-loop-c-test+else-not-test+else-c-n}
-
-pub loop-c-init : goal.loop-c-init
-loop-c-init g c = record { near = omega arith; passed = λ p h. all_none _ }
-
-pub returns-then-not-test : goal.returns-then-not-test
-returns-then-not-test g c = λ p h. up-stop _ p _ (omega arith) (omega arith) (h _ false (omega arith) c.if-not-test.ensures)
-
-pub loop-c-preserved : goal.loop-c-preserved
-loop-c-preserved g c = record {
-  near = omega arith;
-  passed = λ p h. up-turn p _ (omega arith) (c.loop-c.invariant.passed p h) (h _ true (omega arith) c.if-not-test.ensures);
-}
 
 pub returns : goal.returns
-returns g c = λ p h. elim c.loop-c-test.branch [
-  | else-loop-c-test w ↦ up_end _ p _ (c.loop-c.invariant.passed p h) (omega arith)
-  | then-loop-c-test+else-not-test+else-c-n w ↦
-      let last = up-turn p _ (omega arith) (c.loop-c.invariant.passed p h) (h _ true (omega arith) w.if-not-test.ensures) in up_end _ p _ last (omega arith)
-]
+returns g c = λ p h.
+    let n = c.args.n in
+    all_along 1 n p (λ i. p (i + 1)) (n + 1) c.all.result (omega arith) (λ k. ap p (omega arith))
+    (cases_from_all _ _ c.all.result (λ y. y < n + 1 → true ≡ p y) (λ y. y < n + 1 → false ≡ p y) c.all.ensures.ran
+    (YieldsList-from_inclusive _ n c.new.ensures.start c.new.ensures.end c.new.ensures.exhausted)
+    (λ x q k. (g.met.F.Fn.1.step_stays _ _ _ _ (record { met = k.met }), λ l. h x true l (search of_calls)))
+    (λ x q k l. h x false l (search of_calls)))

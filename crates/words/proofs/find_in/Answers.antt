@@ -1,16 +1,12 @@
--- A number that passes ends the search; one that fails leaves the rest. Assumes nothing.
-use Rattle.std.proofs.Common.{refl, true, false, ◌∙◌}
-use Rattle.words.proofs.ListLaws.{find-here, find-later, find-past}
+-- The first number that the library's search passes is the definition's. Assumes nothing.
+use Rattle.std.proofs.Common.{◌≡◌, ◌<◌, true, false, refl, rules, arith}
+use Rattle.std.proofs.lemmas.Iterator.{first_from_find, YieldsList-from_range}
+use Rattle.words.proofs.Ranges.{find_along}
 use Rattle.words.proofs.find_in.Goals as goal
 
-pub loop-m-init : goal.loop-m-init
-loop-m-init g c = λ p h. refl
-
-pub loop-m-preserved : goal.loop-m-preserved
-loop-m-preserved g c = λ p h. find-later p _ _ c.loop-m-test.true (h _ false c.loop-m-test.true c.if-test.ensures) ∙ c.loop-m.invariant p h
-
-pub returns-then-test : goal.returns-then-test
-returns-then-test g c = λ p n e h. rw e (find-here p _ _ c.loop-m-test.true (h _ true c.loop-m-test.true c.if-test.ensures) ∙ c.loop-m.invariant p h)
-
 pub returns : goal.returns
-returns g c = λ p n e h. rw e (find-past p _ _ c.loop-m-test.false ∙ c.loop-m.invariant p h)
+returns g c = λ p n e h.
+    let a = c.args in
+    find_along a.first n p a.end c.find.result (λ k l. omega arith)
+    (first_from_find _ _ c.find.result (λ y. y < a.end → true ≡ p y) (λ y. y < a.end → false ≡ p y) c.find.ensures.ran
+    (YieldsList-from_range a.first a.end n refl (omega arith)) (λ x q k l. h x true l (search rules)) (λ x q k. (search rules, λ l. h x false l (search rules))))

@@ -1,21 +1,13 @@
--- A number that passes ends the search; one that fails leaves the rest. Assumes nothing.
-use Rattle.std.proofs.Common.{true, false, arith, ◌∙◌}
-use Rattle.words.proofs.ListLaws.{find-here, find-later, find-past}
+-- The first number that the library's search passes is the definition's. Assumes nothing.
+use Rattle.std.proofs.Common.{◌≡◌, ◌<◌, ◌+◌, true, false, rules, arith}
+use Rattle.std.proofs.lemmas.Iterator.{first_from_find}
+use Rattle.words.proofs.Ranges.{find_along, YieldsList-from_inclusive}
 use Rattle.words.proofs.find_up_to.Goals as goal
-use Rattle.words.proofs.find_up_to.Goals.{else-loop-i-test, then-loop-i-test+else-test+else-i-n}
-
-pub loop-i-preserved : goal.loop-i-preserved
-loop-i-preserved g c = record {
-  near = omega arith;
-  rest = λ p h. find-later p _ _ (omega arith) (h _ false (omega arith) c.if-test.ensures) ∙ c.loop-i.invariant.rest p h;
-}
-
-pub returns-then-test : goal.returns-then-test
-returns-then-test g c = λ p h. find-here p _ _ (omega arith) (h _ true (omega arith) c.if-test.ensures) ∙ c.loop-i.invariant.rest p h
 
 pub returns : goal.returns
-returns g c = λ p h. elim c.loop-i-test.branch [
-  | else-loop-i-test w ↦ find-past p _ _ (omega arith) ∙ c.loop-i.invariant.rest p h
-  | then-loop-i-test+else-test+else-i-n w ↦
-      find-past p _ _ (omega arith) ∙ find-later p _ _ (omega arith) (h _ false (omega arith) w.if-test.ensures) ∙ c.loop-i.invariant.rest p h
-]
+returns g c = λ p h.
+    let n = c.args.n in
+    find_along 1 n p (n + 1) c.find.result (λ k l. omega arith)
+    (first_from_find _ _ c.find.result (λ y. y < n + 1 → true ≡ p y) (λ y. y < n + 1 → false ≡ p y) c.find.ensures.ran
+    (YieldsList-from_inclusive _ n c.new.ensures.start c.new.ensures.end c.new.ensures.exhausted)
+    (λ x q k l. h x true l (search rules)) (λ x q k. (search rules, λ l. h x false l (search rules))))
