@@ -14,9 +14,6 @@ const MAGIC: u32 = 1129596748;
 
 const VERSION: u32 = 3;
 
-// The place of what the file says of how it was made, after the header.
-const BODY: u32 = 15;
-
 // The bytes of a file that count, and its words.
 const FILE_BYTES: usize = 524288;
 
@@ -50,31 +47,31 @@ impl Reader<'_> {
         word
     }
 
-    // Stores the next n words, from the word `to` on.
-    fn plain(&mut self, n: u32, out: &mut [u32], to: u32) {
-        for k in 0..n {
-            put(out, to as usize + k as usize, self.word());
+    // Stores the next n words, as many as there is room for.
+    fn plain(&mut self, n: u32, out: &mut [u32]) {
+        for (word, k) in out.iter_mut().zip(0..n) {
+            *word = get_or(self.words, self.at.wrapping_add(k) as usize, 0);
         }
+        self.at = self.at.wrapping_add(n);
     }
 
-    // Stores n words of which each is the one before it and a step, from the word `to` on.
-    fn run(&mut self, n: u32, out: &mut [u32], to: u32) {
-        let mut word = self.word();
+    // Stores n words, as many as there is room for, of which each is the one before it and a step.
+    fn run(&mut self, n: u32, out: &mut [u32]) {
+        let first = self.word();
         let step = self.word();
-        for k in 0..n {
-            put(out, to as usize + k as usize, word);
-            word = word.wrapping_add(step);
+        for (word, k) in out.iter_mut().zip(0..n) {
+            *word = first.wrapping_add(step.wrapping_mul(k));
         }
     }
 
-    // Stores the words of the next segment, from the word `to` on, and answers how many it has.
-    fn segment(&mut self, out: &mut [u32], to: u32) -> u32 {
+    // Stores the words of the next segment, and answers how many it has.
+    fn segment(&mut self, out: &mut [u32]) -> u32 {
         let head = self.word();
         let n = head / 2;
         if head % 2 == 0 {
-            self.plain(n, out, to);
+            self.plain(n, out);
         } else {
-            self.run(n, out, to);
+            self.run(n, out);
         }
         n
     }
@@ -84,7 +81,8 @@ impl Reader<'_> {
         let n = self.word();
         let mut filled: u32 = 0;
         while filled < n {
-            let k = self.segment(out, filled);
+            let place = out.len().min(filled as usize);
+            let k = self.segment(&mut out[place..]);
             if k == 0 {
                 break;
             }
@@ -334,9 +332,35 @@ fn read_word(packed: &[u32], filled: u32, i: u32) -> u32 {
     }
 }
 
-// Replays the reading that is read next: of a class sheet (kind 0) or an ABI sheet. Answers whether it answers and leaves what it did in Rust.
+// The sheet that a reading is of.
+#[derive(Clone, Copy)]
+enum Sheet {
+    Classes,
+    Abi,
+}
+
+impl From<u32> for Sheet {
+    fn from(kind: u32) -> Sheet {
+        match kind {
+            0 => Sheet::Classes,
+            _ => Sheet::Abi,
+        }
+    }
+}
+
+impl Sheet {
+    // Reads it in these bytes.
+    fn read(self, bytes: &[u8], lent: &mut [u32]) -> Result<u32, Refusal> {
+        match self {
+            Sheet::Classes => sheet::read_class_sheet(bytes, lent),
+            Sheet::Abi => sheet::read_abi_sheet(bytes, lent),
+        }
+    }
+}
+
+// Replays the reading that is read next, and answers whether it answers and leaves what it did in Rust.
 fn replay_reading(reader: &mut Reader) -> bool {
-    let kind = reader.word();
+    let sheet = Sheet::from(reader.word());
     let lent = reader.word() as usize;
     let n = reader.word() as usize;
     let mut packed = [0; MOST_WORDS];
@@ -350,10 +374,7 @@ fn replay_reading(reader: &mut Reader) -> bool {
     }
     let bytes = unpack(&packed, n);
     let bytes = part(&bytes, 0, n);
-    let answer = match kind {
-        0 => sheet::read_class_sheet(bytes, lent),
-        _ => sheet::read_abi_sheet(bytes, lent),
-    };
+    let answer = sheet.read(bytes, lent);
     is_answer(answer, row, first)
         && lent
             .iter()
@@ -373,6 +394,57 @@ fn replay_descriptor(reader: &mut Reader) -> bool {
 }
 
 // ---- a file
+
+// What a file begins with: its form, the numbers of what it holds, and the most words or bytes of each thing that a case or a reading has.
+#[derive(Clone, Copy)]
+struct Header {
+    form: [u32; 2],
+    seed: [u32; 2],
+    cases: u32,
+    readings: u32,
+    descriptors: u32,
+    set: u32,
+    abi: u32,
+    area: u32,
+    stubs: u32,
+    stub_lists: u32,
+    sheet_bytes: u32,
+    sheet_words: u32,
+    missing: u32,
+}
+
+impl Header {
+    // The header, which is read first.
+    fn read(reader: &mut Reader) -> Header {
+        Header {
+            form: [reader.word(), reader.word()],
+            seed: [reader.word(), reader.word()],
+            cases: reader.word(),
+            readings: reader.word(),
+            descriptors: reader.word(),
+            set: reader.word(),
+            abi: reader.word(),
+            area: reader.word(),
+            stubs: reader.word(),
+            stub_lists: reader.word(),
+            sheet_bytes: reader.word(),
+            sheet_words: reader.word(),
+            missing: reader.word(),
+        }
+    }
+
+    // Whether it is of this form, and there is room for what the file holds.
+    fn fits(&self) -> bool {
+        self.form == [MAGIC, VERSION]
+            && self.set as usize <= SET_WORDS
+            && self.abi as usize <= SET_WORDS
+            && self.area as usize <= AREA_WORDS
+            && self.stubs as usize <= LIST_WORDS
+            && self.sheet_bytes as usize <= MOST_BYTES
+            && self.sheet_words as usize <= MOST_WORDS
+            && self.missing as usize <= LIST_WORDS
+    }
+}
 
 // How many calls the cases had, and how many of them differ.
 #[derive(Clone, Copy)]
@@ -429,19 +501,6 @@ fn print_made(rt: &impl Print, mut reader: Reader) -> io::Result<()> {
     rt.write_all(part(&unpack(&packed, n), 0, n.min(256)))
 }
 
-// Whether the longest that the header tells of fit: class words, ABI words, area, stub list, bytes of a reading, words lent to a reading,
-// list of missing slots.
-fn fits(f: &[u32]) -> bool {
-    let most = |i: usize| get_or(f, i, 0) as usize;
-    most(7) <= SET_WORDS
-        && most(8) <= SET_WORDS
-        && most(9) <= AREA_WORDS
-        && most(10) <= LIST_WORDS
-        && most(12) <= MOST_BYTES
-        && most(13) <= MOST_WORDS
-        && most(14) <= LIST_WORDS
-}
-
 // Whether the sum of the words before the last, modulo 2^32, is the last.
 fn is_summed(f: &[u32]) -> bool {
     match f.split_last() {
@@ -450,18 +509,22 @@ fn is_summed(f: &[u32]) -> bool {
     }
 }
 
-// Whether this is a corpus of this form, whole.
-fn is_corpus(f: &[u32]) -> bool {
-    get_or(f, 0, 0) == MAGIC && get_or(f, 1, 0) == VERSION && fits(f) && is_summed(f)
-}
-
-// Replays a corpus, and writes its lines.
-fn print_corpus(rt: &impl Print, path: &[u8], f: &[u32]) -> io::Result<()> {
-    let made = Reader { words: f, at: BODY };
-    let mut reader = made;
+// Replays a corpus, which its reader has come to after the header, and writes its lines.
+fn print_corpus(
+    rt: &impl Print,
+    path: &[u8],
+    header: Header,
+    mut reader: Reader,
+) -> io::Result<()> {
+    let made = reader;
     reader.word();
     reader.list(&mut []);
-    let [cases, readings, descriptors] = [get_or(f, 4, 0), get_or(f, 5, 0), get_or(f, 6, 0)];
+    let Header {
+        cases,
+        readings,
+        descriptors,
+        ..
+    } = header;
     let sum = replay_cases(rt, path, &mut reader, cases)?;
     let unread = replay_items(rt, path, &mut reader, readings, "reading", replay_reading)?;
     let uncounted = replay_items(
@@ -472,7 +535,7 @@ fn print_corpus(rt: &impl Print, path: &[u8], f: &[u32]) -> io::Result<()> {
         "descriptor",
         replay_descriptor,
     )?;
-    if reader.at as usize + 1 != f.len() {
+    if reader.at as usize + 1 != reader.words.len() {
         rt.write_all(path)?;
         rt.write_all(b": the items do not end at its end\n")?;
     }
@@ -491,8 +554,10 @@ fn replay_file(rt: &impl Print, path: &[u8], bytes: &[u8]) -> io::Result<()> {
     let mut words = [0; FILE_WORDS];
     files::load_words(bytes, &mut words);
     let f = part(&words, 0, bytes.len() / 4);
-    if is_corpus(f) {
-        return print_corpus(rt, path, f);
+    let mut reader = Reader { words: f, at: 0 };
+    let header = Header::read(&mut reader);
+    if header.fits() && is_summed(f) {
+        return print_corpus(rt, path, header, reader);
     }
     rt.write_all(path)?;
     rt.write_all(b": no corpus\n")

@@ -170,16 +170,11 @@ pub fn load_words(bytes: &[u8], words: &mut [u32])
     );
 }
 
-// Whether the words are the first of others.
+// Whether the words are the first of others. A word past the others' end is 0.
 pub fn is_front(words: &[u32], others: &[u32]) -> bool
     ensures { result ≡ all_of (length words.now) (same_word words.now others.now) }
 {
-    for (i, word) in words.iter().enumerate() {
-        if *word != get_or(others, i, 0) {
-            return false;
-        }
-    }
-    true
+    (0..words.len()).all(|i| get_or(words, i, 0) == get_or(others, i, 0))
 }
 
 // The first n elements, or all where there are fewer.

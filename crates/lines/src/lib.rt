@@ -6,10 +6,9 @@ ghost use Rattle.class_sheet.specs.ClassSheet.{text_of, text_length, text_limit}
 ghost use Rattle.abi_sheet.specs.AbiSheet.{abi_text_of, abi_text_length, abi_text_limit};
 ghost use Rattle.linking.specs.Sheets.{of_sheets};
 ghost use Rattle.linking.specs.Vtable.{table_entries};
-ghost use Rattle.reading.specs.Arrays.{method_of};
 ghost use Rattle.reading.specs.Tables.{entry, entries};
 ghost use Rattle.lines.specs.Bytes.{decimal};
-ghost use Rattle.lines.specs.Out.{Puts};
+ghost use Rattle.lines.specs.Out.{Puts, standing};
 ghost use Rattle.lines.specs.Lines.{shown, column, class_line, slot_line, refused, class_refused, sheet_refused, own_slot, fixed_slot, slot_name, slot_descriptor, entry_line, slot_texts, lines_of, is_unlisted, class_lines};
 
 use linking::Sheets;
@@ -30,7 +29,15 @@ pub struct Out<'a> {
     pub at: usize,
 }
 
-impl Out<'_> {
+impl<'a> Out<'a> {
+    // Lent bytes that nothing is put into yet.
+    pub fn new(bytes: &'a mut [u8]) -> Out<'a>
+        ensures lent { standing result ≡ (bytes.old, 0) }
+        ensures same_reference { result.bytes.ghost_name ≡ bytes.entry.ghost_name }
+    {
+        Out { bytes, at: 0 }
+    }
+
     // Puts a byte, if there is room.
     fn put_byte(&mut self, b: u8)
         ensures { Puts self.old self.new (b ∷ []) }
@@ -145,13 +152,13 @@ fn fixed_slot(sheets: Sheets, c: u32, i: u32) -> Option<u32>
     }
 }
 
-// The name and the descriptor of slot i of class c's table, whose method has mark k: those of the method, in the class text, or of the fixed slot, in the
-// ABI text; empty where there is neither.
-fn slot_signature<'a>(sheets: Sheets<'a>, c: u32, i: u32, k: u32) -> Signature<'a>
-    ensures name { result.name.now ≡ of_sheets slot_name sheets.entry c i (method_of k) }
-    ensures descriptor { result.descriptor.now ≡ of_sheets slot_descriptor sheets.entry c i (method_of k) }
+// The name and the descriptor of slot i of class c's table: those of its method, in the class text, or of the fixed slot, in the ABI text; empty where
+// there is neither.
+fn slot_signature<'a>(sheets: Sheets<'a>, c: u32, i: u32, slot: reading::Slot) -> Signature<'a>
+    ensures name { result.name.now ≡ of_sheets slot_name sheets.entry c i ((entry slot).method) }
+    ensures descriptor { result.descriptor.now ≡ of_sheets slot_descriptor sheets.entry c i ((entry slot).method) }
 {
-    match reading::method_of(k) {
+    match slot.method() {
         Some(m) => class_sheet::method_signature(sheets.set, sheets.text, m),
         None => match fixed_slot(sheets, c, i) {
             Some(s) => abi_sheet::slot_signature(sheets.abi, sheets.labels, s),
@@ -175,7 +182,7 @@ struct Slot {
 fn list_slot(sheets: Sheets, c: u32, s: Slot, out: &mut Out)
     ensures { Puts out.old out.new (of_sheets entry_line sheets.entry c s.index (entry s.slot) s.class) }
 {
-    let signature = slot_signature(sheets, c, s.index, s.slot.mark);
+    let signature = slot_signature(sheets, c, s.index, s.slot);
     out.put_slot_line(s.index, signature, s.slot.word, s.class);
 }
 
