@@ -142,7 +142,8 @@ impl View<'_> {
     /// Whether the call is one that the Rust does not get: kind 3 is in the class's chain or, at an ask, in the interface's.
     fn is_of_packages(&self) -> bool {
         let has_packages = |class: u32| {
-            (1..=self.sheet.class_count()).contains(&class) && self.sheet.chain(class).iter().any(|&class| self.sheet.class(class).kind == 3)
+            (1..=self.sheet.class_count()).contains(&class)
+                && self.sheet.chain(class).iter().any(|&class| self.sheet.class(class).kind == 3)
         };
         match self.step.call {
             Call::Link { class, .. } | Call::Missing { class } => has_packages(class),

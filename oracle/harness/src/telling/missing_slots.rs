@@ -164,12 +164,8 @@ fn listing() -> Vec<Row> {
         row("missing-refused", two().on_area(&[1, 0]), &[link(1)]).answers(&[(15, 0, 0)]).missing(&[7; 66]),
         // row 15 is last: row 6 goes before a short list, and so does row 13, of 1,025 slots
         row("missing-after-6", sized(1024).on_missing(&[]), &[link(2)]).answers(&[(6, 0, 0)]),
-        row(
-            "missing-last",
-            lent(&[having_method("P", 0, "foo", 5)], &[empty_entry("P").sized(1024)]).on_missing(&[]),
-            &[link(1)],
-        )
-        .answers(&[(13, 0, 0)]),
+        row("missing-last", lent(&[having_method("P", 0, "foo", 5)], &[empty_entry("P").sized(1024)]).on_missing(&[]), &[link(1)])
+            .answers(&[(13, 0, 0)]),
     ]
 }
 
