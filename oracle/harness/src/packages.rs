@@ -71,6 +71,7 @@ const BUCKETS: &[&str] = &[
 
 /// Counts of calls of kind 3.
 pub struct PackageCounts {
+    /// The calls that rows 3 to 5 let pass, of a class with kind 3 in its chain or, an ask, of such an interface.
     pub calls: u64,
     buckets: BTreeMap<&'static str, u64>,
 }
@@ -107,7 +108,6 @@ impl PackageCounts {
 
     /// Counts a step.
     pub fn observe(&mut self, step: &Step) {
-        self.calls += 1;
         let refusal = step.answer.refusal;
         if (1..=5).contains(&refusal) {
             return;
@@ -118,6 +118,7 @@ impl PackageCounts {
             sheet: ClassSheet { words: &step.before.set, text: &text },
             abi: AbiSheet { words: &step.case.abi, text: &abi_text },
         };
+        self.calls += u64::from(view.is_of_packages());
         let count = view.sheet.class_count();
         match step.call {
             Call::Link { class, .. } if (1..=count).contains(&class) => view.link(class, self),
@@ -138,6 +139,18 @@ struct View<'a> {
 }
 
 impl View<'_> {
+    /// Whether the call is one that the Rust does not get: kind 3 is in the class's chain or, at an ask, in the interface's.
+    fn is_of_packages(&self) -> bool {
+        let has_packages = |class: u32| {
+            (1..=self.sheet.class_count()).contains(&class)
+                && self.sheet.chain(class).iter().any(|&class| self.sheet.class(class).kind == 3)
+        };
+        match self.step.call {
+            Call::Link { class, .. } | Call::Missing { class } => has_packages(class),
+            Call::Ask { class, interface, .. } => has_packages(class) || has_packages(interface),
+        }
+    }
+
     fn link(&self, class: u32, counts: &mut PackageCounts) {
         let is_packaged = self.sheet.class(class).kind == 3;
         match self.step.answer.refusal {

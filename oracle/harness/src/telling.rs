@@ -45,6 +45,11 @@ pub fn rows() -> Vec<Row> {
     .concat()
 }
 
+/// Those of class kind 3 and of missing slots, which the harness judges for itself.
+pub fn own_rows() -> Vec<Row> {
+    [packages::rows(), missing_slots::rows()].concat()
+}
+
 /// What is lent.
 #[derive(Clone)]
 pub struct Lent {

@@ -56,7 +56,7 @@ pub trait Linker {
 
     fn renumber_classes(&mut self, set: &mut [u32], order: &mut [u32]) -> Answer;
 
-    /// `missing` is the list of counts, 33 words a class.
+    /// `missing` is the list of missing slots, 33 words a class.
     fn link(&mut self, set: &mut [u32], abi: &[u32], class: u32, area: &mut [u32], stubs: &[u32], missing: &mut [u32]) -> Answer;
 
     fn missing_slots(&mut self, set: &[u32], abi: &[u32], missing: &[u32], class: u32) -> Answer;

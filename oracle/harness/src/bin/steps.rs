@@ -1,8 +1,8 @@
 //! `steps SEED FILE`: for each bucket the smallest calls that reach it, each with all that it is
 //! lent and the Rust's answer. The file is little-endian u32 words. A call: kind (0 link, 1 ask,
 //! 14 missing slots), class, interface; refusal and the two answer words; the lengths of class words, ABI words, area,
-//! stubs and the list of missing slots; these five; then class words, area and list after the call. Then small calls of the other
-//! functions, in the same form: what they read stands for the ABI words, what they write for the
+//! stubs and the list of missing slots; these five; then class words, area and list after the call. Then the calls of the telling rows
+//! of class kind 3 and of missing slots, and small calls of the other functions, in the same form: what they read stands for the ABI words, what they write for the
 //! area, bytes one to a word, and a number that they take for the class (kinds 2 reference words,
 //! 3 reference count, 4 writing, 5 reading loosely, 6 renumbering, 7 and 8 reading a class and an
 //! ABI sheet, 9 argument words, 10 names, the second for the area, 11 and 12 making a class sheet
@@ -21,7 +21,7 @@ use harness::oracle::Oracle;
 use harness::packages::PackageCounts;
 use harness::random::Random;
 use harness::side::{Answer, Linker};
-use harness::{class_files, forms, names, orders, readings, references, writings};
+use harness::{class_files, forms, names, orders, readings, references, telling, writings};
 
 /// How many cases are looked at, and the most words of a slice.
 const LOOKED_AT: u64 = 30_000;
@@ -73,12 +73,22 @@ fn main() -> ExitCode {
             }
         }
     }
+    let rows = telling::own_rows();
+    let rows = rows.iter().flat_map(|row| calls_of(&mut oracle, &row.case, |_| Vec::<usize>::new())).map(|(_, words)| words);
+    let rows: Vec<Vec<u32>> = rows.collect();
     let others = others(&mut oracle, seed.parse().unwrap_or(1));
-    let mut chosen: Vec<&Vec<u32>> = kept.values().chain(packaged.values()).flatten().chain(&others).collect();
+    let mut chosen: Vec<&Vec<u32>> = kept.values().chain(packaged.values()).flatten().chain(&rows).chain(&others).collect();
     chosen.sort();
     chosen.dedup();
     let bytes: Vec<u8> = chosen.iter().flat_map(|words| words.iter()).flat_map(|word| word.to_le_bytes()).collect();
-    println!("{} and {} buckets, {} calls, {} bytes", kept.len(), packaged.len(), chosen.len(), bytes.len());
+    println!(
+        "{} and {} buckets, {} of telling rows, {} calls, {} bytes",
+        kept.len(),
+        packaged.len(),
+        rows.len(),
+        chosen.len(),
+        bytes.len()
+    );
     if std::fs::write(file, bytes).is_ok() { ExitCode::SUCCESS } else { ExitCode::FAILURE }
 }
 

@@ -50,7 +50,7 @@ fn class(random: &mut Random, number: u32, open: bool) -> ClassDraft {
     .map(|((name, descriptor), place)| MemberDraft {
         name: if !open && random.chance(4) { "<init>" } else { name }.to_owned(),
         descriptor: descriptor.to_owned(),
-        flags: if open { random.pick(&[1, 4]) } else { random.pick(&FLAGS) | u32::from(random.chance(4)) * 0x0400 },
+        flags: if open { random.pick(&[1, 4]) } else { random.pick(&FLAGS) | (u32::from(random.chance(4)) * 0x0400) },
         last: target(random, number, place),
     })
     .collect();

@@ -109,7 +109,8 @@ impl Machine {
         match set.class(class).get(class_word::KIND) {
             0 => self.link_built(set, class, stubs),
             1 => self.link_generated(set, class, parent, stubs),
-            _ => self.link_array(set, class, stubs),
+            2 => self.link_array(set, class, stubs),
+            kind => unreachable!("the Rust is given kinds 0 to 2, not {kind}"),
         }
     }
 

@@ -49,6 +49,16 @@ fn counting() -> Vec<Row> {
             .table(2, &[901])
             .counted(1, &[])
             .counted(2, &[1, 1]),
+        // over a slot that counts, which its index tells, it takes a stub, too, and counts
+        row(
+            "missing-over-counted",
+            lent(&[foo_missing(), having_method("Q", 1, "foo", 0)], &[fixing("P", "foo", 0)]),
+            &[link(1), link(2), missing(2)],
+        )
+        .answers(&[(0, 1, 1), (0, 4, 1), (0, 1, 0)])
+        .table(2, &[901])
+        .counted(1, &[1, 1])
+        .counted(2, &[1, 1]),
         // a stub is known by no method: foo of R takes a new slot, and the copy of a copy counts
         row("missing-copies", lent(&[foo_missing(), plain("Q", 1), having_method("R", 2, "foo", 6)], &[]), &[link(1), link(2), link(3)])
             .table(3, &[901, 6])
@@ -152,8 +162,10 @@ fn listing() -> Vec<Row> {
         row("missing-no-list", two().on_missing(&[]), &[link(1)]).answers(&[(15, 0, 0)]).missing(&[]),
         // a refused link leaves the list
         row("missing-refused", two().on_area(&[1, 0]), &[link(1)]).answers(&[(15, 0, 0)]).missing(&[7; 66]),
-        // row 15 is last: row 6 goes before a short list
-        row("missing-last", sized(1024).on_missing(&[]), &[link(2)]).answers(&[(6, 0, 0)]),
+        // row 15 is last: row 6 goes before a short list, and so does row 13, of 1,025 slots
+        row("missing-after-6", sized(1024).on_missing(&[]), &[link(2)]).answers(&[(6, 0, 0)]),
+        row("missing-last", lent(&[having_method("P", 0, "foo", 5)], &[empty_entry("P").sized(1024)]).on_missing(&[]), &[link(1)])
+            .answers(&[(13, 0, 0)]),
     ]
 }
 

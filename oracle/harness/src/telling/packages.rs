@@ -178,8 +178,11 @@ fn refusals() -> Vec<Row> {
     let object = || packaged("java/lang/Object", 0, &[]);
     let wide = ClassDraft { fields: vec![field("x", "J", 0)], ..generated("B", 1, &[], &[], 1) };
     vec![
-        row("row-26-entry", lent(&[packaged("A", 0, &[])], &[empty_entry("A")]), &[link(1)]).answers(&[REFUSED]),
-        row("row-26-entry-as-kind-0", lent(&[having_method("A", 0, "foo", 10)], &[empty_entry("A")]), &[link(1)]).answers(&[(0, 1, 1)]),
+        // the premise "both links are accepted": one class, refused as kind 3 and with a table as kind 0
+        row("row-26-entry", lent(&[packaged("A", 0, &[method("foo", 10)])], &[empty_entry("A")]), &[link(1)]).answers(&[REFUSED]),
+        row("row-26-entry-as-kind-0", lent(&[having_method("A", 0, "foo", 10)], &[empty_entry("A")]), &[link(1)])
+            .answers(&[(0, 1, 1)])
+            .table(1, &[10]),
         row(
             "row-26-entry-above",
             Lent { abi: abi_words(&[empty_entry("A")]), ..under(packaged("A", 0, &[]), packaged("B", 1, &[])) },
