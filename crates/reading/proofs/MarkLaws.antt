@@ -4,7 +4,7 @@ use mathlib.Core.Bool.{Bool, true, cond}
 use mathlib.Core.List.{List, ◌++◌}
 use Prim.Native.Nat.{ℕ, zero, suc, ◌+◌, ◌*◌, ◌%◌, ◌≤◌, ◌<◌}
 use native.Mathlib.Omega.{arith}
-use lib.ListN.{length, get_or, set, drop}
+use lib.ListN.{length, get_or, set, drop, get_or-append}
 use lib.Seq.{get_or-set_other, set-get_or, drop_at}
 use lib.Dec.{eqb, ltb}
 use borrow.Author.Tests.{ne_eqb, lt-ltb, eqb-true}

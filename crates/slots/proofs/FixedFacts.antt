@@ -157,7 +157,7 @@ module _ (ws text abi labels : List ℕ) where
         let q =
         found-misses (vtable_index abi labels (method_name ws text m) (method_descriptor ws text m)) (along-entry f.along.along f.along.named) e in
         by-found (find test (abi_slots abi a))
-        (λ s r. not_found {n = slot_index abi s} (sym q ∙ rw r refl))
+        (λ s r. not_found {m = slot_index abi s} (sym q ∙ rw r refl))
         (λ r. slot-other f.slot m (find-misses test f.along.own r) f.is)
 
     -- the least size has room for it
