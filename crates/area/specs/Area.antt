@@ -43,34 +43,34 @@ pub record Counted (r : Result Walked Refusal) (passed : List ℕ) : Type 0 wher
   pub all : row_of r ≡ 0 → nodes_read r ≡ length passed
   pub few : nodes_read r ≤ 64
 
--- ---- tables and nodes, by the words of their slots
+-- ---- tables and nodes, by the words of n slots
 
 -- "A slot that is empty or of target 0 takes the stub word at its index."
-unfoldable pub slots_of : List ℕ → List ℕ → List ℕ
-slots_of ts stubs = list_from (λ i. slot_word (get_or ts i 0) (get_or stubs i 0)) 0 (length ts)
+unfoldable pub slots_of : List ℕ → List ℕ → ℕ → List ℕ
+slots_of ts stubs n = list_from (λ i. slot_word (get_or ts i 0) (get_or stubs i 0)) 0 n
 
 -- "class number, slots, then a zero list head"
-unfoldable pub table_words : ℕ → List ℕ → List ℕ → List ℕ
-table_words c ts stubs = c ∷ (slots_of ts stubs ++ (0 ∷ []))
+unfoldable pub table_words : ℕ → List ℕ → List ℕ → ℕ → List ℕ
+table_words c ts stubs n = c ∷ (slots_of ts stubs n ++ (0 ∷ []))
 
 -- "a node (old head, interface number, slots)"
-unfoldable pub node_words : ℕ → ℕ → List ℕ → List ℕ → List ℕ
-node_words old i ts stubs = old ∷ i ∷ slots_of ts stubs
+unfoldable pub node_words : ℕ → ℕ → List ℕ → List ℕ → ℕ → List ℕ
+node_words old i ts stubs n = old ∷ i ∷ slots_of ts stubs n
 
 -- nothing is written where row 15 refuses, or row 7 for the area's length
 unfoldable pub may_not_write : List ℕ → List ℕ → ℕ → Bool
 may_not_write area stubs n = no_room area stubs n || ltb 4294967295 (length area)
 
 -- the area with a class's table from the next free word on
-unfoldable pub table_written : List ℕ → ℕ → List ℕ → List ℕ → List ℕ
-table_written area c ts stubs =
-    cond (may_not_write area stubs (length ts))
+unfoldable pub table_written : List ℕ → ℕ → List ℕ → ℕ → List ℕ → List ℕ
+table_written area c ts n stubs =
+    cond (may_not_write area stubs n)
     area
-    (set (write_at area (next_free area) (table_words c ts stubs)) 0 (next_free area + length ts + 2))
+    (set (write_at area (next_free area) (table_words c ts stubs n)) 0 (next_free area + n + 2))
 
 -- the area with a node there, in front of the list whose head is at `head`
-unfoldable pub node_written : List ℕ → ℕ → ℕ → List ℕ → List ℕ → List ℕ
-node_written area head i ts stubs =
-    cond (may_not_write area stubs (length ts))
+unfoldable pub node_written : List ℕ → ℕ → ℕ → List ℕ → ℕ → List ℕ → List ℕ
+node_written area head i ts n stubs =
+    cond (may_not_write area stubs n)
     area
-    (set (set (write_at area (next_free area) (node_words (get_or area head 0) i ts stubs)) head (next_free area)) 0 (next_free area + length ts + 2))
+    (set (set (write_at area (next_free area) (node_words (get_or area head 0) i ts stubs n)) head (next_free area)) 0 (next_free area + n + 2))

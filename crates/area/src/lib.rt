@@ -87,62 +87,63 @@ fn slot_word(w: u32, stub: u32) -> u32
     if w == 0 { stub } else { w }
 }
 
-// Writes the slots of these words from the place `at` on.
-fn put_slots(part: &mut [u32], at: usize, slots: &[u32], stubs: &[u32])
-    requires { at + length slots.now ≤ length part.old }
-    ensures { part.new ≡ write_at part.old at (slots_of slots.now stubs.now) }
+// Writes n slots at the front of a part of the area: those of these words, and past their end the stubs' words.
+fn put_slots(part: &mut [u32], ts: &[u32], n: usize, stubs: &[u32])
+    requires { n ≤ length part.old }
+    ensures { part.new ≡ write_at part.old 0 (slots_of ts.now stubs.now n) }
 {
-    for j in 0..slots.len() {
-        let w = slot_word(slots[j], words::get_or(stubs, j, 0));
-        words::put(part, at + j, w);
-    }
+    words::store_each(
+        part,
+        n,
+        |j| slot_word(words::get_or(ts, j, 0), words::get_or(stubs, j, 0)),
+    );
 }
 
 // Fills a part of the area with class number, slots and a zero list head.
 #[tactic(auto, using(crate::proofs::AreaLaws::table_filled))]
-fn fill_table(part: &mut [u32], c: u32, slots: &[u32], stubs: &[u32])
-    requires { length slots.now + 2 ≤ length part.old }
-    ensures { part.new ≡ write_at part.old 0 (table_words c slots.now stubs.now) }
+fn fill_table(part: &mut [u32], c: u32, ts: &[u32], n: usize, stubs: &[u32])
+    requires { n + 2 ≤ length part.old }
+    ensures { part.new ≡ write_at part.old 0 (table_words c ts.now stubs.now n) }
 {
     words::put(part, 0, c);
-    put_slots(part, 1, slots, stubs);
-    words::put(part, slots.len() + 1, 0);
+    put_slots(&mut part[1..], ts, n, stubs);
+    words::put(part, n + 1, 0);
 }
 
 // Fills a part of the area with old head, interface number and slots.
 #[tactic(auto, using(crate::proofs::AreaLaws::node_filled))]
-fn fill_node(part: &mut [u32], old: u32, i: u32, slots: &[u32], stubs: &[u32])
-    requires { length slots.now + 2 ≤ length part.old }
-    ensures { part.new ≡ write_at part.old 0 (node_words old i slots.now stubs.now) }
+fn fill_node(part: &mut [u32], old: u32, i: u32, ts: &[u32], n: usize, stubs: &[u32])
+    requires { n + 2 ≤ length part.old }
+    ensures { part.new ≡ write_at part.old 0 (node_words old i ts.now stubs.now n) }
 {
     words::put(part, 0, old);
     words::put(part, 1, i);
-    put_slots(part, 2, slots, stubs);
+    put_slots(&mut part[2..], ts, n, stubs);
 }
 
-// Writes class c's table, whose slots have these words, from the next free word on, where there is room, and else nothing.
-pub fn write_table(area: &mut [u32], c: u32, slots: &[u32], stubs: &[u32])
-    ensures { area.new ≡ table_written area.old c slots.now stubs.now }
+// Writes class c's table of n slots from the next free word on, where there is room, and else nothing. Past the end of these words a slot's is 0.
+pub fn write_table(area: &mut [u32], c: u32, ts: &[u32], n: usize, stubs: &[u32])
+    ensures { area.new ≡ table_written area.old c ts.now n stubs.now }
 {
-    if may_not_write(area, stubs, slots.len()) {
+    if may_not_write(area, stubs, n) {
         return;
     }
     let next = words::get_or(area, 0, 0) as usize;
-    fill_table(&mut area[next..], c, slots, stubs);
-    words::put(area, 0, (next + slots.len() + 2) as u32);
+    fill_table(&mut area[next..], c, ts, n, stubs);
+    words::put(area, 0, (next + n + 2) as u32);
 }
 
-// Writes interface i's node likewise, in front of the list whose head is at `head`.
-pub fn write_node(area: &mut [u32], head: usize, i: u32, slots: &[u32], stubs: &[u32])
-    ensures { area.new ≡ node_written area.old head i slots.now stubs.now }
+// Writes interface i's node of n slots likewise, in front of the list whose head is at `head`.
+pub fn write_node(area: &mut [u32], head: usize, i: u32, ts: &[u32], n: usize, stubs: &[u32])
+    ensures { area.new ≡ node_written area.old head i ts.now n stubs.now }
 {
-    if may_not_write(area, stubs, slots.len()) {
+    if may_not_write(area, stubs, n) {
         return;
     }
     let node = words::get_or(area, 0, 0);
     let old = words::get_or(area, head, 0);
     let next = node as usize;
-    fill_node(&mut area[next..], old, i, slots, stubs);
+    fill_node(&mut area[next..], old, i, ts, n, stubs);
     words::put(area, head, node);
-    words::put(area, 0, (next + slots.len() + 2) as u32);
+    words::put(area, 0, (next + n + 2) as u32);
 }

@@ -4,7 +4,7 @@ use mathlib.Core.Bool.{Bool, true, false, cond}
 use mathlib.Core.List.{List}
 use Prim.Native.Nat.{ℕ, ◌+◌, ◌<◌, ◌≤◌}
 use native.Mathlib.Omega.{arith}
-use lib.ListN.{length, get_or, take}
+use lib.ListN.{length, get_or}
 use lib.Dec.{eqb}
 use borrow.Author.Tests.{eq-eqb, eqb-true}
 use Rattle.words.proofs.Bools.{by, passed}
@@ -63,13 +63,12 @@ module _ (ws : List ℕ) (c i : ℕ) (area stubs : List ℕ) (nodes : ℕ) (t : 
         let f = fits area stubs t.len (sym room ∙ free) in
         omega (arith, s.short, f.free)
 
-    pub finish-done : {head : ℕ} {us area₂ : List ℕ} → head ≡ head_place ws c → us ≡ take t.len t.words → area₂ ≡ node_written area head i us stubs
+    pub finish-done : {head : ℕ} {area₂ : List ℕ} → head ≡ head_place ws c → area₂ ≡ node_written area head i t.words t.len stubs
         → outcome (Ok (record { first = node + 1; second = nodes })) ws area₂ ≡ finish_ask ws c i area stubs nodes (built (entries t))
     unfolding finish_ask
-    finish-done {head = head} e u g =
-        let within : t.len ≤ length t.words = omega (arith, t.fits, t.lengths.0) in
-        let k = node-asked t.words t.marks stubs t.len within area (sym room ∙ free) (sound ws area bad).short ws c head i e in
-        rw (room-is, free, g, u, k, next)
+    finish-done {head = head} e g =
+        let k = node-asked area t.words t.marks stubs t.len (sym room ∙ free) (sound ws area bad).short ws c head i e in
+        rw (room-is, free, g, k, next)
 
 -- the node's table, as `build_node` has it, or row 16
 pub node-built : (ws abi : List ℕ) (c i : ℕ) (area stubs : List ℕ) (nodes : ℕ) {B : Built} {o : Outcome}

@@ -144,8 +144,14 @@ fn finish_ask(
         return Err(Refusal::ShortMemory);
     }
     let node = words::get_or(area, 0, 0);
-    let slots = &table.words[..table.len as usize];
-    area::write_node(area, head_place(ws, c), i, slots, stubs);
+    area::write_node(
+        area,
+        head_place(ws, c),
+        i,
+        &table.words,
+        table.len as usize,
+        stubs,
+    );
     Ok(Answer {
         first: node + 1,
         second: nodes,

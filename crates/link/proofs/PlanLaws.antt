@@ -4,7 +4,7 @@ use mathlib.Core.Logic.{◌≢◌}
 use mathlib.Core.Bool.{Bool, true, false, not, ◌&&◌, ◌||◌}
 use mathlib.Core.List.{List}
 use Prim.Native.Nat.{ℕ, ◌+◌, ◌≤◌}
-use lib.ListN.{length, take}
+use lib.ListN.{length}
 use Rattle.words.proofs.Bools.{by, or-neither}
 use Rattle.class_sheet.specs.ClassSheet.{class_count, method_count, field_count, text_of, class_method_count, class_first_method, class_first_field, class_field_count}
 use Rattle.abi_sheet.specs.AbiSheet.{abi_text_of}
@@ -93,7 +93,6 @@ pub record Finish (ws abi : List ℕ) (c : ℕ) (area slots marks : List ℕ) (n
   pub methods : p.new_methods ≡ methods_of ws c new
   pub fields : p.new_fields ≡ fields_of ws c new
   pub slot_count : length p.table ≡ n
-  pub within : n ≤ length slots
   pub table_is : entries_of slots marks n ≡ p.table
   pub words_are : words ≡ new_words ws (text_of ws) abi (abi_text_of abi) c
   pub statics_are : statics ≡ new_statics ws (text_of ws) c
@@ -129,7 +128,7 @@ module _ (ws abi : List ℕ) (c : ℕ) (area stubs slots marks missing : List �
           first = next_free area;
           second = n;
           set = stored_news ws c (next_free area) n words statics p.indices new;
-          area = table_written area c (take n slots) stubs;
+          area = table_written area c slots n stubs;
         };
         missing = counted missing c (parent_of ws c) (entries_of slots marks n);
       }
@@ -140,6 +139,6 @@ module _ (ws abi : List ℕ) (c : ℕ) (area stubs slots marks missing : List �
       let r = room-is ws c p area stubs missing (length p.table) (sym room-plan ∙ e) in
       let w = words-linked ws c p new f.methods f.fields f.valid f.some f.among r.lists r.set-has (next_free area) words statics
       f.indices-fit in
-      let t = table-linked slots marks stubs n f.within area (rw f.slot_count at r.area-has) f.short-area c in
+      let t = table-linked area slots marks stubs n (rw f.slot_count at r.area-has) f.short-area c in
       let m = counted-after missing c (parent_of ws c) (entries_of slots marks n) ws refl f.some f.among r.list-has in
       rw (r.lists, r.area-has, r.set-has, r.list-has, t, m, f.table_is, ← f.slot_count, w, f.words_are, f.statics_are)

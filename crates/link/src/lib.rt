@@ -189,7 +189,7 @@ fn link_planned<'a>(
         statics: new_statics(set, text, c),
     };
     missing::count_class(missing, c, chain::parent_of(set, c), &table);
-    area::write_table(area, c, &table.words[..table.len as usize], stubs);
+    area::write_table(area, c, &table.words, table.len as usize, stubs);
     let indices = words::part(&fields.indices, 0, fields.n as usize);
     store_link(set, c, linked, indices, text, abi, labels, &news);
     Ok(Answer {

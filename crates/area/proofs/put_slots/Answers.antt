@@ -1,15 +1,12 @@
--- A turn writes one more slot behind those written. Assumes nothing.
-use native.Mathlib.Omega.{arith}
-use Rattle.area.proofs.AreaLaws.{slots-none, slots-turn, slots-done}
+-- Each of the first n places is stored once, with its slot's word. Assumes nothing.
+use lib.ListN.{get_or}
+use borrow.Author.Rules.{rules}
+use Rattle.linking.specs.Vtable.{slot_word}
+use Rattle.area.proofs.AreaLaws.{slots-stored}
 use Rattle.area.proofs.put_slots.Goals as goal
 
-pub loop-j-init : goal.loop-j-init
-loop-j-init c = search slots-none
-
-pub loop-j-preserved : goal.loop-j-preserved
-loop-j-preserved c =
-    slots-turn _ _ _ _ c.loop-j.j (omega (arith, c.requires)) c.loop-j.invariant c.get_or.ensures c.slot_word-w.ensures
-    c.put.ensures
-
 pub returns : goal.returns
-returns c = slots-done _ _ _ _ c.loop-j.j (omega arith) c.loop-j.invariant
+returns c =
+    let stubs = c.args.stubs.now in
+    slots-stored _ c.args.ts.now stubs c.args.n c.requires
+    (c.store_each.ensures (λ i. slot_word (get_or c.args.ts.now i 0) (get_or stubs i 0)) (λ i r l post. search rules))

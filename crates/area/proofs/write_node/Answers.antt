@@ -15,6 +15,12 @@ slice_bounds-fill_node-count c = let k = next_fits _ _ _ c.may_not_write.ensures
 pub slice_bounds-fill_node-start : goal.slice_bounds-fill_node-start
 slice_bounds-fill_node-start c = let k = next_fits _ _ _ c.may_not_write.ensures c.if-may_not_write.false c.get_or-node.ensures in omega arith
 
+pub overflow_add-next : goal.overflow_add-next
+overflow_add-next c = let k = next_fits _ _ _ c.may_not_write.ensures c.if-may_not_write.false c.get_or-node.ensures in omega arith
+
+pub overflow_add-next-2 : goal.overflow_add-next-2
+overflow_add-next-2 c = let k = next_fits _ _ _ c.may_not_write.ensures c.if-may_not_write.false c.get_or-node.ensures in omega arith
+
 pub overflow_cast-next-2 : goal.overflow_cast-next-2
 overflow_cast-next-2 c = let k = next_fits _ _ _ c.may_not_write.ensures c.if-may_not_write.false c.get_or-node.ensures in omega arith
 

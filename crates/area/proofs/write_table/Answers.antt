@@ -15,6 +15,12 @@ slice_bounds-fill_table-count c = let k = next_fits _ _ _ c.may_not_write.ensure
 pub slice_bounds-fill_table-start : goal.slice_bounds-fill_table-start
 slice_bounds-fill_table-start c = let k = next_fits _ _ _ c.may_not_write.ensures c.if-may_not_write.false c.get_or-next.ensures in omega arith
 
+pub overflow_add-next : goal.overflow_add-next
+overflow_add-next c = let k = next_fits _ _ _ c.may_not_write.ensures c.if-may_not_write.false c.get_or-next.ensures in omega arith
+
+pub overflow_add-next-2 : goal.overflow_add-next-2
+overflow_add-next-2 c = let k = next_fits _ _ _ c.may_not_write.ensures c.if-may_not_write.false c.get_or-next.ensures in omega arith
+
 pub overflow_cast-next-2 : goal.overflow_cast-next-2
 overflow_cast-next-2 c = let k = next_fits _ _ _ c.may_not_write.ensures c.if-may_not_write.false c.get_or-next.ensures in omega arith
 

@@ -12,6 +12,6 @@ returns-in_err-fields c =
 pub returns : goal.returns
 returns c =
     let e = c.in_ok-fields.ensures in
-    link-finished _ _ _ _ _ _ _ _ c.requires _ _ _ (search rules) _ _ e.planned e.room
-    (indices-lent _ refl c.part-indices.ensures) c.parent_of.ensures c.count_class.ensures c.get_or.ensures refl c.write_table.ensures
+    link-finished _ _ _ _ _ _ _ _ c.requires _ _ _ _ _ e.planned e.room
+    (indices-lent _ refl c.part-indices.ensures) c.parent_of.ensures c.count_class.ensures c.get_or.ensures c.write_table.ensures
     c.new_statics.ensures c.store_link.ensures
