@@ -2,20 +2,24 @@
 use mathlib.Core.Path.{◌≡◌, refl, sym, ap, ◌∙◌}
 use mathlib.Core.Bool.{Bool, true, false, ◌&&◌, ◌||◌, not, and-false}
 use mathlib.Core.Logic.{◌≢◌, ◌⊎◌, inl, inr, ⊎_elim}
-use mathlib.Core.List.{List, [], ◌∷◌}
+use mathlib.Core.List.{List, [], ◌∷◌, ◌++◌}
 use Prim.Native.Nat.{ℕ, zero, suc, ◌+◌, ◌-◌, ◌≤◌, ◌<◌, max}
 use native.Mathlib.Nat.{not-suc-le-zero, eq-or-lt_of_le, le_of_suc-le-suc}
 use native.Mathlib.Numerals.{add-one}
 use native.Mathlib.Omega.{arith}
 use lib.ListN.{length, get_or, set, take, drop, length-set}
-use lib.Seq.{take_at, set_out, get_or-set_same, get_or-set_other}
+use borrow.Rule.Slice.PartMut.{put_mid}
+use lib.Seq.{take_at, length-take-le, set-append_left, set_out, get_or-set_same, get_or-set_other}
 use lib.Dec.{eqb, leb}
+use Rattle.std.proofs.Common.{take-append-drop}
 use borrow.Author.Tests.{eq-eqb, ne_eqb, eqb-true, eqb-false, le-leb, lt-leb, leb-true, leb-false, not-true}
 use Rattle.words.proofs.Bools.{by, and_both, or-either, or-neither}
+use Rattle.words.proofs.Lists.{part_at, length_part}
+use Rattle.words.proofs.Rows.{set-skip}
 use Rattle.words.specs.Folds.{all_of, table, stores}
 use Rattle.words.specs.Lists.{some}
 use Rattle.std.specs.List.{list_any}
-use Rattle.words.proofs.FoldLaws.{all-each, all-if, all-turn, all-stop, all_done, length-table, get_d_table, stores-is}
+use Rattle.words.proofs.FoldLaws.{all-each, all-if, all-ext, all-turn, all-stop, all_done, length-table, get_d_table, stores-is}
 use Rattle.text.specs.Text.{same_bytes}
 use Rattle.text.proofs.Laws.{same-is}
 use Rattle.class_sheet.specs.ClassSheet.{class_count, class_name}
@@ -87,9 +91,6 @@ module _ (ms : List ℕ) (f : ℕ) where
   length_marked zero = refl
   length_marked (suc n) = length-set (marked ms f n) (f + n) 1 ∙ length_marked n
 
-  pub marked-done : (n k : ℕ) {a : List ℕ} → a ≡ marked ms f k → k ≡ n → a ≡ marked ms f n
-  marked-done n k e d = rw d at e
-
   -- what is to be marked is as it was
   marked_ahead : (n k : ℕ) → n ≤ k → get_or (marked ms f n) (f + k) 0 ≡ get_or ms (f + k) 0
   unfolding marked
@@ -134,6 +135,46 @@ module _ (ms : List ℕ) (f : ℕ) where
   free-is n h =
       let p = and_both (leb (f + n) (length ms)) (all_of n (free_at ms f)) h in
       (leb-true (f + n) (length ms) p.0, λ k l. eqb-true (get_or ms (f + k) 0) 0 (all-each n (free_at ms f) p.1 k l))
+
+-- the part of the marks that a list has: it is marked and free from its own front as the whole is from the list's first element on
+module _ (ms : List ℕ) (f n : ℕ) (fits : f + n ≤ length ms) where
+  abbrev section : List ℕ
+  section = take n (drop f ms)
+
+  section_free : (k : ℕ) → k ≤ n → all_of k (free_at section 0) ≡ all_of k (free_at ms f)
+  unfolding free_at
+  section_free k h =
+      all-ext k (free_at section 0) (free_at ms f) (λ i l. let z : 0 + i ≡ i = omega arith in rw (z, part_at ms f n i 0 (omega arith)) refl)
+
+  section_list : free_list section 0 n ≡ free_list ms f n
+  unfolding free_list
+  section_list =
+      let e = length_part ms f n fits in
+      rw (le-leb (0 + n) (length section) (omega arith), le-leb (f + n) (length ms) fits) (section_free n (omega arith))
+
+  section_marked : (k : ℕ) → k ≤ n → put_mid f n ms (marked section 0 k) ≡ marked ms f k
+  unfolding marked
+  section_marked zero h = rw take-append-drop (take-append-drop f ms)
+  section_marked (suc k) h =
+      let q = marked section 0 k in
+      let r = drop n (drop f ms) in
+      let z : 0 + k ≡ k = omega arith in
+      let long : k < length q = omega (arith, length_marked section 0 k, length_part ms f n fits) in
+      rw z (ap (λ l. take f ms ++ l) (sym (set-append_left q r k 1 long))
+      ∙ sym (set-skip (take f ms) (q ++ r) (f + k) k 1 (omega (arith, length-take-le f ms (omega arith))))
+      ∙ ap (λ l. set l (f + k) 1) (section_marked k (omega arith)))
+
+  module _ {m : ℕ} (is : m ≡ n) {k : ℕ} {a : List ℕ} (so_far : a ≡ marked (take m (drop f ms)) 0 k) where
+    pub list-stop : k < n → get_or a k 0 ≢ 0 → false ≡ free_list ms f n
+    list-stop l z =
+        let y : 0 + k ≡ k = omega arith in
+        free-stop section 0 n k l (rw is at so_far) (rw y z) ∙ section_list
+
+    pub list-marked : k ≡ n → put_mid f m ms a ≡ marked ms f n
+    list-marked e = rw (so_far, is, e) (section_marked n (omega arith))
+
+    pub list-free : k ≡ n → all_of k (free_at (take m (drop f ms)) 0) ≡ true → true ≡ free_list ms f n
+    list-free e h = free-done ms f n n fits refl (sym (section_free n (omega arith)) ∙ rw (is, e) at h)
 
 -- what is marked stays marked
 set_keeps : (l : List ℕ) (i k : ℕ) → get_or l k 0 ≡ 1 → get_or (set l i 1) k 0 ≡ 1

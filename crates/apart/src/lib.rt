@@ -116,11 +116,11 @@ fn mark_list(marks: &mut [u8], first: u32, n: u32) -> bool
     if marks.len() < start + count {
         return false;
     }
-    for k in 0..count {
-        if marks[start + k] != 0 {
+    for mark in &mut marks[start..start + count] {
+        if *mark != 0 {
             return false;
         }
-        marks[start + k] = 1;
+        *mark = 1;
     }
     true
 }
@@ -129,11 +129,11 @@ fn mark_list(marks: &mut [u8], first: u32, n: u32) -> bool
 fn free_lists(ws: &[u32], methods: &mut [u8], fields: &mut [u8]) -> bool
     ensures { result ≡ free_lists ws.now methods.old fields.old }
 {
-    for i in 0..class_sheet::class_count(ws) {
-        let first_method = class_sheet::class_first_method(ws, i + 1);
-        let method_count = class_sheet::class_method_count(ws, i + 1);
-        let first_field = class_sheet::class_first_field(ws, i + 1);
-        let field_count = class_sheet::class_field_count(ws, i + 1);
+    for c in 1..=class_sheet::class_count(ws) {
+        let first_method = class_sheet::class_first_method(ws, c);
+        let method_count = class_sheet::class_method_count(ws, c);
+        let first_field = class_sheet::class_first_field(ws, c);
+        let field_count = class_sheet::class_field_count(ws, c);
         let free = mark_list(methods, first_method, method_count)
             & mark_list(fields, first_field, field_count);
         if !free {
