@@ -1,6 +1,6 @@
 -- Files as programs take them, and words stored in bytes. Assumes nothing.
-use Rattle.std.specs.Prelude.{ℕ, ◌+◌, ◌*◌, ◌%◌, ◌^◌, ◌≤◌, ◌<◌, ◌≡◌, Bool, Option, Some, None, IfSome, List, length, get_or, slice_get, drop, eqb, ◌&&◌, starts_with}
-use Rattle.std.specs.List.{list_all}
+use Rattle.std.specs.Prelude.{ℕ, ◌+◌, ◌*◌, ◌%◌, ◌^◌, ◌≤◌, ◌<◌, ◌≡◌, Bool, Option, Some, None, IfSome, List, length, get_or, slice_get, drop, eqb, ◌&&◌}
+use Rattle.std.specs.List.{list_all, starts_with}
 use Rattle.words.specs.Folds.{sum_of}
 use Rattle.words.specs.Words.{le_word}
 

@@ -6,10 +6,10 @@ use mathlib.Core.Bool.{cond}
 use mathlib.Core.List.{List, [], ◌∷◌, ◌++◌}
 use Prim.Native.Nat.{ℕ, zero, suc, ◌+◌, ◌*◌, ◌^◌, ◌≤◌, ◌<◌, min}
 use native.Mathlib.Omega.{arith}
-use lib.ListN.{length, get_or, take, length-append, length-set, length-take, length-replicate, get_or-eq_default, get_or-map}
-use lib.Seq.{get_or-set_same, get_or-take}
+use lib.ListN.{length, get_or, take, length-append, length-set, length-take, length-replicate, get_or-map}
+use lib.Seq.{get_or-set_same}
 use lib.Dec.{eqb, ltb}
-use borrow.Author.Tests.{eqb-true, eqb-false, eq-eqb, ltb-true, ltb-false}
+use borrow.Author.Tests.{eqb-true, eqb-false, eq-eqb}
 use Rattle.words.proofs.Bools.{by}
 use Rattle.class_sheet.specs.ClassSheet.{class_count, class_kind, is_built_kind, class_word, class_instance_words, class_slot_count, text_of, class_limit}
 use Rattle.abi_sheet.specs.AbiSheet.{abi_text_of}
