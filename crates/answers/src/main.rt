@@ -79,9 +79,8 @@ impl Element for u8 {
     }
 
     fn load(stored: &[u8], out: &mut [u8]) {
-        for (b, to) in stored.iter().zip(out) {
-            *to = *b;
-        }
+        let n = stored.len().min(out.len());
+        words::copy(stored, 0, n, out, 0);
     }
 }
 

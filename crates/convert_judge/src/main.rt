@@ -7,7 +7,7 @@
 // Of a file its first 131,072 bytes count, more than any sheet has.
 #![tactic(auto)]
 
-use files::{front, weighed_sum};
+use files::{front, holds_only, weighed_sum};
 use refusal::Refusal;
 use std::{fmt, io};
 use words::part;
@@ -16,7 +16,10 @@ use words::part;
 const BLOCK_BYTES: usize = 512;
 
 // The most bytes that are lent: one block more than the largest sheet has.
-const MOST_BYTES: usize = 47616;
+const MOST_BYTES: usize = BLOCK_BYTES * (class_sheet::BLOCK_LIMIT as usize + 1);
+
+// The bytes of a file that count.
+const FILE_BYTES: usize = 131072;
 
 // Which way a sheet is converted.
 #[derive(Clone, Copy)]
@@ -92,9 +95,7 @@ fn print_back(rt: &impl Print, way: Way, bytes: &[u8], made: &[u8]) -> io::Resul
     let answer = way.convert(made, &mut out);
     rt.write_all(b", back")?;
     print_answer(rt, way, answer)?;
-    let same = out
-        .strip_prefix(bytes)
-        .is_some_and(|rest| rest.iter().all(|b| *b == 7));
+    let same = holds_only(&out, bytes);
     print!(rt; " {}", if same { "same" } else { "other" })
 }
 
@@ -119,7 +120,7 @@ fn main(rt: HostRuntime) -> io::Result<()> {
     files::each_file(
         &rt,
         what,
-        &mut [0; 131072],
+        &mut [0; FILE_BYTES],
         |path, bytes| print_line(&rt, path, bytes),
     )
 }

@@ -1,5 +1,6 @@
 -- Files as programs take them, and words stored in bytes. Assumes nothing.
-use Rattle.std.specs.Prelude.{ℕ, ◌+◌, ◌*◌, ◌%◌, ◌^◌, ◌≤◌, ◌<◌, ◌≡◌, Bool, Option, Some, None, IfSome, List, length, get_or, slice_get, eqb}
+use Rattle.std.specs.Prelude.{ℕ, ◌+◌, ◌*◌, ◌%◌, ◌^◌, ◌≤◌, ◌<◌, ◌≡◌, Bool, Option, Some, None, IfSome, List, length, get_or, slice_get, drop, eqb, ◌&&◌}
+use Rattle.std.specs.List.{list_all, starts_with}
 use Rattle.words.specs.Folds.{sum_of}
 use Rattle.words.specs.Words.{le_word}
 
@@ -21,6 +22,10 @@ word_of bytes i = le_word bytes (4 * i)
 -- word i of one list is word i of another; a word past the end is 0
 abbrev pub same_word : List ℕ → List ℕ → ℕ → Bool
 same_word ws others i = eqb (get_or ws i 0) (get_or others i 0)
+
+-- lent bytes begin with these, and each one after them is 7
+abbrev pub holds_only : List ℕ → List ℕ → Bool
+holds_only lent bytes = starts_with eqb lent bytes && list_all (λ b. eqb b 7) (drop (length bytes) lent)
 
 -- an element that gives w, times its place from 1, as a word; nothing past the end
 abbrev pub weighed : {A : Type 0} → (A → ℕ) → ℕ → Option A → ℕ

@@ -6,7 +6,7 @@ ghost use Rattle.std.specs.Prelude.{◌≡◌, ◌≤◌, ◌/◌, ℕ, length, 
 ghost use Rattle.std.specs.Result.{result_ok};
 ghost use Rattle.std.specs.Io.{WritesAtMost};
 ghost use Rattle.words.specs.Folds.{stores, all_of};
-ghost use Rattle.files.specs.Files.{word_of, Left, same_word, weighed_sum};
+ghost use Rattle.files.specs.Files.{word_of, Left, same_word, holds_only, weighed_sum};
 
 use std::env::FillError;
 use std::io::{Cursor, Read, Write};
@@ -175,6 +175,13 @@ pub fn is_front(words: &[u32], others: &[u32]) -> bool
     ensures { result ≡ all_of (length words.now) (same_word words.now others.now) }
 {
     (0..words.len()).all(|i| get_or(words, i, 0) == get_or(others, i, 0))
+}
+
+// Whether lent bytes, of which each was 7, hold these from the front on, and after them what they held.
+pub fn holds_only(lent: &[u8], bytes: &[u8]) -> bool
+    ensures { result ≡ holds_only lent.now bytes.now }
+{
+    lent.starts_with(bytes) && lent[bytes.len()..].iter().all(|b| *b == 7)
 }
 
 // The first n elements, or all where there are fewer.

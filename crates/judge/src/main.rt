@@ -18,11 +18,14 @@
 // Of a file its first 131,072 bytes count, more than any sheet has.
 #![tactic(auto)]
 
-use files::{front, weighed_sum};
+use files::{front, holds_only, weighed_sum};
 use refusal::Refusal;
 use std::fmt::Display;
 use std::io;
 use words::{get_or, le_word, part};
+
+// The bytes that a block takes.
+const BLOCK_BYTES: usize = 512;
 
 // Lent where the name says nothing: the words of the largest sheet.
 const CLASS_WORDS: usize = class_sheet::SHEET_WORDS;
@@ -32,8 +35,8 @@ const ABI_WORDS: usize = abi_sheet::SHEET_WORDS;
 // The most that a name can have lent: two blocks of 127 words more than the largest sheet has.
 const MOST_WORDS: usize = 127 * (class_sheet::BLOCK_LIMIT as usize + 2);
 
-// The most bytes that are lent to the writer: one block of 512 bytes more than the largest sheet has.
-const MOST_BYTES: usize = 47616;
+// The most bytes that are lent to the writer: one block more than the largest sheet has.
+const MOST_BYTES: usize = BLOCK_BYTES * (class_sheet::BLOCK_LIMIT as usize + 1);
 
 // Lent to the list of old class numbers where the name says nothing: two words more than there can be classes.
 const MOST_LISTED: usize = 66;
@@ -97,7 +100,7 @@ fn lent(name: &[u8]) -> Option<usize> {
 
 // Two blocks more than n bytes, MOST_BYTES at the most: enough to write what a file of so many bytes holds.
 fn room_for(n: usize) -> usize {
-    n.saturating_add(1024).min(MOST_BYTES)
+    n.saturating_add(2 * BLOCK_BYTES).min(MOST_BYTES)
 }
 
 // Writes the first word and what is answered, or the second and the row.
@@ -146,9 +149,7 @@ fn print_back(rt: &impl Print, bytes: &[u8], set: &[u32]) -> io::Result<()> {
     let lent = front(&mut out, room_for(bytes.len()));
     let answer = writer::write_class_sheet(set, lent);
     print_answer(rt, "written", "unwritten", answer)?;
-    let same = lent
-        .strip_prefix(bytes)
-        .is_some_and(|rest| rest.iter().all(|b| *b == 7));
+    let same = holds_only(lent, bytes);
     print!(rt; " {}", if same { "same" } else { "other" })
 }
 

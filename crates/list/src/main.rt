@@ -11,13 +11,13 @@ use std::io;
 use std::rt::Files;
 use words::part;
 
-// The bytes of a sheet and one block more, so that a longer file is refused and not cut.
-const SHEET_BYTES: usize = 47616;
+// The bytes of the largest sheet and one block more, so that a longer file is refused and not cut.
+const SHEET_BYTES: usize = 512 * (class_sheet::BLOCK_LIMIT as usize + 1);
 
 // More than the longest listing has (crates/listing/proofs/Longest.antt).
 const LISTING_BYTES: usize = 2228224;
 
-// Room for a listing.
+// Room for a listing. It is made in a function of its own: in one that has goals an array of so many bytes makes the check run out of stack.
 fn listing_bytes() -> [u8; LISTING_BYTES]
     ensures { LISTING_BYTES ≡ length result }
 {
@@ -32,10 +32,7 @@ fn read_in(
     bytes: &mut [u8],
 ) -> Option<usize> {
     let mut room = [0; 4096];
-    let mut path = Out {
-        bytes: &mut room,
-        at: 0,
-    };
+    let mut path = Out::new(&mut room);
     path.put(folder);
     path.put(name);
     let end = path.at;
@@ -46,14 +43,14 @@ fn read_in(
 fn put_listing(abi: &[u8], classes: &[u8], bytes: &mut [u8; LISTING_BYTES]) -> usize
     ensures { take result bytes.new ≡ listing abi.now classes.now }
 {
-    let mut out = Out { bytes, at: 0 };
+    let mut out = Out::new(bytes);
     listing::list(abi, classes, &mut out);
     out.at
 }
 
 // Puts the line of a bad ABI sheet into them, and answers how many bytes it has: none for a good one.
 fn put_abi_line(abi: &[u8], bytes: &mut [u8]) -> usize {
-    let mut out = Out { bytes, at: 0 };
+    let mut out = Out::new(bytes);
     listing::abi_line(abi, &mut out);
     out.at
 }

@@ -4,8 +4,8 @@ use mathlib.Core.List.{List, [], ◌∷◌, ◌++◌, append_assoc, append-nil}
 use Prim.Native.Nat.{ℕ, ◌+◌, ◌-◌, ◌≤◌, ◌<◌}
 use native.Mathlib.Omega.{arith}
 use native.Mathlib.Numerals.{add-one}
-use lib.ListN.{length, get_or, take, drop, set, replicate, length-take, drop_of_length-le, get_or-map}
-use lib.Seq.{take-suc-set, drop-cons, get_or-take, length-take-le}
+use lib.ListN.{length, get_or, take, drop, set, replicate, drop_of_length-le, get_or-map}
+use lib.Seq.{take_all, take-suc-set, drop-cons}
 use borrow.Author.Tests.{ne_eqb}
 use Rattle.std.specs.Prelude.{map, Option, None, Result, Ok, Err}
 use Rattle.std.specs.Result.{result_err}
@@ -76,12 +76,13 @@ module _ (abi stubs : List ℕ) (n : ℕ) where
       rw (rest-suc n i h, take_next rs i r (omega arith), append-one (take i (map link_row rs)) (link_row r))
       (rw (← link-listed a s t u ws abi area stubs missing (i + 1) e, f) refl)
 
-  pub links-end : (i : ℕ) (rows ws area missing : List ℕ) → n ≤ i → i ≤ n → links_from i rows ws area missing ≡ links (take n rows) ws area missing
+  pub links-end : (i : ℕ) (rs : List (Option Refusal)) (ws area missing : List ℕ) → n ≤ i → length rs ≡ n
+      → links_from i (map link_row rs) ws area missing ≡ links (map link_row rs) ws area missing
   unfolding links_from link_all
-  links-end i rows ws area missing h l =
+  links-end i rs ws area missing h l =
       let g : n - i ≡ 0 = omega arith in
-      let e : i ≡ n = omega arith in
-      rw (g, e, append-nil (take n rows)) refl
+      let t : take i (map link_row rs) ≡ map link_row rs = take_all i (map link_row rs) (omega (arith, length-map rs link_row)) in
+      rw (g, t, append-nil (map link_row rs)) refl
 
 -- ---- the texts, class by class
 
@@ -90,33 +91,27 @@ module _ (ws abi area : List ℕ) where
   unfolding class_text
   class-refused c r = rw (ne_eqb (row r) 0 (refused_not r))
 
-  module _ (rs : List (Option Refusal)) (n : ℕ) where
-    -- what is left to put at turn i of the n classes
+  module _ (rs : List (Option Refusal)) where
+    -- what is left to put at turn i of the classes
     unfoldable pub texts_from : ℕ → List ℕ
-    texts_from i = class_texts ws abi area (i + 1) (drop i (take n (map link_row rs)))
+    texts_from i = class_texts ws abi area (i + 1) (drop i (map link_row rs))
 
-    pub texts-start : texts_from 0 ≡ class_texts ws abi area 1 (take n (map link_row rs))
+    pub texts-start : texts_from 0 ≡ class_texts ws abi area 1 (map link_row rs)
     unfolding texts_from
     texts-start = refl
 
-    next_row : (i : ℕ) → i < n → n ≤ length rs
-        → drop i (take n (map link_row rs)) ≡ link_row (get_or rs i None) ∷ drop (i + 1) (take n (map link_row rs))
-    next_row i h l =
-        let m = length-map rs link_row in
-        drop-cons (take n (map link_row rs)) i 0 (omega (arith, length-take-le n (map link_row rs) (omega arith)))
-        ∙ rw (get_or-take n (map link_row rs) i 0 h, get_or-map link_row rs i None, ← add-one i)
+    next_row : (i : ℕ) → i < length rs → drop i (map link_row rs) ≡ link_row (get_or rs i None) ∷ drop (i + 1) (map link_row rs)
+    next_row i h =
+        drop-cons (map link_row rs) i 0 (omega (arith, length-map rs link_row)) ∙ rw (get_or-map link_row rs i None, ← add-one i)
 
-    pub texts-turn : (i : ℕ) → i < n → n ≤ length rs
-        → texts_from i ≡ class_text ws abi area (i + 1) (link_row (get_or rs i None)) ++ texts_from (i + 1)
+    pub texts-turn : (i : ℕ) → i < length rs → texts_from i ≡ class_text ws abi area (i + 1) (link_row (get_or rs i None)) ++ texts_from (i + 1)
     unfolding texts_from class_texts
-    texts-turn i h l = rw (next_row i h l)
+    texts-turn i h = rw (next_row i h)
 
-    pub texts-end : (i : ℕ) → n ≤ i → texts_from i ≡ []
+    pub texts-end : (i : ℕ) → length rs ≤ i → texts_from i ≡ []
     unfolding texts_from class_texts
     texts-end i h =
-        let d : drop i (take n (map link_row rs)) ≡ [] =
-        drop_of_length-le (take n (map link_row rs)) {i = i} (omega (arith, length-take n (map link_row rs))) in
-        rw d
+        let d : drop i (map link_row rs) ≡ [] = drop_of_length-le (map link_row rs) {i = i} (omega (arith, length-map rs link_row)) in rw d
 
 -- ---- the sheets
 

@@ -6,10 +6,10 @@ use mathlib.Core.Bool.{cond}
 use mathlib.Core.List.{List, [], ◌∷◌, ◌++◌}
 use Prim.Native.Nat.{ℕ, zero, suc, ◌+◌, ◌*◌, ◌^◌, ◌≤◌, ◌<◌, min}
 use native.Mathlib.Omega.{arith}
-use lib.ListN.{length, get_or, take, length-append, length-set, length-take, length-replicate, get_or-eq_default, get_or-map}
-use lib.Seq.{get_or-set_same, get_or-take}
+use lib.ListN.{length, get_or, take, length-append, length-set, length-take, length-replicate, get_or-map}
+use lib.Seq.{get_or-set_same}
 use lib.Dec.{eqb, ltb}
-use borrow.Author.Tests.{eqb-true, eqb-false, eq-eqb, ltb-true, ltb-false}
+use borrow.Author.Tests.{eqb-true, eqb-false, eq-eqb}
 use Rattle.words.proofs.Bools.{by}
 use Rattle.class_sheet.specs.ClassSheet.{class_count, class_kind, is_built_kind, class_word, class_instance_words, class_slot_count, text_of, class_limit}
 use Rattle.abi_sheet.specs.AbiSheet.{abi_text_of}
@@ -256,13 +256,8 @@ link-few : (r : Option Refusal) → link_row r < limit 9
 link-few None = omega arith
 link-few (Some r) = row-few r
 
-rows-few : (n : ℕ) (rs : List (Option Refusal)) (i : ℕ) → get_or (take n (map link_row rs)) i 0 < limit 9
-rows-few n rs i =
-    by (ltb i n)
-    (λ t. rw (get_or-take n (map link_row rs) i 0 (ltb-true i n t), get_or-map link_row rs i None) (link-few (get_or rs i None)))
-    (λ t.
-    let l = ltb-false i n t in
-    rw (get_or-eq_default (take n (map link_row rs)) 0 {n = i} (let g = length-take n (map link_row rs) in omega arith)) (omega arith))
+rows-few : (rs : List (Option Refusal)) (i : ℕ) → get_or (map link_row rs) i 0 < limit 9
+rows-few rs i = rw (get_or-map link_row rs i None) (link-few (get_or rs i None))
 
 fresh_facts : (next_free fresh_area ≡ 1) × (length fresh_area ≡ 4096)
 unfolding fresh_area
@@ -275,20 +270,20 @@ module _ (ws abi : List ℕ) {s t u : List ℕ} where
   unfolding set_text
   set-lines rows k = rw (← k)
 
-  pub set-few : (rs : List (Option Refusal)) (n : ℕ) → set_refusal ws abi ≡ 0
-      → links (take n (map link_row rs)) s t u ≡ link_all abi stub_words (class_count ws) 1 ws fresh_area fresh_counts → Small s → Small t
-      → length (class_texts s abi t 1 (take n (map link_row rs))) ≤ 2192135
-  set-few rs n r k hs ht =
+  pub set-few : (rs : List (Option Refusal)) → set_refusal ws abi ≡ 0
+      → links (map link_row rs) s t u ≡ link_all abi stub_words (class_count ws) 1 ws fresh_area fresh_counts → Small s → Small t
+      → length (class_texts s abi t 1 (map link_row rs)) ≤ 2192135
+  set-few rs r k hs ht =
       let v = valid ws abi r in
       let z = fresh_facts in
       let a : All ws fresh_area 1 (class_count ws) (link_all abi stub_words (class_count ws) 1 ws fresh_area fresh_counts) =
       links-all abi stub_words (class_count ws) 1 ws fresh_area fresh_counts (valid-bounded ws v.0) (omega arith) (omega arith) (omega arith) in
-      let x : All ws fresh_area 1 (class_count ws) (links (take n (map link_row rs)) s t u) = rw k a in
+      let x : All ws fresh_area 1 (class_count ws) (links (map link_row rs) s t u) = rw k a in
       let few : class_count s ≤ class_limit = omega (arith, x.classes, v.0.number_of_classes) in
       let l = x.rows in
-      let y : slots_in s 1 (take n (map link_row rs)) ≤ 4093 = omega (arith, x.slots, x.within) in
-      let w = texts-few s abi t x.bounded v.1 few (small-limit s hs) (small-limit t ht) 1 (take n (map link_row rs)) (omega arith)
-      (omega (arith, x.classes)) (rows-few n rs) (omega arith) in
+      let y : slots_in s 1 (map link_row rs) ≤ 4093 = omega (arith, x.slots, x.within) in
+      let w = texts-few s abi t x.bounded v.1 few (small-limit s hs) (small-limit t ht) 1 (map link_row rs) (omega arith)
+      (omega (arith, x.classes)) (rows-few rs) (omega arith) in
       omega (arith, w, v.0.number_of_classes)
 
 sheet-few : (sheet : List ℕ) (r : Refusal) → length sheet ≤ 7 → length (sheet_refused sheet (row r)) ≤ 27
@@ -320,3 +315,7 @@ each-small ws h = h
 -- a set that is accepted has at most 64 classes, so that many refusals are enough
 pub set-fits : (ws abi : List ℕ) → set_refusal ws abi ≡ 0 → class_count ws ≤ 64
 set-fits ws abi r = let v = (valid ws abi r).0.number_of_classes in omega arith
+
+-- so many of some places are no more than there can be classes
+pub part-fits : {A : Type 0} (l : List A) (n : ℕ) {m : ℕ} → m ≡ length (take n l) → n ≤ 64 → m ≤ class_limit
+part-fits l n e h = let t = length-take n l in omega (arith, e)

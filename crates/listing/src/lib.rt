@@ -2,7 +2,8 @@
 // text where the place that they come to is below the number of bytes lent.
 #![tactic(auto)]
 
-ghost use Rattle.std.specs.Prelude.{◌≡◌, ◌≤◌, ◌<◌, length, map, take};
+ghost use Rattle.std.specs.Prelude.{◌≡◌, ◌≤◌, ◌<◌, length, map};
+ghost use Rattle.class_sheet.specs.ClassSheet.{class_limit};
 ghost use Rattle.set_rules.specs.SetRules.{set_refusal};
 ghost use Rattle.lines.specs.Out.{Puts};
 ghost use Rattle.listing.specs.Small.{Small, Accepts};
@@ -11,58 +12,67 @@ ghost use Rattle.listing.specs.Listing.{fresh_area, stub_words, link_row, links,
 use lines::Out;
 use refusal::Refusal;
 
-// The words of a set, and the memory that its links write: a fresh area of 4,096 words, and counts for 64 classes.
+// The most classes that a set has.
+const CLASSES: usize = class_sheet::CLASS_LIMIT as usize;
+
+// The words of the area, of the stubs, and of the list of missing slots: 33 for each class.
+const AREA_WORDS: usize = 4096;
+
+const STUB_WORDS: usize = 1024;
+
+const MISSING_WORDS: usize = 33 * CLASSES;
+
+// The words of a set, and the memory that its links write.
 #[derive(Drop)]
 struct Memory {
     set: [u32; class_sheet::SHEET_WORDS],
-    area: [u32; 4096],
-    missing: [u32; 2112],
+    area: [u32; AREA_WORDS],
+    missing: [u32; MISSING_WORDS],
 }
 
 // A fresh area.
 #[tactic(auto, unfolding(crate::specs::Listing::fresh_area))]
-fn fresh_area() -> [u32; 4096]
+fn fresh_area() -> [u32; AREA_WORDS]
     ensures { result ≡ fresh_area }
 {
-    let mut area = [0u32; 4096];
+    let mut area = [0u32; AREA_WORDS];
     area[0] = 1;
     area
 }
 
 // The 1,024 stub words, each 4026531840 + index.
-fn stub_words() -> [u32; 1024]
+fn stub_words() -> [u32; STUB_WORDS]
     ensures { result ≡ stub_words }
 {
-    let mut stubs = [0u32; 1024];
-    for i in 0..1024 {
+    let mut stubs = [0u32; STUB_WORDS];
+    for i in 0..STUB_WORDS as u32 {
         words::put(&mut stubs, i as usize, 4026531840 + i);
     }
     stubs
 }
 
-// Links the n classes from class 1 on, each in what the link before it left, and keeps why one was refused.
+// Links as many classes as there are places for why one was refused, from class 1 on, each in what the link before it left.
 fn link_classes(
     memory: &mut Memory,
     abi: &[u32],
     stubs: &[u32],
-    n: u32,
     refusals: &mut [Option<Refusal>],
 )
-    requires { n ≤ length refusals.old }
-    ensures { links (take n (map link_row refusals.new)) memory.new.set memory.new.area memory.new.missing
-        ≡ link_all abi.now stubs.now n 1 memory.old.set memory.old.area memory.old.missing }
+    requires { length refusals.old ≤ class_limit }
+    ensures { links (map link_row refusals.new) memory.new.set memory.new.area memory.new.missing
+        ≡ link_all abi.now stubs.now (length refusals.old) 1 memory.old.set memory.old.area memory.old.missing }
 {
-    for i in 0..n {
+    for (i, refusal) in refusals.iter_mut().enumerate() {
         let set = &mut memory.set;
         let answer = link::link(
             set,
             abi,
-            i + 1,
+            i as u32 + 1,
             &mut memory.area,
             stubs,
             &mut memory.missing,
         );
-        words::put(refusals, i as usize, answer.err());
+        *refusal = answer.err();
     }
 }
 
@@ -83,22 +93,20 @@ fn put_class(
     }
 }
 
-// Puts the text of each of the n classes from class 1 on. Each word that is read is below 2^32, as its type has it.
+// Puts the text of each class from class 1 on, by why its link was refused. Each word that is read is below 2^32, as its type has it.
 fn put_classes(
     set: &[u32],
     abi: &[u32],
     area: &[u32],
-    n: u32,
     refusals: &[Option<Refusal>],
     out: &mut Out,
 )
-    requires { n ≤ length refusals.now }
-    ensures lines { Puts out.old out.new (class_texts set.now abi.now area.now 1 (take n (map link_row refusals.now))) }
+    requires { length refusals.now ≤ class_limit }
+    ensures lines { Puts out.old out.new (class_texts set.now abi.now area.now 1 (map link_row refusals.now)) }
     ensures small { Small set.now × Small area.now }
 {
-    for i in 0..n {
-        let refusal = words::get_or(refusals, i as usize, None);
-        put_class(set, abi, area, i + 1, refusal, out);
+    for (i, refusal) in refusals.iter().enumerate() {
+        put_class(set, abi, area, i as u32 + 1, *refusal, out);
     }
 }
 
@@ -108,15 +116,16 @@ fn list_set(set: [u32; class_sheet::SHEET_WORDS], abi: &[u32], out: &mut Out)
     ensures lines { Puts out.old out.new (set_text set abi.now) }
     ensures longest { length (set_text set abi.now) ≤ 2192135 }
 {
-    let n = class_sheet::class_count(&set);
+    let n = class_sheet::class_count(&set) as usize;
     let mut memory = Memory {
         set,
         area: fresh_area(),
-        missing: [0; 2112],
+        missing: [0; MISSING_WORDS],
     };
-    let mut refusals = [None; 64];
-    link_classes(&mut memory, abi, &stub_words(), n, &mut refusals);
-    put_classes(&memory.set, abi, &memory.area, n, &refusals, out);
+    let mut refusals = [None; CLASSES];
+    let refusals = &mut refusals[..n];
+    link_classes(&mut memory, abi, &stub_words(), refusals);
+    put_classes(&memory.set, abi, &memory.area, refusals, out);
 }
 
 // Reads the class sheet, and puts the lines of its classes or of its refusal.

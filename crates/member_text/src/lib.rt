@@ -124,7 +124,7 @@ pub fn members_text(bytes: &[u8], first: u32, step: u32, out: &mut [u8]) -> usiz
     ensures lines { (out.new, result) ≡ put (out.old, 0) (members_text bytes.now first step) }
     ensures longest { length (members_text bytes.now first step) < 65536 }
 {
-    let mut text = Out { bytes: out, at: 0 };
+    let mut text = Out::new(out);
     put_text(&mut text, bytes, first, step);
     text.at
 }

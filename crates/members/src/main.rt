@@ -12,6 +12,9 @@ use std::io;
 use std::rt::{Env, Files};
 use words::part;
 
+// The arguments of a class file: its path, a first target and a step.
+const EACH: usize = 3;
+
 // The most bytes of a file that count, and one more.
 const ROOM: usize = 1048577;
 
@@ -108,16 +111,16 @@ fn has_argument(rt: &impl Env, i: usize) -> bool {
 }
 
 fn main(rt: HostRuntime) -> io::Result<()> {
-    for k in 0..usize::MAX / 3 {
-        let i = 3 * k + 1;
-        if !has_argument(&rt, i) {
+    for k in 0..usize::MAX / EACH {
+        let path = 1 + EACH * k;
+        if !has_argument(&rt, path) {
             break;
         }
-        if !has_argument(&rt, i + 2) {
+        if !has_argument(&rt, path + 2) {
             files::fail(&rt, b"members", "a file, a first target and a step");
             break;
         }
-        print_argument(&rt, i)?;
+        print_argument(&rt, path)?;
     }
     Ok(())
 }

@@ -4,10 +4,11 @@ use mathlib.Core.Path.{◌≡◌, refl, sym, ap, ◌∙◌}
 use mathlib.Core.Logic.{◌≢◌}
 use mathlib.Core.Bool.{true, false}
 use mathlib.Core.List.{List, [], ◌∷◌, ◌++◌}
-use Prim.Native.Nat.{ℕ, zero, suc, ◌+◌, ◌*◌, ◌/◌, ◌≤◌, ◌<◌}
+use Prim.Native.Nat.{ℕ, zero, suc, ◌+◌, ◌-◌, ◌*◌, ◌/◌, ◌≤◌, ◌<◌}
 use native.Mathlib.Omega.{arith}
 use native.Mathlib.Numerals.{add-one}
-use lib.ListN.{length, get_or, set, take, drop}
+use lib.ListN.{length, get_or, set, take, drop, length-append, length-drop}
+use lib.Seq.{take_at, drop_at, drop-drop}
 use lib.Dec.{eqb}
 use borrow.Author.Tests.{eq-eqb, ne_eqb}
 use Rattle.words.proofs.ListLaws.{rest_from, rest-start, rest-turn, rest_end}
@@ -108,6 +109,27 @@ module _ (ws abi ar missing call stubs : List ℕ) {kind c first n : ℕ} {lent 
   ask-told a ar' z f e =
       let t : eqb (get_or call 0 0) 0 ≡ false = ne_eqb (get_or call 0 0) 0 (λ p. z (kind-is ∙ p)) in
       rw t (rw (class-is, f, list-is) at e, refl)
+
+-- ---- the chunks of five words: `rest` is what is left of the calls from call i on
+
+module _ (calls : List ℕ) (i : ℕ) {rest : List ℕ} (left_is : rest ≡ drop (5 * i) calls) where
+  left-many : length rest ≡ length calls - 5 * i
+  left-many = ap (λ (l : List ℕ). length l) left_is ∙ length-drop (5 * i) calls
+
+  module _ (call after : List ℕ) (joined : rest ≡ call ++ after) (five : length call ≡ 5) where
+    pub chunk-room : 5 * i + 5 ≤ length calls
+    chunk-room = let e : length rest ≡ length call + length after = ap (λ (l : List ℕ). length l) joined ∙ length-append call after in omega (arith, left-many)
+
+    pub chunk-is : call ≡ take 5 (drop (5 * i) calls)
+    chunk-is = sym (ap (take 5) (sym left_is ∙ joined) ∙ take_at call after 5 five)
+
+    pub chunk-rest : after ≡ drop (5 * (i + 1)) calls
+    chunk-rest =
+        let e : 5 * i + 5 ≡ 5 * (i + 1) = omega arith in
+        sym (ap (λ (n : ℕ). drop n calls) (sym e) ∙ sym (drop-drop 5 (5 * i) calls) ∙ ap (drop 5) (sym left_is ∙ joined) ∙ drop_at call after 5 five)
+
+  pub chunks-end : length rest < 5 → length calls / 5 ≤ i
+  chunks-end h = omega (arith, left-many)
 
 -- ---- the calls that are left
 

@@ -68,9 +68,7 @@ pub fn replay(
     ensures { Made abi.now (start set.old area.old missing.old) answers.old calls.now stubs.now
         (start set.new area.new missing.new) answers.new }
 {
-    let n = calls.len() / 5;
-    for i in 0..n {
-        let call = words::part(calls, 5 * i, 5);
+    for (i, call) in calls.chunks_exact(5).enumerate() {
         let answer = one_call(set, abi, area, missing, call, stubs);
         put_answer(answers, 3 * i, answer);
     }

@@ -8,9 +8,8 @@ loop-i-init c = links-start _ _ _ _ _ _ _
 
 pub loop-i-preserved : goal.loop-i-preserved
 loop-i-preserved c =
-    rw c.put.ensures
-    (links-turn _ _ _ c.loop-i.i c.loop-i.refusals c.link-answer.result _ _ _ _ _ _ c.loop-i-test.true (omega arith) c.link-answer.ensures c.err.ensures.value
-    ∙ c.loop-i.invariant)
+    links-turn _ _ _ c.loop-i.i c.loop-i.refusals c.link-answer.result _ _ _ _ _ _ c.loop-i-test.true (omega arith) c.link-answer.ensures c.err.ensures.value
+    ∙ c.loop-i.invariant
 
 pub returns : goal.returns
-returns c = sym (links-end _ _ _ c.loop-i.i _ _ _ _ c.loop-i-test.false (omega arith)) ∙ c.loop-i.invariant
+returns c = sym (links-end _ _ _ c.loop-i.i c.loop-i.refusals _ _ _ (omega arith) (omega arith)) ∙ c.loop-i.invariant

@@ -1,22 +1,47 @@
--- Each turn makes the next call, from the state that the one before left. Assumes nothing.
+-- Each turn makes the next call, whose words are the next chunk, from the state that the one before left. Assumes nothing.
 use mathlib.Core.Path.{◌∙◌}
-use Rattle.replay.proofs.ReplayLaws.{run-start, answers-start, run-turn, answers-turn, run_end, answers-end}
+use Prim.Native.Nat.{◌+◌, ◌*◌, ◌/◌, ◌≤◌, ◌<◌}
+use native.Mathlib.Omega.{arith}
+use lib.ListN.{length}
+use Rattle.std.specs.Iterator.Adapters.{enumerate_count}
+use Rattle.replay.proofs.ReplayLaws.{run-start, answers-start, run-turn, answers-turn, run_end, answers-end, chunk-room, chunk-is, chunk-rest, chunks-end}
 use Rattle.replay.proofs.replay.Goals as goal
 
 pub loop-i-init : goal.loop-i-init
-loop-i-init c = record { state = search run-start; answers = search answers-start }
+loop-i-init c =
+    let g = c.into_iter-i-iterator.ensures.into_iter_gives in
+    let e = c.enumerate-i-items.ensures in
+    record {
+      state = rw (g, e.count) (run-start _ _ _ _);
+      answers = rw (g, e.count) (answers-start _ _ _ _ _);
+      five = rw (g, e.source) c.chunks_exact.ensures.size;
+      words = rw (g, e.source, e.count) c.chunks_exact.ensures.rest;
+    }
 
 pub loop-i-preserved : goal.loop-i-preserved
 loop-i-preserved c =
-    let w = c.part-call.ensures in
-    let o = c.one_call-answer in record {
-      state = run-turn _ _ _ _ c.loop-i-test.true w o.result _ _ _ _ o.ensures ∙ c.loop-i.invariant.state;
-      answers = answers-turn _ _ _ _ c.loop-i-test.true w o.result _ _ _ _ o.ensures _ c.put_answer.ensures ∙ c.loop-i.invariant.answers;
+    let w = c.loop-i.invariant in
+    let p = c.in-Some.ensures.steps in
+    let o = c.one_call-answer in
+    let k = enumerate_count c.loop-i.i-iterator in
+    let joined = p.0.1.0 in
+    let five = p.0.1.1 ∙ w.five in
+    let call = chunk-is c.args.calls.now k w.words _ _ joined five in
+    let room : 5 * k + 5 ≤ length c.args.calls.now = chunk-room c.args.calls.now k w.words _ _ joined five in
+    let below : k < length c.args.calls.now / 5 = omega (arith, room) in
+    record {
+      state = rw p.2 (run-turn _ _ _ k below call o.result _ _ _ _ o.ensures ∙ w.state);
+      answers = rw p.2 (answers-turn _ _ _ k below call o.result _ _ _ _ o.ensures _ (rw p.1 at c.put_answer.ensures) ∙ w.answers);
+      five = p.0.0 ∙ w.five;
+      words = rw p.2 (chunk-rest c.args.calls.now k w.words _ _ joined five);
     }
 
 pub returns : goal.returns
 returns c =
-    let a = c.args in (
-      run_end a.abi.now a.calls.now a.stubs.now c.loop-i.i _ c.loop-i-test.false ∙ c.loop-i.invariant.state,
-      answers-end a.abi.now a.calls.now a.stubs.now c.loop-i.i _ _ c.loop-i-test.false ∙ c.loop-i.invariant.answers,
+    let a = c.args in
+    let w = c.loop-i.invariant in
+    let k = enumerate_count c.loop-i.i-iterator in
+    let e = chunks-end a.calls.now k w.words (rw w.five at c.in-None.ensures.steps.0.1.0) in (
+      run_end a.abi.now a.calls.now a.stubs.now k _ e ∙ w.state,
+      answers-end a.abi.now a.calls.now a.stubs.now k _ _ e ∙ w.answers,
     )
