@@ -12,8 +12,8 @@ use lib.Pow.{pow_pos}
 use Rattle.linking.specs.Vtable.{Entry, empty}
 use Rattle.linking.specs.Counts.{is_counted, bits_of, bit, bit_count, bits_from}
 use Rattle.linking.proofs.MissingLaws.{length-bits, bits_at, bit-small}
-use Rattle.reading.specs.Arrays.{entries_of}
-use Rattle.reading.proofs.ArrayLaws.{length-entries}
+use Rattle.reading.specs.Arrays.{entry_at, entries_of}
+use Rattle.reading.proofs.ArrayLaws.{length-entries, entry_found}
 
 -- ---- the bits of all slots
 
@@ -27,8 +27,10 @@ module _ (f : ℕ → Bool) (ts ms : List ℕ) (n : ℕ) where
   pub bit_past : (i : ℕ) → n ≤ i → false ≡ get_or bits i false
   bit_past i h = let l = bits-length in rw (get_or-eq_default bits false {n = i} (omega arith))
 
-  pub bit_there : (i : ℕ) {e : Entry} {b : Bool} → i < n → e ≡ get_or (entries_of ts ms n) i empty → b ≡ is_counted f e → b ≡ get_or bits i false
-  bit_there i h e b = let l = length-entries ts ms n in b ∙ rw e (sym (bits_at f (entries_of ts ms n) i (omega arith)))
+  pub bit_there : (i : ℕ) {e : Entry} {b : Bool} → i < n → e ≡ entry_at ts ms i → b ≡ is_counted f e → b ≡ get_or bits i false
+  bit_there i h e b =
+      let l = length-entries ts ms n in
+      b ∙ rw (e, ← entry_found ts ms n i empty h) (sym (bits_at f (entries_of ts ms n) i (omega arith)))
 
 -- ---- their number
 
