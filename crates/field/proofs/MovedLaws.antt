@@ -9,7 +9,7 @@ use Rattle.class_sheet.specs.ClassSheet.{class_first_field, class_field_count, f
 use Rattle.linking.specs.Chain.{list_count, own_fields, is_static}
 use Rattle.linking.specs.Fields.{instance_words, add_static, add_width, declared_words, stand_from, generated_refusal, moved_index, indices_plus, generated_indices}
 use Rattle.std.specs.Prelude.{Result, Ok, Err}
-use Rattle.field.specs.Numbers.{add_words, Movable, numbering_of, numbered_of, generated_fields}
+use Rattle.field.specs.Numbers.{add_words, Fits, Movable, numbering_of, numbered_of, generated_fields}
 use Rattle.field.specs.declared.Numbered.{Numbered}
 use Rattle.field.proofs.FrontLaws.{front-over, answer-is}
 use Rattle.field.proofs.RuntimeLaws.{width_room}
@@ -46,27 +46,30 @@ fold-wraps ws text b s (x ∷ xs) h =
 -- ---- fields that stand one after the other
 
 module _ (ws text : List ℕ) where
-  -- what is left at turn i of the n fields from m on
-  unfoldable pub stand_at : ℕ → ℕ → ℕ → ℕ → Bool
-  stand_at m n at i = stand_from ws text at (rest_from (λ k. k) m n i)
+  -- what is left at field f, of those below `end`
+  unfoldable pub stand_at : ℕ → ℕ → ℕ → Bool
+  stand_at end at f = stand_from ws text at (numbers f (end - f))
 
   pub stand-start : (c at : ℕ) {m n : ℕ} → m ≡ class_first_field ws c → n ≡ list_count (class_first_field ws c) (class_field_count ws c) field_limit
-      → stand_at m n at 0 ≡ stand_from ws text at (own_fields ws c)
+      → stand_at (m + n) at m ≡ stand_from ws text at (own_fields ws c)
   unfolding stand_at own_fields
-  stand-start c at {m = m} {n = n} e f = rw (rest-start (λ (k : ℕ). k) m n, f, e)
+  stand-start c at {m = m} {n = n} e f = let z : m + n - m ≡ n = omega arith in rw (z, f, e)
 
-  module _ (m n at i : ℕ) {b : Bool} (h : i < n) (here : b ≡ (is_static (field_flags ws (m + i)) || eqb (field_index ws (m + i)) at)) where
-    pub stand-stop : b ≡ false → false ≡ stand_at m n at i
-    unfolding stand_at stand_from
-    stand-stop t = rw (rest-turn (λ (k : ℕ). k) m n i h, ← here, t)
+  module _ (end at f : ℕ) {b : Bool} (h : f < end) (here : b ≡ (is_static (field_flags ws f) || eqb (field_index ws f) at)) where
+    more : end - f ≡ suc (end - (f + 1))
+    more = omega arith
 
-    pub stand-turn : {r : ℕ} → b ≡ true → r ≡ add_width ws text at (m + i) → stand_at m n r (i + 1) ≡ stand_at m n at i
-    unfolding stand_at stand_from
-    stand-turn t e = rw (rest-turn (λ (k : ℕ). k) m n i h, ← here, t, e)
+    pub stand-stop : b ≡ false → false ≡ stand_at end at f
+    unfolding stand_at stand_from list_from
+    stand-stop t = rw (more, ← here, t)
 
-  pub stand-end : (m n at i : ℕ) → n ≤ i → true ≡ stand_at m n at i
-  unfolding stand_at stand_from
-  stand-end m n at i h = rw (rest_end (λ (k : ℕ). k) m n i h)
+    pub stand-turn : {r : ℕ} → b ≡ true → r ≡ add_width ws text at f → stand_at end r (f + 1) ≡ stand_at end at f
+    unfolding stand_at stand_from list_from
+    stand-turn t e = rw (more, ← here, t, e)
+
+  pub stand-end : (end at f : ℕ) → end ≤ f → true ≡ stand_at end at f
+  unfolding stand_at stand_from list_from
+  stand-end end at f h = let z : end - f ≡ 0 = omega arith in rw z
 
   -- their indices are then not far above where they start
   stand-index : (m n at i : ℕ) → stand_from ws text at (numbers m n) ≡ true → i < n → is_static (field_flags ws (m + i)) ≡ false
@@ -91,6 +94,16 @@ module _ (ws text : List ℕ) where
       omega arith
 
 -- ---- indices with the base added
+
+-- one index, which stays a word
+module _ (ws : List ℕ) (base f : ℕ) {b : Bool} (static : b ≡ is_static (field_flags ws f)) {i : ℕ} (index : i ≡ field_index ws f) where
+  pub index_static : b ≡ true → i ≡ moved_index ws base f
+  unfolding moved_index
+  index_static t = rw (← static, t, index)
+
+  pub index_moved : b ≡ false → Fits ws base f → (base + i) % 2 ^ 32 ≡ moved_index ws base f
+  unfolding moved_index
+  index_moved t fits = let h = fits (sym static ∙ t) in rw (← static, t, index) (omega arith)
 
 module _ (ws : List ℕ) (base : ℕ) where
   -- what is there after turn i of the n fields from m on, and what is to come

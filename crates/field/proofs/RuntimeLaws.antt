@@ -9,9 +9,8 @@ use Rattle.class_sheet.specs.ClassSheet.{field_descriptor, field_flags, field_in
 use Rattle.linking.proofs.ChainLaws.{chain-none, chain_more}
 use Rattle.linking.specs.Chain.{own_fields, parent_of, chain, is_static}
 use Rattle.linking.specs.Fields.{is_negative, magnitude, field_width, runtime_end, own_runtime, runtime_words}
-use Rattle.field.specs.Numbers.{signed_of}
-use Rattle.field.specs.declared.Signed.{Signed}
-use Rattle.field.specs.declared.Signed.TheVariants.{Nonnegative, Negative}
+use Rattle.field.specs.Numbers.{below_of}
+use Rattle.std.specs.Prelude.{Option, Some, None}
 
 -- a field takes one word or two
 pub width_room : (s : List ℕ) → width s ≤ 2
@@ -21,15 +20,15 @@ width_room s =
 
 -- ---- signed
 
-negative_is : (i m : ℕ) → signed_of i ≡ Negative m → (is_negative i ≡ true) × (m ≡ magnitude i)
+negative_is : (i m : ℕ) → below_of i ≡ Some m → (is_negative i ≡ true) × (m ≡ magnitude i)
 negative_is i m e =
-    by (is_negative i) (λ t. let q : Negative (magnitude i) ≡ Negative m = rw t at e in (t, cc))
-    (λ f. let q : Nonnegative i ≡ Negative m = rw f at e in let o : ◌≡◌ {A = ℕ} 0 1 = cc in absurd (omega arith))
+    by (is_negative i) (λ t. let q : ◌≡◌ {A = Option ℕ} (Some (magnitude i)) (Some m) = rw t at e in (t, cc))
+    (λ f. let q : ◌≡◌ {A = Option ℕ} None (Some m) = rw f at e in let o : ◌≡◌ {A = ℕ} 0 1 = cc in absurd (omega arith))
 
-nonnegative_is : (i m : ℕ) → signed_of i ≡ Nonnegative m → is_negative i ≡ false
-nonnegative_is i m e =
+nonnegative_is : (i : ℕ) → below_of i ≡ None → is_negative i ≡ false
+nonnegative_is i e =
     by (is_negative i)
-    (λ t. let q : Negative (magnitude i) ≡ Nonnegative m = rw t at e in let o : ◌≡◌ {A = ℕ} 0 1 = cc in absurd (omega arith)) (λ f. f)
+    (λ t. let q : ◌≡◌ {A = Option ℕ} (Some (magnitude i)) None = rw t at e in let o : ◌≡◌ {A = ℕ} 0 1 = cc in absurd (omega arith)) (λ f. f)
 
 -- ---- where a field's runtime words end
 
@@ -38,16 +37,16 @@ module _ (ws text : List ℕ) (f : ℕ) {b : Bool} (static : b ≡ is_static (fi
   unfolding runtime_end
   end_static t = rw (← static, t)
 
-  module _ (instance : b ≡ false) {i : ℕ} (index : i ≡ field_index ws f) {s : Signed} (read : s ≡ signed_of i) where
-    pub end_negative : (m : ℕ) {w : ℕ} → s ≡ Negative m → w ≡ field_width ws text f → m - 1 + w ≡ runtime_end ws text f
+  module _ (instance : b ≡ false) {i : ℕ} (index : i ≡ field_index ws f) {s : Option ℕ} (read : s ≡ below_of i) where
+    pub end_negative : (m : ℕ) {w : ℕ} → s ≡ Some m → w ≡ field_width ws text f → m - 1 + w ≡ runtime_end ws text f
     unfolding runtime_end
     end_negative m e g =
         let n = negative_is i m (sym read ∙ e) in
         rw (← static, instance, ← index, n.0, n.1, g)
 
-    pub end_nonnegative : (m : ℕ) → s ≡ Nonnegative m → 0 ≡ runtime_end ws text f
+    pub end_nonnegative : s ≡ None → 0 ≡ runtime_end ws text f
     unfolding runtime_end
-    end_nonnegative m e = rw (← static, instance, ← index, nonnegative_is i m (sym read ∙ e))
+    end_nonnegative e = rw (← static, instance, ← index, nonnegative_is i (sym read ∙ e))
 
 pub runtime-end-room : (ws text : List ℕ) (f : ℕ) → runtime_end ws text f ≤ 2147483649
 unfolding runtime_end

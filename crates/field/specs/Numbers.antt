@@ -1,5 +1,5 @@
 -- What a class's fields come to, as the code has it: their indices and the instance words, or the row that refuses them. Assumes nothing.
-use Rattle.std.specs.Prelude.{◌≡◌, ℕ, ◌+◌, ◌-◌, ◌^◌, ◌<◌, Bool, true, false, cond, not, ◌&&◌, List, [], ◌∷◌, length, replicate, ◌==◌, slice_index, Result, Ok, Err, Option}
+use Rattle.std.specs.Prelude.{◌≡◌, ℕ, ◌+◌, ◌-◌, ◌^◌, ◌<◌, Bool, true, false, cond, not, ◌&&◌, List, [], ◌∷◌, length, replicate, ◌==◌, slice_index, Result, Ok, Err, Option, Some, None}
 use Rattle.abi_sheet.specs.AbiSheet.{abi_field_limit}
 use Rattle.std.specs.Option.{option_and_then}
 use Rattle.class_sheet.specs.ClassSheet.{class_first_field, class_field_count, field_name, field_descriptor, field_flags, field_index, field_limit}
@@ -10,14 +10,12 @@ use Rattle.linking.specs.Set.{overlaid}
 use Rattle.growth.specs.declared.news.Member.{Member}
 use Rattle.refusal.specs.declared.Refusal.{Refusal}
 use Rattle.refusal.specs.Rows.{row}
-use Rattle.field.specs.declared.Signed.{Signed}
-use Rattle.field.specs.declared.Signed.TheVariants.{Nonnegative, Negative}
 use Rattle.field.specs.declared.Counters.{Counters}
 use Rattle.field.specs.declared.Numbered.{Numbered}
 
--- a u32 read as signed: itself, or its magnitude below zero
-abbrev pub signed_of : ℕ → Signed
-signed_of i = cond (is_negative i) (Negative (magnitude i)) (Nonnegative i)
+-- a u32 read as signed: its magnitude where it is below zero
+abbrev pub below_of : ℕ → Option ℕ
+below_of i = cond (is_negative i) (Some (magnitude i)) None
 
 -- the indices given so far, with the counters that the next ones count from
 abbrev pub counting : List ℕ → Counters → Numbering

@@ -10,19 +10,15 @@ ghost use Rattle.class_sheet.specs.ClassSheet.{field_flags, field_index, field_l
 ghost use Rattle.linking.specs.Chain.{on_found, own_fields, chain, is_static};
 ghost use Rattle.linking.specs.Abi.{given_words, fixed_field_index};
 ghost use Rattle.linking.specs.Fields.{below_zero, field_width, instance_words, runtime_end, own_runtime, number_instance, number_field, number_fields, declares_field, added_fields, raised, static_words, stand_from, moved_index, indices_plus};
-ghost use Rattle.field.specs.Numbers.{signed_of, counting, first_numbering, declared_by, own_count, fixed_by, Holds, Fits, Movable, undeclared, Small, members_of, words_from, added_to, by_row, numbering_of, numbered_of, fields_by, add_words, built_fields, generated_fields};
+ghost use Rattle.field.specs.Numbers.{below_of, counting, first_numbering, declared_by, own_count, fixed_by, Holds, Fits, Movable, undeclared, Small, members_of, words_from, added_to, by_row, numbering_of, numbered_of, fields_by, add_words, built_fields, generated_fields};
 ghost use Rattle.linking.specs.Sheets.{of_sheets};
 
 use growth::{Member, News};
 use linking::Sheets;
 use refusal::Refusal;
 
-// A u32 read as signed: a number from zero on, or the magnitude of one below zero.
-#[derive(Clone, Copy)]
-enum Signed {
-    Nonnegative(u32),
-    Negative(u32),
-}
+// Where, among what names a new member, the ABI fields begin: after the methods of the class sheet and the ABI slots.
+const ABI_FIELDS: u32 = class_sheet::METHOD_LIMIT + abi_sheet::SLOT_LIMIT;
 
 // The index given last, and what the next ones count from: static words, runtime words and the running word.
 #[derive(Clone, Copy)]
@@ -41,14 +37,23 @@ pub struct Numbered {
     pub words: u32,
 }
 
-// The u32 as signed: negative from 2^31 on.
-fn as_signed(i: u32) -> Signed
-    ensures { result ≡ signed_of i }
+impl Numbered {
+    // The indices of the class's own fields.
+    pub fn own_indices(&self) -> &[u32]
+        ensures { result.now ≡ take self.now.n self.now.indices }
+    {
+        words::part(&self.indices, 0, self.n as usize)
+    }
+}
+
+// The u32 read as signed: its magnitude where it is below zero, from 2^31 on, and none where it is not.
+fn as_signed(i: u32) -> Option<u32>
+    ensures { result ≡ below_of i }
 {
     if 2147483648 <= i {
-        return Signed::Negative(0u32.wrapping_sub(i));
+        return Some(0u32.wrapping_sub(i));
     }
-    Signed::Nonnegative(i)
+    None
 }
 
 // The negative index that wraps below zero.
@@ -91,8 +96,8 @@ fn runtime_end(ws: &[u32], text: &[u8], f: u32) -> u32
         return 0;
     }
     match as_signed(class_sheet::field_index(ws, f)) {
-        Signed::Negative(m) => m - 1 + field_width(ws, text, f),
-        Signed::Nonnegative(_) => 0,
+        Some(m) => m - 1 + field_width(ws, text, f),
+        None => 0,
     }
 }
 
@@ -364,7 +369,7 @@ fn put_fields(abi: &[u32], gs: &[u32], news: &mut News)
 {
     for g in gs {
         news.push(Member {
-            names: 1024 + *g,
+            names: ABI_FIELDS + *g,
             flags: 2,
             last: abi::fixed_field_index(abi, *g),
         });
@@ -430,28 +435,27 @@ fn stand_from(ws: &[u32], text: &[u8], c: u32, from: u32) -> bool
     ensures { result ≡ stand_from ws.now text.now from (own_fields ws.now c) }
 {
     let first = class_sheet::class_first_field(ws, c);
-    let n = chain::field_count(ws, c);
+    let end = first + chain::field_count(ws, c);
     let mut at: u32 = from;
-    for i in 0..n {
-        if !stands_at(ws, first + i, at) {
+    for f in first..end {
+        if !stands_at(ws, f, at) {
             return false;
         }
-        at = add_words(ws, text, false, at, first + i);
+        at = add_words(ws, text, false, at, f);
     }
     true
 }
 
-// The index of field f, with the base added if it is an instance field.
-#[tactic(auto, unfolding(linking::specs::Fields::moved_index))]
+// The index of field f, with the base added, modulo 2^32, if it is an instance field.
+#[tactic(auto, using(crate::proofs::MovedLaws::index_static, crate::proofs::MovedLaws::index_moved))]
 fn moved_index(ws: &[u32], base: u32, f: u32) -> u32
-    requires { Fits ws.now base f }
-    ensures { result ≡ moved_index ws.now base f }
+    ensures { Fits ws.now base f → result ≡ moved_index ws.now base f }
 {
     let i = class_sheet::field_index(ws, f);
     if is_static(ws, f) {
         return i;
     }
-    base + i
+    base.wrapping_add(i)
 }
 
 // The indices of class c's own fields, with the base added to those of its instance fields.

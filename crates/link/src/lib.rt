@@ -188,9 +188,10 @@ fn link_planned<'a>(
         words: fields.words,
         statics: new_statics(set, text, c),
     };
-    missing::count_class(missing, c, chain::parent_of(set, c), &table);
+    let parent = chain::parent_of(set, c);
+    missing::count_class(missing, c, parent, &table.words, &table.marks, table.len);
     area::write_table(area, c, &table.words, table.len as usize, stubs);
-    let indices = words::part(&fields.indices, 0, fields.n as usize);
+    let indices = fields.own_indices();
     store_link(set, c, linked, indices, text, abi, labels, &news);
     Ok(Answer {
         first: linked.place,

@@ -1,5 +1,5 @@
 -- Laws of the bits of a table: one slot's, their number, and a word of 32. Assumes nothing.
-use mathlib.Core.Path.{◌≡◌, refl, sym, ◌∙◌}
+use mathlib.Core.Path.{◌≡◌, refl, sym, ap, ◌∙◌}
 use mathlib.Core.Bool.{Bool, false}
 use mathlib.Core.List.{List}
 use Prim.Native.Nat.{ℕ, zero, suc, ◌+◌, ◌*◌, ◌-◌, ◌^◌, ◌≤◌, ◌<◌}
@@ -12,8 +12,8 @@ use lib.Pow.{pow_pos}
 use Rattle.linking.specs.Vtable.{Entry, empty}
 use Rattle.linking.specs.Counts.{is_counted, bits_of, bit, bit_count, bits_from}
 use Rattle.linking.proofs.MissingLaws.{length-bits, bits_at, bit-small}
-use Rattle.reading.specs.Arrays.{entries_of}
-use Rattle.reading.proofs.ArrayLaws.{length-entries}
+use Rattle.reading.specs.Arrays.{method_of, source_of, entry_at, entries_of}
+use Rattle.reading.proofs.ArrayLaws.{length-entries, entry_found}
 
 -- ---- the bits of all slots
 
@@ -27,8 +27,12 @@ module _ (f : ℕ → Bool) (ts ms : List ℕ) (n : ℕ) where
   pub bit_past : (i : ℕ) → n ≤ i → false ≡ get_or bits i false
   bit_past i h = let l = bits-length in rw (get_or-eq_default bits false {n = i} (omega arith))
 
-  pub bit_there : (i : ℕ) {e : Entry} {b : Bool} → i < n → e ≡ get_or (entries_of ts ms n) i empty → b ≡ is_counted f e → b ≡ get_or bits i false
-  bit_there i h e b = let l = length-entries ts ms n in b ∙ rw e (sym (bits_at f (entries_of ts ms n) i (omega arith)))
+  pub bit_there : (i : ℕ) {w k : ℕ} {b : Bool} → i < n → w ≡ get_or ts i 0 → k ≡ get_or ms i 0
+      → b ≡ is_counted f (record { word = w; method = method_of k; source = source_of k }) → b ≡ get_or bits i false
+  unfolding entry_at
+  bit_there i h e g b =
+      let l = length-entries ts ms n in
+      b ∙ rw (e, g) (ap (is_counted f) (sym (entry_found ts ms n i empty h)) ∙ sym (bits_at f (entries_of ts ms n) i (omega arith)))
 
 -- ---- their number
 

@@ -3,16 +3,25 @@
 #![tactic(auto)]
 
 ghost use Rattle.std.specs.Prelude.{◌≡◌, ◌+◌, ◌*◌, ◌/◌, ◌%◌, ◌^◌, ◌≤◌, ◌<◌, false, length, get_or, eqb};
-ghost use Rattle.reading.specs.Tables.{entry, entries};
+ghost use Rattle.reading.specs.Tables.{entry};
+ghost use Rattle.reading.specs.Arrays.{entries_of};
 ghost use Rattle.linking.specs.Counts.{missing_at, is_counted, bit, bit_count, bits_from, pack_bits, parent_bit, missing_short};
 ghost use Rattle.linking.specs.Missing.{missing_def};
-ghost use Rattle.missing.specs.Lists.{bits_in, counted, answered};
+ghost use Rattle.missing.specs.Lists.{slot_bits, counted, answered};
 
-use reading::{Slot, Table};
+use reading::Slot;
 use refusal::Refusal;
 
 // How many words of the list are a class's.
 const WIDTH: usize = 33;
+
+// The slots of a table by their words and marks, and how many there are: past a slice's end they are 0.
+#[derive(Clone, Copy)]
+struct Slots<'a> {
+    words: &'a [u32],
+    marks: &'a [u32],
+    n: u32,
+}
 
 // The place of class c's words.
 fn place_of(c: u32) -> usize
@@ -51,70 +60,83 @@ fn is_counted(missing: &[u32], p: u32, slot: Slot) -> bool
 
 // Whether slot i of the table is missing: none is past its end.
 #[tactic(auto, using(crate::proofs::BitLaws::bit_past, crate::proofs::BitLaws::bit_there))]
-fn is_missing<const N: usize>(missing: &[u32], p: u32, table: &Table<N>, i: usize) -> bool
-    ensures { result ≡ get_or (bits_in missing.now p table.now) i false }
+fn is_missing(missing: &[u32], p: u32, slots: Slots, i: usize) -> bool
+    ensures { result ≡ get_or (slot_bits missing.now p slots.entry) i false }
 {
-    i < table.len as usize && is_counted(missing, p, table.slot(i as u32))
+    if slots.n as usize <= i {
+        return false;
+    }
+    let slot = Slot {
+        word: words::get_or(slots.words, i, 0),
+        mark: words::get_or(slots.marks, i, 0),
+    };
+    is_counted(missing, p, slot)
 }
 
 // 1 where slot i of the table is missing, and else 0.
-fn bit_at<const N: usize>(missing: &[u32], p: u32, table: &Table<N>, i: usize) -> u32
-    ensures is { result ≡ bit (get_or (bits_in missing.now p table.now) i false) }
+fn bit_at(missing: &[u32], p: u32, slots: Slots, i: usize) -> u32
+    ensures is { result ≡ bit (get_or (slot_bits missing.now p slots.entry) i false) }
     ensures small { result ≤ 1 }
 {
-    u32::from(is_missing(missing, p, table, i))
+    u32::from(is_missing(missing, p, slots, i))
 }
 
 // How many of its slots are missing.
-fn count_slots<const N: usize>(missing: &[u32], p: u32, table: &Table<N>) -> u32
-    ensures { result ≡ bit_count (bits_in missing.now p table.now) }
+fn count_slots(missing: &[u32], p: u32, slots: Slots) -> u32
+    ensures { result ≡ bit_count (slot_bits missing.now p slots.entry) }
 {
     let mut count: u32 = 0;
-    for i in 0..table.len as usize {
-        count += bit_at(missing, p, table, i);
+    for i in 0..slots.n as usize {
+        count += bit_at(missing, p, slots, i);
     }
     count
 }
 
 // Word k of their bits, the first slot's lowest.
-fn bit_word<const N: usize>(missing: &[u32], p: u32, table: &Table<N>, k: usize) -> u32
+fn bit_word(missing: &[u32], p: u32, slots: Slots, k: usize) -> u32
     requires { k < 32 }
-    ensures { result ≡ bits_from (bits_in missing.now p table.now) (32 * k) 32 }
+    ensures { result ≡ bits_from (slot_bits missing.now p slots.entry) (32 * k) 32 }
 {
     let mut w: u32 = 0;
     for i in (0..32).rev() {
-        w = bit_at(missing, p, table, 32 * k + i) + 2 * w;
+        w = bit_at(missing, p, slots, 32 * k + i) + 2 * w;
     }
     w
 }
 
 // Word j of the class's 33: the count, and then the bits.
 #[tactic(auto, using(crate::proofs::ListLaws::word_first, crate::proofs::ListLaws::word_later))]
-fn packed_word<const N: usize>(missing: &[u32], p: u32, table: &Table<N>, j: usize) -> u32
+fn packed_word(missing: &[u32], p: u32, slots: Slots, j: usize) -> u32
     requires { j < 33 }
-    ensures { result ≡ get_or (pack_bits (bits_in missing.now p table.now)) j 0 }
+    ensures { result ≡ get_or (pack_bits (slot_bits missing.now p slots.entry)) j 0 }
 {
     if j == 0 {
-        return count_slots(missing, p, table);
+        return count_slots(missing, p, slots);
     }
-    bit_word(missing, p, table, j - 1)
+    bit_word(missing, p, slots, j - 1)
 }
 
 // Fills a list of 33 with the words.
-fn pack<const N: usize>(missing: &[u32], p: u32, table: &Table<N>, out: &mut [u32; WIDTH])
-    ensures { out.new ≡ pack_bits (bits_in missing.now p table.now) }
+fn pack(missing: &[u32], p: u32, slots: Slots, out: &mut [u32; WIDTH])
+    ensures { out.new ≡ pack_bits (slot_bits missing.now p slots.entry) }
 {
     for j in 0..WIDTH {
-        out[j] = packed_word(missing, p, table, j);
+        out[j] = packed_word(missing, p, slots, j);
     }
 }
 
-// Writes the words of class c, whose parent is p and whose table this is. Nothing is written into a list that has no room for them.
-pub fn count_class<const N: usize>(missing: &mut [u32], c: u32, p: u32, table: &Table<N>)
-    ensures { missing.new ≡ counted missing.old c p (entries table.now) }
+// Writes the words of class c, whose parent is p and whose table has n slots of these words and marks. Nothing is written into a list that has no
+// room for them.
+pub fn count_class(missing: &mut [u32], c: u32, p: u32, ts: &[u32], ms: &[u32], n: u32)
+    ensures { missing.new ≡ counted missing.old c p (entries_of ts.now ms.now n) }
 {
     let mut own = [0u32; WIDTH];
-    pack(missing, p, table, &mut own);
+    let slots = Slots {
+        words: ts,
+        marks: ms,
+        n,
+    };
+    pack(missing, p, slots, &mut own);
     words::copy(&own, 0, WIDTH, missing, place_of(c));
 }
 

@@ -3,21 +3,21 @@ use Rattle.field.proofs.MovedLaws.{add-room, stand-start, stand-stop, stand-turn
 use Rattle.std.proofs.Common.{◌+◌, ◌∙◌, arith}
 use Rattle.field.proofs.stand_from.Goals as goal
 
-pub loop-i-init : goal.loop-i-init
-loop-i-init c = record { small = omega arith; rest = search stand-start }
+pub loop-f-init : goal.loop-f-init
+loop-f-init c = record { small = omega arith; rest = search stand-start }
 
 pub returns-then-not-stands_at : goal.returns-then-not-stands_at
 returns-then-not-stands_at c =
-    stand-stop _ _ _ _ _ _ c.loop-i-test.true c.stands_at.ensures c.if-not-stands_at.true ∙ c.loop-i.invariant.rest
+    stand-stop _ _ _ _ _ c.loop-f-test.true c.stands_at.ensures c.if-not-stands_at.true ∙ c.loop-f.invariant.rest
 
-pub loop-i-preserved : goal.loop-i-preserved
-loop-i-preserved c =
-    let grows = add-room c.args.ws.now c.args.text.now c.loop-i.at (c.class_first_field-first.result + c.loop-i.i) in
+pub loop-f-preserved : goal.loop-f-preserved
+loop-f-preserved c =
+    let grows = add-room c.args.ws.now c.args.text.now c.loop-f.at c.loop-f.f in
     record {
       small = omega (arith, grows, c.add_words-at.ensures);
-      rest = stand-turn _ _ _ _ _ _ c.loop-i-test.true c.stands_at.ensures c.if-not-stands_at.false (omega (arith, grows, c.add_words-at.ensures))
-          ∙ c.loop-i.invariant.rest;
+      rest = stand-turn _ _ _ _ _ c.loop-f-test.true c.stands_at.ensures c.if-not-stands_at.false (omega (arith, grows, c.add_words-at.ensures))
+          ∙ c.loop-f.invariant.rest;
     }
 
 pub returns : goal.returns
-returns c = stand-end _ _ _ _ _ _ c.loop-i-test.false ∙ c.loop-i.invariant.rest
+returns c = stand-end _ _ _ _ _ c.loop-f-test.false ∙ c.loop-f.invariant.rest

@@ -1,7 +1,7 @@
 -- Rows 8 to 15 refuse, or the effect is of the plan, its table and its new members. Assumes nothing.
-use Rattle.std.proofs.Common.{refl, rules}
+use Rattle.std.proofs.Common.{rules}
 use Rattle.std.proofs.lemmas.Result.{err_from_is_err_and}
-use Rattle.link.proofs.PlannedLaws.{indices-lent, link-finished}
+use Rattle.link.proofs.PlannedLaws.{link-finished}
 use Rattle.link.proofs.link_planned.Goals as goal
 
 pub returns-in_err-fields : goal.returns-in_err-fields
@@ -13,5 +13,5 @@ pub returns : goal.returns
 returns c =
     let e = c.in_ok-fields.ensures in
     link-finished _ _ _ _ _ _ _ _ c.requires _ _ _ _ _ e.planned e.room
-    (indices-lent _ refl c.part-indices.ensures) c.parent_of.ensures c.count_class.ensures c.get_or.ensures c.write_table.ensures
+    c.own_indices-indices.ensures c.parent_of-parent.ensures c.count_class.ensures c.get_or.ensures c.write_table.ensures
     c.new_statics.ensures c.store_link.ensures

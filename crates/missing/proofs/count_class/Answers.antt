@@ -3,4 +3,4 @@ use Rattle.missing.proofs.ListLaws.{class_put}
 use Rattle.missing.proofs.count_class.Goals as goal
 
 pub returns : goal.returns
-returns g c = class_put _ _ _ _ c.pack.ensures c.place_of.ensures.is c.copy.ensures
+returns c = class_put _ _ _ _ c.pack.ensures c.place_of.ensures.is c.copy.ensures

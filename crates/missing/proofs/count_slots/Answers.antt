@@ -5,18 +5,13 @@ use Rattle.missing.proofs.BitLaws.{bits-length, count-start, count_turn, count-e
 use Rattle.missing.proofs.count_slots.Goals as goal
 
 pub loop-i-init : goal.loop-i-init
-loop-i-init g c = record { small = omega arith; whole = count-start _ }
+loop-i-init c = record { small = omega arith; whole = count-start _ }
 
 pub loop-i-preserved : goal.loop-i-preserved
-loop-i-preserved g c =
-    let t = c.args.table.now in
-    let many = bits-length (parent_bit c.args.missing.now c.args.p) t.words t.marks t.len in record {
-      small = omega arith;
-      whole = count_turn _ c.loop-i.i c.loop-i.count (omega (arith, many)) c.bit_at-count.ensures.is c.loop-i.invariant.whole;
-    }
+loop-i-preserved c = record {
+  small = omega arith;
+  whole = count_turn _ c.loop-i.i c.loop-i.count (omega (arith, bits-length (parent_bit c.args.missing.now c.args.p) c.args.slots.words.now c.args.slots.marks.now c.args.slots.n)) c.bit_at-count.ensures.is c.loop-i.invariant.whole;
+}
 
 pub returns : goal.returns
-returns g c =
-    let t = c.args.table.now in
-    let many = bits-length (parent_bit c.args.missing.now c.args.p) t.words t.marks t.len in
-    count-end _ c.loop-i.i c.loop-i.count (omega (arith, many)) c.loop-i.invariant.whole
+returns c = count-end _ c.loop-i.i c.loop-i.count (omega (arith, bits-length (parent_bit c.args.missing.now c.args.p) c.args.slots.words.now c.args.slots.marks.now c.args.slots.n)) c.loop-i.invariant.whole

@@ -1,11 +1,11 @@
 -- What is counted and what is left to count make the whole. Assumes nothing.
 use Rattle.std.proofs.Common.{◌≡◌, ◌+◌, ◌≤◌, drop}
 use Rattle.linking.specs.Counts.{bit_count}
-use Rattle.missing.specs.Lists.{bits_in}
+use Rattle.missing.specs.Lists.{slot_bits}
 use Rattle.missing.proofs.count_slots.Given as goal
 
 abbrev pub invariant-loop-i : goal.invariant-loop-i
-invariant-loop-i g l = record {
+invariant-loop-i l = record {
   small : l.count ≤ l.i;
-  whole : l.count + bit_count (drop l.i (bits_in l.missing l.p l.table)) ≡ bit_count (bits_in l.missing l.p l.table);
+  whole : l.count + bit_count (drop l.i (slot_bits l.missing l.p l.slots)) ≡ bit_count (slot_bits l.missing l.p l.slots);
 }
