@@ -143,7 +143,10 @@ pub fn part_clean(text: &[u8], clean: bool, start: u32, len: u32) -> bool
     if len < 1 || 255 < len || text.len() < start as usize + len as usize {
         return false;
     }
-    clean || is_printable(name_at(text, start, len))
+    if clean {
+        return true;
+    }
+    is_printable(name_at(text, start, len))
 }
 
 // Whether a name and a descriptor are in order, whose starts and lengths are the four words from `at` on. Where the last of these is not
