@@ -104,6 +104,12 @@ class_at bs i = tagged_at bs 7 i >>= (λ p. utf8_at bs (u2 bs (p + 1)))
 -- is read."
 
 -- a reference at p, looked up once it has been taken
+unfoldable pub after_reference : List ℕ → (ℕ → Step) → ℕ → Step
+after_reference bs look_up p = do
+  q ← taken bs p 2
+  found ← look_up (u2 bs p)
+  Ok q
+
 unfoldable pub after_name : List ℕ → ℕ → Step
 after_name bs p = do
   q ← taken bs p 2

@@ -2,7 +2,7 @@
 #![tactic(auto)]
 
 ghost use Rattle.std.specs.Prelude.{◌≡◌, ◌+◌, ◌<◌, get_or, ℕ};
-ghost use Rattle.class_form.specs.Form.{Step, u2, u4, taken, is_tag, is_wide, places, body_size, tag_ok, after_constant, after_constants, pool_count, constant_from, utf8_at, class_at, after_name, after_class, after_parent, after_interfaces, after_attribute, after_counted, after_attributes, after_member, after_members, after_head, version_ok};
+ghost use Rattle.class_form.specs.Form.{Step, u2, u4, taken, is_tag, is_wide, places, body_size, tag_ok, after_constant, after_constants, pool_count, constant_from, utf8_at, class_at, after_reference, after_parent, after_interfaces, after_attribute, after_counted, after_attributes, after_member, after_members, after_head, version_ok};
 ghost use Rattle.class_form.specs.Marks.{marked, marks_from, pool_marks, constant_near, tagged_near, utf8_near, class_near, Near};
 ghost use Rattle.class_form.specs.Parts.{class_of, file_of, form_of, ended, member_at};
 
@@ -314,35 +314,30 @@ pub fn class_at(pool: Pool, i: u32) -> Result<usize, Refusal>
 
 // ---- the items after the pool
 
-// A reference to a Utf8 at p, looked up once it has been taken.
-#[tactic(auto, unfolding(crate::specs::Form::after_name))]
-fn after_name(pool: Pool, p: usize) -> Result<usize, Refusal>
-    ensures { result ≡ after_name pool.entry.bytes.now p }
+// A reference at p, looked up once it has been taken.
+#[tactic(auto, unfolding(crate::specs::Form::after_reference))]
+fn after_reference<F: Fn(Pool, u32) -> Result<usize, Refusal>>(
+    pool: Pool,
+    p: usize,
+    look_up: F,
+) -> Result<usize, Refusal>
+    requires { F.IsAlwaysCallable look_up }
+    ensures { (at : ℕ → Step) → ((i : ℕ) (r : Step) → F.post look_up pool.entry i r → r ≡ at i) → result ≡ after_reference pool.entry.bytes.now at p }
 {
     let q = take(pool.bytes, p, 2)?;
-    utf8_at(pool, u2(pool.bytes, p))?;
-    Ok(q)
-}
-
-// A reference to a Class at p, likewise.
-#[tactic(auto, unfolding(crate::specs::Form::after_class))]
-fn after_class(pool: Pool, p: usize) -> Result<usize, Refusal>
-    ensures { result ≡ after_class pool.entry.bytes.now p }
-{
-    let q = take(pool.bytes, p, 2)?;
-    class_at(pool, u2(pool.bytes, p))?;
+    look_up(pool, u2(pool.bytes, p))?;
     Ok(q)
 }
 
 // The parent's reference: 0, or a Class.
-#[tactic(auto, unfolding(crate::specs::Form::after_parent))]
+#[tactic(auto, unfolding(crate::specs::Form::after_parent, crate::specs::Form::after_class, crate::specs::Form::after_reference))]
 fn after_parent(pool: Pool, p: usize) -> Result<usize, Refusal>
     ensures { result ≡ after_parent pool.entry.bytes.now p }
 {
     if u2(pool.bytes, p) == 0 {
         return take(pool.bytes, p, 2);
     }
-    after_class(pool, p)
+    after_reference(pool, p, class_at)
 }
 
 // The interfaces, which are not looked up.
@@ -389,13 +384,13 @@ fn after_attributes(bytes: &[u8], p: usize) -> Result<usize, Refusal>
 }
 
 // A member: access flags, name, descriptor, attributes.
-#[tactic(auto, unfolding(crate::specs::Form::after_member))]
+#[tactic(auto, unfolding(crate::specs::Form::after_member, crate::specs::Form::after_name, crate::specs::Form::after_reference))]
 fn after_member(pool: Pool, p: usize) -> Result<usize, Refusal>
     ensures { result ≡ after_member pool.entry.bytes.now p }
 {
     let name = take(pool.bytes, p, 2)?;
-    let descriptor = after_name(pool, name)?;
-    let attributes = after_name(pool, descriptor)?;
+    let descriptor = after_reference(pool, name, utf8_at)?;
+    let attributes = after_reference(pool, descriptor, utf8_at)?;
     after_attributes(pool.bytes, attributes)
 }
 
@@ -408,12 +403,12 @@ fn after_members(pool: Pool, p: usize) -> Result<usize, Refusal>
 }
 
 // Access flags, this class, its parent and the interfaces.
-#[tactic(auto, unfolding(crate::specs::Form::after_head))]
+#[tactic(auto, unfolding(crate::specs::Form::after_head, crate::specs::Form::after_class, crate::specs::Form::after_reference))]
 fn after_head(pool: Pool, p: usize) -> Result<usize, Refusal>
     ensures { result ≡ after_head pool.entry.bytes.now p }
 {
     let class = take(pool.bytes, p, 2)?;
-    let parent = after_class(pool, class)?;
+    let parent = after_reference(pool, class, class_at)?;
     let interfaces = after_parent(pool, parent)?;
     after_interfaces(pool.bytes, interfaces)
 }

@@ -90,7 +90,8 @@ module _ (a n : ℕ) where
   find_along p e None l h = none_found p a n (λ k m. each_number (λ y. y < e → false ≡ p y) h k m (l k m))
   find_along p e (Some x) l h =
       let s = some_number (λ y. y ≡ x) h.1 h.2 h.3 in
-      let b = λ (k : ℕ) (m : k < h.1). subst (λ y. y < e → false ≡ p y) (get_or-range_with_len a n k 0 (omega arith)) (h.4 k 0 (omega arith) m) (l k (omega (arith, s.0))) in
+      let b = λ (k : ℕ) (m : k < h.1).
+      subst (λ y. y < e → false ≡ p y) (get_or-range_with_len a n k 0 (omega arith)) (h.4 k 0 (omega arith) m) (l k (omega (arith, s.0))) in
       ap Some (sym s.1) ∙ one_found p a n h.1 s.0 (rw (← s.1) at (h.0 (rw s.1 at (l h.1 s.0)))) b
 
   -- `any`

@@ -9,4 +9,5 @@ returns g c = λ p n e h.
     let a = c.args in
     find_along a.first n p a.end c.find.result (λ k l. omega arith)
     (first_from_find _ _ c.find.result (λ y. y < a.end → true ≡ p y) (λ y. y < a.end → false ≡ p y) c.find.ensures.ran
-    (YieldsList-from_range a.first a.end n refl (omega arith)) (λ x q k l. h x true l (search rules)) (λ x q k. (search rules, λ l. h x false l (search rules))))
+    (YieldsList-from_range a.first a.end n refl (omega arith))
+    (λ x q k l. h x true l (search rules)) (λ x q k. (search rules, λ l. h x false l (search rules))))
