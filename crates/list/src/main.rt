@@ -17,7 +17,7 @@ const SHEET_BYTES: usize = 512 * (class_sheet::BLOCK_LIMIT as usize + 1);
 // More than the longest listing has (crates/listing/proofs/Longest.antt).
 const LISTING_BYTES: usize = 2228224;
 
-// Room for a listing. It is made in a function of its own: in one that has goals an array of so many bytes makes the check run out of stack.
+// Room for a listing. It is made in a function of its own: where the array stands in `list_folder`, which has goals, the check had not ended after 110 seconds.
 fn listing_bytes() -> [u8; LISTING_BYTES]
     ensures { LISTING_BYTES ≡ length result }
 {

@@ -52,12 +52,7 @@ fn stub_words() -> [u32; STUB_WORDS]
 }
 
 // Links as many classes as there are places for why one was refused, from class 1 on, each in what the link before it left.
-fn link_classes(
-    memory: &mut Memory,
-    abi: &[u32],
-    stubs: &[u32],
-    refusals: &mut [Option<Refusal>],
-)
+fn link_classes(memory: &mut Memory, abi: &[u32], stubs: &[u32], refusals: &mut [Option<Refusal>])
     requires { length refusals.old ≤ class_limit }
     ensures { links (map link_row refusals.new) memory.new.set memory.new.area memory.new.missing
         ≡ link_all abi.now stubs.now (length refusals.old) 1 memory.old.set memory.old.area memory.old.missing }
@@ -94,13 +89,7 @@ fn put_class(
 }
 
 // Puts the text of each class from class 1 on, by why its link was refused. Each word that is read is below 2^32, as its type has it.
-fn put_classes(
-    set: &[u32],
-    abi: &[u32],
-    area: &[u32],
-    refusals: &[Option<Refusal>],
-    out: &mut Out,
-)
+fn put_classes(set: &[u32], abi: &[u32], area: &[u32], refusals: &[Option<Refusal>], out: &mut Out)
     requires { length refusals.now ≤ class_limit }
     ensures lines { Puts out.old out.new (class_texts set.now abi.now area.now 1 (map link_row refusals.now)) }
     ensures small { Small set.now × Small area.now }

@@ -1,4 +1,4 @@
--- The calls that are left, made from the state so far on, leave and answer what all of them do; their words are those that the chunks have left. Assumes nothing.
+-- The calls that are left, made from the state so far on, leave and answer what all of them do; the chunks have the words of those. Assumes nothing.
 use Rattle.std.proofs.Common.{◌≡◌, ◌*◌, drop}
 use Rattle.std.specs.Slice.Iter.{chunks_exact_rest, chunks_exact_size}
 use Rattle.std.specs.Iterator.Adapters.{enumerate_source, enumerate_count}
