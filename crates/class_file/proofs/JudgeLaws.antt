@@ -1,5 +1,5 @@
 -- Rows 4, 5 and 14 of the whole: the walk over the parts of a file in form gives the file's refusal, or its six words. Assumes nothing.
-use mathlib.Core.Path.{◌≡◌, refl, ap, ◌∙◌, subst}
+use mathlib.Core.Path.{◌≡◌, refl, ap, ◌∙◌}
 use mathlib.Core.Bool.{Bool, true, false, cond, not, ◌&&◌, ◌||◌}
 use mathlib.Core.List.{List, []}
 use Prim.Native.Nat.{ℕ, ◌+◌}
@@ -20,9 +20,8 @@ use Rattle.class_form.specs.declared.Places.{Places}
 use Rattle.class_form.specs.Form.{◌>>=◌, u2, form_refusal}
 use Rattle.class_members.specs.declared.FileHead.{FileHead}
 use Rattle.class_members.specs.Members.{member_places, field_places, method_places, class_bytes, file_flags, file_name, parent_index, file_parent, members_at, file_fields, file_methods, file_text, string_ok, field_ok, method_ok, every, names_ok, descriptors_ok, sheet_holds, file_refusal, file_outcome, class_file_head}
-use Rattle.class_members.proofs.Answers.{answer_unique, head_tells}
 use Rattle.class_file.proofs.Laws.{length_members}
-use Rattle.class_file.specs.Walk.{row_five, tally, parent_of, head_read, Parted}
+use Rattle.class_file.specs.Walk.{row_five, tally, parent_of, head_walked, Parted}
 
 -- ---- a file's parts, by their places
 
@@ -31,7 +30,7 @@ module _ (bs : List ℕ) (at : Places) (parted : Parted bs at) where
   unfolding file_name
   name_is = rw parted.head_is
 
-  index_is : parent_index bs ≡ u2 bs (at.head + 4)
+  pub index_is : parent_index bs ≡ u2 bs (at.head + 4)
   unfolding parent_index
   index_is = rw parted.head_is
 
@@ -149,14 +148,10 @@ module _ (bs : List ℕ) where
       (λ b. rw (a, b, form, a, b)))
       (λ a. rw (a, form, a))
 
-pub head_is : (bs : List ℕ) (at : Places) → Parted bs at → Judges bs (head_read bs at)
-unfolding head_read
+pub head_is : (bs : List ℕ) (at : Places) → Parted bs at → Judges bs (head_walked bs at)
+unfolding head_walked
 head_is bs at parted =
     rw (
-      ← (name_is bs at parted),
-      ← (parent_is bs at parted),
-      ← (index_is bs at parted),
-      ← (flags_are bs at parted),
       ← (fields_are bs at parted),
       ← (methods_are bs at parted []),
     )
@@ -167,10 +162,9 @@ unfolding class_file_head words_of
 judged_outcome bs (Ok h) e = rw (e.0, e.1)
 judged_outcome bs (Err r) e = let n = row_above r in rw (e, ne_eqb (row r) 0 (λ z. omega arith))
 
-pub head_outcome : (bs : List ℕ) (at : Places) → Parted bs at → file_outcome (head_read bs at) [] [] [] ≡ class_file_head bs
-head_outcome bs at parted = judged_outcome bs (head_read bs at) (head_is bs at parted)
+pub head_outcome : (bs : List ℕ) (at : Places) → Parted bs at → file_outcome (head_walked bs at) [] [] [] ≡ class_file_head bs
+head_outcome bs at parted = judged_outcome bs (head_walked bs at) (head_is bs at parted)
 
--- an answer with that outcome is the rows'
-pub head_told : (bs : List ℕ) (at : Places) → Parted bs at → (r : Result FileHead Refusal) → file_outcome r [] [] [] ≡ class_file_head bs → Judges bs r
-head_told bs at parted r e =
-    subst (Judges bs) (answer_unique (head_read bs at) r [] [] [] [] [] [] (head_tells bs) (head_outcome bs at parted) e) (head_is bs at parted)
+-- what the walk answers is the rows' answer
+pub head_told : (bs : List ℕ) (at : Places) → Parted bs at → {r : Result FileHead Refusal} → r ≡ head_walked bs at → Judges bs r
+head_told bs at parted e = rw e (head_is bs at parted)

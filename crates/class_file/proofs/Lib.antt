@@ -1,4 +1,3 @@
-pub mod Head
 pub mod JudgeLaws
 pub mod Laws
 pub mod ReadLaws

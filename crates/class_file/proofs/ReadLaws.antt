@@ -23,7 +23,7 @@ use Rattle.class_members.specs.declared.FileHead.{FileHead}
 use Rattle.class_members.specs.Members.{head_place, fields_place, methods_place, file_name, file_parent, file_fields, file_methods, file_text, sheet_holds, lists_hold, file_refusal, read_refusal, refused_by, file_outcome, fields_start, methods_start, read_class_file, class_file_head}
 use Rattle.class_members.proofs.Targets.{refusal-same, methods-length, text_same}
 use Rattle.class_members.proofs.SheetForm.{file-passed}
-use Rattle.class_file.specs.Walk.{holds, head_read, Parted, Fits}
+use Rattle.class_file.specs.Walk.{holds, head_walked, Parted, Fits}
 use Rattle.class_file.proofs.JudgeLaws.{fields_are, methods_are, fields_counted, methods_counted, words_of, Judges, head_is, judged_outcome}
 
 -- ---- the lists
@@ -97,10 +97,10 @@ module _ (bs : List ℕ) where
     read_by_form {r} e = by_row r (form_told e)
 
     module _ (at : Places) (parted : Parted bs at) where
-      pub read_refused : {r : Refusal} → head_read bs at ≡ Err r → refused_by (row r) fields methods text ≡ read_class_file bs targets fields methods text
+      pub read_refused : {r : Refusal} → head_walked bs at ≡ Err r → refused_by (row r) fields methods text ≡ read_class_file bs targets fields methods text
       read_refused {r} e = by_row r (subst (Judges bs) e (head_is bs at parted))
 
-      module _ {h : FileHead} (e : head_read bs at ≡ Ok h) where
+      module _ {h : FileHead} (e : head_walked bs at ≡ Ok h) where
         told : Judges bs (Ok h)
         told = subst (Judges bs) e (head_is bs at parted)
 

@@ -9,7 +9,7 @@ use Rattle.linking.specs.Set.{new_text}
 use Rattle.class_form.specs.declared.Places.{Places}
 use Rattle.class_form.specs.Form.{◌>>=◌, u2, form_refusal}
 use Rattle.class_members.specs.declared.FileHead.{FileHead}
-use Rattle.class_members.specs.Members.{head_place, fields_place, methods_place, member_places, class_bytes, members_at, file_fields, file_methods, file_text, string_ok, field_ok, method_ok, field_typed, method_typed, every}
+use Rattle.class_members.specs.Members.{head_place, fields_place, methods_place, member_places, class_bytes, file_flags, file_name, parent_index, file_parent, members_at, file_fields, file_methods, file_text, string_ok, field_ok, method_ok, field_typed, method_typed, every}
 use Rattle.class_file.specs.declared.Tally.{Tally}
 
 -- ---- rows 4 and 5 of a method, or else of a field
@@ -35,17 +35,16 @@ parent_of bs i = cond (eqb i 0) [] (class_bytes bs i)
 
 -- ---- the six words of a file whose parts stand at these places, by its rows 4, 5 and 14
 
-unfoldable pub head_read : List ℕ → Places → Result FileHead Refusal
-head_read bs at = do
-  let name : List ℕ = class_bytes bs (u2 bs (at.head + 2))
-  let index : ℕ = u2 bs (at.head + 4)
-  let parent : List ℕ = parent_of bs index
-  f ← cond (string_ok name && (eqb index 0 || string_ok parent)) (tally false (members_at bs [] 0 (member_places bs at.fields))) (Err Record)
+unfoldable pub head_walked : List ℕ → Places → Result FileHead Refusal
+head_walked bs at = do
+  let name : List ℕ = file_name bs
+  let parent : List ℕ = file_parent bs
+  f ← cond (string_ok name && (eqb (parent_index bs) 0 || string_ok parent)) (tally false (members_at bs [] 0 (member_places bs at.fields))) (Err Record)
   m ← tally true (members_at bs [] 0 (member_places bs at.methods))
   let text : ℕ = length name + length parent + (f.text + m.text)
   cond (not (f.typed && m.typed)) (Err Descriptor)
       (cond (ltb field_limit f.members || ltb method_limit m.members || ltb text_limit text) (Err FullLists)
-      (Ok (record { name = length name; parent = length parent; flags = u2 bs at.head; fields = f.members; methods = m.members; text = text })))
+      (Ok (record { name = length name; parent = length parent; flags = file_flags bs; fields = f.members; methods = m.members; text = text })))
 
 -- ---- row 14 by the lists, of so many fields, methods and text bytes
 

@@ -5,10 +5,10 @@
 ghost use Rattle.std.specs.Prelude.{◌≡◌, ◌+◌, ◌<◌, ◌≤◌, ◌*◌, ◌^◌, [], ◌++◌, length, ◌&&◌, ◌||◌, eqb, ℕ, IfOk, IfErr, Err};
 ghost use Rattle.linking.specs.Set.{write_at, new_records, new_text, packed, overlaid};
 ghost use Rattle.class_form.specs.Parts.{form_of, member_at};
-ghost use Rattle.class_members.specs.Members.{string_at, utf8_bytes, class_bytes, file_name, file_parent, file_text, file_fields, file_methods, members_at, member_places, string_ok, file_outcome, fields_start, methods_start, class_file_head, read_class_file};
+ghost use Rattle.class_members.specs.Members.{string_at, utf8_bytes, class_bytes, file_flags, file_name, file_parent, parent_index, file_text, file_fields, file_methods, members_at, member_places, string_ok, file_outcome, fields_start, methods_start, class_file_head, read_class_file};
 ghost use Rattle.class_sheet.specs.ClassSheet.{text_limit};
 ghost use Rattle.class_file.specs.InForm.{InForm};
-ghost use Rattle.class_file.specs.Walk.{row_four, row_five, tally, member_of, parent_of, head_read, holds, Parted, Room, Fits};
+ghost use Rattle.class_file.specs.Walk.{row_four, row_five, tally, member_of, parent_of, head_walked, holds, Parted, Room, Fits};
 
 use class_form::{MARKS, Mark, Places, Pool};
 use class_members::FileHead;
@@ -21,7 +21,7 @@ const TEXT_LIMIT: usize = class_sheet::TEXT_LIMIT as usize;
 // ---- strings
 
 // The bytes of the Utf8 constant whose tag was found, none where it was not.
-fn string_at(bytes: &[u8], found: Result<usize, Refusal>) -> &[u8]
+pub fn string_at(bytes: &[u8], found: Result<usize, Refusal>) -> &[u8]
     ensures is { result.now ≡ string_at bytes.now found }
     ensures small { length result.now < 65536 }
 {
@@ -168,16 +168,54 @@ pub struct File<'a> {
     pub ghost parted: { Parted pool.bytes.now places },
 }
 
-// The six words of a file, or the row of 4, 5 and 14 that refuses it.
-#[tactic(auto, unfolding(crate::specs::Walk::head_read))]
-fn head_read(file: File) -> Result<FileHead, Refusal>
-    ensures { result ≡ head_read file.entry.pool.bytes.now file.entry.places }
+impl<'a> File<'a> {
+    // The class's name.
+    #[tactic(auto, using(crate::proofs::JudgeLaws::name_is))]
+    pub fn name(self) -> &'a [u8]
+        ensures is { result.now ≡ file_name self.entry.pool.bytes.now }
+        ensures small { length result.now < 65536 }
+    {
+        class_bytes(
+            self.pool,
+            class_form::u2_after(self.pool.bytes, self.places.head, 2),
+        )
+    }
+
+    // The reference to the parent, 0 where there is none.
+    #[tactic(auto, using(crate::proofs::JudgeLaws::index_is))]
+    fn parent_index(self) -> u32
+        ensures { result ≡ parent_index self.entry.pool.bytes.now }
+    {
+        class_form::u2_after(self.pool.bytes, self.places.head, 4)
+    }
+
+    // The parent's name, none where there is no parent.
+    #[tactic(auto, unfolding(crate::specs::Walk::parent_of, class_members::specs::Members::file_parent))]
+    pub fn parent(self) -> &'a [u8]
+        ensures is { result.now ≡ file_parent self.entry.pool.bytes.now }
+        ensures small { length result.now < 65536 }
+    {
+        parent_bytes(self.pool, self.parent_index())
+    }
+
+    // The class's access flags.
+    #[tactic(auto, using(crate::proofs::JudgeLaws::flags_are))]
+    pub fn flags(self) -> u32
+        ensures { result ≡ file_flags self.entry.pool.bytes.now }
+    {
+        class_form::u2(self.pool.bytes, self.places.head)
+    }
+}
+
+// The six words of a file in form, or the row of 4, 5 and 14 that refuses it.
+#[tactic(auto, unfolding(crate::specs::Walk::head_walked))]
+pub fn file_head(file: File) -> Result<FileHead, Refusal>
+    ensures { result ≡ head_walked file.entry.pool.bytes.now file.entry.places }
 {
-    let bytes = file.pool.bytes;
     let at = file.places;
-    let name = class_bytes(file.pool, class_form::u2_after(bytes, at.head, 2));
-    let index = class_form::u2_after(bytes, at.head, 4);
-    let parent = parent_bytes(file.pool, index);
+    let name = file.name();
+    let index = file.parent_index();
+    let parent = file.parent();
     if !(string_ok(name) & ((index == 0) | string_ok(parent))) {
         return Err(Refusal::Record);
     }
@@ -196,7 +234,7 @@ fn head_read(file: File) -> Result<FileHead, Refusal>
     Ok(FileHead {
         name: name.len() as u32,
         parent: parent.len() as u32,
-        flags: class_form::u2(bytes, at.head),
+        flags: file.flags(),
         fields: f.members,
         methods: m.members,
         text: text as u32,
@@ -210,7 +248,7 @@ fn lists_hold(h: FileHead, targets: usize, fields: usize, methods: usize, text: 
 {
     (MEMBER_WIDTH * (h.fields as usize) <= fields)
         & (MEMBER_WIDTH * (h.methods as usize) <= methods)
-        & (((h.text as usize) + 3) / 4 <= text)
+        & ((h.text as usize).div_ceil(4) <= text)
         & (targets == (h.methods as usize))
 }
 
@@ -253,17 +291,13 @@ fn put_members(
 }
 
 // The class's and the parent's name at the front of the text; answers where they end.
-#[tactic(auto, using(crate::proofs::Head::name_is, crate::proofs::Head::parent_is, crate::proofs::Head::fields_start_is, crate::proofs::Head::strings_put, crate::proofs::Head::strings_next))]
+#[tactic(auto, using(crate::proofs::ReadLaws::fields_start_is, growth::proofs::GrowthLaws::strings_put))]
 fn put_head(text: &mut [u8], file: File) -> usize
     requires { (fields_start file.pool.bytes.now ≤ length text.old) × (length text.old ≤ text_limit) }
     ensures is { text.new ≡ write_at text.old 0 (file_name file.entry.pool.bytes.now ++ file_parent file.entry.pool.bytes.now) }
     ensures end { result ≡ fields_start file.entry.pool.bytes.now }
 {
-    let bytes = file.pool.bytes;
-    let head = file.places.head;
-    let name = class_bytes(file.pool, class_form::u2_after(bytes, head, 2));
-    let parent = parent_bytes(file.pool, class_form::u2_after(bytes, head, 4));
-    growth::put_strings(text, 0, name, parent)
+    growth::put_strings(text, 0, file.name(), file.parent())
 }
 
 // The three lists, of a file that no row refuses.
@@ -297,14 +331,6 @@ fn write_lists(
 
 // ---- the entries
 
-// The six words of a file in form, or the row of 4, 5 and 14 that refuses it.
-#[tactic(auto, using(crate::proofs::JudgeLaws::head_outcome))]
-pub fn file_head(file: File) -> Result<FileHead, Refusal>
-    ensures { file_outcome result [] [] [] ≡ class_file_head file.entry.pool.bytes.now }
-{
-    head_read(file)
-}
-
 // A file whose form is accepted, with the marks of its pool in the array lent for them.
 #[tactic(auto, using(crate::proofs::ReadLaws::read_steps))]
 pub fn in_form<'a>(bytes: &'a [u8], marks: &'a mut [Mark; MARKS]) -> Result<File<'a>, Refusal>
@@ -320,7 +346,7 @@ pub fn in_form<'a>(bytes: &'a [u8], marks: &'a mut [Mark; MARKS]) -> Result<File
 }
 
 // The six words alone, for a caller that has yet to lend lists (the program's choice): every row but 14 by the lists and targets.
-#[tactic(auto, using(class_form::proofs::PartLaws::form_near, crate::proofs::ReadLaws::form_parted, crate::proofs::ReadLaws::head_by_form))]
+#[tactic(auto, using(class_form::proofs::PartLaws::form_near, crate::proofs::ReadLaws::form_parted, crate::proofs::ReadLaws::head_by_form, crate::proofs::JudgeLaws::head_outcome))]
 pub fn class_file_head(bytes: &[u8]) -> Result<FileHead, Refusal>
     ensures { file_outcome result [] [] [] ≡ class_file_head bytes.now }
 {
@@ -343,7 +369,7 @@ pub fn read_class_file(
 {
     let mut marks = class_form::NO_MARKS;
     let file = in_form(bytes, &mut marks)?;
-    let head = head_read(file)?;
+    let head = file_head(file)?;
     if !lists_hold(head, targets.len(), fields.len(), methods.len(), text.len()) {
         return Err(Refusal::FullLists);
     }

@@ -150,8 +150,8 @@ widen-rest bs out z e g = g ∙ rw (e, ← z)
 -- ---- back, of words that a reading accepted
 
 module _ (ws : List ℕ) (form : class_form ws ≡ true) where
-  pub form-text : text_length ws ≤ 8192
-  form-text = (class.formed ws form).text
+  pub form_text : text_length ws ≤ 8192
+  form_text = (class.formed ws form).text
 
   pub form-end : content_end ws ≤ length ws
   unfolding class_form least_fit

@@ -5,7 +5,7 @@
 ghost use Rattle.std.specs.Prelude.{◌≡◌, ◌+◌, ◌*◌, ◌^◌, ◌≤◌, ◌<◌, length, true};
 ghost use Rattle.refusal.specs.Rows.{row_of};
 ghost use Rattle.words.specs.Folds.{all_of, stores};
-ghost use Rattle.class_sheet.specs.ClassSheet.{text_length, class_count, content_end, text_of};
+ghost use Rattle.class_sheet.specs.ClassSheet.{text_limit, text_length, class_count, content_end, text_of};
 ghost use Rattle.class_rules.specs.ClassRules.{class_form};
 ghost use Rattle.writer.specs.Writer.{outcome};
 ghost use Rattle.convert.specs.Convert.{old_end, old_text_at, old_fits, old_rows, forward_statics, keeps_statics, drops_statics, widen_sheet, narrow_sheet};
@@ -129,9 +129,9 @@ fn put_statics(ws: &[u32], text: &[u8], statics: &mut [u32])
 // Of words in the new form, made of an old sheet that fits: the static words of each class, into the front of `statics`, and rows 3 to 5.
 #[tactic(auto, unfolding(crate::specs::Steps::fresh_rows))]
 fn forward_rows(ws: &[u32], statics: &mut [u32]) -> Result<(), Refusal>
-    requires { text_length ws.now ≤ 8192 }
-    ensures value { row_of result ≡ fresh_rows ws.now }
-    ensures sums { statics.new ≡ stores (class_count ws.now) (λ i. forward_statics ws.now (text_of ws.now) (i + 1)) statics.old }
+    ensures value { text_length ws.now ≤ text_limit → row_of result ≡ fresh_rows ws.now }
+    ensures sums { text_length ws.now ≤ text_limit →
+        statics.new ≡ stores (class_count ws.now) (λ i. forward_statics ws.now (text_of ws.now) (i + 1)) statics.old }
 {
     let mut room = [0u8; class_sheet::TEXT_LIMIT as usize];
     let text = class_sheet::text_bytes(ws, &mut room);
@@ -215,8 +215,7 @@ fn keeps_statics(ws: &[u32], text: &[u8], c: u32) -> bool
 // Row 23: whether a generated class has static words that the old form would lose.
 #[tactic(auto, unfolding(crate::specs::Convert::drops_statics))]
 fn drops_statics(ws: &[u32]) -> bool
-    requires { text_length ws.now ≤ 8192 }
-    ensures { result ≡ drops_statics ws.now }
+    ensures { text_length ws.now ≤ text_limit → result ≡ drops_statics ws.now }
 {
     let mut room = [0u8; class_sheet::TEXT_LIMIT as usize];
     let text = class_sheet::text_bytes(ws, &mut room);
@@ -224,7 +223,7 @@ fn drops_statics(ws: &[u32]) -> bool
 }
 
 // Rows 23 and 18 for the words of a class sheet that a reading accepted, and its blocks in the old form.
-#[tactic(auto, unfolding(crate::specs::Steps::narrow_words, crate::specs::Convert::blocks_or_row))]
+#[tactic(auto, using(crate::proofs::Calls::form_text), unfolding(crate::specs::Steps::narrow_words, crate::specs::Convert::blocks_or_row))]
 fn narrow_words(ws: &[u32], out: &mut [u8]) -> Result<u32, Refusal>
     requires { class_form ws.now ≡ true }
     ensures { outcome result out.new ≡ narrow_words ws.now out.old }

@@ -14,7 +14,7 @@ use Rattle.class_form.specs.Form.{u2}
 use Rattle.std.specs.Prelude.{Result, Ok, Err}
 use Rattle.class_form.specs.Parts.{Judged, member_at, form_of}
 use Rattle.class_members.specs.declared.FileHead.{FileHead}
-use Rattle.class_file.specs.Walk.{head_read}
+use Rattle.class_file.specs.Walk.{head_walked}
 use Rattle.class_file.proofs.JudgeLaws.{Judges, head_is}
 use Rattle.refusal.proofs.Rows.{row_above}
 use Rattle.class_members.specs.Members.{new_of, members_at, field_places, method_places, file_name, file_parent, file_flags, file_fields, file_methods, file_text, sheet_holds, file_refusal}
@@ -119,7 +119,7 @@ by_rows bs f g =
     by_head bs f g (Err r) e = g r e
 
     by_form : {X : Type 0} (bs : List ℕ) → (file_refusal bs [] ≡ 0 → X) → ((r : Refusal) → file_refusal bs [] ≡ row r → X) → (j : Judged) → form_of bs ≡ j → X
-    by_form bs f g (Ok p) e = by_head bs f g (head_read bs p) (head_is bs p (form_parted bs e))
+    by_form bs f g (Ok p) e = by_head bs f g (head_walked bs p) (head_is bs p (form_parted bs e))
     by_form bs f g (Err r) e = g r (form_told bs e)
 
 module _ (bs : List ℕ) (first step : ℕ) where

@@ -87,12 +87,9 @@ fn put_members(out: &mut Out, pool: Pool, p: usize, kind: &[u8], first: u32, ste
 fn put_file(out: &mut Out, file: File, first: u32, step: u32)
     ensures { Puts out.old out.new (class_lines file.entry.pool.bytes.now first step) }
 {
-    let bytes = file.pool.bytes;
     let places = file.places;
-    let name = class_file::class_bytes(file.pool, class_form::u2_after(bytes, places.head, 2));
-    let parent = class_file::parent_bytes(file.pool, class_form::u2_after(bytes, places.head, 4));
-    put_class(out, name, parent);
-    put_flags(out, class_form::u2(bytes, places.head));
+    put_class(out, file.name(), file.parent());
+    put_flags(out, file.flags());
     put_members(out, file.pool, places.methods, b"  method ", first, step);
     put_members(out, file.pool, places.fields, b"  field ", 0, 0);
 }

@@ -5,6 +5,6 @@ use Rattle.convert.proofs.drops_statics.Goals as goal
 
 pub returns : goal.returns
 unfolding drops_statics
-returns c =
+returns c = λ h.
     let a = c.all_up_to.ensures (keeps_statics c.args.ws.now c.text_bytes-text.result.now) (λ i r l post. search rules) in
-    rw (a, c.text_bytes-text.ensures c.requires, c.class_count.ensures)
+    rw (a, c.text_bytes-text.ensures h, c.class_count.ensures)

@@ -5,15 +5,15 @@ use Rattle.convert.proofs.Calls.{sums_handed}
 use Rattle.convert.proofs.forward_rows.Goals as goal
 
 pub returns-then-not-all_fresh-clause-sums : goal.returns-then-not-all_fresh-clause-sums
-returns-then-not-all_fresh-clause-sums c =
-    sums_handed _ _ (c.text_bytes-text.ensures c.requires) c.put_statics.ensures
+returns-then-not-all_fresh-clause-sums c = λ h.
+    sums_handed _ _ (c.text_bytes-text.ensures h) c.put_statics.ensures
 
 pub returns-clause-value : goal.returns-clause-value
 unfolding fresh_rows
-returns-clause-value c =
+returns-clause-value c = λ h.
     let f = sym c.all_fresh.ensures ∙ c.if-not-all_fresh.false in
-    c.class_refusal.ensures ∙ rw (f, c.text_bytes-text.ensures c.requires)
+    c.class_refusal.ensures ∙ rw (f, c.text_bytes-text.ensures h)
 
 pub returns-clause-sums : goal.returns-clause-sums
-returns-clause-sums c =
-    sums_handed _ _ (c.text_bytes-text.ensures c.requires) c.put_statics.ensures
+returns-clause-sums c = λ h.
+    sums_handed _ _ (c.text_bytes-text.ensures h) c.put_statics.ensures

@@ -13,11 +13,11 @@ returns-in_err-file c =
 pub returns-in_err-file_head : goal.returns-in_err-file_head
 returns-in_err-file_head c =
     let p = err_from_is_err_and c.from_residual-in_err-file_head.result c.from_residual-in_err-file_head.ensures.1 in
-    let h = rw c.in_err-file_head.was at (head_told _ _ c.in_ok-file.file.parted _ c.file_head.ensures) in
+    let h = rw c.in_err-file_head.was at (head_told _ _ c.in_ok-file.file.parted c.file_head.ensures) in
     rw (p.1, p.2) (record { accepted = tt; refused = (rw c.in_ok-file.ensures.accepted.bytes_are at h, refl) })
 
 pub returns : goal.returns
 returns c =
-    let h = rw c.in_ok-file_head.was at (head_told _ _ c.in_ok-file.file.parted _ c.file_head.ensures) in
+    let h = rw c.in_ok-file_head.was at (head_told _ _ c.in_ok-file.file.parted c.file_head.ensures) in
     let same = c.in_ok-file.ensures.accepted.bytes_are in
     record { accepted = (rw same at h.0, rw same at c.put_file.ensures); refused = tt }
