@@ -59,7 +59,7 @@ fn part_typed(kind: Members, n: u32, text: &[u8], start: u32, len: u32, known: &
         return is_descriptor(kind, n, text::name_at(text, start, len));
     }
     if len < 255 {
-        words::put(known, start as usize, (len % 255 + 1) as u8);
+        words::put(known, start as usize, len as u8 + 1);
     }
     true
 }
