@@ -3,8 +3,6 @@ use mathlib.Core.Path.{◌≡◌, refl, sym, ◌∙◌}
 use mathlib.Core.Bool.{Bool, true, false, not, ◌&&◌}
 use mathlib.Core.List.{List, []}
 use Prim.Native.Nat.{ℕ, ◌+◌, ◌*◌, ◌≤◌, ◌<◌}
-use native.Mathlib.Nat.{mul-suc}
-use native.Mathlib.Numerals.{add-one}
 use native.Mathlib.Omega.{arith}
 use lib.ListN.{length, get_or, set, replicate, get_or-eq_default}
 use lib.Dec.{eqb, ltb}
@@ -106,9 +104,6 @@ module _ (kind : Members) (ws : List ℕ) (first width : ℕ) (text : List ℕ) 
   pub past_typed : {at : ℕ} → at ≡ first + width * i → length ws ≤ at + 3 → false ≡ record_typed kind ws first width text i
   unfolding record_typed name_at
   past_typed e l = rw (get_or-eq_default ws 0 {n = first + width * i + 3} (omega arith)) (sym (none_typed kind _))
-
-pub next_record : (first width i : ℕ) {at : ℕ} → at ≡ first + width * i → at + width ≡ first + width * (i + 1)
-next_record first width i e = rw add-one (omega (arith, mul-suc width i))
 
 -- ---- the records of each sheet
 

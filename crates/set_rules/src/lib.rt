@@ -70,8 +70,8 @@ fn records_typed(kind: Members, ws: &[u32], first: usize, width: usize, n: u32, 
     ensures { result ≡ all_of n (record_typed kind ws.now first width text.now) }
 {
     let mut known = [0u8; STARTS];
-    let mut at = first;
     for i in 0..n {
+        let at = first + width * i as usize;
         if ws.len() <= at + text::DESCRIPTOR_LENGTH {
             return false;
         }
@@ -81,7 +81,6 @@ fn records_typed(kind: Members, ws: &[u32], first: usize, width: usize, n: u32, 
         if !part_typed(kind, number, text, start, len, &mut known) {
             return false;
         }
-        at += width;
     }
     true
 }
