@@ -21,6 +21,9 @@ use text::Signature;
 // How many words a slot record or a field record has.
 const MEMBER_WIDTH: u32 = abi_sheet::MEMBER_WIDTH as u32;
 
+// How many classes a chain has at most.
+const CHAIN_LIMIT: usize = class_sheet::CLASS_LIMIT as usize;
+
 // The first ABI class of this name.
 pub fn abi_named(abi: &[u32], labels: &[u8], name: &[u8]) -> Option<u32>
     ensures { result ≡ abi_named abi.now labels.now name.now }
@@ -186,8 +189,8 @@ pub fn class_slot(sheets: Sheets, i: u32, c: u32) -> Option<u32>
 }
 
 // Stores the ABI class, if one was found, after the first n, if there is room, and answers how many there are.
-fn push(at: &mut [u32], n: u32, found: Option<u32>) -> u32
-    requires { (length at.old ≡ class_limit) × (n ≤ class_limit) }
+fn push(at: &mut [u32; CHAIN_LIMIT], n: u32, found: Option<u32>) -> u32
+    requires { n ≤ class_limit }
     ensures is { take result at.new ≡ take class_limit (take n at.old ++ cons_found found []) }
     ensures count { (n ≤ result) × (result ≤ class_limit) }
     ensures rest { drop result at.new ≡ drop result at.old }
@@ -203,8 +206,8 @@ fn push(at: &mut [u32], n: u32, found: Option<u32>) -> u32
 }
 
 // Stores the ABI classes of class c and its ancestors after the first n, as far as there is room, and answers how many there are.
-fn push_chain(sheets: Sheets, c: u32, at: &mut [u32], n: u32) -> u32
-    requires { (length at.old ≡ class_limit) × (n ≤ class_limit) }
+fn push_chain(sheets: Sheets, c: u32, at: &mut [u32; CHAIN_LIMIT], n: u32) -> u32
+    requires { n ≤ class_limit }
     ensures is { take result at.new ≡ take class_limit (take n at.old ++ all_found (of_sheets class_abi sheets.entry) (chain sheets.entry.set.now c)) }
     ensures count { (n ≤ result) × (result ≤ class_limit) }
     ensures rest { drop result at.new ≡ drop result at.old }
@@ -217,7 +220,7 @@ fn push_chain(sheets: Sheets, c: u32, at: &mut [u32], n: u32) -> u32
 }
 
 // Stores the ABI classes that the chain of class c names, nearest first, and answers how many there are. The rest of the array stays.
-pub fn chain_abi(sheets: Sheets, c: u32, at: &mut [u32; class_sheet::CLASS_LIMIT as usize]) -> u32
+pub fn chain_abi(sheets: Sheets, c: u32, at: &mut [u32; CHAIN_LIMIT]) -> u32
     ensures is { take result at.new ≡ of_sheets chain_abi sheets.entry c }
     ensures count { result ≤ class_limit }
     ensures array { length at.new ≡ class_limit }

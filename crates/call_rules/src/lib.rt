@@ -71,8 +71,8 @@ fn ends_below(ws: &[u32], area: &[u32], c: u32) -> bool
 fn all_below(ws: &[u32], area: &[u32]) -> bool
     ensures { result ≡ all_of (class_count ws.now) (λ i. ends_below ws.now area.now (i + 1)) }
 {
-    words::all_of(class_sheet::class_count(ws), |i| {
-        ends_below(ws, area, i.saturating_add(1))
+    words::all_up_to(class_sheet::class_count(ws), |c| {
+        ends_below(ws, area, c)
     })
 }
 

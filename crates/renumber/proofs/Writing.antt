@@ -85,15 +85,15 @@ module _ (ws l : List ℕ) (o : Complete ws l) where
 
   -- a turn: record i is written over its words
   pub records-turn : (i : ℕ) (array : List ℕ) {c : ℕ} {ys next : List ℕ} → i < length l → c ≡ get_or l i 0 → length array ≡ class_width * class_limit
-      → ys ≡ moved_record ws l c ++ drop class_width (take (length array - class_width * i) (drop (class_width * i) array))
-      → next ≡ take (class_width * i) array ++ (ys ++ drop (length array - class_width * i) (drop (class_width * i) array))
+      → ys ≡ moved_record ws l c ++ drop class_width (take (class_width * class_limit - class_width * i) (drop (class_width * i) array))
+      → next ≡ take (class_width * i) array ++ (ys ++ drop (class_width * class_limit - class_width * i) (drop (class_width * i) array))
       → take (class_width * i) array ≡ joined (map (moved_record ws l) (take i l))
       → take (class_width * (i + 1)) next ≡ joined (map (moved_record ws l) (take (i + 1) l))
   records-turn i array {c} {ys} {next} h e size put write inv =
       let at : ℕ = class_width * i in
       let m : List ℕ = moved_record ws l c in
-      let a : List ℕ = drop class_width (take (length array - at) (drop at array)) in
-      let b : List ℕ = drop (length array - at) (drop at array) in
+      let a : List ℕ = drop class_width (take (class_width * class_limit - at) (drop at array)) in
+      let b : List ℕ = drop (class_width * class_limit - at) (drop at array) in
       let n = moved_length ws l c (class-at i h e) o.fits in
       let front : length (take at array) ≡ at = length-take-le at array (omega (arith, o.few)) in
       let both : length (take at array ++ m) ≡ class_width * (i + 1) = omega (arith, length-append (take at array) m) in

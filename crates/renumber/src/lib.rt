@@ -12,8 +12,10 @@ ghost use Rattle.renumber.specs.Steps.{form_refusal, Complete, records_moved, in
 
 use refusal::Refusal;
 
-// The words of as many class records as there may be.
-const RECORD_WORDS: usize = class_sheet::CLASS_WIDTH * class_sheet::CLASS_LIMIT as usize;
+// The words of a list of as many classes as there may be, and of their records.
+const LIST_WORDS: usize = class_sheet::CLASS_LIMIT as usize;
+
+const RECORD_WORDS: usize = class_sheet::CLASS_WIDTH * LIST_WORDS;
 
 // The place of class c in the list, counted from 1, or 0 where it is not there.
 fn new_number(list: &[u32], c: u32) -> u32
@@ -53,8 +55,8 @@ fn first_ready(ws: &[u32], list: &[u32]) -> Option<u32>
 
 // Puts the smallest class that is ready after those already in the list, and so on, and answers how many there are: all of them, or fewer where at
 // some point none was ready.
-fn place_all(ws: &[u32], list: &mut [u32]) -> u32
-    requires { (length list.old ≡ class_limit) × (class_count ws.now ≤ class_limit) }
+fn place_all(ws: &[u32], list: &mut [u32; LIST_WORDS]) -> u32
+    requires { class_count ws.now ≤ class_limit }
     ensures is { take result list.new ≡ order_of ws.now }
     ensures count { result ≤ class_count ws.now }
 {
@@ -98,8 +100,7 @@ fn check_form(ws: &[u32]) -> Result<(), Refusal>
 }
 
 // The number of classes, where the set and a list of `room` words are not refused: then the first words of `list` are the order.
-fn find_order(ws: &[u32], room: usize, list: &mut [u32]) -> Result<u32, Refusal>
-    requires { length list.old ≡ class_limit }
+fn find_order(ws: &[u32], room: usize, list: &mut [u32; LIST_WORDS]) -> Result<u32, Refusal>
     ensures is { row_of result ≡ renumber_refusal ws.now room }
     ensures order { IfOk result (λ n. (n ≡ class_count ws.now) × Complete ws.now (take n list.new)) }
 {
@@ -127,13 +128,13 @@ fn put_record(ws: &[u32], list: &[u32], c: u32, part: &mut [u32])
 }
 
 // Puts the records of the listed classes, in the list's order, into the first words of an array.
-fn put_records(ws: &[u32], list: &[u32], records: &mut [u32])
-    requires { Complete ws.now list.now × (length records.old ≡ class_width * class_limit) }
+fn put_records(ws: &[u32], list: &[u32], records: &mut [u32; RECORD_WORDS])
+    requires { Complete ws.now list.now }
     ensures { take (class_width * length list.now) records.new ≡ joined (map (moved_record ws.now list.now) list.now) }
 {
-    for i in 0..list.len() {
+    for (i, c) in list.iter().enumerate() {
         let at = class_sheet::CLASS_WIDTH * i;
-        put_record(ws, list, list[i], &mut records[at..]);
+        put_record(ws, list, *c, &mut records[at..]);
     }
 }
 
@@ -153,8 +154,8 @@ fn map_numbers(part: &mut [u32], list: &[u32])
     requires { length list.now ≤ class_limit }
     ensures { part.new ≡ map (new_number list.now) part.old }
 {
-    for i in 0..part.len() {
-        part[i] = new_number(list, part[i]);
+    for x in part.iter_mut() {
+        *x = new_number(list, *x);
     }
 }
 
@@ -185,7 +186,7 @@ fn put_renumbered(set: &mut [u32], list: &[u32], order: &mut [u32])
 pub fn renumber_classes(set: &mut [u32], order: &mut [u32]) -> Result<u32, Refusal>
     ensures { outcome result set.new order.new ≡ renumber_def set.old order.old }
 {
-    let mut list = [0u32; class_sheet::CLASS_LIMIT as usize];
+    let mut list = [0u32; LIST_WORDS];
     let n = find_order(set, order.len(), &mut list)?;
     put_renumbered(set, words::part(&list, 0, n as usize), order);
     Ok(n)

@@ -2,9 +2,7 @@
 use mathlib.Core.Path.{◌≡◌, refl, sym, ◌∙◌}
 use mathlib.Core.Bool.{Bool, true, false, not, ◌&&◌}
 use mathlib.Core.List.{List, []}
-use Prim.Native.Nat.{ℕ, ◌+◌, ◌*◌, ◌%◌, ◌≤◌, ◌<◌}
-use native.Mathlib.Nat.{mul-suc}
-use native.Mathlib.Numerals.{add-one}
+use Prim.Native.Nat.{ℕ, ◌+◌, ◌*◌, ◌≤◌, ◌<◌}
 use native.Mathlib.Omega.{arith}
 use lib.ListN.{length, get_or, set, replicate, get_or-eq_default}
 use lib.Dec.{eqb, ltb}
@@ -77,10 +75,9 @@ module _ (kind : Members) (text known : List ℕ) (k : Known kind text known) wh
 
   -- a descriptor that is put there
   pub known_more : (start len : ℕ) {good : Bool} {part after : List ℕ} → part ≡ name_at text start len → good ≡ is_descriptor kind 0 part
-      → not good ≡ false → len < 255 → after ≡ set known start (len % 255 + 1) → Known kind text after
-  known_more start len {good = good} f e t l a =
-      let v : len % 255 ≡ len = omega arith in
-      rw (a, v)
+      → not good ≡ false → after ≡ set known start (len + 1) → Known kind text after
+  known_more start len {good = good} f e t a =
+      rw a
       (by (ltb start (length known)) (λ q. stored start len (rw (← f) (sym e ∙ not-false good t)) (ltb-true start (length known) q))
       (λ q. rw (set_out known start (len + 1) (ltb-false start (length known) q)) k))
 
@@ -107,9 +104,6 @@ module _ (kind : Members) (ws : List ℕ) (first width : ℕ) (text : List ℕ) 
   pub past_typed : {at : ℕ} → at ≡ first + width * i → length ws ≤ at + 3 → false ≡ record_typed kind ws first width text i
   unfolding record_typed name_at
   past_typed e l = rw (get_or-eq_default ws 0 {n = first + width * i + 3} (omega arith)) (sym (none_typed kind _))
-
-pub next_record : (first width i : ℕ) {at : ℕ} → at ≡ first + width * i → at + width ≡ first + width * (i + 1)
-next_record first width i e = rw add-one (omega (arith, mul-suc width i))
 
 -- ---- the records of each sheet
 

@@ -59,7 +59,7 @@ fn part_typed(kind: Members, n: u32, text: &[u8], start: u32, len: u32, known: &
         return is_descriptor(kind, n, text::name_at(text, start, len));
     }
     if len < 255 {
-        words::put(known, start as usize, (len % 255 + 1) as u8);
+        words::put(known, start as usize, len as u8 + 1);
     }
     true
 }
@@ -70,8 +70,8 @@ fn records_typed(kind: Members, ws: &[u32], first: usize, width: usize, n: u32, 
     ensures { result ≡ all_of n (record_typed kind ws.now first width text.now) }
 {
     let mut known = [0u8; STARTS];
-    let mut at = first;
     for i in 0..n {
+        let at = first + width * i as usize;
         if ws.len() <= at + text::DESCRIPTOR_LENGTH {
             return false;
         }
@@ -81,7 +81,6 @@ fn records_typed(kind: Members, ws: &[u32], first: usize, width: usize, n: u32, 
         if !part_typed(kind, number, text, start, len, &mut known) {
             return false;
         }
-        at += width;
     }
     true
 }

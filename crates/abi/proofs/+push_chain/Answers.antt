@@ -7,13 +7,13 @@ use Rattle.abi.proofs.+push_chain.Goals as goal
 
 -- the chain's end
 pub returns-then-c-eq0-clause-is : goal.returns-then-c-eq0-clause-is
-returns-then-c-eq0-clause-is t c = push_end _ _ _ _ _ c.requires.0 c.if-c-eq0.true
+returns-then-c-eq0-clause-is t c = push_end _ _ _ _ _ (omega arith) c.if-c-eq0.true
 
 -- the parent's number is smaller
 pub push_chain-requires : goal.push_chain-requires
 push_chain-requires t c = (
   omega (arith, parent_below c.args.sheets.set.now c.args.c (pos_of_ne-zero c.if-c-eq0.false), c.parent_of.ensures),
-  (c.push-k.auto.at ∙ c.requires.0, c.push-k.ensures.count.1),
+  c.push-k.ensures.count.1,
 )
 
 -- the class's own ABI class, and then its ancestors'

@@ -1,5 +1,5 @@
 -- The library's fold over the slots' numbers is the definition's. Assumes nothing.
-use Rattle.std.proofs.Common.{rules, arith, ℕ, ◌≡◌, max, min, ◌+◌, ◌-◌, ◌∙◌, ap, refl}
+use Rattle.std.proofs.Common.{rules, arith, ℕ, max, ◌+◌, ◌∙◌, ap, refl}
 use Rattle.std.proofs.lemmas.Iterator.Consumers.{fold_from_yields_List}
 use Rattle.std.proofs.lemmas.Iterator.{YieldsList-from_range}
 use Rattle.words.specs.Lists.{fold}

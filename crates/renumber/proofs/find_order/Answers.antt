@@ -7,7 +7,7 @@ pub returns-in_err-check_form-clause-is : goal.returns-in_err-check_form-clause-
 returns-in_err-check_form-clause-is c = refuse_form _ _ _ (search rules) c.in_err-check_form.ensures
 
 pub place_all-k-requires : goal.place_all-k-requires
-place_all-k-requires c = (c.requires, (form-fits _ c.in_ok-check_form.ensures).0)
+place_all-k-requires c = (form-fits _ c.in_ok-check_form.ensures).0
 
 pub returns-then-k-n-clause-is : goal.returns-then-k-n-clause-is
 returns-then-k-n-clause-is c =

@@ -10,12 +10,12 @@ loop-i-init c = refl
 
 pub put_record-requires : goal.put_record-requires
 put_record-requires c =
-    let o = c.requires.0 in
+    let o = c.requires in
     (o.few, o.fits, class-at _ _ o _ (omega arith) refl, omega (arith, o.few))
 
 pub loop-i-preserved : goal.loop-i-preserved
 loop-i-preserved c =
-    records-turn _ _ c.requires.0 _ _ (omega arith) refl (omega arith) c.put_record.ensures refl c.loop-i.invariant
+    records-turn _ _ c.requires _ _ (omega arith) refl (omega arith) c.put_record.ensures refl c.loop-i.invariant
 
 pub returns : goal.returns
-returns c = records-end _ _ c.requires.0 c.loop-i.i _ (omega arith) (omega arith) c.loop-i.invariant
+returns c = records-end _ _ c.requires c.loop-i.i _ (omega arith) (omega arith) c.loop-i.invariant

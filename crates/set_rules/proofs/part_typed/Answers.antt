@@ -18,7 +18,7 @@ pub returns-then-len-lt255 : goal.returns-then-len-lt255
 returns-then-len-lt255 c = record {
   is = search read_typed;
   kept = known_more _ _ _ c.requires c.args.start c.args.len c.name_at.ensures c.is_descriptor.ensures
-      (ap not c.if-not-is_descriptor.false) (search) (cc);
+      (ap not c.if-not-is_descriptor.false) (cc);
 }
 
 -- good for any, and too long to be remembered
