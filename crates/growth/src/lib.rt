@@ -8,10 +8,10 @@ ghost use Rattle.class_sheet.specs.ClassSheet.{member_width, text_limit, sheet_w
 ghost use Rattle.linking.specs.Set.{write_at, put_indices, new_records, new_text, packed, section_full, grown_end};
 ghost use Rattle.growth.specs.News.{ref_name, ref_descriptor, news_of};
 ghost use Rattle.growth.specs.Growth.{laid, laid_end, can_grow, methods_grown, fields_grown, tail_of, methods_of, fields_of, growing, methods_counted, fields_counted, appended, Placed, Room};
-ghost use Rattle.linking.specs.Sheets.{of_sheets};
+ghost use Rattle.linking.specs.Sheets.{of_sheets, of_lent};
 
 use class_sheet::MEMBER_WIDTH;
-use linking::Sheets;
+use linking::{Lent, Sheets};
 pub use news::{Member, News};
 use text::Signature;
 
@@ -319,22 +319,15 @@ struct Grown {
 
 // Copies the list's records to the end of their section, with the new ones after them, and the new names to the text's end, where there is
 // room, and else nothing.
-fn append<'a>(
-    set: &mut [u32],
-    list: Section,
-    text: &'a [u8],
-    abi: &'a [u32],
-    labels: &'a [u8],
-    news: &News,
-) -> Option<Grown>
+fn append(set: &mut [u32], list: Section, lent: Lent, news: &News) -> Option<Grown>
     requires { Placed set.old list }
-    ensures { (result, set.new) ≡ appended set.old list (news_of set.old text.now abi.now labels.now news.now) }
+    ensures { (result, set.new) ≡ appended set.old list (of_lent news_of set.old lent.entry news.now) }
 {
     let sheets = Sheets {
         set,
-        text,
-        abi,
-        labels,
+        text: lent.text,
+        abi: lent.abi,
+        labels: lent.labels,
     };
     if !can_grow(sheets, list, news) {
         return None;
@@ -374,36 +367,21 @@ fn put_field_counts(set: &mut [u32], c: u32, count: u32, grown: Grown)
 }
 
 // Copies class c's methods to the end of their section, with the new ones after them, where there is room, and else nothing.
-pub fn grow_methods<'a>(
-    set: &mut [u32],
-    c: u32,
-    text: &'a [u8],
-    abi: &'a [u32],
-    labels: &'a [u8],
-    news: &News,
-)
-    ensures { set.new ≡ methods_grown set.old c (news_of set.old text.now abi.now labels.now news.now) }
+pub fn grow_methods(set: &mut [u32], c: u32, lent: Lent, news: &News)
+    ensures { set.new ≡ methods_grown set.old c (of_lent news_of set.old lent.entry news.now) }
 {
     let list = methods_of(set, c);
-    if let Some(grown) = append(set, list, text, abi, labels, news) {
+    if let Some(grown) = append(set, list, lent, news) {
         put_method_counts(set, c, list.count, grown);
     }
 }
 
 // Copies class c's fields to the end of their section, with the new indices and the new fields, where there is room, and else nothing.
-pub fn grow_fields<'a>(
-    set: &mut [u32],
-    c: u32,
-    indices: &[u32],
-    text: &'a [u8],
-    abi: &'a [u32],
-    labels: &'a [u8],
-    news: &News,
-)
-    ensures { set.new ≡ fields_grown set.old c indices.now (news_of set.old text.now abi.now labels.now news.now) }
+pub fn grow_fields(set: &mut [u32], c: u32, indices: &[u32], lent: Lent, news: &News)
+    ensures { set.new ≡ fields_grown set.old c indices.now (of_lent news_of set.old lent.entry news.now) }
 {
     let list = fields_of(set, c);
-    if let Some(grown) = append(set, list, text, abi, labels, news) {
+    if let Some(grown) = append(set, list, lent, news) {
         let copied = list.end + MEMBER_WIDTH * (list.own as usize);
         put_indices(&mut set[list.end..copied], 0, 0, indices);
         put_field_counts(set, c, list.count, grown);

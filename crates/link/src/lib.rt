@@ -6,13 +6,13 @@ ghost use Rattle.linking.specs.Link.{new_statics, linked_record, lists_full, set
 ghost use Rattle.growth.specs.News.{news_of};
 ghost use Rattle.refusal.specs.Rows.{row_of};
 ghost use Rattle.link.specs.Stored.{link_outcome, members_plan, numbered, with_methods, stored_news, room_row, Fitting, Texts, Accepted, Judged};
-ghost use Rattle.linking.specs.Sheets.{of_sheets};
+ghost use Rattle.linking.specs.Sheets.{of_sheets, of_lent};
 
 use area::Answer;
 use class_sheet::Kind;
 use field::Numbered;
 use growth::News;
-use linking::Sheets;
+use linking::{Lent, Sheets};
 use reading::{BuiltTable, Table};
 use refusal::Refusal;
 
@@ -61,42 +61,26 @@ fn store_indices(set: &mut [u32], c: u32, linked: Linked, indices: &[u32])
 
 // Adds the new methods, if there are any.
 #[tactic(auto, using(crate::proofs::StoreLaws::methods_none, crate::proofs::StoreLaws::methods_some))]
-fn store_methods<'a>(
-    set: &mut [u32],
-    c: u32,
-    text: &'a [u8],
-    abi: &'a [u32],
-    labels: &'a [u8],
-    news: &News,
-)
-    ensures { set.new ≡ with_methods set.old c (news_of set.old text.now abi.now labels.now news.now) }
+fn store_methods(set: &mut [u32], c: u32, lent: Lent, news: &News)
+    ensures { set.new ≡ with_methods set.old c (of_lent news_of set.old lent.entry news.now) }
 {
     if news.len() != 0 {
-        growth::grow_methods(set, c, text, abi, labels, news);
+        growth::grow_methods(set, c, lent, news);
     }
 }
 
 // Stores what an accepted link leaves in the class words: new fields of a built class or new methods of another, the record, and the
 // indices of the class's own fields.
-fn store_link<'a>(
-    set: &mut [u32],
-    c: u32,
-    linked: Linked,
-    indices: &[u32],
-    text: &'a [u8],
-    abi: &'a [u32],
-    labels: &'a [u8],
-    news: &News,
-)
+fn store_link(set: &mut [u32], c: u32, linked: Linked, indices: &[u32], lent: Lent, news: &News)
     ensures { set.new ≡ stored_news set.old c linked.place linked.slots linked.words linked.statics indices.now
-        (news_of set.old text.now abi.now labels.now news.now) }
+        (of_lent news_of set.old lent.entry news.now) }
 {
     if class_sheet::is_built(set, c) & (news.len() != 0) {
-        growth::grow_fields(set, c, indices, text, abi, labels, news);
+        growth::grow_fields(set, c, indices, lent, news);
         record_link(set, c, linked);
         return;
     }
-    store_methods(set, c, text, abi, labels, news);
+    store_methods(set, c, lent, news);
     store_indices(set, c, linked, indices);
 }
 
@@ -160,39 +144,37 @@ fn judge(
 }
 
 // The same rows and the effect, of the sheets' texts. Nothing is written before the last refusal.
-fn link_planned<'a>(
+fn link_planned(
     set: &mut [u32],
     c: u32,
-    text: &'a [u8],
-    abi: &'a [u32],
-    labels: &'a [u8],
+    lent: Lent,
     area: &mut [u32],
     stubs: &[u32],
     missing: &mut [u32],
 ) -> Result<Answer, Refusal>
-    requires { Accepted set.old abi.now c area.old text.now labels.now }
-    ensures { link_outcome result set.new area.new missing.new ≡ link_def set.old abi.now c area.old stubs.now missing.old }
+    requires { Accepted set.old lent.abi.now c area.old lent.text.now lent.labels.now }
+    ensures { link_outcome result set.new area.new missing.new ≡ link_def set.old lent.entry.abi.now c area.old stubs.now missing.old }
 {
     let mut table = Table::for_building();
     let mut news = News::new();
     let sheets = Sheets {
         set,
-        text,
-        abi,
-        labels,
+        text: lent.text,
+        abi: lent.abi,
+        labels: lent.labels,
     };
     let fields = judge(sheets, c, area, stubs, missing, &mut table, &mut news)?;
     let linked = Linked {
         place: words::get_or(area, 0, 0),
         slots: table.len,
         words: fields.words,
-        statics: new_statics(set, text, c),
+        statics: new_statics(set, lent.text, c),
     };
     let parent = chain::parent_of(set, c);
     missing::count_class(missing, c, parent, &table.words, &table.marks, table.len);
     area::write_table(area, c, &table.words, table.len as usize, stubs);
     let indices = fields.own_indices();
-    store_link(set, c, linked, indices, text, abi, labels, &news);
+    store_link(set, c, linked, indices, lent, &news);
     Ok(Answer {
         first: linked.place,
         second: linked.slots,
@@ -200,20 +182,18 @@ fn link_planned<'a>(
 }
 
 // Rows 6, 7, 26 and 8 to 15, and the effect, of sheets that rows 3 to 5 accept, and their texts.
-fn link_read<'a>(
+fn link_read(
     set: &mut [u32],
     c: u32,
-    text: &'a [u8],
-    abi: &'a [u32],
-    labels: &'a [u8],
+    lent: Lent,
     area: &mut [u32],
     stubs: &[u32],
     missing: &mut [u32],
 ) -> Result<Answer, Refusal>
-    requires { Texts set.old abi.now text.now labels.now }
-    ensures { link_outcome result set.new area.new missing.new ≡ link_def set.old abi.now c area.old stubs.now missing.old }
+    requires { Texts set.old lent.abi.now lent.text.now lent.labels.now }
+    ensures { link_outcome result set.new area.new missing.new ≡ link_def set.old lent.entry.abi.now c area.old stubs.now missing.old }
 {
-    if call_rules::bad_class(set, text, c) {
+    if call_rules::bad_class(set, lent.text, c) {
         return Err(Refusal::Class);
     }
     if call_rules::bad_area(set, area) {
@@ -222,33 +202,31 @@ fn link_read<'a>(
     if packages::bad_packages(
         Sheets {
             set,
-            text,
-            abi,
-            labels,
+            text: lent.text,
+            abi: lent.abi,
+            labels: lent.labels,
         },
         c,
     ) {
         return Err(Refusal::MixedPackages);
     }
-    link_planned(set, c, text, abi, labels, area, stubs, missing)
+    link_planned(set, c, lent, area, stubs, missing)
 }
 
 // Rows 4 to 15 and 26, and the effect, of sheets that row 3 accepts, and their texts.
-fn link_fitting<'a>(
+fn link_fitting(
     set: &mut [u32],
     c: u32,
-    text: &'a [u8],
-    abi: &'a [u32],
-    labels: &'a [u8],
+    lent: Lent,
     area: &mut [u32],
     stubs: &[u32],
     missing: &mut [u32],
 ) -> Result<Answer, Refusal>
-    requires { Fitting set.old abi.now text.now labels.now }
-    ensures { link_outcome result set.new area.new missing.new ≡ link_def set.old abi.now c area.old stubs.now missing.old }
+    requires { Fitting set.old lent.abi.now lent.text.now lent.labels.now }
+    ensures { link_outcome result set.new area.new missing.new ≡ link_def set.old lent.entry.abi.now c area.old stubs.now missing.old }
 {
-    set_rules::records_refusal(set, text, abi, labels)?;
-    link_read(set, c, text, abi, labels, area, stubs, missing)
+    set_rules::records_refusal(set, lent.text, lent.abi, lent.labels)?;
+    link_read(set, c, lent, area, stubs, missing)
 }
 
 // Links the class. The answer is the place of its table in the area, where the class number and the slots follow, and the number of its
@@ -273,5 +251,6 @@ pub fn link(
     let text = class_sheet::text_bytes(set, &mut room);
     let mut label_room = [0u8; abi_sheet::TEXT_LIMIT as usize];
     let labels = abi_sheet::text_bytes(abi, &mut label_room);
-    link_fitting(set, class, text, abi, labels, area, stubs, missing)
+    let lent = Lent { text, abi, labels };
+    link_fitting(set, class, lent, area, stubs, missing)
 }

@@ -1,4 +1,4 @@
-// The definitions of linking: specs/, which the linker's contracts and the theorems cite, and two types, of their answer and of the
+// The definitions of linking: specs/, which the linker's contracts and the theorems cite, and three types, of their answer and of the
 // sheets that they are about.
 #![tactic(auto)]
 
@@ -17,6 +17,14 @@ pub struct Declared {
 #[derive(Clone, Copy)]
 pub struct Sheets<'a> {
     pub set: &'a [u32],
+    pub text: &'a [u8],
+    pub abi: &'a [u32],
+    pub labels: &'a [u8],
+}
+
+// What a call that writes the class words is lent besides them: their text as bytes, the ABI words and their text.
+#[derive(Clone, Copy)]
+pub struct Lent<'a> {
     pub text: &'a [u8],
     pub abi: &'a [u32],
     pub labels: &'a [u8],

@@ -17,12 +17,12 @@ returns-then-not-can_grow c = appended-none _ _ _ _ _ _ c.can_grow.ensures c.if-
 -- what the test says, and what room there is then
 grown : (c : After-can_grow) → c.can_grow.result ≡ true
     → Grows c.args.set.now c.args.list.count c.args.list.first c.args.list.own
-    (news_of c.args.set.now c.args.text.now c.args.abi.now c.args.labels.now c.args.news.now)
+    (news_of c.args.set.now c.args.lent.text.now c.args.lent.abi.now c.args.lent.labels.now c.args.news.now)
 grown c t = code-grows _ _ _ _ _ c.can_grow.ensures t
 
 fits : (c : After-can_grow) → c.can_grow.result ≡ true
     → Room c.args.set.now c.args.list.end (c.args.list.at + member_width * c.args.list.first) c.args.list.own
-    (news_of c.args.set.now c.args.text.now c.args.abi.now c.args.labels.now c.args.news.now)
+    (news_of c.args.set.now c.args.lent.text.now c.args.lent.abi.now c.args.lent.labels.now c.args.news.now)
 fits c t = list-room _ _ _ c.requires (grown c t)
 
 pub overflow_add-members : goal.overflow_add-members
