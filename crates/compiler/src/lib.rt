@@ -45,10 +45,8 @@ fn flags_of(sheets: Sheets, news: &News, m: u32) -> u32
     if m < class_sheet::METHOD_LIMIT {
         return class_sheet::method_flags(sheets.set, m);
     }
-    match news.get(m - class_sheet::METHOD_LIMIT) {
-        Some(new) => new.flags,
-        None => 0,
-    }
+    news.get(m - class_sheet::METHOD_LIMIT)
+        .map_or(0, |new| new.flags)
 }
 
 // The target of method m.
@@ -59,10 +57,8 @@ fn target_of(sheets: Sheets, news: &News, m: u32) -> u32
     if m < class_sheet::METHOD_LIMIT {
         return class_sheet::method_target(sheets.set, m);
     }
-    match news.get(m - class_sheet::METHOD_LIMIT) {
-        Some(new) => new.last,
-        None => 0,
-    }
+    news.get(m - class_sheet::METHOD_LIMIT)
+        .map_or(0, |new| new.last)
 }
 
 // Whether method m has target t.

@@ -2,7 +2,7 @@
 use mathlib.Core.Path.{◌≡◌, refl, sym, ap, ◌∙◌}
 use mathlib.Core.Bool.{Bool, true, false, cond, not, ◌||◌, or-false, or-true, or_assoc}
 use mathlib.Core.List.{List, [], ◌∷◌, ◌++◌}
-use Prim.Native.Nat.{ℕ, zero, suc, ◌+◌, ◌≤◌, ◌<◌}
+use Prim.Native.Nat.{ℕ, zero, suc, ◌+◌, ◌-◌, ◌≤◌, ◌<◌}
 use native.Mathlib.Omega.{arith}
 use native.Mathlib.Numerals.{add-one}
 use lib.ListN.{length, take, set}
@@ -30,65 +30,84 @@ unfolding fold
 fold-append f s [] ys = refl
 fold-append f s (x ∷ xs) ys = fold-append f (f s x) xs ys
 
--- the numbers from `first` on that pass a test, a turn at a time
+-- the numbers from `first` on, a turn at a time
+module _ (first count : ℕ) where
+  -- those left at number k
+  unfoldable pub from : ℕ → List ℕ
+  from k = rest_from (λ i. i) first count (k - first)
+
+  pub from_start : from first ≡ numbers first count
+  unfolding from
+  from_start = let z : first - first ≡ 0 = omega arith in rw (z, rest-start (λ (i : ℕ). i) first count)
+
+  pub from_turn : (k : ℕ) → first ≤ k → k < first + count → from k ≡ k ∷ from (k + 1)
+  unfolding from
+  from_turn k l h =
+      let e : first + (k - first) ≡ k = omega arith in
+      let f : k - first + 1 ≡ k + 1 - first = omega arith in
+      rw (rest-turn (λ (i : ℕ). i) first count (k - first) (omega arith), e, f)
+
+  pub from_end : (k : ℕ) → first + count ≤ k → from k ≡ []
+  unfolding from
+  from_end k h = rw (rest_end (λ (i : ℕ). i) first count (k - first) (omega arith))
+
+-- those of them that pass a test
 module _ (p : ℕ → Bool) (first count : ℕ) where
-  -- those left at turn i
   unfoldable pub left : ℕ → List ℕ
-  left i = keep p (rest_from (λ k. k) first count i)
+  left k = keep p (from first count k)
 
-  pub left-start : left 0 ≡ keep p (numbers first count)
+  pub left-start : left first ≡ keep p (numbers first count)
   unfolding left
-  left-start = rw (rest-start (λ (k : ℕ). k) first count)
+  left-start = rw (from_start first count)
 
-  left_yes : (i : ℕ) {b : Bool} → i < count → b ≡ p (first + i) → b ≡ true → left i ≡ (first + i) ∷ left (i + 1)
+  left_yes : (k : ℕ) {b : Bool} → first ≤ k → k < first + count → b ≡ p k → b ≡ true → left k ≡ k ∷ left (k + 1)
   unfolding left keep
-  left_yes i h e t = let q : p (first + i) ≡ true = sym e ∙ t in rw (rest-turn (λ (k : ℕ). k) first count i h, q)
+  left_yes k l h e t = let q : p k ≡ true = sym e ∙ t in rw (from_turn first count k l h, q)
 
-  left_no : (i : ℕ) {b : Bool} → i < count → b ≡ p (first + i) → b ≡ false → left i ≡ left (i + 1)
+  left_no : (k : ℕ) {b : Bool} → first ≤ k → k < first + count → b ≡ p k → b ≡ false → left k ≡ left (k + 1)
   unfolding left keep
-  left_no i h e t = let q : p (first + i) ≡ false = sym e ∙ t in rw (rest-turn (λ (k : ℕ). k) first count i h, q)
+  left_no k l h e t = let q : p k ≡ false = sym e ∙ t in rw (from_turn first count k l h, q)
 
-  left_end : (i : ℕ) → count ≤ i → left i ≡ []
+  left_end : (k : ℕ) → first + count ≤ k → left k ≡ []
   unfolding left keep
-  left_end i h = rw (rest_end (λ (k : ℕ). k) first count i h)
+  left_end k h = rw (from_end first count k h)
 
   -- a fold over them
-  pub left-fold-turn : {S : Type 0} (f : S → ℕ → S) (i : ℕ) (s : S) (b : Bool) {x : ℕ} {t goal : S} → i < count → b ≡ p (first + i) → x ≡ first + i
-      → t ≡ cond b (f s x) s → fold f s (left i) ≡ goal → fold f t (left (i + 1)) ≡ goal
+  pub left-fold-turn : {S : Type 0} (f : S → ℕ → S) (k : ℕ) (s : S) (b : Bool) {t goal : S} → first ≤ k → k < first + count → b ≡ p k
+      → t ≡ cond b (f s k) s → fold f s (left k) ≡ goal → fold f t (left (k + 1)) ≡ goal
   unfolding fold
-  left-fold-turn f i s true h e x n g = rw (n, x) (sym (ap (fold f s) (left_yes i h e refl)) ∙ g)
-  left-fold-turn f i s false h e x n g = rw n (sym (ap (fold f s) (left_no i h e refl)) ∙ g)
+  left-fold-turn f k s true l h e n g = rw n (sym (ap (fold f s) (left_yes k l h e refl)) ∙ g)
+  left-fold-turn f k s false l h e n g = rw n (sym (ap (fold f s) (left_no k l h e refl)) ∙ g)
 
-  pub left-fold-end : {S : Type 0} (f : S → ℕ → S) (i : ℕ) (s : S) {goal : S} → count ≤ i → fold f s (left i) ≡ goal → s ≡ goal
+  pub left-fold-end : {S : Type 0} (f : S → ℕ → S) (k : ℕ) (s : S) {goal : S} → first + count ≤ k → fold f s (left k) ≡ goal → s ≡ goal
   unfolding fold
-  left-fold-end f i s h g = sym (ap (fold f s) (left_end i h)) ∙ g
+  left-fold-end f k s h g = sym (ap (fold f s) (left_end k h)) ∙ g
 
   -- whether one of them passes another test
-  pub left-some-turn : (q : ℕ → Bool) (i : ℕ) (o b : Bool) {x : ℕ} {r t goal : Bool} → i < count → b ≡ p (first + i) → x ≡ first + i → r ≡ q x
-      → t ≡ cond b (o || r) o → (o || some q (left i)) ≡ goal → (t || some q (left (i + 1))) ≡ goal
+  pub left-some-turn : (q : ℕ → Bool) (k : ℕ) (o b : Bool) {r t goal : Bool} → first ≤ k → k < first + count → b ≡ p k → r ≡ q k
+      → t ≡ cond b (o || r) o → (o || some q (left k)) ≡ goal → (t || some q (left (k + 1))) ≡ goal
   unfolding some
-  left-some-turn q i o true h e x r n g =
-      rw (n, r, x)
-      (or_assoc o (q (first + i)) (some q (left (i + 1))) ∙ sym (ap (λ (l : List ℕ). o || some q l) (left_yes i h e refl)) ∙ g)
-  left-some-turn q i o false h e x r n g = rw n (sym (ap (λ (l : List ℕ). o || some q l) (left_no i h e refl)) ∙ g)
+  left-some-turn q k o true l h e r n g =
+      rw (n, r) (or_assoc o (q k) (some q (left (k + 1))) ∙ sym (ap (λ (l : List ℕ). o || some q l) (left_yes k l h e refl)) ∙ g)
+  left-some-turn q k o false l h e r n g = rw n (sym (ap (λ (l : List ℕ). o || some q l) (left_no k l h e refl)) ∙ g)
 
-  pub left-some-end : (q : ℕ → Bool) (i : ℕ) (o : Bool) {goal : Bool} → count ≤ i → (o || some q (left i)) ≡ goal → o ≡ goal
+  pub left-some-end : (q : ℕ → Bool) (k : ℕ) (o : Bool) {goal : Bool} → first + count ≤ k → (o || some q (left k)) ≡ goal → o ≡ goal
   unfolding some
-  left-some-end q i o h g = sym (or-false o) ∙ sym (ap (λ (l : List ℕ). o || some q l) (left_end i h)) ∙ g
+  left-some-end q k o h g = sym (or-false o) ∙ sym (ap (λ (l : List ℕ). o || some q l) (left_end k h)) ∙ g
 
   -- whether there is one
-  pub left-is-turn : (i : ℕ) (o b : Bool) {t goal : Bool} → i < count → b ≡ p (first + i) → t ≡ cond b true o
-      → (o || is_some (left i)) ≡ goal → (t || is_some (left (i + 1))) ≡ goal
-  left-is-turn i o true h e n g = rw n (sym (or-true o) ∙ sym (ap (λ (l : List ℕ). o || is_some l) (left_yes i h e refl)) ∙ g)
-  left-is-turn i o false h e n g = rw n (sym (ap (λ (l : List ℕ). o || is_some l) (left_no i h e refl)) ∙ g)
+  pub left-is-turn : (k : ℕ) (o b : Bool) {t goal : Bool} → first ≤ k → k < first + count → b ≡ p k → t ≡ cond b true o
+      → (o || is_some (left k)) ≡ goal → (t || is_some (left (k + 1))) ≡ goal
+  left-is-turn k o true l h e n g = rw n (sym (or-true o) ∙ sym (ap (λ (l : List ℕ). o || is_some l) (left_yes k l h e refl)) ∙ g)
+  left-is-turn k o false l h e n g = rw n (sym (ap (λ (l : List ℕ). o || is_some l) (left_no k l h e refl)) ∙ g)
 
-  pub left-is-end : (i : ℕ) (o : Bool) {goal : Bool} → count ≤ i → (o || is_some (left i)) ≡ goal → o ≡ goal
-  left-is-end i o h g = sym (or-false o) ∙ sym (ap (λ (l : List ℕ). o || is_some l) (left_end i h)) ∙ g
+  pub left-is-end : (k : ℕ) (o : Bool) {goal : Bool} → first + count ≤ k → (o || is_some (left k)) ≡ goal → o ≡ goal
+  left-is-end k o h g = sym (or-false o) ∙ sym (ap (λ (l : List ℕ). o || is_some l) (left_end k h)) ∙ g
 
 -- the methods of class a that are overridden are those of its list that pass
 pub overridden-left : (ws text R : List ℕ) (m a first count : ℕ) → first ≡ class_first_method ws a
     → count ≡ list_count (class_first_method ws a) (class_method_count ws a) method_limit
-    → left (is_overridden (same_methods ws text) ws text m R a) first count 0 ≡ overridden_in (same_methods ws text) ws text m R a
+    → left (is_overridden (same_methods ws text) ws text m R a) first count first ≡ overridden_in (same_methods ws text) ws text m R a
 unfolding overridden_in own_methods
 overridden-left ws text R m a first count e f =
     left-start (is_overridden (same_methods ws text) ws text m R a) first count ∙ rw (e, f)
@@ -99,11 +118,11 @@ module _ (ws text : List ℕ) (m : ℕ) where
   abbrev pub along : List ℕ → ℕ → List ℕ
   along R a = overridden_along (same_methods ws text) ws text m R (chain ws a)
 
-  pub along-none : (a : ℕ) (marks R : List ℕ) → a ≡ 0 → marks ≡ fold mark marks (along R a)
+  pub along-none : (a : ℕ) (marks : List Bool) (R : List ℕ) → a ≡ 0 → marks ≡ fold mark marks (along R a)
   unfolding overridden_along fold
   along-none a marks R e = rw (chain-none ws a e)
 
-  pub along-up : (a : ℕ) (r : Bool) {p : ℕ} (marks R : List ℕ) {Q ns S out : List ℕ} → 0 < a → p ≡ parent_of ws a → Q ≡ R
+  pub along-up : (a : ℕ) (r : Bool) {p : ℕ} (marks : List Bool) (R : List ℕ) {Q S : List ℕ} {ns out : List Bool} → 0 < a → p ≡ parent_of ws a → Q ≡ R
       → ns ≡ fold mark marks (overridden_in (same_methods ws text) ws text m Q a)
       → r ≡ some (λ k. not (is_private (method_flags ws k))) (overridden_in (same_methods ws text) ws text m Q a)
       → S ≡ cond r (R ++ (a ∷ [])) R → out ≡ fold mark ns (along S p) → out ≡ fold mark marks (along R a)
@@ -112,14 +131,14 @@ module _ (ws text : List ℕ) (m : ℕ) where
       let here = overridden_in (same_methods ws text) ws text m R a in
       o ∙ rw (n, s, e, l, chain_more ws a h, ← (rw l at t)) (sym (fold-append mark marks here (along (cond r (R ++ (a ∷ [])) R) (parent_of ws a))))
 
-  pub marks_virtual : (c : ℕ) {p f : ℕ} {b : Bool} {R : List ℕ} (marks : List ℕ) {out : List ℕ} → f ≡ method_flags ws m → b ≡ is_virtual f
+  pub marks_virtual : (c : ℕ) {p f : ℕ} {b : Bool} {R : List ℕ} (marks : List Bool) {out : List Bool} → f ≡ method_flags ws m → b ≡ is_virtual f
       → not b ≡ false → R ≡ c ∷ [] → p ≡ parent_of ws c → out ≡ fold mark marks (along R p)
       → out ≡ fold mark marks (overridden (same_methods ws text) ws text c m)
   unfolding overridden
   marks_virtual c {b = b} marks f v t r e o =
       let q : is_virtual (method_flags ws m) ≡ true = sym (rw f at v) ∙ not-false b t in o ∙ rw (q, e, r)
 
-  pub marks_none : (c : ℕ) {f : ℕ} {b : Bool} (marks : List ℕ) → f ≡ method_flags ws m → b ≡ is_virtual f → not b ≡ true
+  pub marks_none : (c : ℕ) {f : ℕ} {b : Bool} (marks : List Bool) → f ≡ method_flags ws m → b ≡ is_virtual f → not b ≡ true
       → marks ≡ fold mark marks (overridden (same_methods ws text) ws text c m)
   unfolding overridden fold
   marks_none c {b = b} marks f v t = let q : is_virtual (method_flags ws m) ≡ false = sym (rw f at v) ∙ not-true b t in rw q

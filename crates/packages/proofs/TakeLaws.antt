@@ -13,8 +13,6 @@ use borrow.Author.Tests.{eqb-true, eqb-false, not-true, not-false}
 use Rattle.words.specs.Lists.{list_from, numbers, fold, keep, some}
 use Rattle.std.specs.Prelude.{Option, Some, None}
 use Rattle.words.proofs.Bools.{by}
-use Rattle.words.proofs.ListLaws.{fold_from, fold_start, fold-turn, fold_end}
-use Rattle.words.proofs.Lists.{zeros}
 use Rattle.class_sheet.specs.ClassSheet.{class_limit, class_first_method, class_method_count, method_flags, method_limit}
 use Rattle.linking.specs.Chain.{list_count, on_found, own_methods, parent_of, chain, is_virtual, eligible, same_methods}
 use Rattle.linking.specs.Vtable.{Entry, method_entry, parent_entries}
@@ -24,7 +22,7 @@ use Rattle.linking.proofs.Overriding.{keep-of}
 use Rattle.linking.proofs.Plans.{packages-within, packages-beyond}
 use Rattle.reading.specs.Arrays.{method_of, entries_of}
 use Rattle.reading.proofs.ArrayLaws.{length-entries}
-use Rattle.packages.proofs.OverLaws.{left, left-start, left-fold-turn, left-fold-end, left-is-turn, left-is-end}
+use Rattle.packages.proofs.OverLaws.{from, from_start, from_turn, from_end, left, left-start, left-fold-turn, left-fold-end, left-is-turn, left-is-end}
 use Rattle.packages.specs.Marks.{mark, taken_by, top_of, taken_in, is_some, Tops}
 
 -- ---- marks
@@ -35,20 +33,20 @@ or_turn true false z = refl
 or_turn false true z = refl
 or_turn false false z = refl
 
--- a store of 1, told by a test
-mark-one : (z : List ℕ) (k m : ℕ) → k < length z → eqb (get_or (set z k 1) m 0) 1 ≡ (eqb k m || eqb (get_or z m 0) 1)
+-- a mark, told by a test
+mark-one : (z : List Bool) (k m : ℕ) → k < length z → get_or (set z k true) m false ≡ (eqb k m || get_or z m false)
 mark-one z k m h =
     by (eqb k m)
-    (λ t. let e : k ≡ m = eqb-true k m t in rw (t, ← e, get_or-set_same z k 1 0 h))
-    (λ t. let n = eqb-false k m t in rw (t, get_or-set_other z k m 1 0 (λ q. n (sym q))))
+    (λ t. let e : k ≡ m = eqb-true k m t in rw (t, ← e, get_or-set_same z k true false h))
+    (λ t. let n = eqb-false k m t in rw (t, get_or-set_other z k m true false (λ q. n (sym q))))
 
-marks_are : (ks z : List ℕ) (m : ℕ) → ((k : ℕ) → Memᴰ k ks → k < length z)
-    → eqb (get_or (fold mark z ks) m 0) 1 ≡ (some (λ j. eqb j m) ks || eqb (get_or z m 0) 1)
+marks_are : (ks : List ℕ) (z : List Bool) (m : ℕ) → ((k : ℕ) → Memᴰ k ks → k < length z)
+    → get_or (fold mark z ks) m false ≡ (some (λ j. eqb j m) ks || get_or z m false)
 unfolding fold mark some
 marks_are [] z m h = refl
 marks_are (k ∷ ks) z m h =
-    marks_are ks (set z k 1) m (λ j i. rw (length-set z k 1) (h j (Memᴰ.tail i)))
-    ∙ rw (mark-one z k m (h k (Memᴰ.head refl))) (or_turn (some (λ j. eqb j m) ks) (eqb k m) (eqb (get_or z m 0) 1))
+    marks_are ks (set z k true) m (λ j i. rw (length-set z k true) (h j (Memᴰ.tail i)))
+    ∙ rw (mark-one z k m (h k (Memᴰ.head refl))) (or_turn (some (λ j. eqb j m) ks) (eqb k m) (get_or z m false))
 
 keep-ext : (p q : ℕ → Bool) (xs : List ℕ) → ((x : ℕ) → p x ≡ q x) → keep p xs ≡ keep q xs
 unfolding keep
@@ -60,19 +58,25 @@ unfolding keep list_from
 keep-along p q m zero h = refl
 keep-along p q m (suc k) h = rw (h m (omega arith) (omega arith), keep-along p q (m + 1) k (λ i l g. h i (omega arith) (omega arith)))
 
+-- no marks, at each place and past the end
+unmarked : (n i : ℕ) → get_or (replicate n false) i false ≡ false
+unmarked zero i = refl
+unmarked (suc n) zero = refl
+unmarked (suc n) (suc i) = unmarked n i
+
 -- the marks of methods of the section tell the slots that are taken
-pub taken_is : (tops ks : List ℕ) (n : ℕ) {marks : List ℕ} → ((k : ℕ) → Memᴰ k ks → k < method_limit) → marks ≡ fold mark (replicate 512 0) ks
+pub taken_is : (tops ks : List ℕ) (n : ℕ) {marks : List Bool} → ((k : ℕ) → Memᴰ k ks → k < method_limit) → marks ≡ fold mark (replicate 512 false) ks
     → taken_in tops marks n ≡ taken_slots (top_of tops) ks n
 unfolding taken_in taken_slots taken_by
 taken_is tops ks n room e =
     rw e
-    (keep-along (λ i. on_found (top_of tops i) (λ m. eqb (get_or (fold mark (replicate 512 0) ks) m 0) 1) false)
+    (keep-along (λ i. on_found (top_of tops i) (λ m. get_or (fold mark (replicate 512 false) ks) m false) false)
     (λ i. on_found (top_of tops i) (λ k. some (λ j. eqb j k) ks) false) 0 n (λ i l h. one (top_of tops i)))
   where
-    one : (f : Option ℕ) → on_found f (λ m. eqb (get_or (fold mark (replicate 512 0) ks) m 0) 1) false ≡ on_found f (λ k. some (λ j. eqb j k) ks) false
+    one : (f : Option ℕ) → on_found f (λ m. get_or (fold mark (replicate 512 false) ks) m false) false ≡ on_found f (λ k. some (λ j. eqb j k) ks) false
     one (Some m) =
-        let z : eqb (get_or (replicate 512 0) m 0) 1 ≡ false = rw (zeros 512 m) in
-        marks_are ks (replicate 512 0) m (λ k i. rw (length-replicate {A = ℕ} 512 0) (room k i)) ∙ rw z (or-false (some (λ j. eqb j m) ks))
+        let z : get_or (replicate 512 false) m false ≡ false = unmarked 512 m in
+        marks_are ks (replicate 512 false) m (λ k i. rw (length-replicate {A = Bool} 512 false) (room k i)) ∙ rw z (or-false (some (λ j. eqb j m) ks))
     one None = refl
 
 -- overridden methods are of the section
@@ -119,8 +123,8 @@ module _ (ws text tops : List ℕ) (c m n : ℕ) where
   unfolding take_slots
   take_none T {b} e h = let q : eligible ws text m ≡ false = sym e ∙ not-true b h in rw q
 
-  pub take_yes : (T : List Entry) {b : Bool} {marks : List ℕ} {U : List Entry} → b ≡ eligible ws text m → not b ≡ false
-      → marks ≡ fold mark (replicate 512 0) (overridden (same_methods ws text) ws text c m)
+  pub take_yes : (T : List Entry) {b : Bool} {marks : List Bool} {U : List Entry} → b ≡ eligible ws text m → not b ≡ false
+      → marks ≡ fold mark (replicate 512 false) (overridden (same_methods ws text) ws text c m)
       → U ≡ put_taken (method_entry ws m) T (taken_in tops marks n) → U ≡ taking T
   unfolding take_slots
   take_yes T {b} e h marked u =
@@ -162,26 +166,31 @@ module _ (ws text abi labels area : List ℕ) (c : ℕ) where
       ∙ takes-ext (top_of tops) (introducing ws text abi labels area p) n (λ i h. tells i (omega arith)) (own_methods ws c) (entries_of ts ms n)
       ∙ rw (packages-within (same_methods ws text) ws text abi labels area c room, q, e, ← k)
 
+-- what the methods from m on make of the table so far
+unfoldable pub takes : ℕ → ℕ → (List Entry → ℕ → List Entry) → List Entry → ℕ → List Entry
+takes first count g T m = fold g T (from first count m)
+
 module _ (ws text : List ℕ) (c : ℕ) (first count : ℕ) (g : List Entry → ℕ → List Entry) where
   pub takes-start : (T : List Entry) → first ≡ class_first_method ws c → count ≡ list_count (class_first_method ws c) (class_method_count ws c) method_limit
-      → fold_from (λ k. k) g T first count 0 ≡ fold g T (own_methods ws c)
-  unfolding own_methods
-  takes-start T e f = fold_start (λ k. k) g first count T ∙ rw (e, f)
+      → takes first count g T first ≡ fold g T (own_methods ws c)
+  unfolding takes own_methods
+  takes-start T e f = rw (from_start first count, e, f)
 
-  pub takes-turn : (i : ℕ) {T U goal : List Entry} → i < count → U ≡ g T (first + i) → fold_from (λ k. k) g T first count i ≡ goal
-      → fold_from (λ k. k) g U first count (i + 1) ≡ goal
-  takes-turn i h e q = fold-turn (λ k. k) g first count i h e ∙ q
+  pub takes-turn : (m : ℕ) {T U goal : List Entry} → first ≤ m → m < first + count → U ≡ g T m → takes first count g T m ≡ goal → takes first count g U (m + 1) ≡ goal
+  unfolding takes fold
+  takes-turn m {T = T} l h e q = rw e (sym (ap (fold g T) (from_turn first count m l h)) ∙ q)
 
-  pub takes-end : (i : ℕ) {T goal : List Entry} → count ≤ i → fold_from (λ k. k) g T first count i ≡ goal → T ≡ goal
-  takes-end i {T = T} h q = fold_end (λ k. k) g first count i T h ∙ q
+  pub takes-end : (m : ℕ) {T goal : List Entry} → first + count ≤ m → takes first count g T m ≡ goal → T ≡ goal
+  unfolding takes fold
+  takes-end m {T = T} h q = sym (ap (fold g T) (from_end first count m h)) ∙ q
 
 -- ---- the taken slots, one after the other
 
-module _ (tops marks : List ℕ) where
+module _ (tops : List ℕ) (marks : List Bool) where
   abbrev pub is_taken : ℕ → Bool
   is_taken j = taken_by (top_of tops j) marks
 
-module _ (tops marks : List ℕ) (n : ℕ) where
+module _ (tops : List ℕ) (marks : List Bool) (n : ℕ) where
   taken-left : left (is_taken tops marks) 0 n 0 ≡ taken_in tops marks n
   unfolding taken_in
   taken-left = left-start (is_taken tops marks) 0 n
@@ -193,21 +202,21 @@ module _ (tops marks : List ℕ) (n : ℕ) where
   some-start = ap is_some taken-left
 
   -- the test of slot i, as the code has it
-  test_is : (i : ℕ) (b : Bool) {q v : ℕ} → q ≡ i → v ≡ get_or tops q 0 → b ≡ taken_by (method_of v) marks → b ≡ is_taken tops marks (0 + i)
+  test_is : (i : ℕ) (b : Bool) {q v : ℕ} → q ≡ i → v ≡ get_or tops q 0 → b ≡ taken_by (method_of v) marks → b ≡ is_taken tops marks i
   unfolding top_of
-  test_is i b q v e = let z : 0 + i ≡ i = omega arith in rw z (e ∙ rw (v, q))
+  test_is i b q v e = e ∙ rw (v, q)
 
   pub stored_turn : (i : ℕ) (b : Bool) (T : List Entry) (e : Entry) {q v : ℕ} {U goal : List Entry} → i < n → q ≡ i → v ≡ get_or tops q 0
       → b ≡ taken_by (method_of v) marks → U ≡ cond b (set T i e) T → fold (λ l j. set l j e) T (left (is_taken tops marks) 0 n i) ≡ goal
       → fold (λ l j. set l j e) U (left (is_taken tops marks) 0 n (i + 1)) ≡ goal
-  stored_turn i b T e h q v t s g = left-fold-turn (is_taken tops marks) 0 n (λ l j. set l j e) i T b h (test_is i b q v t) (omega arith) s g
+  stored_turn i b T e h q v t s g = left-fold-turn (is_taken tops marks) 0 n (λ l j. set l j e) i T b (omega arith) (omega arith) (test_is i b q v t) s g
 
   pub some_turn : (i : ℕ) (o b : Bool) {q v : ℕ} {t goal : Bool} → i < n → q ≡ i → v ≡ get_or tops q 0 → b ≡ taken_by (method_of v) marks → t ≡ cond b true o
       → (o || is_some (left (is_taken tops marks) 0 n i)) ≡ goal → (t || is_some (left (is_taken tops marks) 0 n (i + 1))) ≡ goal
-  some_turn i o b h q v e s g = left-is-turn (is_taken tops marks) 0 n i o b h (test_is i b q v e) s g
+  some_turn i o b h q v e s g = left-is-turn (is_taken tops marks) 0 n i o b (omega arith) (omega arith) (test_is i b q v e) s g
 
   pub stored_end : (i : ℕ) (T : List Entry) (e : Entry) {goal : List Entry} → n ≤ i → fold (λ l j. set l j e) T (left (is_taken tops marks) 0 n i) ≡ goal → T ≡ goal
-  stored_end i T e h g = left-fold-end (is_taken tops marks) 0 n (λ l j. set l j e) i T h g
+  stored_end i T e h g = left-fold-end (is_taken tops marks) 0 n (λ l j. set l j e) i T (omega arith) g
 
   pub some_end : (i : ℕ) (o : Bool) {goal : Bool} → n ≤ i → (o || is_some (left (is_taken tops marks) 0 n i)) ≡ goal → o ≡ goal
-  some_end i o h g = left-is-end (is_taken tops marks) 0 n i o h g
+  some_end i o h g = left-is-end (is_taken tops marks) 0 n i o (omega arith) g

@@ -1,6 +1,6 @@
 -- What the table of a class of kind 3 is built with: overridden methods as marks in an array, and the introducing methods as an array of the marks
 -- that Reading gives. Assumes nothing.
-use Rattle.std.specs.Prelude.{ℕ, ◌<◌, ◌≡◌, Bool, true, false, List, [], ◌∷◌, cond, get_or, set, eqb, Option}
+use Rattle.std.specs.Prelude.{ℕ, ◌<◌, ◌≡◌, Bool, true, false, List, [], ◌∷◌, cond, get_or, set, Option}
 use Rattle.words.specs.Lists.{numbers, keep}
 use Rattle.linking.specs.Chain.{on_found, chain}
 use Rattle.linking.specs.Vtable.{read_slot}
@@ -8,19 +8,19 @@ use Rattle.linking.specs.Packages.{topmost, table_has, introducing}
 use Rattle.reading.specs.Arrays.{method_of}
 
 -- method k is marked
-unfoldable pub mark : List ℕ → ℕ → List ℕ
-mark ms k = set ms k 1
+unfoldable pub mark : List Bool → ℕ → List Bool
+mark ms k = set ms k true
 
 -- the method is one of those marked
-unfoldable pub taken_by : Option ℕ → List ℕ → Bool
-taken_by f marks = on_found f (λ m. eqb (get_or marks m 0) 1) false
+unfoldable pub taken_by : Option ℕ → List Bool → Bool
+taken_by f marks = on_found f (λ m. get_or marks m false) false
 
 -- the introducing method of slot i
 unfoldable pub top_of : List ℕ → ℕ → Option ℕ
 top_of tops i = method_of (get_or tops i 0)
 
 -- the slots below n whose introducing method is marked
-unfoldable pub taken_in : List ℕ → List ℕ → ℕ → List ℕ
+unfoldable pub taken_in : List ℕ → List Bool → ℕ → List ℕ
 taken_in tops marks n = keep (λ i. taken_by (top_of tops i) marks) (numbers 0 n)
 
 abbrev pub is_some : List ℕ → Bool

@@ -8,7 +8,7 @@ ghost use Rattle.text.specs.Text.{same_bytes};
 ghost use Rattle.class_sheet.specs.ClassSheet.{class_limit, method_limit, method_flags, is_packaged};
 ghost use Rattle.linking.specs.Chain.{is_private, chain, own_methods, same_methods};
 ghost use Rattle.linking.specs.Vtable.{read_slot, method_entry};
-ghost use Rattle.linking.specs.Packages.{package_of, package_at, open_to, is_overridden, overridden_in, overridden_along, overridden, table_has, put_taken, take_slots, build_packages, unfit_for_packages, bad_packages};
+ghost use Rattle.linking.specs.Packages.{package_of, package_at, is_public, is_protected, open_to, is_overridden, overridden_in, overridden_along, overridden, table_has, put_taken, take_slots, build_packages, unfit_for_packages, bad_packages};
 ghost use Rattle.reading.specs.Arrays.{method_of};
 ghost use Rattle.reading.specs.Tables.{entry, entries};
 ghost use Rattle.packages.specs.Marks.{mark, is_some, taken_by, taken_in, top_of, Laid, LaidUp, Tops};
@@ -48,14 +48,28 @@ fn same_package(ws: &[u32], text: &[u8], a: u32, c: u32) -> bool
     )
 }
 
+// Whether these flags say public.
+fn is_public(flags: u32) -> bool
+    ensures { result ≡ is_public flags }
+{
+    flags % 2 == 1
+}
+
+// Whether they say protected.
+fn is_protected(flags: u32) -> bool
+    ensures { result ≡ is_protected flags }
+{
+    flags / 4 % 2 == 1
+}
+
 // Whether method k of class a is open to class c.
 #[tactic(auto, unfolding(linking::specs::Packages::open_to))]
 fn open_to(ws: &[u32], text: &[u8], k: u32, a: u32, c: u32) -> bool
     ensures { result ≡ open_to ws.now text.now k a c }
 {
     let flags = class_sheet::method_flags(ws, k);
-    flags % 2 == 1
-        || flags / 4 % 2 == 1
+    is_public(flags)
+        || is_protected(flags)
         || (!class_sheet::is_private(flags) && same_package(ws, text, a, c))
 }
 
@@ -85,7 +99,7 @@ fn mark_class(
     m: u32,
     reached: &[u32],
     a: u32,
-    marks: &mut [u32; METHODS],
+    marks: &mut [bool; METHODS],
 ) -> bool
     ensures marked { marks.new ≡ fold mark marks.old (overridden_in (same_methods ws.now text.now) ws.now text.now m reached.now a) }
     ensures is { result ≡ some (λ k. not (is_private (method_flags ws.now k))) (overridden_in (same_methods ws.now text.now) ws.now text.now m reached.now a) }
@@ -93,10 +107,9 @@ fn mark_class(
     let first = class_sheet::class_first_method(ws, a);
     let count = chain::method_count(ws, a);
     let mut open = false;
-    for i in 0..count {
-        let k = first + i;
+    for k in first..first + count {
         if is_overridden(ws, text, m, reached, a, k) {
-            words::put(marks, k as usize, 1);
+            words::put(marks, k as usize, true);
             open |= !class_sheet::is_private(class_sheet::method_flags(ws, k));
         }
     }
@@ -111,7 +124,7 @@ fn mark_above(
     reached: &mut [u32; CLASSES],
     n: u32,
     a: u32,
-    marks: &mut [u32; METHODS],
+    marks: &mut [bool; METHODS],
 )
     requires { n + a ≤ class_limit }
     ensures { marks.new ≡ fold mark marks.old (overridden_along (same_methods ws.now text.now) ws.now text.now m (take n reached.old) (chain ws.now a)) }
@@ -128,7 +141,7 @@ fn mark_above(
 }
 
 // Marks the methods that method m of class c overrides; what is marked before stays so.
-fn mark_overridden(ws: &[u32], text: &[u8], c: u32, m: u32, marks: &mut [u32; METHODS])
+fn mark_overridden(ws: &[u32], text: &[u8], c: u32, m: u32, marks: &mut [bool; METHODS])
     requires { c ≤ class_limit }
     ensures { marks.new ≡ fold mark marks.old (overridden (same_methods ws.now text.now) ws.now text.now c m) }
 {
@@ -194,16 +207,16 @@ fn introducing_marks(sheets: Sheets, area: &[u32], p: u32, tops: &mut [u32; TABL
 
 // Whether the slot whose introducing method has mark k is taken.
 #[tactic(auto, unfolding(crate::specs::Marks::taken_by))]
-fn is_taken(k: u32, marks: &[u32; METHODS]) -> bool
+fn is_taken(k: u32, marks: &[bool; METHODS]) -> bool
     ensures { result ≡ taken_by (method_of k) marks.now }
 {
-    reading::method_of(k).is_some_and(|m| words::get_or(marks, m as usize, 0) == 1)
+    reading::method_of(k).is_some_and(|m| words::get_or(marks, m as usize, false))
 }
 
 // Stores the slot at each of the n inherited ones that is taken, and answers whether there is one.
 fn store_taken(
     tops: &[u32; TABLE_LIMIT],
-    marks: &[u32; METHODS],
+    marks: &[bool; METHODS],
     n: u32,
     table: &mut BuiltTable,
     slot: Slot,
@@ -227,7 +240,7 @@ fn store_taken(
 fn put_taken(
     ws: &[u32],
     tops: &[u32; TABLE_LIMIT],
-    marks: &[u32; METHODS],
+    marks: &[bool; METHODS],
     m: u32,
     n: u32,
     table: &mut BuiltTable,
@@ -260,7 +273,7 @@ fn take_slots(
     if !chain::eligible(ws, text, m) {
         return;
     }
-    let mut marks = [0u32; METHODS];
+    let mut marks = [false; METHODS];
     mark_overridden(ws, text, c, m, &mut marks);
     put_taken(ws, tops, &marks, m, n, table);
 }
@@ -275,8 +288,8 @@ fn take_all(ws: &[u32], text: &[u8], tops: &[u32; TABLE_LIMIT], c: u32, table: &
     let inherited = table.len;
     let first = class_sheet::class_first_method(ws, c);
     let count = chain::method_count(ws, c);
-    for i in 0..count {
-        take_slots(ws, text, tops, c, first + i, inherited, table);
+    for m in first..first + count {
+        take_slots(ws, text, tops, c, m, inherited, table);
     }
 }
 

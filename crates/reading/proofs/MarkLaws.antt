@@ -2,7 +2,7 @@
 use mathlib.Core.Path.{◌≡◌, refl, sym, ◌∙◌}
 use mathlib.Core.Bool.{Bool, true, cond}
 use mathlib.Core.List.{List, ◌++◌}
-use Prim.Native.Nat.{ℕ, zero, suc, ◌+◌, ◌*◌, ◌%◌, ◌≤◌, ◌<◌}
+use Prim.Native.Nat.{ℕ, zero, suc, ◌+◌, ◌-◌, ◌*◌, ◌%◌, ◌≤◌, ◌<◌}
 use native.Mathlib.Omega.{arith}
 use lib.ListN.{length, get_or, set, drop, get_or-append}
 use lib.Seq.{get_or-set_other, set-get_or, drop_at}
@@ -148,23 +148,32 @@ module _ (records ts : List ℕ) (first : ℕ) where
   first_of j i = find (λ m. eqb (record_word records member_width m target_word) (get_or ts i 0)) (numbers first j)
 
 module _ (records ts : List ℕ) (first n : ℕ) (ms : List ℕ) where
-  pub targets-start : ms ≡ marks_with (first_of records ts first 0) n ms
-  unfolding find list_from
-  targets-start = marks_none (λ i. None) n ms (λ i. refl)
-
-  pub targets-turn : (j : ℕ) {ns us : List ℕ} {w : ℕ} → ns ≡ marks_with (first_of records ts first j) n ms → w ≡ record_word records member_width (first + j) target_word
+  turn : (j : ℕ) {ns us : List ℕ} {w : ℕ} → ns ≡ marks_with (first_of records ts first j) n ms → w ≡ record_word records member_width (first + j) target_word
       → us ≡ marks_with (λ i. cond (eqb w (get_or ts i 0)) (Some (first + j)) None) n ns → first + j < method_limit → n ≤ length ms
       → us ≡ marks_with (first_of records ts first (j + 1)) n ms
-  targets-turn j {w = w} e f u h l =
+  turn j {w = w} e f u h l =
       u ∙ rw e (marks_then (first_of records ts first j) n ms (λ i. cond (eqb w (get_or ts i 0)) (Some (first + j)) None) (first_of records ts first (j + 1)) l
       (λ i k. rw (f, find-more (λ m. eqb (record_word records member_width m target_word) (get_or ts i 0)) first j)
       (mark-then k (first_of records ts first j i) (cond (eqb (record_word records member_width (first + j) target_word) (get_or ts i 0)) (Some (first + j)) None)
       (λ m q. let b = find-within (λ m. eqb (record_word records member_width m target_word) (get_or ts i 0)) first j m q in omega arith))))
 
-  pub targets-end : (count : ℕ) {j : ℕ} {ns : List ℕ} → ns ≡ marks_with (first_of records ts first j) n ms → j ≡ list_count first count method_limit
+  pub targets-start : ms ≡ marks_with (first_of records ts first (first - first)) n ms
+  unfolding find list_from
+  targets-start = let z : first - first ≡ 0 = omega arith in rw z (marks_none (λ i. None) n ms (λ i. refl))
+
+  pub targets-turn : (m : ℕ) {ns us : List ℕ} {w : ℕ} → first ≤ m → ns ≡ marks_with (first_of records ts first (m - first)) n ms
+      → w ≡ record_word records member_width m target_word
+      → us ≡ marks_with (λ i. cond (eqb w (get_or ts i 0)) (Some m) None) n ns → m < method_limit → n ≤ length ms
+      → us ≡ marks_with (first_of records ts first (m + 1 - first)) n ms
+  targets-turn m {w = w} low e f u h l =
+      let here : first + (m - first) ≡ m = omega arith in
+      let next : m + 1 - first ≡ m - first + 1 = omega arith in
+      rw next (turn (m - first) {w = w} e (rw here f) (rw here u) (omega arith) l)
+
+  pub targets-end : (count : ℕ) {m : ℕ} {ns : List ℕ} → ns ≡ marks_with (first_of records ts first (m - first)) n ms → m ≡ first + list_count first count method_limit
       → ns ≡ marks_with (λ i. first_target records first count (get_or ts i 0)) n ms
   unfolding first_target
-  targets-end count e f = e ∙ rw f
+  targets-end count {m = m} e f = let z : m - first ≡ list_count first count method_limit = omega arith in rw z at e
 
 module _ (ws ts : List ℕ) (c n : ℕ) (ms : List ℕ) where
   pub targets-none : c ≡ 0 → ms ≡ marks_with (λ i. find_by_target ws c (get_or ts i 0)) n ms

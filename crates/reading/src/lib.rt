@@ -58,13 +58,8 @@ fn mark_targets(records: &[u32], first: u32, count: u32, words: &[u32], marks: &
     ensures { marks.new ≡ marks_with (λ i. first_target records.now first count (get_or words.now i 0)) (length marks.old) marks.old }
 {
     let methods = chain::list_count(first, count, class_sheet::METHOD_LIMIT);
-    for j in 0..methods {
-        mark_target(
-            first + j,
-            chain::record_target(records, first + j),
-            words,
-            marks,
-        );
+    for m in first..first + methods {
+        mark_target(m, chain::record_target(records, m), words, marks);
     }
 }
 

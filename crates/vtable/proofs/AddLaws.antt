@@ -1,10 +1,12 @@
 -- Laws of a class's own methods: where each goes, rows 11 and 12, and all of them in their order. Assumes nothing.
 use mathlib.Core.Path.{◌≡◌, ◌∙◌}
 use mathlib.Core.Bool.{Bool, true, false, not}
-use mathlib.Core.List.{List}
-use Prim.Native.Nat.{ℕ, ◌+◌, ◌≤◌, ◌<◌}
+use mathlib.Core.List.{List, [], ◌∷◌}
+use Prim.Native.Nat.{ℕ, ◌+◌, ◌-◌, ◌≤◌, ◌<◌}
+use native.Mathlib.Omega.{arith}
 use lib.ListN.{get_or, set}
 use lib.Dec.{eqb}
+use Rattle.words.specs.Lists.{numbers}
 use Rattle.words.proofs.ListLaws.{rest_from, rest-start, rest-turn, rest_end}
 use Rattle.std.specs.Prelude.{Option, Some, Result, Ok, Err}
 use Rattle.class_sheet.specs.ClassSheet.{class_first_method, class_method_count, method_name, method_descriptor, method_limit}
@@ -48,25 +50,44 @@ module _ (ws text : List ℕ) (m : ℕ) where
 
 -- ---- all of a class's own methods
 
+module _ (first count : ℕ) where
+  -- the methods left at method m
+  unfoldable pub left : ℕ → List ℕ
+  left m = rest_from (λ k. k) first count (m - first)
+
+  pub left_turn : (m : ℕ) → first ≤ m → m < first + count → left m ≡ m ∷ left (m + 1)
+  unfolding left
+  left_turn m g h =
+      let e : first + (m - first) ≡ m = omega arith in
+      let f : m - first + 1 ≡ m + 1 - first = omega arith in
+      rw (rest-turn (λ (k : ℕ). k) first count (m - first) (omega arith), e, f)
+
+  pub left_start : left first ≡ numbers first count
+  unfolding left
+  left_start = let z : first - first ≡ 0 = omega arith in rw (z, rest-start (λ (k : ℕ). k) first count)
+
+  pub left_end : (m : ℕ) → first + count ≤ m → left m ≡ []
+  unfolding left
+  left_end m h = rw (rest_end (λ (k : ℕ). k) first count (m - first) (omega arith))
+
 module _ (ws text abi labels abis : List ℕ) (first count : ℕ) where
   pub adds-start : (c : ℕ) (T : List Entry) → first ≡ class_first_method ws c → count ≡ list_count (class_first_method ws c) (class_method_count ws c) method_limit
-      → add_methods ws text abi labels abis (rest_from (λ k. k) first count 0) T ≡ add_methods ws text abi labels abis (own_methods ws c) T
+      → add_methods ws text abi labels abis (left first count first) T ≡ add_methods ws text abi labels abis (own_methods ws c) T
   unfolding own_methods
-  adds-start c T e f = rw (rest-start (λ k. k) first count, e, f)
+  adds-start c T e f = rw (left_start first count, e, f)
 
-  pub adds-turn : (i : ℕ) (T U : List Entry) {s : Result Unit Refusal} {x : Unit} → i < count → s ≡ Ok x
-      → step_of s U ≡ add_method ws text abi labels abis (first + i) T
-      → add_methods ws text abi labels abis (rest_from (λ k. k) first count (i + 1)) U
-      ≡ add_methods ws text abi labels abis (rest_from (λ k. k) first count i) T
+  pub adds-turn : (m : ℕ) (T U : List Entry) {s : Result Unit Refusal} {x : Unit} → first ≤ m → m < first + count → s ≡ Ok x
+      → step_of s U ≡ add_method ws text abi labels abis m T
+      → add_methods ws text abi labels abis (left first count (m + 1)) U ≡ add_methods ws text abi labels abis (left first count m) T
   unfolding add_methods
-  adds-turn i T U h e f = rw (rest-turn (λ k. k) first count i h, ← f, e)
+  adds-turn m T U g h e f = rw (left_turn first count m g h, ← f, e)
 
-  pub adds-stop : (i : ℕ) (r : Refusal) (T U : List Entry) {s : Result Unit Refusal} → i < count → s ≡ Err r
-      → step_of s U ≡ add_method ws text abi labels abis (first + i) T
-      → refused (row r) ≡ add_methods ws text abi labels abis (rest_from (λ k. k) first count i) T
+  pub adds-stop : (m : ℕ) (r : Refusal) (T U : List Entry) {s : Result Unit Refusal} → first ≤ m → m < first + count → s ≡ Err r
+      → step_of s U ≡ add_method ws text abi labels abis m T
+      → refused (row r) ≡ add_methods ws text abi labels abis (left first count m) T
   unfolding add_methods
-  adds-stop i r T U h e f = rw (rest-turn (λ k. k) first count i h, ← f, e)
+  adds-stop m r T U g h e f = rw (left_turn first count m g h, ← f, e)
 
-  pub adds-end : (i : ℕ) (T : List Entry) → count ≤ i → built T ≡ add_methods ws text abi labels abis (rest_from (λ k. k) first count i) T
+  pub adds-end : (m : ℕ) (T : List Entry) → first + count ≤ m → built T ≡ add_methods ws text abi labels abis (left first count m) T
   unfolding add_methods
-  adds-end i T h = rw (rest_end (λ k. k) first count i h)
+  adds-end m T h = rw (left_end first count m h)

@@ -5,7 +5,7 @@ use mathlib.Core.List.{List, [], ◌∷◌, ◌++◌, append_assoc, append-nil}
 use Prim.Native.Nat.{ℕ, ◌+◌, ◌≤◌, ◌<◌}
 use Rattle.words.proofs.Bools.{by}
 use Rattle.words.specs.Lists.{keep}
-use Rattle.words.proofs.ListLaws.{rest_from, rest-start, rest-turn, rest_end}
+use Rattle.vtable.proofs.AddLaws.{left, left_start, left_turn, left_end}
 use Rattle.class_sheet.specs.ClassSheet.{class_first_method, class_method_count, method_limit}
 use Rattle.linking.specs.Chain.{list_count, own_methods, eligible}
 use Rattle.linking.specs.Abi.{chain_abi}
@@ -41,18 +41,16 @@ module _ (ws text : List ℕ) where
   module _ (first count : ℕ) where
     pub eligibles_start : (c : ℕ) {T : List Entry} → T ≡ [] → first ≡ class_first_method ws c
         → count ≡ list_count (class_first_method ws c) (class_method_count ws c) method_limit
-        → T ++ method_entries ws (keep (eligible ws text) (rest_from (λ k. k) first count 0)) ≡ build_interface_methods ws text c
+        → T ++ method_entries ws (keep (eligible ws text) (left first count first)) ≡ build_interface_methods ws text c
     unfolding build_interface_methods own_methods
-    eligibles_start c t e f = rw (t, rest-start (λ k. k) first count, e, f)
+    eligibles_start c t e f = rw (t, left_start first count, e, f)
 
-    pub eligibles_turn : (i : ℕ) (T U : List Entry) → i < count
-        → U ≡ T ++ method_entries ws (keep (eligible ws text) ((first + i) ∷ []))
-        → U ++ method_entries ws (keep (eligible ws text) (rest_from (λ k. k) first count (i + 1)))
-        ≡ T ++ method_entries ws (keep (eligible ws text) (rest_from (λ k. k) first count i))
-    eligibles_turn i T U h u =
-        rw (rest-turn (λ k. k) first count i h, entries-cons (first + i) (rest_from (λ k. k) first count (i + 1)), u, append_assoc)
+    pub eligibles_turn : (m : ℕ) (T U : List Entry) → first ≤ m → m < first + count
+        → U ≡ T ++ method_entries ws (keep (eligible ws text) (m ∷ []))
+        → U ++ method_entries ws (keep (eligible ws text) (left first count (m + 1))) ≡ T ++ method_entries ws (keep (eligible ws text) (left first count m))
+    eligibles_turn m T U g h u = rw (left_turn first count m g h, entries-cons m (left first count (m + 1)), u, append_assoc)
 
-    pub eligibles_end : (i : ℕ) (T : List Entry) → count ≤ i
-        → T ≡ T ++ method_entries ws (keep (eligible ws text) (rest_from (λ k. k) first count i))
+    pub eligibles_end : (m : ℕ) (T : List Entry) → first + count ≤ m
+        → T ≡ T ++ method_entries ws (keep (eligible ws text) (left first count m))
     unfolding method_entries keep
-    eligibles_end i T h = rw (rest_end (λ k. k) first count i h) (sym (append-nil T))
+    eligibles_end m T h = rw (left_end first count m h) (sym (append-nil T))

@@ -184,8 +184,8 @@ fn add_methods(sheets: Sheets, abis: &[u32], c: u32, table: &mut BuiltTable) -> 
 {
     let first = class_sheet::class_first_method(sheets.set, c);
     let count = chain::method_count(sheets.set, c);
-    for i in 0..count {
-        add_method(sheets, abis, first + i, table)?;
+    for m in first..first + count {
+        add_method(sheets, abis, m, table)?;
     }
     Ok(())
 }
@@ -230,7 +230,7 @@ pub fn build_interface_methods(ws: &[u32], text: &[u8], c: u32, table: &mut Buil
     let first = class_sheet::class_first_method(ws, c);
     let count = chain::method_count(ws, c);
     table.clear();
-    for i in 0..count {
-        add_eligible(ws, text, first + i, table);
+    for m in first..first + count {
+        add_eligible(ws, text, m, table);
     }
 }

@@ -1,4 +1,4 @@
--- Marks and test of the methods from i on, over those so far, are those of all. Assumes nothing.
+-- Marks and test of the methods from k on, over those so far, are those of all. Assumes nothing.
 use Rattle.std.proofs.Common.{◌≡◌, not, ◌||◌}
 use Rattle.words.specs.Lists.{fold, some}
 use Rattle.class_sheet.specs.ClassSheet.{method_flags}
@@ -8,12 +8,12 @@ use Rattle.packages.specs.Marks.{mark}
 use Rattle.packages.proofs.OverLaws.{left}
 use Rattle.packages.proofs.mark_class.Given as goal
 
-abbrev pub invariant-loop-i : goal.invariant-loop-i
-invariant-loop-i l = record {
-  marked : fold mark l.marks (left (is_overridden (same_methods l.ws l.text) l.ws l.text l.m l.reached l.a) l.first l.count l.i)
+abbrev pub invariant-loop-k : goal.invariant-loop-k
+invariant-loop-k l = record {
+  marked : fold mark l.marks (left (is_overridden (same_methods l.ws l.text) l.ws l.text l.m l.reached l.a) l.first l.count l.k)
       ≡ fold mark l.initial.marks (overridden_in (same_methods l.ws l.text) l.ws l.text l.m l.reached l.a);
   is : (l.open
       || some (λ k. not (is_private (method_flags l.ws k)))
-      (left (is_overridden (same_methods l.ws l.text) l.ws l.text l.m l.reached l.a) l.first l.count l.i))
+      (left (is_overridden (same_methods l.ws l.text) l.ws l.text l.m l.reached l.a) l.first l.count l.k))
       ≡ some (λ k. not (is_private (method_flags l.ws k))) (overridden_in (same_methods l.ws l.text) l.ws l.text l.m l.reached l.a);
 }

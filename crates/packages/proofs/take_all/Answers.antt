@@ -3,19 +3,19 @@ use Rattle.std.proofs.Common.{arith}
 use Rattle.packages.proofs.TakeLaws.{takes-start, takes-turn, takes-end}
 use Rattle.packages.proofs.take_all.Goals as goal
 
-pub loop-i-init : goal.loop-i-init
-loop-i-init c =
+pub loop-m-init : goal.loop-m-init
+loop-m-init c =
     let a = c.args in record {
       slots = omega arith;
       rest = takes-start a.ws.now a.text.now a.c _ _ _ _ c.class_first_method-first.ensures c.method_count-count.ensures;
     }
 
-pub loop-i-preserved : goal.loop-i-preserved
-loop-i-preserved c =
+pub loop-m-preserved : goal.loop-m-preserved
+loop-m-preserved c =
     let a = c.args in record {
       slots = omega arith;
-      rest = takes-turn a.ws.now a.text.now a.c _ _ _ c.loop-i.i c.loop-i-test.true c.take_slots.ensures.is c.loop-i.invariant.rest;
+      rest = takes-turn a.ws.now a.text.now a.c _ _ _ c.loop-m.m (omega arith) (omega arith) c.take_slots.ensures.is c.loop-m.invariant.rest;
     }
 
 pub returns-clause-is : goal.returns-clause-is
-returns-clause-is c = takes-end c.args.ws.now c.args.text.now c.args.c _ _ _ c.loop-i.i c.loop-i-test.false c.loop-i.invariant.rest
+returns-clause-is c = takes-end c.args.ws.now c.args.text.now c.args.c _ _ _ c.loop-m.m (omega arith) c.loop-m.invariant.rest

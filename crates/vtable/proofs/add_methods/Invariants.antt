@@ -1,15 +1,15 @@
 -- The methods left, added to the table so far, make what all of them make of the first table. Assumes nothing.
-use Rattle.std.proofs.Common.{◌≡◌, ◌+◌, ◌≤◌}
-use Rattle.words.proofs.ListLaws.{rest_from}
+use Rattle.std.proofs.Common.{◌≡◌, ◌+◌, ◌-◌, ◌≤◌}
 use Rattle.linking.specs.Chain.{own_methods}
 use Rattle.linking.specs.Sheets.{of_sheets}
 use Rattle.linking.specs.Vtable.{add_methods}
 use Rattle.reading.specs.Tables.{entries}
+use Rattle.vtable.proofs.AddLaws.{left}
 use Rattle.vtable.proofs.add_methods.Given as goal
 
-abbrev pub invariant-loop-i : goal.invariant-loop-i
-invariant-loop-i l = record {
-  slots : l.table.len ≤ l.initial.table.len + l.i;
-  rest : of_sheets add_methods l.sheets l.abis (rest_from (λ x. x) l.first l.count l.i) (entries l.table)
+abbrev pub invariant-loop-m : goal.invariant-loop-m
+invariant-loop-m l = record {
+  slots : l.table.len ≤ l.initial.table.len + (l.m - l.first);
+  rest : of_sheets add_methods l.sheets l.abis (left l.first l.count l.m) (entries l.table)
       ≡ of_sheets add_methods l.sheets l.abis (own_methods l.sheets.set.now l.c) (entries l.initial.table);
 }
