@@ -99,7 +99,7 @@ pub fn content_end(abi: &[u32]) -> usize
     ensures is { result ≡ abi_content_end abi.now }
     ensures small { result < 2 ^ 39 }
 {
-    text_at(abi) + ((text_length(abi) as usize) + 3) / 4
+    text_at(abi) + (text_length(abi) as usize).div_ceil(4)
 }
 
 // Word k of class a's record.

@@ -1,5 +1,5 @@
 -- A flag that is masked is the bit of its definition. Assumes nothing.
-use Rattle.std.proofs.Common.{ℕ, zero, suc, ◌≡◌, ◌+◌, ◌*◌, ◌/◌, ◌%◌, ◌^◌, ◌<◌, Bool, true, false, refl, sym, ap, ◌∙◌, arith, bit_and}
+use Rattle.std.proofs.Common.{ℕ, zero, suc, ◌≡◌, ◌*◌, ◌/◌, ◌%◌, ◌<◌, refl, arith, bit_and}
 use Rattle.std.specs.Prelude.{not, eqb}
 use borrow.Author.Tests.{ne_eqb}
 use Rattle.std.proofs.lemmas.Nat.Bits.{and_high}

@@ -1,8 +1,7 @@
 -- What a number that names a kind is. Assumes nothing.
-use Rattle.std.proofs.Common.{ℕ, zero, suc, ◌≡◌, Bool, true, false, refl, sym, ap, ◌∙◌, arith}
+use Rattle.std.proofs.Common.{ℕ, zero, suc, ◌≡◌, Bool, refl, ap, ◌∙◌, arith}
 use borrow.Author.Tests.{lt-leb, ne_eqb}
 use Rattle.std.specs.Prelude.{is_ok, leb}
-use Rattle.class_sheet.specs.declared.Kind.{Kind}
 use Rattle.class_sheet.specs.Kinds.{kind_at}
 
 -- the numbers up to 3 name a kind, and no others

@@ -7,6 +7,8 @@ ghost use Rattle.class_sheet.specs.Flags.{is_private, is_static, is_interface, i
 ghost use Rattle.class_sheet.specs.Kinds.{kind_at, kind_number};
 ghost use Rattle.class_sheet.specs.ClassSheet.{count_at, class_count, method_count, field_count, interface_count, compiler_count, text_length, methods_at, fields_at, interfaces_at, compilers_at, text_at, content_end, class_word, method_word, field_word, interface_word, text_words, text_of, text_limit, class_name_start, class_name_length, class_parent, class_flags, class_kind, class_first_method, class_method_count, class_first_field, class_field_count, class_first_interface, class_interface_count, class_link_state, class_instance_words, class_compiler_table, class_compiler_slots, class_table_place, class_slot_count, class_static_words, is_built_kind, method_name_start, method_name_length, method_descriptor_start, method_descriptor_length, method_flags, method_target, field_name_start, field_name_length, field_descriptor_start, field_descriptor_length, field_flags, field_index, class_name, method_name, method_descriptor, field_name, field_descriptor, put_count, put_method_count, put_field_count, put_text_length, put_class_word, put_class_first_method, put_class_method_count, put_class_first_field, put_class_field_count, put_class_instance_words, put_class_table_place, put_class_slot_count, put_class_static_words, put_member};
 
+use std::error::Error;
+use std::fmt;
 use text::Signature;
 
 // Widths, in words: of the counts, of a class record, and of a method or field record.
@@ -28,6 +30,15 @@ pub enum Kind {
 // A number that is no kind's.
 #[derive(Clone, Copy, Debug, PartialEq, Eq)]
 pub struct UnknownKind(pub u32);
+
+// Printed, it is that number.
+impl fmt::Display for UnknownKind {
+    fn fmt<W: fmt::Write>(&self, f: &mut fmt::Formatter<W>) -> fmt::Result {
+        write!(f, "{}", self.0)
+    }
+}
+
+impl Error for UnknownKind {}
 
 // The kind's number.
 impl From<Kind> for u32 {
@@ -223,7 +234,7 @@ pub fn content_end(ws: &[u32]) -> usize
     ensures is { result ≡ content_end ws.now }
     ensures small { result < 2 ^ 42 }
 {
-    text_at(ws) + ((text_length(ws) as usize) + 3) / 4
+    text_at(ws) + (text_length(ws) as usize).div_ceil(4)
 }
 
 // Word k of class c's record.
