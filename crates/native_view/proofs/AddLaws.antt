@@ -6,29 +6,24 @@ use Prim.Native.Nat.{ℕ, ◌+◌, ◌-◌, ◌≤◌, ◌<◌, min, ◌/◌, �
 use native.Mathlib.Omega.{arith}
 use lib.ListN.{length, get_or, take, length-append, length-take}
 use lib.Dec.{eqb}
-use borrow.Author.Tests.{eq-eqb, ne_eqb, lt-ltb, le-ltb}
+use borrow.Author.Tests.{eq-eqb, ne_eqb}
 use Rattle.words.specs.Lists.{first_found, all_found, some}
 use Rattle.std.specs.Option.{option_or, option_and_then}
 use Rattle.std.specs.Prelude.{Option, Some, None}
 use Rattle.words.proofs.Bools.{by}
-use Rattle.words.proofs.ListLaws.{by-found, found-by, rest_from, rest-start, rest-turn, rest_end}
-use Rattle.class_sheet.specs.ClassSheet.{class_first_interface, class_interface_count, class_compiler_table, class_compiler_slots, compiler_word, interface_word, method_flags, method_limit, interface_limit}
+use Rattle.words.proofs.ListLaws.{by-found, rest_from, rest-start, rest-turn, rest_end}
+use Rattle.class_sheet.specs.ClassSheet.{class_first_interface, class_interface_count, class_compiler_table, class_compiler_slots, compiler_word, interface_word, method_flags, interface_limit}
 use Rattle.linking.specs.Chain.{on_found, list_count, own_methods, own_interfaces, method_is}
 use Rattle.linking.specs.Abi.{slot_at, class_abi}
 use Rattle.linking.specs.Vtable.{Entry, empty}
 use Rattle.linking.specs.Compiler.{New, signature_sources, from_method, from_slot, is_declared, add_named, add_from, added_from, compiler_targets, native_view, added_methods}
 use Rattle.linking.proofs.ChainLaws.{own-interfaces-length, own-interface-at}
-use Rattle.abi.proofs.Laws.{slot-at-room}
 use Rattle.growth.specs.declared.news.Member.{Member}
 use Rattle.growth.specs.declared.news.Named.{Named}
-use Rattle.growth.specs.declared.news.Named.TheVariants.{Method, Slot}
+use Rattle.growth.specs.declared.news.Named.TheVariants.{Method, Slot, Field}
 use Rattle.growth.specs.News.{ref_name, ref_descriptor, new_of}
-use Rattle.native_view.specs.Native.{SheetMethod, SheetMethods, interface_slot, source_ref, ref_flags, member_of, added_at}
+use Rattle.native_view.specs.Native.{interface_slot, source_ref, ref_flags, member_of, added_at}
 use Rattle.native_view.proofs.FoundLaws.{found-cons, found_all}
-
-pub sheet-slot : (es : List Entry) (i : ℕ) {e : Entry} → SheetMethods es → e ≡ get_or es i empty → SheetMethod e
-unfolding SheetMethods
-sheet-slot es i h e = rw e (h i)
 
 pub pushed_count : (xs : List Member) (m : Member) {ys : List Member} → ys ≡ take 1024 (xs ++ m ∷ []) → length ys ≤ length xs + 1
 pushed_count xs m e = rw e (omega (arith, length-take 1024 (xs ++ m ∷ []), length-append xs (m ∷ [])))
@@ -40,6 +35,14 @@ interface-end ws c k h e = omega (arith, own-interfaces-length ws c)
 -- ---- flags
 
 module _ (ws : List ℕ) {r : Named} where
+  pub flags_slot : {s : ℕ} → r ≡ Slot s → 1 ≡ ref_flags ws r
+  unfolding ref_flags
+  flags_slot h = rw h refl
+
+  pub flags_field : {f : ℕ} → r ≡ Field f → 1 ≡ ref_flags ws r
+  unfolding ref_flags
+  flags_field h = rw h refl
+
   pub flags_abstract : (m : ℕ) {f : ℕ} → r ≡ Method m → f ≡ method_flags ws m → f / 1024 % 2 ≡ 1 → f - 1024 ≡ ref_flags ws r
   unfolding ref_flags
   flags_abstract m {f = f} h e a = rw h (rw (← e) (simp (eq-eqb (f / 1024 % 2) 1 a)))
@@ -120,10 +123,10 @@ module _ (ws text abi labels : List ℕ) where
   unfolding new_of ref_name ref_descriptor ref_flags
   of-slot s t = refl
 
-  add-from : (c i t : ℕ) (e : Entry) → SheetMethod e → add_from ws text abi labels c i t e.method []
+  add-from : (c i t : ℕ) (e : Entry) → add_from ws text abi labels c i t e.method []
       ≡ on_found (source_ref ws text abi labels c i e.method) (λ r. add_named ws text c (new_of ws text abi labels (member_of ws r t)) []) []
-  unfolding source_ref SheetMethod
-  add-from c i t e h =
+  unfolding source_ref
+  add-from c i t e =
       by-found e.method
       (λ m q. rw q (ap (λ (x : New). add_named ws text c x []) (sym (of-method m t))))
       (λ q.
@@ -137,15 +140,15 @@ module _ (ws text abi labels : List ℕ) where
     unfolding added_at
     add_skip h = rw h (sym (append-nil xs))
 
-    module _ (l : SheetMethod e) (h : (eqb t 0 || eqb t e.word) ≡ false) {q : Option Named} (f : q ≡ source_ref ws text abi labels c i e.method) where
+    module _ (h : (eqb t 0 || eqb t e.word) ≡ false) {q : Option Named} (f : q ≡ source_ref ws text abi labels c i e.method) where
       pub add_at : (r : Named) {ys : List New} → q ≡ Some r → ys ≡ xs ++ add_named ws text c (new_of ws text abi labels (member_of ws r t)) []
           → ys ≡ xs ++ added_at ws text abi labels c i t e
       unfolding added_at
-      add_at r g m = rw (h, add-from c i t e l, ← f, g) m
+      add_at r g m = rw (h, add-from c i t e, ← f, g) m
 
       pub add_none : q ≡ None → xs ≡ xs ++ added_at ws text abi labels c i t e
       unfolding added_at
-      add_none g = rw (h, add-from c i t e l, ← f, g) (sym (append-nil xs))
+      add_none g = rw (h, add-from c i t e, ← f, g) (sym (append-nil xs))
 
   -- ---- the loop along the targets
 

@@ -1,21 +1,14 @@
 -- The method that one compiler target adds, as the code makes it: what names its signature is a method or an ABI slot, as in `growth`. Assumes nothing.
-use Rattle.std.specs.Prelude.{◌≡◌, ℕ, ◌<◌, cond, ◌||◌, List, [], get_or, eqb, Option, Some}
+use Rattle.std.specs.Prelude.{ℕ, cond, ◌||◌, List, [], eqb, Option, Some}
 use Rattle.words.specs.Lists.{first_found}
 use Rattle.std.specs.Option.{option_or, option_and_then, option_map}
-use Rattle.class_sheet.specs.ClassSheet.{method_flags, interface_word, method_limit}
+use Rattle.class_sheet.specs.ClassSheet.{method_flags, interface_word}
 use Rattle.linking.specs.Abi.{slot_at, class_abi}
-use Rattle.linking.specs.Vtable.{Entry, empty}
+use Rattle.linking.specs.Vtable.{Entry}
 use Rattle.linking.specs.Compiler.{New, without_abstract, signature_sources, add_from}
 use Rattle.growth.specs.declared.news.Member.{Member}
 use Rattle.growth.specs.declared.news.Named.{Named}
 use Rattle.growth.specs.declared.news.Named.TheVariants.{Method, Slot, Field}
-
--- an entry's method, if it has one, is of the sheet; and so is each of these entries'
-unfoldable pub SheetMethod : Entry → Type 0
-SheetMethod e = (m : ℕ) → e.method ≡ Some m → m < method_limit
-
-unfoldable pub SheetMethods : List Entry → Type 0
-SheetMethods es = (i : ℕ) → SheetMethod (get_or es i empty)
 
 -- "flags without 0x0400" of a method, flags 1 of a slot
 unfoldable pub ref_flags : List ℕ → Named → ℕ
