@@ -13,7 +13,7 @@ use Rattle.std.specs.Prelude.{Option, Some, None}
 use Rattle.words.proofs.Bools.{by}
 use Rattle.words.proofs.ListLaws.{by-found, rest_from, rest-start, rest-turn, rest_end}
 use Rattle.class_sheet.specs.ClassSheet.{class_first_interface, class_interface_count, class_compiler_table, class_compiler_slots, compiler_word, interface_word, method_flags, interface_limit}
-use Rattle.linking.specs.Chain.{on_found, list_count, own_methods, own_interfaces, method_is}
+use Rattle.linking.specs.Chain.{list_count, own_methods, own_interfaces, method_is}
 use Rattle.linking.specs.Abi.{slot_at, class_abi}
 use Rattle.linking.specs.Vtable.{Entry, empty}
 use Rattle.linking.specs.Compiler.{New, signature_sources, from_method, from_slot, is_declared, add_named, add_from, added_from, compiler_targets, native_view, added_methods}
@@ -123,8 +123,11 @@ module _ (ws text abi labels : List ℕ) where
   unfolding new_of ref_name ref_descriptor ref_flags
   of-slot s t = refl
 
-  add-from : (c i t : ℕ) (e : Entry) → add_from ws text abi labels c i t e.method []
-      ≡ on_found (source_ref ws text abi labels c i e.method) (λ r. add_named ws text c (new_of ws text abi labels (member_of ws r t)) []) []
+  abbrev named_by : ℕ → ℕ → Option Named → List New
+  named_by c t (Some r) = add_named ws text c (new_of ws text abi labels (member_of ws r t)) []
+  named_by c t None = []
+
+  add-from : (c i t : ℕ) (e : Entry) → add_from ws text abi labels c i t e.method [] ≡ named_by c t (source_ref ws text abi labels c i e.method)
   unfolding source_ref
   add-from c i t e =
       by-found e.method

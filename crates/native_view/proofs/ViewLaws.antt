@@ -1,25 +1,20 @@
 -- Laws of the native view, as the code makes it. Assumes nothing.
-use mathlib.Core.Path.{◌≡◌, refl, ap, ◌∙◌}
+use mathlib.Core.Path.{◌≡◌, ap, ◌∙◌}
 use mathlib.Core.Bool.{Bool, false, cond, not, ◌&&◌}
 use mathlib.Core.List.{List, [], ◌∷◌, ◌++◌}
-use Prim.Native.Nat.{ℕ, zero, suc, ◌+◌, ◌≤◌, ◌<◌, min}
+use Prim.Native.Nat.{ℕ, suc, ◌+◌, ◌<◌}
 use native.Mathlib.Omega.{arith}
-use lib.ListN.{length, get_or, take, drop, get_or-eq_default}
-use lib.Dec.{eqb, ltb}
-use borrow.Author.Tests.{ltb-true, ltb-false}
+use lib.ListN.{length, get_or, take, drop}
+use lib.Dec.{eqb}
 use Rattle.words.specs.Lists.{list_from}
 use Rattle.std.specs.Prelude.{Option, Some, None}
-use Rattle.words.proofs.Bools.{by}
-use Rattle.words.proofs.ListLaws.{length-list-from, get_d_list_from, not_found}
 use Rattle.words.proofs.Ext.{list-more}
-use Rattle.class_sheet.specs.ClassSheet.{class_table_place, class_slot_count, method_limit}
 use Rattle.linking.specs.Chain.{on_found, parent_of}
 use Rattle.linking.specs.Abi.{chain_abi}
-use Rattle.linking.specs.Vtable.{Entry, empty, read_slot, table_entries, parent_entries, fixed_of}
+use Rattle.linking.specs.Vtable.{Entry, empty, parent_entries, fixed_of}
 use Rattle.linking.specs.Compiler.{owner_state, is_emptied, view_from, native_view}
 use Rattle.reading.specs.Arrays.{entry_at, entries_of}
 use Rattle.reading.proofs.ArrayLaws.{length-entries, entry_found}
-use Rattle.linking.proofs.ChainLaws.{entry-room}
 
 -- the ABI classes of a chain, as a part of the array that holds them
 pub abis_are : (at : List ℕ) (n : ℕ) (X : List ℕ) {l : List ℕ} {k : ℕ} → take n at ≡ X → k ≡ n → l ≡ take k (drop 0 at) → l ≡ X

@@ -1,5 +1,5 @@
 -- The method that one compiler target adds, as the code makes it: what names its signature is a method or an ABI slot, as in `growth`. Assumes nothing.
-use Rattle.std.specs.Prelude.{ℕ, cond, ◌||◌, List, [], eqb, Option, Some}
+use Rattle.std.specs.Prelude.{ℕ, cond, ◌||◌, List, [], eqb, Option}
 use Rattle.words.specs.Lists.{first_found}
 use Rattle.std.specs.Option.{option_or, option_and_then, option_map}
 use Rattle.class_sheet.specs.ClassSheet.{method_flags, interface_word}
