@@ -13,7 +13,7 @@ ghost use Rattle.linking.specs.Fields.{below_zero, field_width, instance_words, 
 ghost use Rattle.field.specs.Numbers.{signed_of, counting, first_numbering, declared_by, own_count, fixed_by, Holds, Fits, Movable, undeclared, Small, members_of, words_from, added_to, by_row, numbering_of, numbered_of, fields_by, add_words, built_fields, generated_fields};
 ghost use Rattle.linking.specs.Sheets.{of_sheets};
 
-use growth::{Member, News};
+use growth::{Member, Named, News};
 use linking::Sheets;
 use refusal::Refusal;
 
@@ -357,14 +357,14 @@ fn number_built(sheets: Sheets, own: Option<u32>, c: u32, gs: &[u32]) -> Result<
     })
 }
 
-// Adds each ABI field as a new member: what names it, from 1,024 on, its flags, 2, and its fixed index.
+// Adds each ABI field as a new member, which it names, with flags 2 and its fixed index.
 fn put_fields(abi: &[u32], gs: &[u32], news: &mut News)
     requires { (Small gs.now) × (length news.old + length gs.now ≤ 1024) }
     ensures { news.new ≡ news.old ++ members_of abi.now gs.now }
 {
     for g in gs {
         news.push(Member {
-            names: 1024 + *g,
+            names: Named::Field(*g),
             flags: 2,
             last: abi::fixed_field_index(abi, *g),
         });
