@@ -1,5 +1,5 @@
 -- Rows 8 to 15 refuse, or the effect is of the plan, its table and its new members. Assumes nothing.
-use Rattle.std.proofs.Common.{refl, rules}
+use Rattle.std.proofs.Common.{refl}
 use Rattle.std.proofs.lemmas.Result.{err_from_is_err_and}
 use Rattle.link.proofs.PlannedLaws.{indices-lent, link-finished}
 use Rattle.link.proofs.link_planned.Goals as goal
