@@ -1,18 +1,18 @@
 -- Laws of the ABI fields that are added to a class: which are, how far they raise the running word, and their records. Assumes nothing.
-use Rattle.std.proofs.Common.{◌≡◌, ℕ, zero, suc, ◌+◌, ◌-◌, ◌<◌, ◌≤◌, Bool, false, cond, not, List, [], ◌∷◌, ◌++◌, length, get_or, take, drop, set, ap, sym, refl, ◌∙◌, append_assoc, append-nil, add-one, arith, length-append, length-take, take-suc-set, le-ltb}
+use Rattle.std.proofs.Common.{◌≡◌, ℕ, zero, suc, ◌+◌, ◌-◌, ◌<◌, ◌≤◌, Bool, false, cond, not, List, [], ◌∷◌, ◌++◌, length, get_or, take, drop, set, ap, sym, refl, ◌∙◌, append_assoc, append-nil, add-one, arith, length-append, length-take, take-suc-set}
 use Rattle.words.specs.Lists.{list_from, numbers, keep}
 use Rattle.std.specs.Prelude.{Option, Some, None, Result}
 use Rattle.words.proofs.Bools.{by}
 use Rattle.std.proofs.Math.Seq.{take-suc}
 use Rattle.std.proofs.lemmas.List.{take_all}
 use Rattle.words.proofs.ListLaws.{rest_from, rest-start, rest-turn, rest_end, length-list-from}
-use Rattle.class_sheet.specs.ClassSheet.{field_limit}
 use Rattle.abi_sheet.specs.AbiSheet.{abi_class_first_field, abi_class_field_count, abi_field_limit}
 use Rattle.linking.specs.Chain.{list_count}
 use Rattle.linking.specs.Abi.{abi_fields, fixed_field_index, class_abi}
 use Rattle.linking.specs.Fields.{declares_field, added_fields}
 use Rattle.linking.specs.Link.{new_fields_of}
 use Rattle.growth.specs.declared.news.Member.{Member}
+use Rattle.growth.specs.declared.news.Named.TheVariants.{Field}
 use Rattle.growth.specs.News.{ref_name, ref_descriptor, new_of, news_of}
 use Rattle.growth.proofs.NewsLaws.{push_room}
 use Rattle.field.specs.Numbers.{Small, field_member, members_of, added_to, numbered_of, fields_by, built_fields}
@@ -121,7 +121,7 @@ module _ (abi : List ℕ) where
 
   pub members-turn : (ms : List Member) (gs : List ℕ) (i d : ℕ) {g v : ℕ} {ns os : List Member} → length ms + length gs ≤ 1024 → i < length gs
       → g ≡ get_or gs i d → ns ≡ members_to ms gs i → v ≡ fixed_field_index abi g
-      → os ≡ take 1024 (ns ++ record { names = 1024 + g; flags = 2; last = v } ∷ []) → os ≡ members_to ms gs (i + 1)
+      → os ≡ take 1024 (ns ++ record { names = Field g; flags = 2; last = v } ∷ []) → os ≡ members_to ms gs (i + 1)
   unfolding members_to members_of
   members-turn ms gs i d {g = g} room h e f q k =
       let a : members_of abi (take (i + 1) gs) ≡ members_of abi (take i gs) ++ (field_member abi g ∷ []) =
@@ -141,5 +141,4 @@ module _ (ws text abi labels : List ℕ) where
   unfolding members_of news_of new_of ref_name ref_descriptor new_fields_of
   members_are [] = refl
   members_are (g ∷ gs) =
-      let z : 1024 + g - 1024 ≡ g = omega arith in
-      rw (members_are gs) (simp (le-ltb (1024 + g) field_limit (omega arith), le-ltb (1024 + g) 1024 (omega arith), z))
+      rw (members_are gs) refl

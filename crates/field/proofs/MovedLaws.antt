@@ -1,7 +1,6 @@
 -- Laws of a generated class's fields: their words, fields that stand one after the other, and indices with the base added.
 -- Assumes nothing.
-use Rattle.std.proofs.Common.{◌≡◌, ℕ, zero, suc, ◌+◌, ◌-◌, ◌*◌, ◌<◌, ◌≤◌, Bool, true, false, ◌||◌, eqb, List, [], ◌∷◌, ◌++◌, length, take, drop, set, replicate, refl, ap, sym, ◌∙◌, ◌%◌, ◌^◌, append_assoc, append-nil, add-one, arith, take-suc-set, le-ltb, lt-ltb, eqb-true}
-use Rattle.std.specs.List.{fold as list_fold, range_with_len}
+use Rattle.std.proofs.Common.{◌≡◌, ℕ, zero, suc, ◌+◌, ◌-◌, ◌*◌, ◌<◌, ◌≤◌, Bool, true, false, ◌||◌, eqb, List, [], ◌∷◌, ◌++◌, length, take, drop, set, replicate, refl, sym, ◌∙◌, ◌%◌, ◌^◌, append_assoc, append-nil, add-one, arith, take-suc-set, le-ltb, lt-ltb, eqb-true}
 use Rattle.words.specs.Lists.{list_from, numbers, fold}
 use Rattle.words.proofs.Bools.{by, and_both}
 use Rattle.words.proofs.ListLaws.{rest_from, rest-start, rest-turn, rest_end}

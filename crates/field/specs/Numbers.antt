@@ -8,6 +8,7 @@ use Rattle.linking.specs.Abi.{fixed_field_index, fixed_field, given_words, class
 use Rattle.linking.specs.Fields.{is_negative, magnitude, instance_words, runtime_words, Numbering, number_fields, declares_field, added_fields, raised, built_words, too_many_words, add_static, add_width, generated_refusal, generated_indices}
 use Rattle.linking.specs.Set.{overlaid}
 use Rattle.growth.specs.declared.news.Member.{Member}
+use Rattle.growth.specs.declared.news.Named.TheVariants.{Field}
 use Rattle.refusal.specs.declared.Refusal.{Refusal}
 use Rattle.refusal.specs.Rows.{row}
 use Rattle.field.specs.declared.Counters.{Counters}
@@ -74,9 +75,9 @@ undeclared ws text abi labels c g = cond (declares_field ws text abi labels c g)
 abbrev pub Small : List ℕ → Type 0
 Small gs = (i : ℕ) → slice_index gs i < abi_field_limit
 
--- ABI field g as a new member: what names it, from 1,024 on, its flags, 2, and its fixed index; and so each of a list
+-- ABI field g as a new member, which it names, with flags 2 and its fixed index; and so each of a list
 abbrev pub field_member : List ℕ → ℕ → Member
-field_member abi g = record { names = 1024 + g; flags = 2; last = fixed_field_index abi g }
+field_member abi g = record { names = Field g; flags = 2; last = fixed_field_index abi g }
 
 unfoldable pub members_of : List ℕ → List ℕ → List Member
 members_of abi [] = []

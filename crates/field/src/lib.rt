@@ -13,12 +13,9 @@ ghost use Rattle.linking.specs.Fields.{below_zero, field_width, instance_words, 
 ghost use Rattle.field.specs.Numbers.{below_of, counting, first_numbering, declared_by, own_count, fixed_by, Holds, Fits, Movable, undeclared, Small, members_of, words_from, added_to, by_row, numbering_of, numbered_of, fields_by, add_words, built_fields, generated_fields};
 ghost use Rattle.linking.specs.Sheets.{of_sheets};
 
-use growth::{Member, News};
+use growth::{Member, Named, News};
 use linking::Sheets;
 use refusal::Refusal;
-
-// Where, among what names a new member, the ABI fields begin: after the methods of the class sheet and the ABI slots.
-const ABI_FIELDS: u32 = class_sheet::METHOD_LIMIT + abi_sheet::SLOT_LIMIT;
 
 // The index given last, and what the next ones count from: static words, runtime words and the running word.
 #[derive(Clone, Copy)]
@@ -362,14 +359,14 @@ fn number_built(sheets: Sheets, own: Option<u32>, c: u32, gs: &[u32]) -> Result<
     })
 }
 
-// Adds each ABI field as a new member: what names it, from 1,024 on, its flags, 2, and its fixed index.
+// Adds each ABI field as a new member, which it names, with flags 2 and its fixed index.
 fn put_fields(abi: &[u32], gs: &[u32], news: &mut News)
     requires { (Small gs.now) × (length news.old + length gs.now ≤ 1024) }
     ensures { news.new ≡ news.old ++ members_of abi.now gs.now }
 {
     for g in gs {
         news.push(Member {
-            names: ABI_FIELDS + *g,
+            names: Named::Field(*g),
             flags: 2,
             last: abi::fixed_field_index(abi, *g),
         });

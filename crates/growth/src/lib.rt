@@ -12,43 +12,36 @@ ghost use Rattle.linking.specs.Sheets.{of_sheets, of_lent};
 
 use class_sheet::MEMBER_WIDTH;
 use linking::{Lent, Sheets};
-pub use news::{Member, News};
+pub use news::{Member, Named, News};
 use text::Signature;
 
 mod news;
 
-// Where, among what names a new member, the ABI slots begin, after the methods of the class sheet, and the ABI fields after them.
-const SLOTS: u32 = class_sheet::METHOD_LIMIT;
-
-const FIELDS: u32 = SLOTS + abi_sheet::SLOT_LIMIT;
-
-// The name and descriptor of what r names, by the lists of both sheets.
+// The name and descriptor of what names a member, by the lists of both sheets.
 #[tactic(auto, unfolding(crate::specs::News::ref_name, crate::specs::News::ref_descriptor))]
 fn signature_of<'a>(
     set: &[u32],
     text: &'a [u8],
     abi: &[u32],
     labels: &'a [u8],
-    r: u32,
+    r: Named,
 ) -> Signature<'a>
     ensures name { result.name.now ≡ ref_name set.now text.now abi.now labels.now r }
     ensures descriptor { result.descriptor.now ≡ ref_descriptor set.now text.now abi.now labels.now r }
     ensures small { (length result.name.now < 2 ^ 32) × (length result.descriptor.now < 2 ^ 32) }
 {
-    if r < SLOTS {
-        return class_sheet::method_signature(set, text, r);
-    }
-    if r < FIELDS {
-        return abi_sheet::slot_signature(abi, labels, r - SLOTS);
-    }
-    Signature {
-        name: abi_sheet::field_name(abi, labels, r - FIELDS),
-        descriptor: abi_sheet::field_descriptor(abi, labels, r - FIELDS),
+    match r {
+        Named::Method(m) => class_sheet::method_signature(set, text, m),
+        Named::Slot(s) => abi_sheet::slot_signature(abi, labels, s),
+        Named::Field(f) => Signature {
+            name: abi_sheet::field_name(abi, labels, f),
+            descriptor: abi_sheet::field_descriptor(abi, labels, f),
+        },
     }
 }
 
-// The name and descriptor of what r names: parts of the class text, or of the ABI text.
-pub fn ref_signature<'a>(sheets: Sheets<'a>, r: u32) -> Signature<'a>
+// The name and descriptor of what names a member: parts of the class text, or of the ABI text.
+pub fn ref_signature<'a>(sheets: Sheets<'a>, r: Named) -> Signature<'a>
     ensures name { result.name.now ≡ of_sheets ref_name sheets.entry r }
     ensures descriptor { result.descriptor.now ≡ of_sheets ref_descriptor sheets.entry r }
     ensures small { (length result.name.now < 2 ^ 32) × (length result.descriptor.now < 2 ^ 32) }
@@ -157,9 +150,9 @@ fn can_grow(sheets: Sheets, list: Section, news: &News) -> bool
 pub fn put_indices(set: &mut [u32], at: usize, first: u32, indices: &[u32])
     ensures { set.new ≡ put_indices at first indices.now set.old }
 {
-    for j in 0..indices.len() {
+    for (j, index) in indices.iter().enumerate() {
         let place = MEMBER_WIDTH * ((first as usize) + j) + class_sheet::FIELD_INDEX;
-        words::put(set, at.saturating_add(place), indices[j]);
+        words::put(set, at.saturating_add(place), *index);
     }
 }
 

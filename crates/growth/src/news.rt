@@ -7,10 +7,18 @@ use std::marker::Model;
 // link adds.
 const LIMIT: usize = 1024;
 
+// What a new member takes its name and descriptor from, by number: a method of the class sheet, a slot of the ABI sheet, or a field of it.
+#[derive(Clone, Copy)]
+pub enum Named {
+    Method(u32),
+    Slot(u32),
+    Field(u32),
+}
+
 // A new member as the code has it: what names it, its flags, and its target or index.
 #[derive(Clone, Copy)]
 pub struct Member {
-    pub names: u32,
+    pub names: Named,
     pub flags: u32,
     pub last: u32,
 }
@@ -40,7 +48,7 @@ impl News {
     {
         News {
             members: [Member {
-                names: 0,
+                names: Named::Method(0),
                 flags: 0,
                 last: 0,
             }; LIMIT],

@@ -1,32 +1,29 @@
 -- Laws of the methods that compiler targets add. Assumes nothing.
-use mathlib.Core.Path.{◌≡◌, sym, ap, ◌∙◌}
+use mathlib.Core.Path.{◌≡◌, refl, sym, ap, ◌∙◌}
 use mathlib.Core.Bool.{Bool, true, false, ◌||◌}
 use mathlib.Core.List.{List, [], ◌∷◌, ◌++◌, append_assoc, append-nil}
 use Prim.Native.Nat.{ℕ, ◌+◌, ◌-◌, ◌≤◌, ◌<◌, min, ◌/◌, ◌%◌}
 use native.Mathlib.Omega.{arith}
 use lib.ListN.{length, get_or, take, length-append, length-take}
 use lib.Dec.{eqb}
-use borrow.Author.Tests.{eq-eqb, ne_eqb, lt-ltb, le-ltb}
+use borrow.Author.Tests.{eq-eqb, ne_eqb}
 use Rattle.words.specs.Lists.{first_found, all_found, some}
 use Rattle.std.specs.Option.{option_or, option_and_then}
 use Rattle.std.specs.Prelude.{Option, Some, None}
 use Rattle.words.proofs.Bools.{by}
-use Rattle.words.proofs.ListLaws.{by-found, found-by, rest_from, rest-start, rest-turn, rest_end}
-use Rattle.class_sheet.specs.ClassSheet.{class_first_interface, class_interface_count, class_compiler_table, class_compiler_slots, compiler_word, interface_word, method_flags, method_limit, interface_limit}
-use Rattle.linking.specs.Chain.{on_found, list_count, own_methods, own_interfaces, method_is}
+use Rattle.words.proofs.ListLaws.{by-found, rest_from, rest-start, rest-turn, rest_end}
+use Rattle.class_sheet.specs.ClassSheet.{class_first_interface, class_interface_count, class_compiler_table, class_compiler_slots, compiler_word, interface_word, method_flags, interface_limit}
+use Rattle.linking.specs.Chain.{list_count, own_methods, own_interfaces, method_is}
 use Rattle.linking.specs.Abi.{slot_at, class_abi}
 use Rattle.linking.specs.Vtable.{Entry, empty}
 use Rattle.linking.specs.Compiler.{New, signature_sources, from_method, from_slot, is_declared, add_named, add_from, added_from, compiler_targets, native_view, added_methods}
 use Rattle.linking.proofs.ChainLaws.{own-interfaces-length, own-interface-at}
-use Rattle.abi.proofs.Laws.{slot-at-room}
 use Rattle.growth.specs.declared.news.Member.{Member}
+use Rattle.growth.specs.declared.news.Named.{Named}
+use Rattle.growth.specs.declared.news.Named.TheVariants.{Method, Slot, Field}
 use Rattle.growth.specs.News.{ref_name, ref_descriptor, new_of}
-use Rattle.native_view.specs.Native.{SheetMethod, SheetMethods, interface_slot, source_ref, ref_flags, member_of, added_at}
+use Rattle.native_view.specs.Native.{interface_slot, source_ref, ref_flags, member_of, added_at}
 use Rattle.native_view.proofs.FoundLaws.{found-cons, found_all}
-
-pub sheet-slot : (es : List Entry) (i : ℕ) {e : Entry} → SheetMethods es → e ≡ get_or es i empty → SheetMethod e
-unfolding SheetMethods
-sheet-slot es i h e = rw e (h i)
 
 pub pushed_count : (xs : List Member) (m : Member) {ys : List Member} → ys ≡ take 1024 (xs ++ m ∷ []) → length ys ≤ length xs + 1
 pushed_count xs m e = rw e (omega (arith, length-take 1024 (xs ++ m ∷ []), length-append xs (m ∷ [])))
@@ -37,18 +34,22 @@ interface-end ws c k h e = omega (arith, own-interfaces-length ws c)
 
 -- ---- flags
 
-module _ (ws : List ℕ) (r : ℕ) where
-  pub flags_slot : method_limit ≤ r → 1 ≡ ref_flags ws r
+module _ (ws : List ℕ) {r : Named} where
+  pub flags_slot : {s : ℕ} → r ≡ Slot s → 1 ≡ ref_flags ws r
   unfolding ref_flags
-  flags_slot h = simp (le-ltb r method_limit h)
+  flags_slot h = rw h refl
 
-  pub flags_abstract : {f : ℕ} → r < method_limit → f ≡ method_flags ws r → f / 1024 % 2 ≡ 1 → f - 1024 ≡ ref_flags ws r
+  pub flags_field : {f : ℕ} → r ≡ Field f → 1 ≡ ref_flags ws r
   unfolding ref_flags
-  flags_abstract {f = f} h e a = simp (lt-ltb r method_limit h) (rw (← e) (simp (eq-eqb (f / 1024 % 2) 1 a)))
+  flags_field h = rw h refl
 
-  pub flags_same : {f : ℕ} → r < method_limit → f ≡ method_flags ws r → (f / 1024 % 2 ≡ 1 → ⊥) → f ≡ ref_flags ws r
+  pub flags_abstract : (m : ℕ) {f : ℕ} → r ≡ Method m → f ≡ method_flags ws m → f / 1024 % 2 ≡ 1 → f - 1024 ≡ ref_flags ws r
   unfolding ref_flags
-  flags_same {f = f} h e a = simp (lt-ltb r method_limit h) (rw (← e) (simp (ne_eqb (f / 1024 % 2) 1 a)))
+  flags_abstract m {f = f} h e a = rw h (rw (← e) (simp (eq-eqb (f / 1024 % 2) 1 a)))
+
+  pub flags_same : (m : ℕ) {f : ℕ} → r ≡ Method m → f ≡ method_flags ws m → (f / 1024 % 2 ≡ 1 → ⊥) → f ≡ ref_flags ws r
+  unfolding ref_flags
+  flags_same m {f = f} h e a = rw h (rw (← e) (simp (ne_eqb (f / 1024 % 2) 1 a)))
 
 module _ (ws text abi labels : List ℕ) where
   -- ---- what a target takes its signature from
@@ -80,16 +81,13 @@ module _ (ws text abi labels : List ℕ) where
           → q ≡ first_found (slot_at abi i) (signature_sources ws text abi labels c)
       source_next e g = rw (sources_are, ← own, e) g
 
-    pub source-room : (s : ℕ) → first_found (slot_at abi i) (signature_sources ws text abi labels c) ≡ Some s → s < method_limit
-    source-room s e = found-by (slot_at abi i) (signature_sources ws text abi labels c) s (λ a m q. slot-at-room abi a i s q) e
-
     module _ (f : Option ℕ) {o : Option ℕ} (h : o ≡ f) where
-      pub ref_method : (m : ℕ) → o ≡ Some m → Some m ≡ source_ref ws text abi labels c i f
+      pub ref_method : (m : ℕ) → o ≡ Some m → Some (Method m) ≡ source_ref ws text abi labels c i f
       unfolding source_ref
       ref_method m e = rw (← h, e)
 
       module _ (z : o ≡ None) {r : Option ℕ} (e : r ≡ first_found (slot_at abi i) (signature_sources ws text abi labels c)) where
-        pub ref_slot : (s : ℕ) → r ≡ Some s → Some (method_limit + s) ≡ source_ref ws text abi labels c i f
+        pub ref_slot : (s : ℕ) → r ≡ Some s → Some (Slot s) ≡ source_ref ws text abi labels c i f
         unfolding source_ref
         ref_slot s t = rw (← h, z) (rw (← e, t))
 
@@ -99,7 +97,7 @@ module _ (ws text abi labels : List ℕ) where
 
   -- ---- a method that is added, unless it is declared
 
-  module _ (c r t : ℕ) (xs : List New) {name descriptor : List ℕ} {b : Bool} (e : name ≡ ref_name ws text abi labels r)
+  module _ (c : ℕ) (r : Named) (t : ℕ) (xs : List New) {name descriptor : List ℕ} {b : Bool} (e : name ≡ ref_name ws text abi labels r)
       (f : descriptor ≡ ref_descriptor ws text abi labels r) (g : b ≡ some (λ m. method_is ws text m name descriptor) (own_methods ws c)) where
     declared-is : b ≡ is_declared ws text c (new_of ws text abi labels (member_of ws r t))
     unfolding is_declared new_of
@@ -117,26 +115,27 @@ module _ (ws text abi labels : List ℕ) where
 
   -- ---- what one target adds
 
-  of-method : (m t : ℕ) → m < method_limit → new_of ws text abi labels (member_of ws m t) ≡ from_method ws text m t
+  of-method : (m t : ℕ) → new_of ws text abi labels (member_of ws (Method m) t) ≡ from_method ws text m t
   unfolding new_of ref_name ref_descriptor ref_flags
-  of-method m t h = rw (lt-ltb m method_limit h)
+  of-method m t = refl
 
-  of-slot : (s t : ℕ) → s < method_limit → new_of ws text abi labels (member_of ws (method_limit + s) t) ≡ from_slot abi labels s t
+  of-slot : (s t : ℕ) → new_of ws text abi labels (member_of ws (Slot s) t) ≡ from_slot abi labels s t
   unfolding new_of ref_name ref_descriptor ref_flags
-  of-slot s t h =
-      let e : method_limit + s - method_limit ≡ s = omega arith in
-      rw (le-ltb (method_limit + s) method_limit (omega arith), lt-ltb (method_limit + s) 1024 (omega arith), e)
+  of-slot s t = refl
 
-  add-from : (c i t : ℕ) (e : Entry) → SheetMethod e → add_from ws text abi labels c i t e.method []
-      ≡ on_found (source_ref ws text abi labels c i e.method) (λ r. add_named ws text c (new_of ws text abi labels (member_of ws r t)) []) []
-  unfolding source_ref SheetMethod
-  add-from c i t e h =
+  abbrev named_by : ℕ → ℕ → Option Named → List New
+  named_by c t (Some r) = add_named ws text c (new_of ws text abi labels (member_of ws r t)) []
+  named_by c t None = []
+
+  add-from : (c i t : ℕ) (e : Entry) → add_from ws text abi labels c i t e.method [] ≡ named_by c t (source_ref ws text abi labels c i e.method)
+  unfolding source_ref
+  add-from c i t e =
       by-found e.method
-      (λ m q. rw q (ap (λ (x : New). add_named ws text c x []) (sym (of-method m t (h m q)))))
+      (λ m q. rw q (ap (λ (x : New). add_named ws text c x []) (sym (of-method m t))))
       (λ q.
       rw q
       (by-found (first_found (slot_at abi i) (signature_sources ws text abi labels c))
-      (λ s p. rw p (ap (λ (x : New). add_named ws text c x []) (sym (of-slot s t (source-room i c s p)))))
+      (λ s p. rw p (ap (λ (x : New). add_named ws text c x []) (sym (of-slot s t))))
       (λ p. rw p)))
 
   module _ (c i t : ℕ) (e : Entry) (xs : List New) where
@@ -144,15 +143,15 @@ module _ (ws text abi labels : List ℕ) where
     unfolding added_at
     add_skip h = rw h (sym (append-nil xs))
 
-    module _ (l : SheetMethod e) (h : (eqb t 0 || eqb t e.word) ≡ false) {q : Option ℕ} (f : q ≡ source_ref ws text abi labels c i e.method) where
-      pub add_at : (r : ℕ) {ys : List New} → q ≡ Some r → ys ≡ xs ++ add_named ws text c (new_of ws text abi labels (member_of ws r t)) []
+    module _ (h : (eqb t 0 || eqb t e.word) ≡ false) {q : Option Named} (f : q ≡ source_ref ws text abi labels c i e.method) where
+      pub add_at : (r : Named) {ys : List New} → q ≡ Some r → ys ≡ xs ++ add_named ws text c (new_of ws text abi labels (member_of ws r t)) []
           → ys ≡ xs ++ added_at ws text abi labels c i t e
       unfolding added_at
-      add_at r g m = rw (h, add-from c i t e l, ← f, g) m
+      add_at r g m = rw (h, add-from c i t e, ← f, g) m
 
       pub add_none : q ≡ None → xs ≡ xs ++ added_at ws text abi labels c i t e
       unfolding added_at
-      add_none g = rw (h, add-from c i t e l, ← f, g) (sym (append-nil xs))
+      add_none g = rw (h, add-from c i t e, ← f, g) (sym (append-nil xs))
 
   -- ---- the loop along the targets
 

@@ -1,26 +1,20 @@
 -- Laws of the native view, as the code makes it. Assumes nothing.
-use mathlib.Core.Path.{◌≡◌, refl, ap, ◌∙◌}
+use mathlib.Core.Path.{◌≡◌, ap, ◌∙◌}
 use mathlib.Core.Bool.{Bool, false, cond, not, ◌&&◌}
 use mathlib.Core.List.{List, [], ◌∷◌, ◌++◌}
-use Prim.Native.Nat.{ℕ, zero, suc, ◌+◌, ◌≤◌, ◌<◌, min}
+use Prim.Native.Nat.{ℕ, suc, ◌+◌, ◌<◌}
 use native.Mathlib.Omega.{arith}
-use lib.ListN.{length, get_or, take, drop, get_or-eq_default}
-use lib.Dec.{eqb, ltb}
-use borrow.Author.Tests.{ltb-true, ltb-false}
+use lib.ListN.{length, get_or, take, drop}
+use lib.Dec.{eqb}
 use Rattle.words.specs.Lists.{list_from}
 use Rattle.std.specs.Prelude.{Option, Some, None}
-use Rattle.words.proofs.Bools.{by}
-use Rattle.words.proofs.ListLaws.{length-list-from, get_d_list_from, not_found}
 use Rattle.words.proofs.Ext.{list-more}
-use Rattle.class_sheet.specs.ClassSheet.{class_table_place, class_slot_count, method_limit}
 use Rattle.linking.specs.Chain.{on_found, parent_of}
 use Rattle.linking.specs.Abi.{chain_abi}
-use Rattle.linking.specs.Vtable.{Entry, empty, read_slot, table_entries, parent_entries, fixed_of}
+use Rattle.linking.specs.Vtable.{Entry, empty, parent_entries, fixed_of}
 use Rattle.linking.specs.Compiler.{owner_state, is_emptied, view_from, native_view}
 use Rattle.reading.specs.Arrays.{entry_at, entries_of}
 use Rattle.reading.proofs.ArrayLaws.{length-entries, entry_found}
-use Rattle.linking.proofs.ChainLaws.{entry-room}
-use Rattle.native_view.specs.Native.{SheetMethod, SheetMethods}
 
 -- the ABI classes of a chain, as a part of the array that holds them
 pub abis_are : (at : List ℕ) (n : ℕ) (X : List ℕ) {l : List ℕ} {k : ℕ} → take n at ≡ X → k ≡ n → l ≡ take k (drop 0 at) → l ≡ X
@@ -70,53 +64,12 @@ module _ (ws text abi labels : List ℕ) where
         let z : 0 + length (entries_of ts ms i) ≡ i = omega (arith, length-entries ts ms i) in
         w ∙ rw (old, view_snoc 0 (entries_of ts ms i) e, z, ← hf, ← v)
 
-    -- ---- the methods of the view are those of the sheet
-
-    view-at : (j : ℕ) (es : List Entry) (i : ℕ) → get_or (view_from ws text abi labels abis j es) i empty ≡ view_at abis (j + i) (get_or es i empty)
-    unfolding view_from is_emptied
-    view-at j [] i = refl
-    view-at j (e ∷ es) zero = let z : j + 0 ≡ j = omega arith in rw z
-    view-at j (e ∷ es) (suc i) = let z : j + 1 + i ≡ j + suc i = omega arith in rw z at (view-at (j + 1) es i)
-
-    view-method : (i m : ℕ) (e : Entry) → (view_at abis i e).method ≡ Some m → e.method ≡ Some m
-    view-method i m e h =
-        by (is_emptied ws text abi labels abis i e)
-        (λ q. let b : ◌≡◌ {A = Option ℕ} None (Some m) = rw q at h in absurd (let z : ◌≡◌ {A = ℕ} 0 1 = cc in omega arith))
-        (λ q. rw q at h)
-
-    pub view-small : (E : List Entry) {V : List Entry} → SheetMethods E → V ≡ view_from ws text abi labels abis 0 E → SheetMethods V
-    unfolding SheetMethods SheetMethod
-    view-small E {V = V} h e i m t =
-        let g : get_or V i empty ≡ view_at abis (0 + i) (get_or E i empty) = rw e (view-at 0 E i) in
-        h i m (view-method (0 + i) m (get_or E i empty) (rw g at t))
-
   -- ---- the parent's entries
 
   module _ (area : List ℕ) (c : ℕ) where
-    table-room : (p i m : ℕ) → (get_or (table_entries ws text abi labels area p) i empty).method ≡ Some m → m < method_limit
-    unfolding table_entries read_slot
-    table-room p i m e =
-        by (ltb i (min (class_slot_count ws p) 1024))
-        (λ q.
-        let g = get_d_list_from (read_slot ws text abi labels area p) 0 (min (class_slot_count ws p) 1024) i empty (ltb-true i (min (class_slot_count ws p) 1024) q) in
-        entry-room ws text abi labels p (0 + i) (get_or area (class_table_place ws p + 1 + (0 + i)) 0) m (rw g at e))
-        (λ q.
-        let l = ltb-false i (min (class_slot_count ws p) 1024) q in
-        let h : length (list_from (read_slot ws text abi labels area p) 0 (min (class_slot_count ws p) 1024)) ≤ i =
-        omega (arith, length-list-from (read_slot ws text abi labels area p) 0 (min (class_slot_count ws p) 1024)) in
-        not_found (rw (get_or-eq_default (list_from (read_slot ws text abi labels area p) 0 (min (class_slot_count ws p) 1024)) empty h) at e))
-
-    parent-room : SheetMethods (parent_entries ws text abi labels area c)
-    unfolding SheetMethods SheetMethod parent_entries
-    parent-room i m e =
-        by (eqb (parent_of ws c) 0) (λ q. not_found (rw q at e)) (λ q. table-room (parent_of ws c) i m (rw q at e))
-
     -- the view as the code has it
     module _ {P V : List Entry} (read : P ≡ parent_entries ws text abi labels area c) where
       pub native_is : (abis : List ℕ) {p : ℕ} → p ≡ parent_of ws c → abis ≡ chain_abi ws text abi labels p
           → V ≡ view_from ws text abi labels abis 0 P → V ≡ native_view ws text abi labels area c
       unfolding native_view
       native_is abis e f g = g ∙ rw (read, f, e)
-
-      pub native_small : (abis : List ℕ) → V ≡ view_from ws text abi labels abis 0 P → SheetMethods V
-      native_small abis g = view-small abis (parent_entries ws text abi labels area c) parent-room (g ∙ rw read)

@@ -11,11 +11,11 @@ ghost use Rattle.linking.specs.Vtable.{empty, fixed_of, parent_entries};
 ghost use Rattle.linking.specs.Compiler.{holds, owner_state, is_emptied, view_from, native_view, signature_sources, add_named, compiler_targets, added_from, added_methods};
 ghost use Rattle.reading.specs.Tables.{entry, entries};
 ghost use Rattle.growth.specs.News.{new_of, news_of};
-ghost use Rattle.native_view.specs.Native.{SheetMethod, SheetMethods, interface_slot, source_ref, ref_flags, member_of, added_at};
+ghost use Rattle.native_view.specs.Native.{interface_slot, source_ref, ref_flags, member_of, added_at};
 ghost use Rattle.linking.specs.Sheets.{of_sheets};
 ghost use Rattle.text.specs.Signatures.{of_signature};
 
-use growth::{Member, News};
+use growth::{Member, Named, News};
 use linking::Sheets;
 use reading::{ReadTable, Slot};
 use text::Signature;
@@ -131,28 +131,31 @@ fn signature_slot(sheets: Sheets, i: u32, c: u32) -> Option<u32>
 }
 
 // What a target at index i takes its signature from, where the view has this slot.
-fn source_ref(sheets: Sheets, c: u32, i: u32, slot: Slot) -> Option<u32>
+fn source_ref(sheets: Sheets, c: u32, i: u32, slot: Slot) -> Option<Named>
     ensures { result ≡ of_sheets source_ref sheets.entry c i (entry slot).method }
 {
     match slot.method() {
-        Some(m) => Some(m),
-        None => Some(class_sheet::METHOD_LIMIT + signature_slot(sheets, i, c)?),
+        Some(m) => Some(Named::Method(m)),
+        None => Some(Named::Slot(signature_slot(sheets, i, c)?)),
     }
 }
 
 // The flags of a method that takes its signature from r: never 0x0400.
-#[tactic(auto, using(crate::proofs::AddLaws::flags_slot, crate::proofs::AddLaws::flags_abstract, crate::proofs::AddLaws::flags_same))]
-fn ref_flags(ws: &[u32], r: u32) -> u32
+#[tactic(auto, using(crate::proofs::AddLaws::flags_slot, crate::proofs::AddLaws::flags_field, crate::proofs::AddLaws::flags_abstract, crate::proofs::AddLaws::flags_same))]
+fn ref_flags(ws: &[u32], r: Named) -> u32
     ensures { result ≡ ref_flags ws.now r }
 {
-    if class_sheet::METHOD_LIMIT <= r {
-        return 1;
+    match r {
+        Named::Method(m) => {
+            let flags = class_sheet::method_flags(ws, m);
+            if class_sheet::is_abstract(flags) {
+                return flags - 1024;
+            }
+            flags
+        }
+        Named::Slot(_) => 1,
+        Named::Field(_) => 1,
     }
-    let flags = class_sheet::method_flags(ws, r);
-    if class_sheet::is_abstract(flags) {
-        return flags - 1024;
-    }
-    flags
 }
 
 // Whether class c declares a method of this name and descriptor.
@@ -163,7 +166,7 @@ fn is_declared(ws: &[u32], text: &[u8], signature: Signature, c: u32) -> bool
 }
 
 // Adds a method for target t that takes its signature from r, unless class c declares it.
-fn add_named(sheets: Sheets, c: u32, r: u32, t: u32, news: &mut News)
+fn add_named(sheets: Sheets, c: u32, r: Named, t: u32, news: &mut News)
     requires { length news.old < 1024 }
     ensures is { of_sheets news_of sheets.entry news.new ≡ of_sheets news_of sheets.entry news.old
         ++ add_named sheets.entry.set.now sheets.entry.text.now c (of_sheets new_of sheets.entry (member_of sheets.entry.set.now r t)) [] }
@@ -182,7 +185,7 @@ fn add_named(sheets: Sheets, c: u32, r: u32, t: u32, news: &mut News)
 
 // Adds what target t at index i adds, where the native view has this slot.
 fn add(sheets: Sheets, c: u32, i: u32, t: u32, slot: Slot, news: &mut News)
-    requires { (length news.old < 1024) × (SheetMethod (entry slot)) }
+    requires { length news.old < 1024 }
     ensures is { of_sheets news_of sheets.entry news.new ≡ of_sheets news_of sheets.entry news.old ++ of_sheets added_at sheets.entry c i t (entry slot) }
     ensures count { length news.new ≤ length news.old + 1 }
 {
@@ -196,7 +199,6 @@ fn add(sheets: Sheets, c: u32, i: u32, t: u32, slot: Slot, news: &mut News)
 
 // The methods that class c's compiler targets add, where this is the native view, and no others.
 fn add_methods(sheets: Sheets, c: u32, view: &ReadTable, news: &mut News)
-    requires { SheetMethods (entries view.now) }
     ensures is { of_sheets news_of sheets.entry news.new ≡ of_sheets added_from sheets.entry c (entries view.now) 0 (compiler_targets sheets.entry.set.now c) }
     ensures count { length news.new ≤ 1024 }
 {

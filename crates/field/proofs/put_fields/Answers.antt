@@ -1,13 +1,10 @@
 -- A turn adds one more field, for which there is room. Assumes nothing.
-use Rattle.std.proofs.Common.{refl, rules}
+use Rattle.std.proofs.Common.{refl}
 use Rattle.field.proofs.AddedLaws.{members-none, members-turn, members-done}
 use Rattle.field.proofs.put_fields.Goals as goal
 
 pub loop-g-init : goal.loop-g-init
 loop-g-init c = search members-none
-
-pub overflow_add-g : goal.overflow_add-g
-overflow_add-g c = let s = c.requires.0 c.loop-g.g-index in search rules
 
 pub loop-g-preserved : goal.loop-g-preserved
 loop-g-preserved c =

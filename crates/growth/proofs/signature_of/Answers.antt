@@ -1,4 +1,4 @@
--- Methods, slots and fields by where the number lies; each part is no longer than a word can say. Assumes nothing.
+-- Each case has its own names, and each part is no longer than a word can say. Assumes nothing.
 use native.Mathlib.Omega.{arith}
 use Rattle.words.specs.Words.{AreWords}
 use Rattle.class_sheet.specs.ClassSheet.{method_word}
@@ -6,20 +6,20 @@ use Rattle.abi_sheet.specs.AbiSheet.{abi_slot_word, abi_field_word}
 use Rattle.growth.proofs.NewsLaws.{part_small}
 use Rattle.growth.proofs.signature_of.Goals as goal
 
-pub returns-then-r-lt-SLOTS-clause-small : goal.returns-then-r-lt-SLOTS-clause-small
+pub returns-in-Method-clause-small : goal.returns-in-Method-clause-small
 unfolding method_word
-returns-then-r-lt-SLOTS-clause-small c =
+returns-in-Method-clause-small c =
     let s = c.method_signature.ensures in
     let w : AreWords c.args.set.now = λ i. omega (arith, c.type_inv.set i) in (part_small _ _ _ s.name (w _), part_small _ _ _ s.descriptor (w _))
 
-pub returns-then-r-lt-FIELDS-clause-small : goal.returns-then-r-lt-FIELDS-clause-small
+pub returns-in-Slot-clause-small : goal.returns-in-Slot-clause-small
 unfolding abi_slot_word
-returns-then-r-lt-FIELDS-clause-small c =
+returns-in-Slot-clause-small c =
     let s = c.slot_signature.ensures in
     let w : AreWords c.args.abi.now = λ i. omega (arith, c.type_inv.abi i) in (part_small _ _ _ s.name (w _), part_small _ _ _ s.descriptor (w _))
 
-pub returns-clause-small : goal.returns-clause-small
+pub returns-in-Field-clause-small : goal.returns-in-Field-clause-small
 unfolding abi_field_word
-returns-clause-small c =
+returns-in-Field-clause-small c =
     let w : AreWords c.args.abi.now = λ i. omega (arith, c.type_inv.abi i) in
     (part_small _ _ _ c.field_name.ensures (w _), part_small _ _ _ c.field_descriptor.ensures (w _))

@@ -1,5 +1,4 @@
 -- Rows 8 to 15 refuse, or the effect is of the plan, its table and its new members. Assumes nothing.
-use Rattle.std.proofs.Common.{rules}
 use Rattle.std.proofs.lemmas.Result.{err_from_is_err_and}
 use Rattle.link.proofs.PlannedLaws.{link-finished}
 use Rattle.link.proofs.link_planned.Goals as goal

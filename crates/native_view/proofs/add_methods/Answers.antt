@@ -1,7 +1,7 @@
 -- Each target's turn adds what it adds behind those so far. Assumes nothing.
 use Rattle.std.proofs.Common.{arith}
 use Rattle.growth.proofs.NewsLaws.{news_none}
-use Rattle.native_view.proofs.AddLaws.{sheet-slot, rest_begin, rest-turned, rest-none}
+use Rattle.native_view.proofs.AddLaws.{rest_begin, rest-turned, rest-none}
 use Rattle.native_view.proofs.add_methods.Goals as goal
 
 pub loop-i-init : goal.loop-i-init
@@ -12,7 +12,7 @@ loop-i-init c = record {
 }
 
 pub add-requires : goal.add-requires
-add-requires c = (omega arith, sheet-slot _ _ c.requires c.slot.ensures)
+add-requires c = omega arith
 
 pub loop-i-preserved : goal.loop-i-preserved
 loop-i-preserved c =

@@ -1,11 +1,8 @@
--- The view by the ABI classes of the parent's chain has methods of the sheet only, so the targets may add by it. Assumes nothing.
+-- The view goes by the ABI classes of the parent's chain, and the targets add by it. Assumes nothing.
 use Rattle.std.proofs.Common.{refl}
-use Rattle.native_view.proofs.ViewLaws.{native_is, native_small, abis_are}
+use Rattle.native_view.proofs.ViewLaws.{native_is, abis_are}
 use Rattle.native_view.proofs.AddLaws.{added_are}
 use Rattle.native_view.proofs.native_view.Goals as goal
-
-pub add_methods-requires : goal.add_methods-requires
-add_methods-requires c = native_small _ _ _ _ _ _ c.parent_entries.ensures.is _ c.view_entries.ensures.is
 
 pub returns : goal.returns
 returns c =

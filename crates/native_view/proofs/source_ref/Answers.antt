@@ -1,6 +1,6 @@
--- The view's method first, then an ABI slot; a slot's number leaves room for 512 more. Assumes nothing.
-use Rattle.std.proofs.Common.{sym, arith, ◌∙◌}
-use Rattle.native_view.proofs.AddLaws.{source-room, ref_method, ref_slot, ref_none}
+-- The view's method first, then an ABI slot. Assumes nothing.
+use Rattle.std.proofs.Common.{◌∙◌}
+use Rattle.native_view.proofs.AddLaws.{ref_method, ref_slot, ref_none}
 use Rattle.native_view.proofs.source_ref.Goals as goal
 
 pub returns-in-Some : goal.returns-in-Some
@@ -10,15 +10,6 @@ pub returns-in_err-signature_slot-in-None : goal.returns-in_err-signature_slot-i
 returns-in_err-signature_slot-in-None c =
     c.from_residual.ensures
     ∙ ref_none _ _ _ _ _ _ _ c.method.ensures c.in-None.is c.signature_slot.ensures c.in_err-signature_slot-in-None.was
-
-pub overflow_add-result : goal.overflow_add-result
-overflow_add-result c =
-    let s = c.args.sheets in
-    omega (
-      arith,
-      source-room s.set.now s.text.now s.abi.now s.labels.now c.args.i c.args.c _
-          (sym c.signature_slot.ensures ∙ c.in_ok-signature_slot-in-None.was),
-    )
 
 pub returns-in_ok-signature_slot-in-None : goal.returns-in_ok-signature_slot-in-None
 returns-in_ok-signature_slot-in-None c =
