@@ -11,7 +11,7 @@ use Rattle.words.specs.Lists.{first_found, all_found, some}
 use Rattle.std.specs.Option.{option_or, option_and_then}
 use Rattle.std.specs.Prelude.{Option, Some, None}
 use Rattle.words.proofs.Bools.{by}
-use Rattle.words.proofs.ListLaws.{by-found, rest_from, rest-start, rest-turn, rest_end}
+use Rattle.words.proofs.ListLaws.{by-found, found_from, found-start, rest_from, rest-start, rest-turn, rest_end}
 use Rattle.class_sheet.specs.ClassSheet.{class_first_interface, class_interface_count, class_compiler_table, class_compiler_slots, compiler_word, interface_word, method_flags, interface_limit}
 use Rattle.linking.specs.Chain.{list_count, own_methods, own_interfaces, method_is}
 use Rattle.linking.specs.Abi.{slot_at, class_abi}
@@ -31,6 +31,9 @@ pushed_count xs m e = rw e (omega (arith, length-take 1024 (xs ++ m ∷ []), len
 pub interface-end : (ws : List ℕ) (c k : ℕ) {n : ℕ} → n ≤ k → n ≡ list_count (class_first_interface ws c) (class_interface_count ws c) interface_limit
     → length (own_interfaces ws c) ≤ k
 interface-end ws c k h e = omega (arith, own-interfaces-length ws c)
+
+pub interface-start : (p : ℕ → Option ℕ) (xs : List ℕ) (f : ℕ) → found_from p xs (f - f) ≡ first_found p xs
+interface-start p xs f = let z : f - f ≡ 0 = omega arith in rw z (found-start p xs)
 
 -- ---- flags
 
@@ -56,13 +59,23 @@ module _ (ws text abi labels : List ℕ) where
 
   module _ (i c : ℕ) where
     -- a turn of the loop along the interfaces
-    pub interface-is : (k : ℕ) {f n d : ℕ} {r : Option ℕ} → k < n → n ≡ list_count (class_first_interface ws c) (class_interface_count ws c) interface_limit
+    interface-is : (k : ℕ) {f n d : ℕ} {r : Option ℕ} → k < n → n ≡ list_count (class_first_interface ws c) (class_interface_count ws c) interface_limit
         → f ≡ class_first_interface ws c → d ≡ interface_word ws (f + k) → r ≡ option_and_then (slot_at abi i) (class_abi ws text abi labels d)
         → (k < length (own_interfaces ws c)) × (r ≡ interface_slot ws text abi labels i (get_or (own_interfaces ws c) k 0))
     unfolding interface_slot
     interface-is k h e g p q =
         let l : k < length (own_interfaces ws c) = omega (arith, own-interfaces-length ws c) in
         (l, rw (own-interface-at ws c k l, q, p, g))
+
+    -- the same by the interface word's number
+    pub interface-at : (j : ℕ) {f n d : ℕ} {r : Option ℕ} → f ≤ j → j < f + n
+        → n ≡ list_count (class_first_interface ws c) (class_interface_count ws c) interface_limit
+        → f ≡ class_first_interface ws c → d ≡ interface_word ws j → r ≡ option_and_then (slot_at abi i) (class_abi ws text abi labels d)
+        → (j - f < length (own_interfaces ws c)) × (r ≡ interface_slot ws text abi labels i (get_or (own_interfaces ws c) (j - f) 0))
+    interface-at j {f = f} {n = n} low h e g p q =
+        let z : f + (j - f) ≡ j = omega arith in
+        let k : j - f < n = omega arith in
+        interface-is (j - f) k e g (rw z p) q
 
     sources_are : first_found (slot_at abi i) (signature_sources ws text abi labels c)
         ≡ option_or (option_and_then (slot_at abi i) (class_abi ws text abi labels c)) (first_found (interface_slot ws text abi labels i) (own_interfaces ws c))

@@ -110,8 +110,8 @@ fn interface_slot(sheets: Sheets, i: u32, c: u32) -> Option<u32>
 {
     let first = class_sheet::class_first_interface(sheets.set, c);
     let n = chain::interface_count(sheets.set, c);
-    for k in 0..n {
-        let d = class_sheet::interface_word(sheets.set, first + k);
+    for j in first..first + n {
+        let d = class_sheet::interface_word(sheets.set, j);
         if let Some(s) = abi::class_slot(sheets, i, d) {
             return Some(s);
         }

@@ -171,7 +171,8 @@ unfoldable pub takes : ℕ → ℕ → (List Entry → ℕ → List Entry) → L
 takes first count g T m = fold g T (from first count m)
 
 module _ (ws text : List ℕ) (c : ℕ) (first count : ℕ) (g : List Entry → ℕ → List Entry) where
-  pub takes-start : (T : List Entry) → first ≡ class_first_method ws c → count ≡ list_count (class_first_method ws c) (class_method_count ws c) method_limit
+  pub takes-start : (T : List Entry) → first ≡ class_first_method ws c
+      → count ≡ list_count (class_first_method ws c) (class_method_count ws c) method_limit
       → takes first count g T first ≡ fold g T (own_methods ws c)
   unfolding takes own_methods
   takes-start T e f = rw (from_start first count, e, f)

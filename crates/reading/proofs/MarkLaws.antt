@@ -170,7 +170,8 @@ module _ (records ts : List ℕ) (first n : ℕ) (ms : List ℕ) where
       let next : m + 1 - first ≡ m - first + 1 = omega arith in
       rw next (turn (m - first) {w = w} e (rw here f) (rw here u) (omega arith) l)
 
-  pub targets-end : (count : ℕ) {m : ℕ} {ns : List ℕ} → ns ≡ marks_with (first_of records ts first (m - first)) n ms → m ≡ first + list_count first count method_limit
+  pub targets-end : (count : ℕ) {m : ℕ} {ns : List ℕ} → ns ≡ marks_with (first_of records ts first (m - first)) n ms
+      → m ≡ first + list_count first count method_limit
       → ns ≡ marks_with (λ i. first_target records first count (get_or ts i 0)) n ms
   unfolding first_target
   targets-end count {m = m} e f = let z : m - first ≡ list_count first count method_limit = omega arith in rw z at e

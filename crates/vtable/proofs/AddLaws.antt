@@ -71,7 +71,8 @@ module _ (first count : ℕ) where
   left_end m h = rw (rest_end (λ (k : ℕ). k) first count (m - first) (omega arith))
 
 module _ (ws text abi labels abis : List ℕ) (first count : ℕ) where
-  pub adds-start : (c : ℕ) (T : List Entry) → first ≡ class_first_method ws c → count ≡ list_count (class_first_method ws c) (class_method_count ws c) method_limit
+  pub adds-start : (c : ℕ) (T : List Entry) → first ≡ class_first_method ws c
+      → count ≡ list_count (class_first_method ws c) (class_method_count ws c) method_limit
       → add_methods ws text abi labels abis (left first count first) T ≡ add_methods ws text abi labels abis (own_methods ws c) T
   unfolding own_methods
   adds-start c T e f = rw (left_start first count, e, f)

@@ -9,8 +9,8 @@ loop-m-init c = targets-start c.args.records.now c.args.words.now c.args.first (
 pub loop-m-preserved : goal.loop-m-preserved
 loop-m-preserved c =
     let n : length c.loop-m.marks ≡ length c.args.marks.now = omega arith in
-    targets-turn c.args.records.now c.args.words.now c.args.first (length c.args.marks.now) _ c.loop-m.m (omega arith) c.loop-m.invariant c.record_target.ensures
-    (rw n at c.mark_target.ensures) (omega arith) (omega arith)
+    targets-turn c.args.records.now c.args.words.now c.args.first (length c.args.marks.now) _ c.loop-m.m (omega arith) c.loop-m.invariant
+    c.record_target.ensures (rw n at c.mark_target.ensures) (omega arith) (omega arith)
 
 pub returns : goal.returns
 returns c = targets-end c.args.records.now c.args.words.now c.args.first (length c.args.marks.now) _ c.args.count c.loop-m.invariant (omega arith)

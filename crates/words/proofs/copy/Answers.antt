@@ -6,7 +6,7 @@ use Rattle.words.proofs.copy.Goals.{
   then-src-n-via-then-src-n,
   then-src-n-via-else-src-n+then-src-n-2,
   then-src-n-via-else-src-n+else-src-n-2+then-dst-n,
-  then-src-n-via-else-src-n+else-src-n-2+else-dst-n+then-dst-n-2
+  then-src-n-via-else-src-n+else-src-n-2+else-dst-n+then-dst-n-2,
 }
 
 pub returns-then-src-n : goal.returns-then-src-n
