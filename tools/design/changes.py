@@ -91,7 +91,20 @@ def types(files):
     return found
 
 
+OPENS = re.compile(r"( *)(?:pub )?(?:(module|record|data)\b)")
+
+
+def inside(lines, at, deep):
+    """What the line stands in: a module's block, a record's or a type's, or none."""
+    for earlier in reversed(lines[:at]):
+        if earlier.strip() and len(earlier) - len(earlier.lstrip()) < deep:
+            m = OPENS.match(earlier)
+            return m.group(2) if m else "law"
+    return "none"
+
+
 def declarations(files, folder):
+    """The public declarations of specs/; of proofs/*.antt those that are not public too."""
     found = {}
     for name, text in files.items():
         parts = name.split("/")
@@ -100,6 +113,10 @@ def declarations(files, folder):
         lines = [line for line in text.split("\n") if not line.lstrip().startswith("--")]
         for at, line in enumerate(lines):
             m = re.match(r"( *)(?:abbrev |unfoldable )?pub (?:record |data |unfoldable |abbrev )?([^\s:({]+)(?: |$)", line)
+            if not m and folder == "proofs":
+                m = re.match(r"( *)(?:record |data |unfoldable |abbrev )*([^\s:({]+) (?:.*)?: ", line)
+                if m and (m.group(2) in ("use", "module", "unfolding", "let", "pub", "by", "where", "λ") or inside(lines, at, len(m.group(1))) not in ("none", "module")):
+                    continue
             if not m or re.match(r" *pub (?:mod|use) ", line) or (len(m.group(1)) > 0 and folder == "specs" and re.match(r" +pub [^\s]+ :", line)):
                 continue
             deep, name_of = len(m.group(1)), m.group(2)
