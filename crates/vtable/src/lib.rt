@@ -202,11 +202,9 @@ pub fn build_methods(
     ensures is { step_of result (entries table.new) ≡ of_sheets build_methods sheets.entry area.now c }
     ensures count { table.new.len ≤ 2560 }
 {
-    let mut at = [0u32; class_sheet::CLASS_LIMIT as usize];
-    let k = abi::chain_abi(sheets, c, &mut at);
-    let abis = words::part(&at, 0, k as usize);
-    inherited_table(sheets, area, abis, c, table);
-    add_methods(sheets, abis, c, table)
+    let abis = abi::chain_abi(sheets, c);
+    inherited_table(sheets, area, abis.list(), c, table);
+    add_methods(sheets, abis.list(), c, table)
 }
 
 // Puts method m after the table's slots, if it is eligible.
