@@ -131,7 +131,7 @@ pub fn grown_end(sheets: Sheets, list: Section, news: &News) -> usize
     ensures { result ≡ grown_end sheets.entry.set.now list.own (of_sheets news_of sheets.entry news.now) }
 {
     let members = (list.own as usize) + (news.len() as usize);
-    class_sheet::text_at(sheets.set) + MEMBER_WIDTH * members + grown_text(sheets, news).div_ceil(4)
+    class_sheet::text_at(sheets.set) + MEMBER_WIDTH * members + (grown_text(sheets, news) + 3) / 4
 }
 
 // Whether a list can grow.

@@ -202,9 +202,10 @@ pub fn build_methods(
     ensures is { step_of result (entries table.new) ≡ of_sheets build_methods sheets.entry area.now c }
     ensures count { table.new.len ≤ 2560 }
 {
-    let abis = abi::chain_abi(sheets, c);
-    inherited_table(sheets, area, abis.list(), c, table);
-    add_methods(sheets, abis.list(), c, table)
+    let classes = abi::chain_abi(sheets, c);
+    let abis = classes.list();
+    inherited_table(sheets, area, abis, c, table);
+    add_methods(sheets, abis, c, table)
 }
 
 // Puts method m after the table's slots, if it is eligible.
