@@ -5,8 +5,8 @@ use mathlib.Core.List.{List, [], ◌∷◌, ◌++◌, Memᴰ, append_assoc, appe
 use Prim.Native.Nat.{ℕ, zero, suc, ◌+◌, ◌-◌, ◌≤◌, ◌<◌, min}
 use native.Mathlib.Omega.{arith}
 use native.Mathlib.Numerals.{add-one}
-use lib.ListN.{length, take, drop, set, length-take, length-append}
-use lib.Seq.{take_all, take-append-le, take-suc-set, length-take-le, drop-drop}
+use lib.ListN.{length, take, set, length-take, length-append}
+use lib.Seq.{take_all, take-append-le, take-suc-set, length-take-le}
 use lib.Dec.{eqb}
 use Rattle.class_sheet.specs.ClassSheet.{class_limit}
 use Rattle.words.specs.Lists.{cons_found, all_found}
@@ -25,30 +25,27 @@ take-cut zero l r = refl
 take-cut (suc k) [] r = refl
 take-cut {A = A} (suc k) (x ∷ l) r = ap (λ (t : List A). x ∷ t) (take-cut k l r)
 
--- an array of 64, of which n count: with none more, with one more
-module _ (l : List ℕ) (n : ℕ) (e : length l ≡ class_limit) where
-  pub push_none : take n l ≡ take class_limit (take n l ++ [])
-  push_none =
-      let g : length (take n l) ≤ class_limit = simp length-take (omega arith) in
-      rw (append-nil (take n l)) (sym (take_all class_limit (take n l) g))
+-- at most 64 are not cut
+pub push_none : {xs : List ℕ} → length xs ≤ class_limit → xs ≡ take class_limit (xs ++ [])
+push_none {xs = xs} h = rw (append-nil xs) (sym (take_all class_limit xs h))
 
-  pub push_full : (a : ℕ) → class_limit ≤ n → take n l ≡ take class_limit (take n l ++ (a ∷ []))
-  push_full a h =
+-- an array of 64, of which n count: full, with one more
+module _ (l : List ℕ) (n : ℕ) {xs : List ℕ} (view : take n l ≡ xs) (e : length l ≡ class_limit) where
+  pub push_full : (ys : List ℕ) → n ≡ class_limit → xs ≡ take class_limit (xs ++ ys)
+  push_full ys h =
       let q : take n l ≡ l = take_all n l (omega arith) in
-      rw q (sym (take-append-le class_limit l (a ∷ []) (omega arith) ∙ take_all class_limit l (omega arith)))
+      rw (← view, q) (sym (take-append-le class_limit l ys (omega arith) ∙ take_all class_limit l (omega arith)))
 
-  pub push_more : (a : ℕ) → n < class_limit → take (n + 1) (set l n a) ≡ take class_limit (take n l ++ (a ∷ []))
+  pub push_more : (a : ℕ) → n < class_limit → take (n + 1) (set l n a) ≡ take class_limit (xs ++ (a ∷ []))
   push_more a h =
       let g : length (take n l ++ (a ∷ [])) ≤ class_limit = simp (length-append, length-take-le n l (omega arith)) (omega arith) in
-      rw (add-one, take-suc-set l n a (omega arith)) (sym (take_all class_limit (take n l ++ (a ∷ [])) g))
+      rw (← view, add-one, take-suc-set l n a (omega arith)) (sym (take_all class_limit (take n l ++ (a ∷ [])) g))
 
--- what lies past a later place stays too
-pub drop-later : (k r : ℕ) (xs ys zs : List ℕ) → k ≤ r → drop k ys ≡ drop k xs → drop r zs ≡ drop r ys → drop r zs ≡ drop r xs
-drop-later k r xs ys zs h e f =
-    let z : k + (r - k) ≡ r = omega arith in
-    let a : drop (r - k) (drop k xs) ≡ drop r xs = rw z at (drop-drop (r - k) k xs) in
-    let b : drop (r - k) (drop k ys) ≡ drop r ys = rw z at (drop-drop (r - k) k ys) in
-    f ∙ sym b ∙ rw e a
+pub view-few : (l : List ℕ) (n : ℕ) {xs : List ℕ} → take n l ≡ xs → n ≤ class_limit → length xs ≤ class_limit
+view-few l n e h = rw (← e) (omega (arith, length-take n l))
+
+pub pushed-few : (xs : List ℕ) {ys : List ℕ} → ys ≡ take class_limit xs → length ys ≤ class_limit
+pushed-few xs e = rw e (omega (arith, length-take class_limit xs))
 
 -- the ABI classes of a chain after those so far: a class's turn, and the chain's end
 module _ (f : ℕ → Option ℕ) (ws : List ℕ) (c : ℕ) where
@@ -64,8 +61,8 @@ module _ (f : ℕ → Option ℕ) (ws : List ℕ) (c : ℕ) where
       found-then (Some a) y = refl
       found-then None y = refl
 
-  pub push_end : (l : List ℕ) (n : ℕ) → length l ≡ class_limit → c ≡ 0 → take n l ≡ take class_limit (take n l ++ all_found f (chain ws c))
-  push_end l n e z = rw (all_none f ws c z) (push_none l n e)
+  pub push_end : {xs : List ℕ} → length xs ≤ class_limit → c ≡ 0 → xs ≡ take class_limit (xs ++ all_found f (chain ws c))
+  push_end h z = rw (all_none f ws c z) (push_none h)
 
 -- ---- what is found
 

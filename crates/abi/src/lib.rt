@@ -2,9 +2,10 @@
 // past its section's limit is cut there, and an index or a size above its limit counts as the limit.
 #![tactic(auto)]
 
-ghost use Rattle.std.specs.Prelude.{◌≡◌, ◌≤◌, min, max, [], ◌∷◌, ◌++◌, length, take, drop, eqb};
+ghost use Rattle.std.specs.Prelude.{◌≡◌, ◌≤◌, ℕ, Bool, min, ◌++◌, length, take, eqb};
 ghost use Rattle.class_sheet.specs.ClassSheet.{class_limit};
-ghost use Rattle.words.specs.Lists.{find, cons_found, all_found};
+ghost use Rattle.words.specs.Folds.{Computes};
+ghost use Rattle.words.specs.Lists.{find, all_found};
 ghost use Rattle.text.specs.Text.{number_word, same_bytes};
 ghost use Rattle.abi_sheet.specs.AbiSheet.{abi_member_width, abi_class_name, abi_class_first_slot, abi_class_slot_count, abi_class_first_field, abi_class_field_count, abi_slot_limit, abi_field_limit};
 ghost use Rattle.linking.specs.Chain.{list_count, chain};
@@ -15,14 +16,14 @@ ghost use Rattle.abi.specs.Abis.{slot_records, field_records, class_slot};
 ghost use Rattle.linking.specs.Sheets.{of_sheets};
 ghost use Rattle.text.specs.Signatures.{of_signature};
 
+pub use classes::AbiClasses;
 use linking::Sheets;
 use text::Signature;
 
+mod classes;
+
 // How many words a slot record or a field record has.
 const MEMBER_WIDTH: u32 = abi_sheet::MEMBER_WIDTH as u32;
-
-// How many classes a chain has at most.
-const CHAIN_LIMIT: usize = class_sheet::CLASS_LIMIT as usize;
 
 // The first ABI class of this name.
 pub fn abi_named(abi: &[u32], labels: &[u8], name: &[u8]) -> Option<u32>
@@ -87,13 +88,21 @@ fn field_records(abi: &[u32]) -> &[u32]
     words::part(abi, abi_sheet::fields_at(abi), abi.len())
 }
 
+// ABI class a's first slot record that passes the test.
+fn find_slot<F: Fn(u32) -> bool>(abi: &[u32], a: u32, test: F) -> Option<u32>
+    requires { F.IsAlwaysCallable test }
+    ensures { (p : ℕ → Bool) → Computes (F.post test) p → result ≡ find p (abi_slots abi.now a) }
+{
+    let first = abi_sheet::class_first_slot(abi, a);
+    words::find_in(first, first + slot_count(abi, a), test)
+}
+
 // ABI class a's first slot record of this signature.
 fn slot_of(abi: &[u32], labels: &[u8], signature: Signature, a: u32) -> Option<u32>
     ensures { result ≡ find (λ s. of_signature (slot_is abi.now labels.now s) signature.entry) (abi_slots abi.now a) }
 {
     let records = slot_records(abi);
-    let first = abi_sheet::class_first_slot(abi, a);
-    words::find_in(first, first + slot_count(abi, a), |s| {
+    find_slot(abi, a, |s| {
         chain::record_is(records, MEMBER_WIDTH, labels, s, signature)
     })
 }
@@ -124,10 +133,7 @@ pub fn slot_at(abi: &[u32], i: u32, a: u32) -> Option<u32>
     ensures { result ≡ slot_at abi.now i a }
 {
     let records = slot_records(abi);
-    let first = abi_sheet::class_first_slot(abi, a);
-    words::find_in(first, first + slot_count(abi, a), |s| {
-        index_is(records, s, i)
-    })
+    find_slot(abi, a, |s| index_is(records, s, i))
 }
 
 // Whether field record f has this signature.
@@ -188,45 +194,25 @@ pub fn class_slot(sheets: Sheets, i: u32, c: u32) -> Option<u32>
     slot_at(sheets.abi, i, class_abi(sheets, c)?)
 }
 
-// Stores the ABI class, if one was found, after the first n, if there is room, and answers how many there are.
-fn push(at: &mut [u32; CHAIN_LIMIT], n: u32, found: Option<u32>) -> u32
-    requires { n ≤ class_limit }
-    ensures is { take result at.new ≡ take class_limit (take n at.old ++ cons_found found []) }
-    ensures count { (n ≤ result) × (result ≤ class_limit) }
-    ensures rest { drop result at.new ≡ drop result at.old }
-{
-    let Some(a) = found else {
-        return n;
-    };
-    if class_sheet::CLASS_LIMIT <= n {
-        return n;
-    }
-    words::put(at, n as usize, a);
-    n + 1
-}
-
-// Stores the ABI classes of class c and its ancestors after the first n, as far as there is room, and answers how many there are.
-fn push_chain(sheets: Sheets, c: u32, at: &mut [u32; CHAIN_LIMIT], n: u32) -> u32
-    requires { n ≤ class_limit }
-    ensures is { take result at.new ≡ take class_limit (take n at.old ++ all_found (of_sheets class_abi sheets.entry) (chain sheets.entry.set.now c)) }
-    ensures count { (n ≤ result) × (result ≤ class_limit) }
-    ensures rest { drop result at.new ≡ drop result at.old }
+// Adds the ABI classes of class c and its ancestors behind the others, as far as there is room.
+fn push_chain(sheets: Sheets, c: u32, classes: &mut AbiClasses)
+    requires { length classes.old ≤ class_limit }
+    ensures { classes.new ≡ take class_limit (classes.old ++ all_found (of_sheets class_abi sheets.entry) (chain sheets.entry.set.now c)) }
 {
     if c == 0 {
-        return n;
+        return;
     }
-    let k = push(at, n, class_abi(sheets, c));
-    push_chain(sheets, chain::parent_of(sheets.set, c), at, k)
+    classes.push(class_abi(sheets, c));
+    push_chain(sheets, chain::parent_of(sheets.set, c), classes);
 }
 
-// Stores the ABI classes that the chain of class c names, nearest first, and answers how many there are. The rest of the array stays.
-pub fn chain_abi(sheets: Sheets, c: u32, at: &mut [u32; CHAIN_LIMIT]) -> u32
-    ensures is { take result at.new ≡ of_sheets chain_abi sheets.entry c }
-    ensures count { result ≤ class_limit }
-    ensures array { length at.new ≡ class_limit }
-    ensures rest { drop result at.new ≡ drop result at.old }
+// The ABI classes that the chain of class c names, nearest first.
+pub fn chain_abi(sheets: Sheets, c: u32) -> AbiClasses
+    ensures { result ≡ of_sheets chain_abi sheets.entry c }
 {
-    push_chain(sheets, c, at, 0)
+    let mut classes = AbiClasses::new();
+    push_chain(sheets, c, &mut classes);
+    classes
 }
 
 // The fixed index of a signature: that of the first ABI class that fixes one.

@@ -15,7 +15,7 @@ use Rattle.growth.specs.declared.news.Member.{Member}
 use Rattle.growth.specs.declared.news.Named.TheVariants.{Field}
 use Rattle.growth.specs.News.{ref_name, ref_descriptor, new_of, news_of}
 use Rattle.growth.proofs.NewsLaws.{push_room}
-use Rattle.field.specs.Numbers.{Small, field_member, members_of, added_to, numbered_of, fields_by, built_fields}
+use Rattle.field.specs.Numbers.{field_member, members_of, added_to, numbered_of, fields_by, built_fields}
 use Rattle.field.specs.declared.Numbered.{Numbered}
 
 -- ---- those that it does not declare
@@ -48,30 +48,11 @@ module _ (ws text abi labels : List ℕ) (c : ℕ) where
   unfolding kept_at keep
   kept-end m n i k l h = rw (rest_end (λ (j : ℕ). j) m n i h) (sym (append-nil (take k l)))
 
-  -- they are numbers of ABI fields
-  kept_small : (p : ℕ → Bool) (m n i : ℕ) → n ≤ abi_field_limit - m → get_or (keep p (numbers m n)) i 0 < abi_field_limit
-  unfolding keep list_from
-  kept_small p m zero i h = omega arith
-  kept_small p m (suc n) zero h =
-      by (p m) (λ t. rw t (omega arith)) (λ t. rw t (kept_small p (m + 1) n 0 (omega arith)))
-  kept_small p m (suc n) (suc i) h =
-      by (p m) (λ t. rw t (kept_small p (m + 1) n i (omega arith))) (λ t. rw t (kept_small p (m + 1) n (suc i) (omega arith)))
-
-  added-small : (own : Option ℕ) (i : ℕ) → get_or (added_fields ws text abi labels own c) i 0 < abi_field_limit
-  unfolding added_fields abi_fields
-  added-small (Some a) i =
-      kept_small (λ g. not (declares_field ws text abi labels c g)) (abi_class_first_field abi a)
-      (list_count (abi_class_first_field abi a) (abi_class_field_count abi a) abi_field_limit) i (omega arith)
-  added-small None i = omega arith
-
   pub added-part : (own : Option ℕ) (l s : List ℕ) {n m : ℕ} → take n l ≡ added_fields ws text abi labels own c → m ≡ n → s ≡ take m (drop 0 l)
       → s ≡ added_fields ws text abi labels own c
   added-part own l s e f g = rw f at g ∙ e
 
-  pub part_small : (own : Option ℕ) (s : List ℕ) → s ≡ added_fields ws text abi labels own c → Small s
-  part_small own s e i = rw e (added-small own i)
-
-  -- and a sheet has no more than 256
+  -- a sheet has no more than 256
   length-keep : (p : ℕ → Bool) (xs : List ℕ) → length (keep p xs) ≤ length xs
   unfolding keep
   length-keep p [] = omega arith

@@ -1,6 +1,5 @@
 -- What a class's fields come to, as the code has it: their indices and the instance words, or the row that refuses them. Assumes nothing.
-use Rattle.std.specs.Prelude.{◌≡◌, ℕ, ◌+◌, ◌-◌, ◌^◌, ◌<◌, Bool, true, false, cond, not, ◌&&◌, List, [], ◌∷◌, length, replicate, ◌==◌, slice_index, Result, Ok, Err, Option, Some, None}
-use Rattle.abi_sheet.specs.AbiSheet.{abi_field_limit}
+use Rattle.std.specs.Prelude.{◌≡◌, ℕ, ◌+◌, ◌-◌, ◌^◌, ◌<◌, Bool, true, false, cond, not, ◌&&◌, List, [], ◌∷◌, length, replicate, ◌==◌, Result, Ok, Err, Option, Some, None}
 use Rattle.std.specs.Option.{option_and_then}
 use Rattle.class_sheet.specs.ClassSheet.{class_first_field, class_field_count, field_name, field_descriptor, field_flags, field_index, field_limit}
 use Rattle.linking.specs.Chain.{on_found, list_count, parent_of, is_static}
@@ -70,10 +69,6 @@ added_to ws text abi labels c = added_fields ws text abi labels (class_abi ws te
 -- ABI field g, unless an instance field of the class matches it
 abbrev pub undeclared : List ℕ → List ℕ → List ℕ → List ℕ → ℕ → ℕ → List ℕ
 undeclared ws text abi labels c g = cond (declares_field ws text abi labels c g) [] (g ∷ [])
-
--- each is a number of an ABI field, of which a sheet has at most 256
-abbrev pub Small : List ℕ → Type 0
-Small gs = (i : ℕ) → slice_index gs i < abi_field_limit
 
 -- ABI field g as a new member, which it names, with flags 2 and its fixed index; and so each of a list
 abbrev pub field_member : List ℕ → ℕ → Member

@@ -10,7 +10,7 @@ ghost use Rattle.class_sheet.specs.ClassSheet.{field_flags, field_index, field_l
 ghost use Rattle.linking.specs.Chain.{on_found, own_fields, chain, is_static};
 ghost use Rattle.linking.specs.Abi.{given_words, fixed_field_index};
 ghost use Rattle.linking.specs.Fields.{below_zero, field_width, instance_words, runtime_end, own_runtime, number_instance, number_field, number_fields, declares_field, added_fields, raised, static_words, stand_from, moved_index, indices_plus};
-ghost use Rattle.field.specs.Numbers.{below_of, counting, first_numbering, declared_by, own_count, fixed_by, Holds, Fits, Movable, undeclared, Small, members_of, words_from, added_to, by_row, numbering_of, numbered_of, fields_by, add_words, built_fields, generated_fields};
+ghost use Rattle.field.specs.Numbers.{below_of, counting, first_numbering, declared_by, own_count, fixed_by, Holds, Fits, Movable, undeclared, members_of, words_from, added_to, by_row, numbering_of, numbered_of, fields_by, add_words, built_fields, generated_fields};
 ghost use Rattle.linking.specs.Sheets.{of_sheets};
 
 use growth::{Member, Named, News};
@@ -361,7 +361,7 @@ fn number_built(sheets: Sheets, own: Option<u32>, c: u32, gs: &[u32]) -> Result<
 
 // Adds each ABI field as a new member, which it names, with flags 2 and its fixed index.
 fn put_fields(abi: &[u32], gs: &[u32], news: &mut News)
-    requires { (Small gs.now) × (length news.old + length gs.now ≤ 1024) }
+    requires { length news.old + length gs.now ≤ 1024 }
     ensures { news.new ≡ news.old ++ members_of abi.now gs.now }
 {
     for g in gs {

@@ -4,7 +4,7 @@ use mathlib.Core.Bool.{Bool, false, cond, not, ◌&&◌}
 use mathlib.Core.List.{List, [], ◌∷◌, ◌++◌}
 use Prim.Native.Nat.{ℕ, suc, ◌+◌, ◌<◌}
 use native.Mathlib.Omega.{arith}
-use lib.ListN.{length, get_or, take, drop}
+use lib.ListN.{length, get_or}
 use lib.Dec.{eqb}
 use Rattle.words.specs.Lists.{list_from}
 use Rattle.std.specs.Prelude.{Option, Some, None}
@@ -15,10 +15,6 @@ use Rattle.linking.specs.Vtable.{Entry, empty, parent_entries, fixed_of}
 use Rattle.linking.specs.Compiler.{owner_state, is_emptied, view_from, native_view}
 use Rattle.reading.specs.Arrays.{entry_at, entries_of}
 use Rattle.reading.proofs.ArrayLaws.{length-entries, entry_found}
-
--- the ABI classes of a chain, as a part of the array that holds them
-pub abis_are : (at : List ℕ) (n : ℕ) (X : List ℕ) {l : List ℕ} {k : ℕ} → take n at ≡ X → k ≡ n → l ≡ take k (drop 0 at) → l ≡ X
-abis_are at n X e f g = g ∙ rw f e
 
 module _ (ws text abi labels : List ℕ) where
   -- ---- a slot that is emptied

@@ -229,9 +229,7 @@ pub fn native_view(
         ≡ drop parent.new.len parent.old.words) × (drop parent.new.len parent.new.marks ≡ drop parent.new.len parent.old.marks) }
 {
     reading::parent_entries(sheets, area, c, parent);
-    let mut at = [0u32; class_sheet::CLASS_LIMIT as usize];
-    let k = abi::chain_abi(sheets, chain::parent_of(sheets.set, c), &mut at);
-    let abis = words::part(&at, 0, k as usize);
-    view_entries(sheets, abis, parent, view);
+    let abis = abi::chain_abi(sheets, chain::parent_of(sheets.set, c));
+    view_entries(sheets, abis.list(), parent, view);
     add_methods(sheets, c, view, news);
 }

@@ -202,9 +202,8 @@ pub fn build_methods(
     ensures is { step_of result (entries table.new) ≡ of_sheets build_methods sheets.entry area.now c }
     ensures count { table.new.len ≤ 2560 }
 {
-    let mut at = [0u32; class_sheet::CLASS_LIMIT as usize];
-    let k = abi::chain_abi(sheets, c, &mut at);
-    let abis = words::part(&at, 0, k as usize);
+    let classes = abi::chain_abi(sheets, c);
+    let abis = classes.list();
     inherited_table(sheets, area, abis, c, table);
     add_methods(sheets, abis, c, table)
 }

@@ -1,13 +1,11 @@
--- The chain's ABI classes are pushed into an array of which none counts yet. Assumes nothing.
-use Rattle.std.proofs.Common.{rules}
+-- The chain's ABI classes are added where none is yet. Assumes nothing.
+use Rattle.std.proofs.Common.{arith, refl, ◌∙◌}
 use Rattle.linking.specs.Abi.{chain_abi}
 use Rattle.abi.proofs.chain_abi.Goals as goal
 
+pub push_chain-requires : goal.push_chain-requires
+push_chain-requires c = rw c.new-classes.ensures (omega arith)
+
 pub returns : goal.returns
 unfolding chain_abi
-returns c = record {
-  is = c.push_chain.ensures.is;
-  count = c.push_chain.ensures.count.1;
-  array = search rules;
-  rest = c.push_chain.ensures.rest;
-}
+returns c = c.push_chain.ensures ∙ rw c.new-classes.ensures refl

@@ -1,11 +1,9 @@
--- The numbers that are searched are those of the class's slots, and each index that is read is the slot's. Assumes nothing.
-use Rattle.std.proofs.Common.{rules, arith}
-use Rattle.linking.specs.Abi.{slot_at, abi_slots}
+-- Each index that is read is the slot's. Assumes nothing.
+use Rattle.std.proofs.Common.{rules}
+use Rattle.linking.specs.Abi.{slot_at}
 use Rattle.abi.proofs.RecordLaws.{record_index}
 use Rattle.abi.proofs.slot_at.Goals as goal
 
 pub returns : goal.returns
-unfolding slot_at abi_slots
-returns c =
-    rw (← c.slot_count.ensures, ← c.class_first_slot-first.ensures)
-    (c.find_in.ensures _ _ (omega arith) (λ i r l post. search (rules, record_index)))
+unfolding slot_at
+returns c = c.find_slot.ensures _ (λ i r post. search (rules, record_index))

@@ -8,7 +8,7 @@ loop-g-init c = search members-none
 
 pub loop-g-preserved : goal.loop-g-preserved
 loop-g-preserved c =
-    members-turn _ _ _ _ _ c.requires.1 c.loop-g-test.true refl c.loop-g.invariant c.fixed_field_index.ensures c.push.ensures
+    members-turn _ _ _ _ _ c.requires c.loop-g-test.true refl c.loop-g.invariant c.fixed_field_index.ensures c.push.ensures
 
 pub returns : goal.returns
 returns c = members-done _ _ _ _ c.loop-g-test.false c.loop-g.invariant
