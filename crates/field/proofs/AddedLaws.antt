@@ -1,7 +1,7 @@
 -- Laws of the ABI fields that are added to a class: which are, how far they raise the running word, and their records. Assumes nothing.
-use Rattle.std.proofs.Common.{◌≡◌, ℕ, zero, suc, ◌+◌, ◌-◌, ◌<◌, ◌≤◌, max, Bool, true, false, cond, not, List, [], ◌∷◌, ◌++◌, length, take, refl, sym, ◌∙◌, append_assoc, append-nil, length-append, arith}
+use Rattle.std.proofs.Common.{◌≡◌, ℕ, ◌+◌, ◌<◌, ◌≤◌, max, Bool, true, false, not, List, [], ◌∷◌, ◌++◌, length, take, refl, sym, ◌∙◌, append_assoc, append-nil, length-append, arith}
 use Rattle.words.specs.Lists.{fold, keep}
-use Rattle.std.specs.Prelude.{Option, Some, None}
+use Rattle.std.specs.Prelude.{Option, Some}
 use Rattle.words.proofs.Bools.{by}
 use Rattle.words.proofs.ListLaws.{rest_from, rest-start, rest-turn, rest_end}
 use Rattle.abi_sheet.specs.AbiSheet.{abi_class_first_field, abi_class_field_count, abi_field_limit, abi_field_descriptor}

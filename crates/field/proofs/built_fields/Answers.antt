@@ -1,6 +1,5 @@
 -- The indices, and the running word raised by the added fields, give the instance words, and row 10 asks for these and the runtime words.
 -- Assumes nothing.
-use Rattle.field.proofs.AddedLaws.{members-by}
 use Rattle.field.proofs.NumberLaws.{row_10, built_is}
 use Rattle.field.proofs.built_fields.Goals as goal
 
