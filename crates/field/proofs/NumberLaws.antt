@@ -6,9 +6,9 @@ use Rattle.words.proofs.Bools.{by}
 use Rattle.words.proofs.ListLaws.{by-found, fold_from, fold_start, fold-turn, fold_end}
 use Rattle.class_sheet.specs.ClassSheet.{class_first_field, class_field_count, field_name, field_descriptor, field_flags, field_limit}
 use Rattle.linking.specs.Chain.{on_found, list_count, own_fields, is_static}
-use Rattle.linking.specs.Abi.{fixed_field, given_words}
+use Rattle.linking.specs.Abi.{fixed_field, given_words, class_abi}
 use Rattle.linking.specs.Fields.{Numbering, number_field, number_fields, added_fields, raised, built_words, too_many_words}
-use Rattle.field.specs.Numbers.{counting, first_numbering, Holds, words_from, numbered_of, fields_by}
+use Rattle.field.specs.Numbers.{counting, first_numbering, Holds, given_or, numbered_of, fields_by, built_fields}
 use Rattle.field.specs.declared.Counters.{Counters}
 use Rattle.field.specs.declared.Numbered.{Numbered}
 use Rattle.field.proofs.FrontLaws.{front-over, answer-is}
@@ -64,14 +64,15 @@ module _ (ws text abi labels : List ℕ) (own : Option ℕ) where
 
 -- ---- what the fields come to
 
-module _ (ws text abi labels : List ℕ) (own : Option ℕ) (c : ℕ) {n : ℕ} (k : Counters) (l : List ℕ)
-    (holds : Holds (number_fields ws text abi labels own c) n k l (replicate field_limit 0)) {gs : List ℕ} (added : gs ≡ added_fields ws text abi labels own c)
-    {w : ℕ} (words : w ≡ words_from abi labels own k.running gs) where
+module _ (ws text abi labels : List ℕ) (c : ℕ) {own : Option ℕ} (entry : own ≡ class_abi ws text abi labels c) {n : ℕ} (k : Counters) (l : List ℕ)
+    (holds : Holds (number_fields ws text abi labels own c) n k l (replicate field_limit 0))
+    {v : ℕ} (word : v ≡ raised abi labels k.running (added_fields ws text abi labels own c))
+    {w : ℕ} (words : w ≡ given_or abi own v) where
   words_are : w ≡ built_words ws text abi labels own c
-  unfolding built_words words_from raised
+  unfolding built_words raised
   words_are =
       let e : k.running ≡ (number_fields ws text abi labels own c).running = ap (λ (n : Numbering). n.running) holds.0 in
-      rw (← e, ← added) words
+      rw (← e, ← word) words
 
   many_are : too_many_words ws text abi labels own c ≡ (ltb 65535 w || ltb 65535 k.runtime)
   unfolding too_many_words
@@ -79,12 +80,12 @@ module _ (ws text abi labels : List ℕ) (own : Option ℕ) (c : ℕ) {n : ℕ} 
       let e : k.runtime ≡ (number_fields ws text abi labels own c).runtime = ap (λ (n : Numbering). n.runtime) holds.0 in
       rw (← words_are, ← e)
 
-  pub row_10 : (ltb 65535 w || ltb 65535 k.runtime) ≡ true → ◌≡◌ {A = Result Numbered ℕ} (Err 10) (numbered_of (fields_by ws text abi labels own c))
+  pub row_10 : (ltb 65535 w || ltb 65535 k.runtime) ≡ true → ◌≡◌ {A = Result Numbered ℕ} (Err 10) (numbered_of (built_fields ws text abi labels c))
   unfolding fields_by
-  row_10 t = rw (many_are, t)
+  row_10 t = rw (← entry, many_are, t)
 
   pub built_is : {m : ℕ} → (ltb 65535 w || ltb 65535 k.runtime) ≡ false → m ≡ n
-      → ◌≡◌ {A = Result Numbered ℕ} (Ok (record { indices = l; n = m; words = w })) (numbered_of (fields_by ws text abi labels own c))
+      → ◌≡◌ {A = Result Numbered ℕ} (Ok (record { indices = l; n = m; words = w })) (numbered_of (built_fields ws text abi labels c))
   unfolding fields_by
   built_is t e =
-      rw (many_are, t, ← words_are) (ap Ok (answer-is (number_fields ws text abi labels own c).indices (e ∙ holds.1) holds.2))
+      rw (← entry, many_are, t, ← words_are) (ap Ok (answer-is (number_fields ws text abi labels own c).indices (e ∙ holds.1) holds.2))

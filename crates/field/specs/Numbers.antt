@@ -4,7 +4,7 @@ use Rattle.std.specs.Option.{option_and_then}
 use Rattle.class_sheet.specs.ClassSheet.{class_first_field, class_field_count, field_name, field_descriptor, field_flags, field_index, field_limit}
 use Rattle.linking.specs.Chain.{on_found, list_count, parent_of, is_static}
 use Rattle.linking.specs.Abi.{fixed_field_index, fixed_field, given_words, class_abi, field_is}
-use Rattle.linking.specs.Fields.{is_negative, magnitude, instance_words, runtime_words, Numbering, number_fields, declares_field, added_fields, raised, built_words, too_many_words, add_static, add_width, generated_refusal, generated_indices}
+use Rattle.linking.specs.Fields.{is_negative, magnitude, instance_words, runtime_words, Numbering, number_fields, declares_field, added_fields, built_words, too_many_words, add_static, add_width, generated_refusal, generated_indices}
 use Rattle.linking.specs.Set.{overlaid}
 use Rattle.growth.specs.declared.news.Member.{Member}
 use Rattle.growth.specs.declared.news.Named.TheVariants.{Field}
@@ -79,9 +79,8 @@ members_of abi [] = []
 members_of abi (g ∷ gs) = field_member abi g ∷ members_of abi gs
 
 -- "Instance words are the ABI's if given, else that word": the running word after the declared fields, raised by those that are added
-unfoldable pub words_from : List ℕ → List ℕ → Option ℕ → ℕ → List ℕ → ℕ
-words_from abi labels own running gs =
-    cond (on_found own (given_words abi) 0 == 0) (raised abi labels running gs) (on_found own (given_words abi) 0 - 1)
+abbrev pub given_or : List ℕ → Option ℕ → ℕ → ℕ
+given_or abi own word = cond (on_found own (given_words abi) 0 == 0) word (on_found own (given_words abi) 0 - 1)
 
 -- ---- what the fields come to
 

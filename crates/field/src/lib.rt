@@ -3,14 +3,14 @@
 #![tactic(auto)]
 
 ghost use Rattle.std.specs.Prelude.{◌≡◌, ◌+◌, ◌-◌, ◌%◌, ◌^◌, ◌<◌, ◌≤◌, max, ◌||◌, [], ◌∷◌, ◌++◌, length, take, ◌==◌};
-ghost use Rattle.abi_sheet.specs.AbiSheet.{abi_field_limit, abi_field_descriptor};
+ghost use Rattle.abi_sheet.specs.AbiSheet.{abi_field_descriptor};
 ghost use Rattle.descriptor.specs.Words.{width};
 ghost use Rattle.words.specs.Lists.{fold};
 ghost use Rattle.class_sheet.specs.ClassSheet.{field_flags, field_index, field_limit};
 ghost use Rattle.linking.specs.Chain.{on_found, own_fields, chain, is_static};
 ghost use Rattle.linking.specs.Abi.{given_words, fixed_field_index};
 ghost use Rattle.linking.specs.Fields.{below_zero, field_width, instance_words, runtime_end, own_runtime, number_instance, number_field, number_fields, declares_field, added_fields, raised, static_words, stand_from, moved_index, indices_plus};
-ghost use Rattle.field.specs.Numbers.{below_of, counting, first_numbering, declared_by, own_count, fixed_by, Holds, Fits, Movable, undeclared, members_of, words_from, added_to, by_row, numbering_of, numbered_of, fields_by, add_words, built_fields, generated_fields};
+ghost use Rattle.field.specs.Numbers.{below_of, counting, first_numbering, declared_by, own_count, fixed_by, Holds, Fits, Movable, undeclared, members_of, given_or, added_to, by_row, numbering_of, numbered_of, add_words, built_fields, generated_fields};
 ghost use Rattle.linking.specs.Sheets.{of_sheets};
 
 use growth::{Member, Named, News};
@@ -257,62 +257,6 @@ fn declares_field(sheets: Sheets, c: u32, g: u32) -> bool
     })
 }
 
-// Stores ABI field g after the first k, unless an instance field of class c matches it, and answers how many there are.
-#[tactic(auto, using(crate::proofs::AddedLaws::keep_one))]
-fn keep_field(
-    sheets: Sheets,
-    c: u32,
-    g: u32,
-    gs: &mut [u32; abi_sheet::FIELD_LIMIT as usize],
-    k: u32,
-) -> u32
-    requires { k < abi_field_limit }
-    ensures is { take result gs.new ≡ take k gs.old ++ of_sheets undeclared sheets.entry c g }
-    ensures count { result ≤ k + 1 }
-{
-    if declares_field(sheets, c, g) {
-        return k;
-    }
-    words::put(gs, k as usize, g);
-    k + 1
-}
-
-// Stores the fields of ABI class a that no instance field of class c matches, and answers how many there are.
-fn keep_fields(
-    sheets: Sheets,
-    a: u32,
-    c: u32,
-    gs: &mut [u32; abi_sheet::FIELD_LIMIT as usize],
-) -> u32
-    ensures is { take result gs.new ≡ of_sheets added_fields sheets.entry (Some a) c }
-    ensures count { result ≤ abi_field_limit }
-{
-    let first = abi_sheet::class_first_field(sheets.abi, a);
-    let n = abi::field_count(sheets.abi, a);
-    let mut k: u32 = 0;
-    for i in 0..n {
-        k = keep_field(sheets, c, first + i, gs, k);
-    }
-    k
-}
-
-// The same of the class's ABI entry.
-#[tactic(auto, unfolding(linking::specs::Fields::added_fields))]
-fn added(
-    sheets: Sheets,
-    own: Option<u32>,
-    c: u32,
-    gs: &mut [u32; abi_sheet::FIELD_LIMIT as usize],
-) -> u32
-    ensures is { take result gs.new ≡ of_sheets added_fields sheets.entry own c }
-    ensures count { result ≤ abi_field_limit }
-{
-    match own {
-        Some(a) => keep_fields(sheets, a, c, gs),
-        None => 0,
-    }
-}
-
 // Where the words of ABI field g end.
 #[tactic(auto, using(crate::proofs::RuntimeLaws::width_room), unfolding(linking::specs::Abi::fixed_field_index))]
 fn field_end(abi: &[u32], labels: &[u8], g: u32) -> u32
@@ -321,56 +265,53 @@ fn field_end(abi: &[u32], labels: &[u8], g: u32) -> u32
     abi::fixed_field_index(abi, g) + descriptor::width(abi_sheet::field_descriptor(abi, labels, g))
 }
 
-// The running word, raised to the end of each of the ABI fields.
-fn raised(abi: &[u32], labels: &[u8], running: u32, gs: &[u32]) -> u32
-    ensures { result ≡ raised abi.now labels.now running gs.now }
+// Adds ABI field g as a new member, which it names, with flags 2 and its fixed index, unless an instance field of class c matches it, and
+// answers the running word, raised to the end of an added one.
+#[tactic(auto, using(crate::proofs::AddedLaws::field_matched, crate::proofs::AddedLaws::field_added, crate::proofs::AddedLaws::word_matched, crate::proofs::AddedLaws::word_added))]
+fn add_field(sheets: Sheets, c: u32, g: u32, running: u32, news: &mut News) -> u32
+    requires { length news.old < 1024 }
+    ensures news { news.new ≡ news.old ++ members_of sheets.entry.abi.now (of_sheets undeclared sheets.entry c g) }
+    ensures word { result ≡ raised sheets.entry.abi.now sheets.entry.labels.now running (of_sheets undeclared sheets.entry c g) }
 {
-    gs.iter()
-        .fold(running, |word, g| word.max(field_end(abi, labels, *g)))
+    if declares_field(sheets, c, g) {
+        return running;
+    }
+    news.push(Member {
+        names: Named::Field(g),
+        flags: 2,
+        last: abi::fixed_field_index(sheets.abi, g),
+    });
+    running.max(field_end(sheets.abi, sheets.labels, g))
 }
 
-// The instance words of a class whose declared fields leave this running word, and to which ABI fields gs are added: the ABI's if given.
-#[tactic(auto, unfolding(crate::specs::Numbers::words_from, linking::specs::Fields::raised))]
-fn built_words(abi: &[u32], labels: &[u8], own: Option<u32>, running: u32, gs: &[u32]) -> u32
-    ensures { result ≡ words_from abi.now labels.now own running gs.now }
+// The new members are then the fields of the class's ABI entry that no instance field of class c matches. Answers the running word, raised to
+// the end of each.
+fn add_fields(sheets: Sheets, own: Option<u32>, c: u32, running: u32, news: &mut News) -> u32
+    ensures news { news.new ≡ members_of sheets.entry.abi.now (of_sheets added_fields sheets.entry own c) }
+    ensures word { result ≡ raised sheets.entry.abi.now sheets.entry.labels.now running (of_sheets added_fields sheets.entry own c) }
+{
+    news.clear();
+    let Some(a) = own else {
+        return running;
+    };
+    let first = abi_sheet::class_first_field(sheets.abi, a);
+    let n = abi::field_count(sheets.abi, a);
+    let mut word = running;
+    for i in 0..n {
+        word = add_field(sheets, c, first + i, word, news);
+    }
+    word
+}
+
+// The instance words of a class whose fields raise the running word to this: the ABI's if given.
+fn built_words(abi: &[u32], own: Option<u32>, word: u32) -> u32
+    ensures { result ≡ given_or abi.now own word }
 {
     let given = own_given(abi, own);
     if given != 0 {
         return given - 1;
     }
-    raised(abi, labels, running, gs)
-}
-
-// The fields of built class c, whose ABI entry is `own` and to which ABI fields gs are added, or row 10.
-fn number_built(sheets: Sheets, own: Option<u32>, c: u32, gs: &[u32]) -> Result<Numbered, Refusal>
-    requires { gs.now ≡ of_sheets added_fields sheets own c }
-    ensures { by_row result ≡ numbered_of (of_sheets fields_by sheets.entry own c) }
-{
-    let mut indices = [0u32; class_sheet::FIELD_LIMIT as usize];
-    let k = number_fields(sheets, own, c, &mut indices);
-    let words = built_words(sheets.abi, sheets.labels, own, k.running, gs);
-    if (65535 < words) | (65535 < k.runtime) {
-        return Err(Refusal::ManyWords);
-    }
-    Ok(Numbered {
-        indices,
-        n: chain::field_count(sheets.set, c),
-        words,
-    })
-}
-
-// Adds each ABI field as a new member, which it names, with flags 2 and its fixed index.
-fn put_fields(abi: &[u32], gs: &[u32], news: &mut News)
-    requires { length news.old + length gs.now ≤ 1024 }
-    ensures { news.new ≡ news.old ++ members_of abi.now gs.now }
-{
-    for g in gs {
-        news.push(Member {
-            names: Named::Field(*g),
-            flags: 2,
-            last: abi::fixed_field_index(abi, *g),
-        });
-    }
+    word
 }
 
 // The fields of built class c, or row 10. The new members are then the ABI fields that no instance field of the class matches, also where the
@@ -380,12 +321,18 @@ pub fn built_fields(sheets: Sheets, c: u32, news: &mut News) -> Result<Numbered,
     ensures news { news.new ≡ members_of sheets.entry.abi.now (of_sheets added_to sheets.entry c) }
 {
     let own = abi::class_abi(sheets, c);
-    let mut gs = [0u32; abi_sheet::FIELD_LIMIT as usize];
-    let n = added(sheets, own, c, &mut gs);
-    let fields = words::part(&gs, 0, n as usize);
-    news.clear();
-    put_fields(sheets.abi, fields, news);
-    number_built(sheets, own, c, fields)
+    let mut indices = [0u32; class_sheet::FIELD_LIMIT as usize];
+    let k = number_fields(sheets, own, c, &mut indices);
+    let word = add_fields(sheets, own, c, k.running, news);
+    let words = built_words(sheets.abi, own, word);
+    if (65535 < words) | (65535 < k.runtime) {
+        return Err(Refusal::ManyWords);
+    }
+    Ok(Numbered {
+        indices,
+        n: chain::field_count(sheets.set, c),
+        words,
+    })
 }
 
 // The words with those of field f, if it is static, or if it is not.

@@ -1,6 +1,6 @@
 -- A field that does not stand where it should stops the loop; another one moves the place by its words. Assumes nothing.
 use Rattle.field.proofs.MovedLaws.{add-room, stand-start, stand-stop, stand-turn, stand-end}
-use Rattle.std.proofs.Common.{◌+◌, ◌∙◌, arith}
+use Rattle.std.proofs.Common.{◌∙◌, arith}
 use Rattle.field.proofs.stand_from.Goals as goal
 
 pub loop-f-init : goal.loop-f-init
