@@ -12,7 +12,7 @@ use Rattle.std.specs.Option.{option_or, option_and_then}
 use Rattle.std.specs.Prelude.{Option, Some, None}
 use Rattle.words.proofs.Bools.{by}
 use Rattle.words.proofs.ListLaws.{find-within, by-found}
-use Rattle.words.proofs.Ext.{list-more, list_ext}
+use Rattle.words.proofs.Ext.{list_ext}
 use Rattle.class_sheet.specs.ClassSheet.{class_first_method, class_method_count, class_compiler_table, class_compiler_slots, compiler_word, method_limit}
 use Rattle.linking.specs.Chain.{list_count, own_methods}
 use Rattle.linking.specs.Vtable.{Entry, empty, parent_entries}
