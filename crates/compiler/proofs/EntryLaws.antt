@@ -12,7 +12,7 @@ use Rattle.std.specs.Option.{option_or, option_and_then}
 use Rattle.std.specs.Prelude.{Option, Some, None}
 use Rattle.words.proofs.Bools.{by}
 use Rattle.words.proofs.ListLaws.{find-within, by-found}
-use Rattle.words.proofs.Ext.{list-more, list_ext}
+use Rattle.words.proofs.Ext.{list_ext}
 use Rattle.class_sheet.specs.ClassSheet.{class_first_method, class_method_count, class_compiler_table, class_compiler_slots, compiler_word, method_limit}
 use Rattle.linking.specs.Chain.{list_count, own_methods}
 use Rattle.linking.specs.Vtable.{Entry, empty, parent_entries}
@@ -147,27 +147,15 @@ module _ (ws : List ℕ) (new : List New) where
     abbrev slot_at : ℕ → Entry
     slot_at i = compiler_entry ws new c view i (compiler_word ws (class_compiler_table ws c - 1 + i))
 
-    -- the first `count` of them
-    unfoldable pub slots_to : ℕ → List Entry
-    slots_to count = list_from slot_at 0 count
-
-    pub slots_none : {es : List Entry} → es ≡ [] → es ≡ slots_to 0
-    unfolding slots_to list_from
-    slots_none e = e
-
-    pub slots-turn : (i : ℕ) {es fs : List Entry} {t : ℕ} {e : Entry} → es ≡ slots_to i → t ≡ compiler_word ws (class_compiler_table ws c - 1 + i)
-        → e ≡ compiler_entry ws new c view i t → fs ≡ es ++ (e ∷ []) → fs ≡ slots_to (i + 1)
-    unfolding slots_to
-    slots-turn i h et ee f = f ∙ rw (h, ee, et) (sym (list-more slot_at i))
-
+    -- slot by slot
     entries-from : (f : ℕ → ℕ) (i k : ℕ) → compiler_entries ws new c view i (list_from f i k) ≡ list_from (λ j. compiler_entry ws new c view j (f j)) i k
     unfolding compiler_entries list_from
     entries-from f i zero = refl
     entries-from f i (suc k) = rw (entries-from f (i + 1) k)
 
-    pub slots-all : {count : ℕ} {es : List Entry} → count ≡ min (class_compiler_slots ws c) 1024 → es ≡ slots_to count
+    pub slots-all : {count : ℕ} {es : List Entry} → count ≡ min (class_compiler_slots ws c) 1024 → es ≡ list_from slot_at 0 count
         → es ≡ compiler_entries ws new c view 0 (compiler_targets ws c)
-    unfolding slots_to compiler_targets
+    unfolding compiler_targets
     slots-all {count = count} e f = f ∙ rw (← e) (sym (entries-from (λ i. compiler_word ws (class_compiler_table ws c - 1 + i)) 0 count))
 
 -- ---- the whole table

@@ -133,12 +133,18 @@ fn compiler_entries(sheets: Sheets, news: &News, c: u32, view: &ReadTable, table
         ≡ compiler_entries sheets.entry.set.now (of_sheets news_of sheets.entry news.now) c (entries view.now) 0 (compiler_targets sheets.entry.set.now c) }
     ensures count { table.new.len ≤ 1024 }
 {
-    table.clear();
     let count = native_view::compiler_count(sheets.set, c);
-    for i in 0..count {
-        let t = native_view::compiler_target(sheets.set, c, i);
-        table.push(entry_slot(sheets, news, c, view, i, t));
-    }
+    table.fill(
+        count,
+        |i| entry_slot(
+            sheets,
+            news,
+            c,
+            view,
+            i,
+            native_view::compiler_target(sheets.set, c, i),
+        ),
+    );
 }
 
 // Whether the slot's method has this name and descriptor.

@@ -1,9 +1,10 @@
 -- Laws of the native view, as the code makes it. Assumes nothing.
-use mathlib.Core.Path.{◌≡◌, ap, ◌∙◌}
+use mathlib.Core.Path.{◌≡◌, refl, ap, ◌∙◌}
 use mathlib.Core.Bool.{Bool, false, cond, not, ◌&&◌}
 use mathlib.Core.List.{List, [], ◌∷◌, ◌++◌}
-use Prim.Native.Nat.{ℕ, suc, ◌+◌, ◌<◌}
+use Prim.Native.Nat.{ℕ, zero, suc, ◌+◌, ◌≤◌, ◌<◌}
 use native.Mathlib.Omega.{arith}
+use native.Mathlib.Numerals.{add-one}
 use lib.ListN.{length, get_or}
 use lib.Dec.{eqb}
 use Rattle.words.specs.Lists.{list_from}
@@ -48,17 +49,22 @@ module _ (ws text abi labels : List ℕ) where
         let z : j + 1 + length xs ≡ j + suc (length xs) = omega arith in
         ap (λ (l : List Entry). view_at abis j x ∷ l) (rw z at (view_snoc (j + 1) xs e))
 
-    pub view_start : (ts ms : List ℕ) {V : List Entry} → V ≡ [] → V ≡ view_from ws text abi labels abis 0 (entries_of ts ms 0)
-    unfolding entries_of list_from view_from
-    view_start ts ms e = e
-
-    pub view-turn : (ts ms : List ℕ) (n i : ℕ) {V W : List Entry} {e f : Entry} → i < n → V ≡ view_from ws text abi labels abis 0 (entries_of ts ms i)
+    view-turn : (ts ms : List ℕ) (n i : ℕ) {V W : List Entry} {e f : Entry} → i < n → V ≡ view_from ws text abi labels abis 0 (entries_of ts ms i)
         → e ≡ get_or (entries_of ts ms n) i empty → f ≡ view_at abis i e → W ≡ V ++ (f ∷ [])
         → W ≡ view_from ws text abi labels abis 0 (entries_of ts ms (i + 1))
     view-turn ts ms n i {e = e} h v he hf w =
         let old : entries_of ts ms (i + 1) ≡ entries_of ts ms i ++ (e ∷ []) = one-more ts ms n i h he in
         let z : 0 + length (entries_of ts ms i) ≡ i = omega (arith, length-entries ts ms i) in
         w ∙ rw (old, view_snoc 0 (entries_of ts ms i) e, z, ← hf, ← v)
+
+    -- the first i slots of the view, each by its number
+    pub view_filled : (ts ms : List ℕ) (n i : ℕ) → i ≤ n
+        → list_from (λ j. view_at abis j (get_or (entries_of ts ms n) j empty)) 0 i ≡ view_from ws text abi labels abis 0 (entries_of ts ms i)
+    unfolding entries_of list_from view_from
+    view_filled ts ms n zero h = refl
+    view_filled ts ms n (suc i) h =
+        rw add-one at (view-turn ts ms n i (omega arith) (view_filled ts ms n i (omega arith)) refl refl
+        (list-more (λ j. view_at abis j (get_or (entries_of ts ms n) j empty)) i))
 
   -- ---- the parent's entries
 

@@ -78,10 +78,7 @@ fn view_entries(sheets: Sheets, abis: &[u32], parent: &ReadTable, view: &mut Rea
     ensures is { entries view.new ≡ of_sheets view_from sheets.entry abis.now 0 (entries parent.now) }
     ensures len { view.new.len ≡ parent.now.len }
 {
-    view.clear();
-    for i in 0..parent.len {
-        view.push(view_slot(sheets, abis, i, parent.slot(i)));
-    }
+    view.fill(parent.len, |i| view_slot(sheets, abis, i, parent.slot(i)));
 }
 
 // How many compiler targets class c has.

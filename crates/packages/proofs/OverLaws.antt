@@ -4,9 +4,7 @@ use mathlib.Core.Bool.{Bool, true, false, cond, not, ◌||◌, or-false, or-true
 use mathlib.Core.List.{List, [], ◌∷◌, ◌++◌}
 use Prim.Native.Nat.{ℕ, zero, suc, ◌+◌, ◌-◌, ◌≤◌, ◌<◌}
 use native.Mathlib.Omega.{arith}
-use native.Mathlib.Numerals.{add-one}
-use lib.ListN.{length, take, set}
-use lib.Seq.{take-suc-set}
+use lib.ListN.{length, length-append}
 use borrow.Author.Tests.{not-true, not-false}
 use Rattle.std.specs.List.{list_any}
 use Rattle.words.specs.Lists.{numbers, fold, keep, some}
@@ -143,16 +141,16 @@ module _ (ws text : List ℕ) (m : ℕ) where
   unfolding overridden fold
   marks_none c {b = b} marks f v t = let q : is_virtual (method_flags ws m) ≡ false = sym (rw f at v) ∙ not-true b t in rw q
 
--- one class more
-reached-more : (reached : List ℕ) (n a : ℕ) → n < length reached → take (n + 1) (set reached n a) ≡ take n reached ++ (a ∷ [])
-reached-more reached n a h = rw add-one (take-suc-set reached n a h)
+-- one class more, or none
+pub reached_length : (reached : List ℕ) (a : ℕ) {new : List ℕ} → new ≡ reached ++ (a ∷ []) → length new ≡ length reached + 1
+reached_length reached a e = rw e (omega (arith, length-append reached (a ∷ [])))
 
-pub reached_no : (reached : List ℕ) (n a : ℕ) {b : Bool} → b ≡ false → take n reached ≡ cond b (take n reached ++ (a ∷ [])) (take n reached)
-reached_no reached n a e = rw e
+pub reached_no : (reached : List ℕ) (a : ℕ) {b : Bool} → b ≡ false → reached ≡ cond b (reached ++ (a ∷ [])) reached
+reached_no reached a e = rw e
 
-pub reached_yes : (reached : List ℕ) (n a : ℕ) {b : Bool} {w : ℕ} {new : List ℕ} → b ≡ true → n < length reached → w ≡ n → new ≡ set reached w a
-    → take (n + 1) new ≡ cond b (take n reached ++ (a ∷ [])) (take n reached)
-reached_yes reached n a e h w s = rw (e, s, w) (reached-more reached n a h)
+pub reached_yes : (reached : List ℕ) (a : ℕ) {b : Bool} {new : List ℕ} → b ≡ true → new ≡ reached ++ (a ∷ [])
+    → new ≡ cond b (reached ++ (a ∷ [])) reached
+reached_yes reached a e s = rw (e, s)
 
 -- ---- searches up the chain
 

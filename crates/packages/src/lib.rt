@@ -2,7 +2,7 @@
 // method takes; and row 26.
 #![tactic(auto)]
 
-ghost use Rattle.std.specs.Prelude.{◌≡◌, cond, not, Bool, List, [], ◌∷◌, ◌++◌, ℕ, ◌≤◌, ◌<◌, ◌+◌, length, get_or, set, take, replicate};
+ghost use Rattle.std.specs.Prelude.{◌≡◌, cond, not, Bool, List, [], ◌∷◌, ◌++◌, ℕ, ◌≤◌, ◌<◌, ◌+◌, length, get_or, set, replicate};
 ghost use Rattle.words.specs.Lists.{fold, some};
 ghost use Rattle.text.specs.Text.{same_bytes};
 ghost use Rattle.class_sheet.specs.ClassSheet.{class_limit, method_limit, method_flags, is_packaged};
@@ -16,10 +16,10 @@ ghost use Rattle.linking.specs.Sheets.{of_sheets};
 
 use class_sheet::Kind;
 use linking::Sheets;
+use reached::Reached;
 use reading::{BuiltTable, ReadTable, Slot, TABLE_LIMIT, Table};
 
-// How many classes a set has at most.
-const CLASSES: usize = class_sheet::CLASS_LIMIT as usize;
+mod reached;
 
 // How many methods.
 const METHODS: usize = class_sheet::METHOD_LIMIT as usize;
@@ -116,28 +116,25 @@ fn mark_class(
     open
 }
 
-// Marks the methods of a's chain that method m overrides, which has reached the first n classes of the list.
+// Marks the methods of a's chain that method m overrides, which has reached these classes.
 fn mark_above(
     ws: &[u32],
     text: &[u8],
     m: u32,
-    reached: &mut [u32; CLASSES],
-    n: u32,
+    reached: &mut Reached,
     a: u32,
     marks: &mut [bool; METHODS],
 )
-    requires { n + a ≤ class_limit }
-    ensures { marks.new ≡ fold mark marks.old (overridden_along (same_methods ws.now text.now) ws.now text.now m (take n reached.old) (chain ws.now a)) }
+    requires { length reached.old + a ≤ class_limit }
+    ensures { marks.new ≡ fold mark marks.old (overridden_along (same_methods ws.now text.now) ws.now text.now m reached.old (chain ws.now a)) }
 {
     if a == 0 {
         return;
     }
-    let mut k = n;
-    if mark_class(ws, text, m, words::part(reached, 0, n as usize), a, marks) {
-        words::put(reached, n as usize, a);
-        k += 1;
+    if mark_class(ws, text, m, reached.classes(), a, marks) {
+        reached.push(a);
     }
-    mark_above(ws, text, m, reached, k, chain::parent_of(ws, a), marks);
+    mark_above(ws, text, m, reached, chain::parent_of(ws, a), marks);
 }
 
 // Marks the methods that method m of class c overrides; what is marked before stays so.
@@ -148,9 +145,8 @@ fn mark_overridden(ws: &[u32], text: &[u8], c: u32, m: u32, marks: &mut [bool; M
     if !chain::is_virtual(class_sheet::method_flags(ws, m)) {
         return;
     }
-    let mut reached = [0u32; CLASSES];
-    reached[0] = c;
-    mark_above(ws, text, m, &mut reached, 1, chain::parent_of(ws, c), marks);
+    let mut reached = Reached::of(c);
+    mark_above(ws, text, m, &mut reached, chain::parent_of(ws, c), marks);
 }
 
 // ---- the introducing methods

@@ -98,40 +98,46 @@ fn mark_by_target(ws: &[u32], c: u32, words: &[u32], marks: &mut [u32], classes:
     mark_by_target(ws, chain::parent_of(ws, c), words, marks, classes);
 }
 
-// Class c's own method of the signature that its ABI entry a fixes at index i.
-#[tactic(auto, unfolding(linking::specs::Vtable::own_fixed))]
-fn own_fixed(sheets: Sheets, a: u32, i: u32, c: u32) -> Option<u32>
-    requires { Some a ≡ of_sheets class_abi sheets c }
-    ensures { result ≡ of_sheets own_fixed sheets.entry i c }
-{
-    let s = abi::slot_at(sheets.abi, i, a)?;
-    chain::own_method(
-        sheets.set,
-        sheets.text,
-        abi_sheet::slot_signature(sheets.abi, sheets.labels, s),
-        c,
-    )
+// A class that has an ABI entry, with the entry.
+#[derive(Clone, Copy)]
+struct Listed<'a> {
+    sheets: Sheets<'a>,
+    class: u32,
+    abi: u32,
+    ghost has: { Some abi ≡ of_sheets class_abi sheets class },
 }
 
-// Slot i's mark k, or where it has none the mark of that method.
-#[tactic(auto, unfolding(crate::specs::Arrays::or_mark))]
-fn fixed_mark(sheets: Sheets, a: u32, c: u32, i: u32, k: u32) -> u32
-    requires { Some a ≡ of_sheets class_abi sheets c }
-    ensures { result ≡ or_mark k (of_sheets own_fixed sheets.entry i c) }
-{
-    if k != 0 {
-        return k;
+impl<'a> Listed<'a> {
+    // Its own method of the signature that its ABI entry fixes at index i.
+    #[tactic(auto, unfolding(linking::specs::Vtable::own_fixed))]
+    fn own_fixed(self, i: u32) -> Option<u32>
+        ensures { result ≡ of_sheets own_fixed self.entry.sheets i self.entry.class }
+    {
+        let sheets = self.sheets;
+        let s = abi::slot_at(sheets.abi, i, self.abi)?;
+        let signature = abi_sheet::slot_signature(sheets.abi, sheets.labels, s);
+        chain::own_method(sheets.set, sheets.text, signature, self.class)
     }
-    mark_of(own_fixed(sheets, a, i, c))
-}
 
-// Marks so each slot.
-fn mark_fixed(sheets: Sheets, a: u32, c: u32, marks: &mut [u32])
-    requires { (Some a ≡ of_sheets class_abi sheets c) × (length marks.old ≤ 1024) }
-    ensures { marks.new ≡ marks_with (λ i. of_sheets own_fixed sheets.entry i c) (length marks.old) marks.old }
-{
-    for (i, mark) in marks.iter_mut().enumerate() {
-        *mark = fixed_mark(sheets, a, c, i as u32, *mark);
+    // Slot i's mark k, or where it has none the mark of that method.
+    #[tactic(auto, unfolding(crate::specs::Arrays::or_mark))]
+    fn mark(self, i: u32, k: u32) -> u32
+        ensures { result ≡ or_mark k (of_sheets own_fixed self.entry.sheets i self.entry.class) }
+    {
+        if k != 0 {
+            return k;
+        }
+        mark_of(self.own_fixed(i))
+    }
+
+    // Marks so each slot.
+    fn mark_slots(self, marks: &mut [u32])
+        requires { length marks.old ≤ 1024 }
+        ensures { marks.new ≡ marks_with (λ i. of_sheets own_fixed self.entry.sheets i self.entry.class) (length marks.old) marks.old }
+    {
+        for (i, mark) in marks.iter_mut().enumerate() {
+            *mark = self.mark(i as u32, *mark);
+        }
     }
 }
 
@@ -140,8 +146,13 @@ fn mark_own(sheets: Sheets, c: u32, marks: &mut [u32])
     requires { length marks.old ≤ 1024 }
     ensures { marks.new ≡ marks_with (λ i. of_sheets own_fixed sheets.entry i c) (length marks.old) marks.old }
 {
-    if let Some(a) = abi::class_abi(sheets, c) {
-        mark_fixed(sheets, a, c, marks);
+    if let Some(abi) = abi::class_abi(sheets, c) {
+        let listed = Listed {
+            sheets,
+            class: c,
+            abi,
+        };
+        listed.mark_slots(marks);
     }
 }
 

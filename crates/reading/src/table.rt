@@ -140,6 +140,10 @@ impl Table<BUILD_LIMIT> {
 }
 
 impl<const N: usize> Table<N> {
+    ghost use Rattle.std.specs.Prelude.{ℕ};
+    ghost use Rattle.words.specs.Lists.{list_from};
+    ghost use Rattle.linking.specs.Vtable.{Entry};
+    ghost use Rattle.reading.specs.declared.table.Slot.{Slot};
     ghost use Rattle.reading.specs.Tables.{entry, entries};
 
     // Slot i, or an empty one past the table's end.
@@ -183,6 +187,18 @@ impl<const N: usize> Table<N> {
             self.words[n] = slot.word;
             self.marks[n] = slot.mark;
             self.len += 1;
+        }
+    }
+
+    // Fills the table with the n slots that the closure gives, one for each number from 0 on.
+    pub fn fill<F: Fn(u32) -> Slot>(&mut self, n: u32, slot: F)
+        requires { (n ≤ N) × F.IsAlwaysCallable slot }
+        ensures is { (g : ℕ → Entry) → ((i : ℕ) (r : Slot) → F.post slot i r → entry r ≡ g i) → entries self.new ≡ list_from g 0 n }
+        ensures len { self.new.len ≡ n }
+    {
+        self.clear();
+        for i in 0..n {
+            self.push(slot(i));
         }
     }
 

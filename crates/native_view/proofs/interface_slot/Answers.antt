@@ -1,6 +1,6 @@
 -- Each interface's turn is a step of the search. Assumes nothing.
 use Rattle.std.proofs.Common.{◌≡◌, ◌+◌, ◌-◌, ◌∙◌, arith}
-use Rattle.words.proofs.ListLaws.{found-start, found-hit, found-miss, found-end, found_from}
+use Rattle.words.proofs.ListLaws.{found-hit, found-miss, found-end}
 use Rattle.native_view.proofs.AddLaws.{interface-at, interface-end, interface-start}
 use Rattle.abi.specs.Abis.{class_slot}
 use Rattle.native_view.proofs.interface_slot.Goals as goal
