@@ -4,9 +4,8 @@ use mathlib.Core.Path.{◌≡◌, refl, sym, ap, ◌∙◌}
 use mathlib.Core.List.{List, [], ◌∷◌, ◌++◌, Memᴰ, append_assoc, append-nil}
 use Prim.Native.Nat.{ℕ, zero, suc, ◌+◌, ◌-◌, ◌≤◌, ◌<◌, min}
 use native.Mathlib.Omega.{arith}
-use native.Mathlib.Numerals.{add-one}
-use lib.ListN.{length, take, set, length-take, length-append}
-use lib.Seq.{take_all, take-append-le, take-suc-set, length-take-le}
+use lib.ListN.{length, take, length-take}
+use lib.Seq.{take_all}
 use lib.Dec.{eqb}
 use Rattle.class_sheet.specs.ClassSheet.{class_limit}
 use Rattle.words.specs.Lists.{cons_found, all_found}
@@ -29,21 +28,6 @@ take-cut {A = A} (suc k) (x ∷ l) r = ap (λ (t : List A). x ∷ t) (take-cut k
 pub push_none : {xs : List ℕ} → length xs ≤ class_limit → xs ≡ take class_limit (xs ++ [])
 push_none {xs = xs} h = rw (append-nil xs) (sym (take_all class_limit xs h))
 
--- an array of 64, of which n count: full, with one more
-module _ (l : List ℕ) (n : ℕ) {xs : List ℕ} (view : take n l ≡ xs) (e : length l ≡ class_limit) where
-  pub push_full : (ys : List ℕ) → n ≡ class_limit → xs ≡ take class_limit (xs ++ ys)
-  push_full ys h =
-      let q : take n l ≡ l = take_all n l (omega arith) in
-      rw (← view, q) (sym (take-append-le class_limit l ys (omega arith) ∙ take_all class_limit l (omega arith)))
-
-  pub push_more : (a : ℕ) → n < class_limit → take (n + 1) (set l n a) ≡ take class_limit (xs ++ (a ∷ []))
-  push_more a h =
-      let g : length (take n l ++ (a ∷ [])) ≤ class_limit = simp (length-append, length-take-le n l (omega arith)) (omega arith) in
-      rw (← view, add-one, take-suc-set l n a (omega arith)) (sym (take_all class_limit (take n l ++ (a ∷ [])) g))
-
-pub view-few : (l : List ℕ) (n : ℕ) {xs : List ℕ} → take n l ≡ xs → n ≤ class_limit → length xs ≤ class_limit
-view-few l n e h = rw (← e) (omega (arith, length-take n l))
-
 pub pushed-few : (xs : List ℕ) {ys : List ℕ} → ys ≡ take class_limit xs → length ys ≤ class_limit
 pushed-few xs e = rw e (omega (arith, length-take class_limit xs))
 
@@ -55,7 +39,8 @@ module _ (f : ℕ → Option ℕ) (ws : List ℕ) (c : ℕ) where
   push_turn x {q = q} {o = o} h e g k =
       let y : List ℕ = all_found f (chain ws q) in
       rw (k, chain_more ws c h, ← e, ← g)
-      (take-cut class_limit (x ++ cons_found o []) y ∙ ap (take class_limit) (append_assoc x (cons_found o []) y ∙ ap (λ (l : List ℕ). x ++ l) (found-then o y)))
+      (take-cut class_limit (x ++ cons_found o []) y
+      ∙ ap (take class_limit) (append_assoc x (cons_found o []) y ∙ ap (λ (l : List ℕ). x ++ l) (found-then o y)))
     where
       found-then : (o : Option ℕ) (y : List ℕ) → cons_found o [] ++ y ≡ cons_found o y
       found-then (Some a) y = refl

@@ -33,7 +33,8 @@ slot-word abi s k =
 pub record_slot : (abi labels : List ℕ) (s : ℕ) (name descriptor : List ℕ) {r : List ℕ} → r ≡ slot_records abi
     → record_is r abi_member_width labels s name descriptor ≡ slot_is abi labels s name descriptor
 unfolding record_is slot_is
-record_slot abi labels s name descriptor e = rw (e, slot-word abi s name_start_word, slot-word abi s name_length_word, slot-word abi s descriptor_start_word, slot-word abi s descriptor_length_word)
+record_slot abi labels s name descriptor e =
+    rw (e, slot-word abi s name_start_word, slot-word abi s name_length_word, slot-word abi s descriptor_start_word, slot-word abi s descriptor_length_word)
 
 pub record_index : (abi : List ℕ) (s i : ℕ) {r : List ℕ} → r ≡ slot_records abi
     → eqb (min (record_word r abi_member_width s number_word) 1023) i ≡ eqb (slot_index abi s) i
@@ -51,4 +52,5 @@ field-word abi f k =
 pub record_field : (abi labels : List ℕ) (f : ℕ) (name descriptor : List ℕ) {r : List ℕ} → r ≡ field_records abi
     → record_is r abi_member_width labels f name descriptor ≡ field_is abi labels f name descriptor
 unfolding record_is field_is
-record_field abi labels f name descriptor e = rw (e, field-word abi f name_start_word, field-word abi f name_length_word, field-word abi f descriptor_start_word, field-word abi f descriptor_length_word)
+record_field abi labels f name descriptor e =
+    rw (e, field-word abi f name_start_word, field-word abi f name_length_word, field-word abi f descriptor_start_word, field-word abi f descriptor_length_word)

@@ -16,14 +16,18 @@ ghost use Rattle.abi.specs.Abis.{slot_records, field_records, class_slot};
 ghost use Rattle.linking.specs.Sheets.{of_sheets};
 ghost use Rattle.text.specs.Signatures.{of_signature};
 
-pub use classes::AbiClasses;
 use linking::Sheets;
 use text::Signature;
-
-mod classes;
+use words::BoundedList;
 
 // How many words a slot record or a field record has.
 const MEMBER_WIDTH: u32 = abi_sheet::MEMBER_WIDTH as u32;
+
+// How many classes a chain has at most.
+const CHAIN_LIMIT: usize = class_sheet::CLASS_LIMIT as usize;
+
+// ABI classes, one after the other.
+pub type AbiClasses = BoundedList<u32, CHAIN_LIMIT>;
 
 // The first ABI class of this name.
 pub fn abi_named(abi: &[u32], labels: &[u8], name: &[u8]) -> Option<u32>
@@ -202,7 +206,9 @@ fn push_chain(sheets: Sheets, c: u32, classes: &mut AbiClasses)
     if c == 0 {
         return;
     }
-    classes.push(class_abi(sheets, c));
+    if let Some(a) = class_abi(sheets, c) {
+        classes.push(a);
+    }
     push_chain(sheets, chain::parent_of(sheets.set, c), classes);
 }
 

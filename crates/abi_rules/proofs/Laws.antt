@@ -19,7 +19,8 @@ use Rattle.abi_rules.specs.AbiRules.{abi_limits, abi_fits, abi_form, abi_slot_re
 pub limits : (abi : List ℕ) → abi_limits abi ≡ true → Within abi
 unfolding abi_limits
 limits abi h =
-    let p = and_4 (leb (abi_class_count abi) abi_class_limit) (leb (abi_slot_count abi) abi_slot_limit) (leb (abi_field_count abi) abi_field_limit) (leb (abi_text_length abi) abi_text_limit) h in
+    let p = and_4 (leb (abi_class_count abi) abi_class_limit) (leb (abi_slot_count abi) abi_slot_limit)
+    (leb (abi_field_count abi) abi_field_limit) (leb (abi_text_length abi) abi_text_limit) h in
     record {
       classes = leb-true _ _ p.0;
       slots = leb-true _ _ p.1;

@@ -29,13 +29,13 @@ pub fn fits_ok(abi: &[u32]) -> bool
 }
 
 // Row 3 of a reading, for the words of whole blocks.
-#[tactic(auto, unfolding(crate::specs::AbiRules::abi_form, block::specs::Block::least_fit))]
+#[tactic(auto, unfolding(crate::specs::AbiRules::abi_form))]
 pub fn form_ok(abi: &[u32]) -> bool
     ensures { result ≡ abi_form abi.now }
 {
     let end = abi_sheet::content_end(abi);
     let text_end = 4 * abi_sheet::text_at(abi) + abi_sheet::text_length(abi) as usize;
-    limits_ok(abi) && end <= abi.len() && abi.len() < end + 127 && text::zero_rest(abi, text_end)
+    limits_ok(abi) && block::least_fit(end, abi.len()) && text::zero_rest(abi, text_end)
 }
 
 // Whether class a's record is in order.

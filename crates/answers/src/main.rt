@@ -217,18 +217,6 @@ fn one(word: u32) -> [u32; 6] {
     [word, 0, 0, 0, 0, 0]
 }
 
-// Those of a class file.
-fn head_words(head: FileHead) -> [u32; 6] {
-    [
-        head.name,
-        head.parent,
-        head.flags,
-        head.fields,
-        head.methods,
-        head.text,
-    ]
-}
-
 // Those of a comparison of two names: 1 if they are the same, and the pairs of bytes read, modulo 2^32.
 fn compared(a: &[u8], b: &[u8]) -> [u32; 6] {
     let c = text::compare(a, b);
@@ -315,10 +303,10 @@ impl<'a> Call<'a> {
             Kind::Narrow => convert::narrow_class_sheet(bytes, lent.bytes).map(one),
             Kind::ReadFile => {
                 class_file::read_class_file(bytes, words, lent.first, lent.second, lent.third).map(
-                    head_words,
+                    FileHead::words,
                 )
             }
-            Kind::FileHead => class_file::class_file_head(bytes).map(head_words),
+            Kind::FileHead => class_file::class_file_head(bytes).map(FileHead::words),
         }
     }
 

@@ -1,6 +1,6 @@
 -- What the code looks at first to see that all classes are apart: keys of the names, and marks on the elements of the lists. Only
 -- the code needs these definitions; row 4 is stated without them. Assumes nothing.
-use Rattle.std.specs.Prelude.{ℕ, zero, suc, ◌+◌, ◌*◌, ◌%◌, ◌^◌, Bool, ◌&&◌, not, List, length, get_or, set, eqb, leb}
+use Rattle.std.specs.Prelude.{ℕ, zero, suc, ◌+◌, ◌*◌, ◌%◌, ◌^◌, Bool, true, false, ◌&&◌, not, List, length, get_or, set, eqb, leb}
 use Rattle.words.specs.Folds.{all_of, table}
 use Rattle.words.specs.Lists.{fold, some}
 use Rattle.class_sheet.specs.ClassSheet.{class_count, class_name, class_first_method, class_method_count, class_first_field, class_field_count}
@@ -34,25 +34,25 @@ new_keys ws text room = leb (class_count ws) room && all_of (class_count ws) (ne
 -- ---- lists
 
 -- element f + k is not marked
-unfoldable pub free_at : List ℕ → ℕ → ℕ → Bool
-free_at ms f k = eqb (get_or ms (f + k) 0) 0
+unfoldable pub free_at : List Bool → ℕ → ℕ → Bool
+free_at ms f k = not (get_or ms (f + k) false)
 
 -- the n elements from f on have marks, and none is marked
-unfoldable pub free_list : List ℕ → ℕ → ℕ → Bool
+unfoldable pub free_list : List Bool → ℕ → ℕ → Bool
 free_list ms f n = leb (f + n) (length ms) && all_of n (free_at ms f)
 
--- the marks with 1 at the n elements from f on
-unfoldable pub marked : List ℕ → ℕ → ℕ → List ℕ
+-- the marks with those of the n elements from f on
+unfoldable pub marked : List Bool → ℕ → ℕ → List Bool
 marked ms f zero = ms
-marked ms f (suc n) = set (marked ms f n) (f + n) 1
+marked ms f (suc n) = set (marked ms f n) (f + n) true
 
 -- the marks with those of the first i lists; list k has count k elements from first k on
-unfoldable pub marks_after : (ℕ → ℕ) → (ℕ → ℕ) → List ℕ → ℕ → List ℕ
+unfoldable pub marks_after : (ℕ → ℕ) → (ℕ → ℕ) → List Bool → ℕ → List Bool
 marks_after first count ms zero = ms
 marks_after first count ms (suc i) = marked (marks_after first count ms i) (first i) (count i)
 
 -- no list before list i has marked an element of it
-unfoldable pub free_after : (ℕ → ℕ) → (ℕ → ℕ) → List ℕ → ℕ → Bool
+unfoldable pub free_after : (ℕ → ℕ) → (ℕ → ℕ) → List Bool → ℕ → Bool
 free_after first count ms i = free_list (marks_after first count ms i) (first i) (count i)
 
 -- the lists of class i + 1
@@ -69,9 +69,9 @@ abbrev pub field_total : List ℕ → ℕ → ℕ
 field_total ws i = class_field_count ws (i + 1)
 
 -- the methods and the fields of class i + 1 are free when its turn comes
-unfoldable pub free_class : List ℕ → List ℕ → List ℕ → ℕ → Bool
+unfoldable pub free_class : List ℕ → List Bool → List Bool → ℕ → Bool
 free_class ws ms fs i =
     free_after (method_start ws) (method_total ws) ms i && free_after (field_start ws) (field_total ws) fs i
 
-unfoldable pub free_lists : List ℕ → List ℕ → List ℕ → Bool
+unfoldable pub free_lists : List ℕ → List Bool → List Bool → Bool
 free_lists ws ms fs = all_of (class_count ws) (free_class ws ms fs)

@@ -1,11 +1,16 @@
 // The part of row 4 that holds classes against each other: no two share a name, a method or a field.
 #![tactic(auto)]
 
-ghost use Rattle.std.specs.Prelude.{◌≡◌, true, ◌+◌, length};
+ghost use Rattle.std.specs.Prelude.{◌≡◌, true, ◌+◌};
 ghost use Rattle.words.specs.Folds.{all_of};
-ghost use Rattle.class_sheet.specs.ClassSheet.{class_count};
+ghost use Rattle.class_sheet.specs.ClassSheet.{class_count, class_limit};
 ghost use Rattle.apart.specs.Apart.{apart, methods_apart, fields_apart, classes_apart, apart_before};
 ghost use Rattle.apart.specs.Seen.{key_step, name_key, new_keys, free_list, marked, free_lists};
+
+use words::BoundedList;
+
+// As many classes as there may be.
+const CLASSES: usize = class_sheet::CLASS_LIMIT as usize;
 
 // Whether two lists have no element in common.
 #[tactic(auto, unfolding(crate::specs::Apart::apart))]
@@ -88,26 +93,27 @@ fn name_key(name: &[u8]) -> u32
     name.iter().fold(0, |key, b| key_step(key, *b))
 }
 
-// Whether there is room for the keys of all classes, and no two are the same; it leaves keys there.
-fn new_keys(ws: &[u32], text: &[u8], keys: &mut [u32]) -> bool
-    ensures { result ≡ new_keys ws.now text.now (length keys.old) }
+// Whether the classes are no more than there may be, and the keys of no two are the same.
+fn new_keys(ws: &[u32], text: &[u8]) -> bool
+    ensures { result ≡ new_keys ws.now text.now class_limit }
 {
     let n = class_sheet::class_count(ws);
-    if keys.len() < n as usize {
+    if class_sheet::CLASS_LIMIT < n {
         return false;
     }
-    for i in 0..n {
-        let key = name_key(class_sheet::class_name(ws, text, i + 1));
-        if words::part(keys, 0, i as usize).contains(&key) {
+    let mut keys = BoundedList::<u32, CLASSES>::new();
+    for c in 1..=n {
+        let key = name_key(class_sheet::class_name(ws, text, c));
+        if keys.as_slice().contains(&key) {
             return false;
         }
-        words::put(keys, i as usize, key);
+        keys.push(key);
     }
     true
 }
 
 // Marks the n elements from `first` on; answers whether all of them have marks and none was marked before. It stops at one that was.
-fn mark_list(marks: &mut [u8], first: u32, n: u32) -> bool
+fn mark_list(marks: &mut [bool], first: u32, n: u32) -> bool
     ensures is { result ≡ free_list marks.old first n }
     ensures marks { result ≡ true → marks.new ≡ marked marks.old first n }
 {
@@ -117,16 +123,16 @@ fn mark_list(marks: &mut [u8], first: u32, n: u32) -> bool
         return false;
     }
     for mark in &mut marks[start..start + count] {
-        if *mark != 0 {
+        if *mark {
             return false;
         }
-        *mark = 1;
+        *mark = true;
     }
     true
 }
 
 // Whether no method and no field is in the lists of two classes: each class marks its own, and finds none of them marked.
-fn free_lists(ws: &[u32], methods: &mut [u8], fields: &mut [u8]) -> bool
+fn free_lists(ws: &[u32], methods: &mut [bool], fields: &mut [bool]) -> bool
     ensures { result ≡ free_lists ws.now methods.old fields.old }
 {
     for c in 1..=class_sheet::class_count(ws) {
@@ -148,12 +154,11 @@ fn free_lists(ws: &[u32], methods: &mut [u8], fields: &mut [u8]) -> bool
 fn seen_apart(ws: &[u32], text: &[u8]) -> bool
     ensures { result ≡ true → all_of (class_count ws.now) (λ i. apart_before ws.now text.now (i + 1)) ≡ true }
 {
-    let mut keys = [0u32; class_sheet::CLASS_LIMIT as usize];
-    if !new_keys(ws, text, &mut keys) {
+    if !new_keys(ws, text) {
         return false;
     }
-    let mut methods = [0u8; class_sheet::METHOD_LIMIT as usize];
-    let mut fields = [0u8; class_sheet::FIELD_LIMIT as usize];
+    let mut methods = [false; class_sheet::METHOD_LIMIT as usize];
+    let mut fields = [false; class_sheet::FIELD_LIMIT as usize];
     free_lists(ws, &mut methods, &mut fields)
 }
 

@@ -112,32 +112,32 @@ pub next_fits : (area stubs : List ℕ) (n : ℕ) {b : Bool} {k : ℕ} → b ≡
 next_fits area stubs n test f e = let p = may_write area stubs n (sym test ∙ f) in (omega (arith, p.0.free), p.1)
 
 module _ (area ts stubs : List ℕ) (n : ℕ) {b : Bool} (test : b ≡ may_not_write area stubs n) where
-  pub table-not : (c : ℕ) → b ≡ true → area ≡ table_written area c ts n stubs
+  pub table_not : (c : ℕ) → b ≡ true → area ≡ table_written area c ts n stubs
   unfolding table_written
-  table-not c t = rw (← test, t)
+  table_not c t = rw (← test, t)
 
-  pub node-not : (head i : ℕ) → b ≡ true → area ≡ node_written area head i ts n stubs
+  pub node_not : (head i : ℕ) → b ≡ true → area ≡ node_written area head i ts n stubs
   unfolding node_written
-  node-not head i t = rw (← test, t)
+  node_not head i t = rw (← test, t)
 
   -- as the code reads it: the next free word k
   module _ {k : ℕ} (free : k ≡ next_free area) (f : b ≡ false) where
     start : k ≤ length area
     start = omega (arith, (next_fits area stubs n test f free).0)
 
-    pub table-put : (c : ℕ) {ys l₂ : List ℕ} → ys ≡ write_at (take (length area - k) (drop k area)) 0 (table_words c ts stubs n)
+    pub table_put : (c : ℕ) {ys l₂ : List ℕ} → ys ≡ write_at (take (length area - k) (drop k area)) 0 (table_words c ts stubs n)
         → l₂ ≡ set (take k area ++ (ys ++ drop (length area - k) (drop k area))) 0 (k + n + 2) → l₂ ≡ table_written area c ts n stubs
     unfolding table_written
-    table-put c {ys = ys} p q =
+    table_put c {ys = ys} p q =
         let g = written-part area (table_words c ts stubs n) ys k start p in
         q ∙ rw (g, ← test, f, free)
 
-    pub node-put : (head i : ℕ) {old : ℕ} {ys l₂ l₃ : List ℕ} → old ≡ get_or area head 0
+    pub node_put : (head i : ℕ) {old : ℕ} {ys l₂ l₃ : List ℕ} → old ≡ get_or area head 0
         → ys ≡ write_at (take (length area - k) (drop k area)) 0 (node_words old i ts stubs n)
         → l₂ ≡ set (take k area ++ (ys ++ drop (length area - k) (drop k area))) head k → l₃ ≡ set l₂ 0 (k + n + 2)
         → l₃ ≡ node_written area head i ts n stubs
     unfolding node_written
-    node-put head i {old = old} {ys = ys} o p q r =
+    node_put head i {old = old} {ys = ys} o p q r =
         let g = written-part area (node_words old i ts stubs n) ys k start p in
         r ∙ rw (q, g, ← test, f, o, free)
 
@@ -164,6 +164,7 @@ module _ (area ts ms stubs : List ℕ) (n : ℕ) (room : no_room area stubs n �
   table-linked c = rw (writes, slot-words ts ms stubs n, length-entries ts ms n)
 
   -- and a node as `interface_dispatch_table` says
-  pub node-asked : (ws : List ℕ) (c head i : ℕ) → head ≡ head_place ws c → node_written area head i ts n stubs ≡ asked_area ws area c i (entries_of ts ms n) stubs
+  pub node-asked : (ws : List ℕ) (c head i : ℕ) → head ≡ head_place ws c
+      → node_written area head i ts n stubs ≡ asked_area ws area c i (entries_of ts ms n) stubs
   unfolding node_written asked_area node_words
   node-asked ws c head i e = rw (e, writes, slot-words ts ms stubs n, length-entries ts ms n)

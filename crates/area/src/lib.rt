@@ -122,6 +122,7 @@ fn fill_node(part: &mut [u32], old: u32, i: u32, ts: &[u32], n: usize, stubs: &[
 }
 
 // Writes class c's table of n slots from the next free word on, where there is room, and else nothing. Past the end of these words a slot's is 0.
+#[tactic(auto, using(crate::proofs::AreaLaws::next_fits, crate::proofs::AreaLaws::table_not, crate::proofs::AreaLaws::table_put))]
 pub fn write_table(area: &mut [u32], c: u32, ts: &[u32], n: usize, stubs: &[u32])
     ensures { area.new ≡ table_written area.old c ts.now n stubs.now }
 {
@@ -134,6 +135,7 @@ pub fn write_table(area: &mut [u32], c: u32, ts: &[u32], n: usize, stubs: &[u32]
 }
 
 // Writes interface i's node of n slots likewise, in front of the list whose head is at `head`.
+#[tactic(auto, using(crate::proofs::AreaLaws::next_fits, crate::proofs::AreaLaws::node_not, crate::proofs::AreaLaws::node_put))]
 pub fn write_node(area: &mut [u32], head: usize, i: u32, ts: &[u32], n: usize, stubs: &[u32])
     ensures { area.new ≡ node_written area.old head i ts.now n stubs.now }
 {

@@ -75,6 +75,7 @@ module _ (ws abi : List ℕ) (c i : ℕ) (area stubs : List ℕ) where
       (λ v. rw v (λ e. absurd (eqb-false (set_refusal ws abi) 0 v e)))
 
   -- the answer of an ask is determined
-  pub ask-answer : (a b : Result Answer Refusal) (s t s' t' : List ℕ) → outcome a s t ≡ ask_def ws abi c i area stubs → outcome b s' t' ≡ ask_def ws abi c i area stubs
+  pub ask-answer : (a b : Result Answer Refusal) (s t s' t' : List ℕ) → outcome a s t ≡ ask_def ws abi c i area stubs
+      → outcome b s' t' ≡ ask_def ws abi c i area stubs
       → a ≡ b
   ask-answer a b s t s' t' e f = answer_unique a b s t s' t' ask_tells e f

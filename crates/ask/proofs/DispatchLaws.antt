@@ -2,17 +2,14 @@
 use mathlib.Core.Path.{◌≡◌, refl, sym, ap, ◌∙◌}
 use mathlib.Core.Bool.{◌&&◌}
 use mathlib.Core.List.{List, [], ◌∷◌, ◌++◌, append_assoc, append-nil}
-use Prim.Native.Nat.{ℕ, ◌+◌, ◌≤◌, ◌<◌}
-use native.Mathlib.Numerals.{add-one}
-use lib.ListN.{length, get_or, drop, drop_of_length-le}
-use lib.Seq.{drop-cons}
+use Prim.Native.Nat.{ℕ, ◌<◌}
 use Rattle.std.specs.Prelude.{Option, Some, None, Ok, Err, ok_or}
 use Rattle.refusal.specs.declared.Refusal.{Refusal}
 use Rattle.std.specs.Option.{option_or}
 use Rattle.words.proofs.ListLaws.{find-member, found-by}
 use Rattle.class_sheet.specs.ClassSheet.{method_name, method_descriptor, method_flags, method_limit}
 use Rattle.linking.specs.Chain.{own_methods, parent_of, chain, is_virtual, method_is}
-use Rattle.linking.specs.Vtable.{Entry, empty, method_entry, Built, built, refused}
+use Rattle.linking.specs.Vtable.{Entry, method_entry, Built, built, refused}
 use Rattle.linking.specs.Ask.{own_implementation, implementation, cons_entry, dispatch_entries}
 use Rattle.linking.specs.declared.Declared.{Declared}
 use Rattle.linking.specs.Whose.{declared, declared_in, declared_implementation}
@@ -97,29 +94,28 @@ module _ (ws text : List ℕ) where
 
   -- ---- the loop over the slots
 
-  module _ (c : ℕ) (T : List Entry) where
-    -- the slots so far, and what comes of those from turn i on
-    unfoldable pub so_far : List Entry → ℕ → Built
-    so_far U i = cons_entry (built U) (dispatch_entries ws text c (drop i T))
+  module _ (c : ℕ) where
+    -- the slots so far, and what comes of those that are left
+    unfoldable pub so_far : List Entry → List Entry → Built
+    so_far U T = cons_entry (built U) (dispatch_entries ws text c T)
 
-    pub dispatch_start : so_far [] 0 ≡ dispatch_entries ws text c T
+    pub dispatch_start : (T : List Entry) → so_far [] T ≡ dispatch_entries ws text c T
     unfolding so_far
-    dispatch_start = cons-none (dispatch_entries ws text c T)
+    dispatch_start T = cons-none (dispatch_entries ws text c T)
 
-    module _ (i : ℕ) (s : Option Slot) {e : Entry} (h : i < length T) (here : e ≡ get_or T i empty) (slot : slot_built s ≡ dispatched ws text c e) where
-      turn : (U : List Entry) → so_far U i ≡ cons_entry (built U) (cons_entry (slot_built s) (dispatch_entries ws text c (drop (i + 1) T)))
+    module _ (s : Option Slot) (U : List Entry) {e : Entry} {T V : List Entry} (next : T ≡ e ∷ V) (slot : slot_built s ≡ dispatched ws text c e) where
+      turn : so_far U T ≡ cons_entry (built U) (cons_entry (slot_built s) (dispatch_entries ws text c V))
       unfolding so_far dispatch_entries dispatched
-      turn U =
-          let d : drop i T ≡ e ∷ drop (i + 1) T = rw (here, add-one i) (drop-cons T i empty h) in rw (d, slot)
+      turn = rw (next, slot) refl
 
-      pub dispatch_stop : (U : List Entry) → s ≡ None → refused 16 ≡ so_far U i
-      dispatch_stop U t = let e = turn U in sym (e ∙ rw t)
+      pub dispatch_stop : s ≡ None → refused 16 ≡ so_far U T
+      dispatch_stop t = let e = turn in sym (e ∙ rw t refl)
 
-      pub dispatch_turn : (U : List Entry) (x : Slot) {V : List Entry} → s ≡ Some x → V ≡ U ++ (entry x ∷ []) → so_far V (i + 1) ≡ so_far U i
+      pub dispatch_turn : {x : Slot} {W : List Entry} → s ≡ Some x → W ≡ U ++ (entry x ∷ []) → so_far W V ≡ so_far U T
       unfolding so_far
-      dispatch_turn U x f g =
-          let t = turn U in rw g (sym (t ∙ rw f (cons-two U (entry x ∷ []) (dispatch_entries ws text c (drop (i + 1) T)))))
+      dispatch_turn {x = x} f g =
+          let t = turn in rw g (sym (t ∙ rw f (cons-two U (entry x ∷ []) (dispatch_entries ws text c V))))
 
-    pub dispatch_end : (U : List Entry) (i : ℕ) → length T ≤ i → built U ≡ so_far U i
+    pub dispatch_end : (U : List Entry) {T : List Entry} → T ≡ [] → built U ≡ so_far U T
     unfolding so_far dispatch_entries
-    dispatch_end U i h = rw (drop_of_length-le T {i = i} h, append-nil)
+    dispatch_end U e = rw (e, append-nil)

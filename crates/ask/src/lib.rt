@@ -75,9 +75,8 @@ fn dispatch_slots(
     ensures { table_built (entries to.new) result ≡ dispatch_entries ws.now text.now c (entries from.now) }
 {
     to.clear();
-    for i in 0..from.len {
-        let slot = dispatch_slot(ws, text, c, from.slot(i)).ok_or(Refusal::Unimplemented)?;
-        to.push(slot);
+    for slot in from.slots() {
+        to.push(dispatch_slot(ws, text, c, slot).ok_or(Refusal::Unimplemented)?);
     }
     Ok(())
 }

@@ -47,7 +47,8 @@ pub unpacked_none : (bs : List ℕ) (n : ℕ) (ws : List ℕ) → length ws < 12
 unfolding unpacked
 unpacked_none bs n ws h = simp (lt-ltb (length ws) (127 * n) h)
 
-pub unpacked_all : (bs : List ℕ) (n k : ℕ) (ws : List ℕ) {o : List ℕ} → o ≡ content bs k ++ drop (127 * k) ws → n ≤ k → k ≤ n → 127 * n ≤ length ws → o ≡ unpacked bs n ws
+pub unpacked_all : (bs : List ℕ) (n k : ℕ) (ws : List ℕ) {o : List ℕ} → o ≡ content bs k ++ drop (127 * k) ws → n ≤ k → k ≤ n → 127 * n ≤ length ws
+    → o ≡ unpacked bs n ws
 unfolding unpacked
 unpacked_all bs n k ws p g l h = let e : k ≡ n = omega arith in p ∙ simp (le-ltb (length ws) (127 * n) h, e)
 

@@ -3,7 +3,7 @@
 
 ghost use Rattle.std.specs.Prelude.{◌≡◌, ◌+◌, ◌%◌, ◌^◌, length};
 ghost use Rattle.words.specs.Folds.{sum_of, all_of, stores};
-ghost use Rattle.block.specs.Block.{word_of, block_count, check_ok, unpacked, shape_ok, blocks_for, word_in, check_word, packed_word, block_byte, packed_blocks};
+ghost use Rattle.block.specs.Block.{word_of, block_count, check_ok, unpacked, shape_ok, least_fit, blocks_for, word_in, check_word, packed_word, block_byte, packed_blocks};
 
 // How many whole blocks the bytes are, modulo 2^32.
 #[tactic(auto, unfolding(crate::specs::Block::block_count))]
@@ -69,6 +69,14 @@ pub fn shape_ok(bytes: &[u8], room: usize, limit: u32) -> bool
     let len = bytes.len();
     let n = len / 512;
     len != 0 && len % 512 == 0 && n <= limit as usize && 127 * n <= room
+}
+
+// Row 3: whether n words, 127 a block, hold the content, and a block less would not.
+#[tactic(auto, unfolding(crate::specs::Block::least_fit))]
+pub fn least_fit(end: usize, n: usize) -> bool
+    ensures { result ≡ least_fit end n }
+{
+    end <= n && n - end < 127
 }
 
 // How many blocks hold `end` words, modulo 2^32.

@@ -14,7 +14,7 @@ use class_sheet::Kind;
 pub fn no_class(ws: &[u32], c: u32) -> bool
     ensures { result ≡ no_class ws.now c }
 {
-    (c == 0) | (class_sheet::class_count(ws) < c)
+    !(1..=class_sheet::class_count(ws)).contains(&c)
 }
 
 // Whether class c has a table.

@@ -11,6 +11,7 @@ use Rattle.linking.specs.Counts.{missing_width, missing_short}
 use Rattle.linking.specs.Link.{bad_class, bad_area, Plan, Planned, planned, unplanned, plan, lists_full, set_short, no_room, Outcome, refused_call, LinkOutcome, refused_link, finish_link, on_plan, link_def}
 use Rattle.linking.proofs.MissingLaws.{count-read, bit-read}
 use Rattle.calls.specs.Calls.{Call, link, ask, State, start, outcome, step, run}
+use Rattle.calls.specs.Unlisted.{finish_unlisted, on_planned, link_unlisted}
 use Rattle.calls.specs.Missing.{left, CountIs, LinkBefore}
 use Rattle.calls.proofs.Rows.{link-cases, ask-cases}
 use Rattle.calls.proofs.Missing.{long-next}
@@ -22,7 +23,38 @@ count_is = record {
   rest_zero = λ list c bits words j h b. bit-read list c bits words j b ∙ get_or-eq_default bits false h;
 }
 
--- ---- one link
+-- ---- one link, and the link without a list
+
+module _ (ws abi : List ℕ) (c : ℕ) (area stubs list : List ℕ) (long : missing_short ws list ≡ false) where
+  finish-unlisted : (p : Plan) → (finish_link ws abi c area stubs list p).outcome ≡ finish_unlisted ws abi c area stubs p
+  unfolding finish_link finish_unlisted
+  finish-unlisted p =
+      by (lists_full ws c p) (λ t. rw t)
+      (λ t. rw (t, long) (by (no_room area stubs (length p.table) || set_short ws c p) (λ u. rw u) (λ u. rw u)))
+
+  planned-unlisted : (q : Planned)
+      → (on_plan q (finish_link ws abi c area stubs list) (λ n. refused_link n ws area list)).outcome
+      ≡ on_planned q (finish_unlisted ws abi c area stubs) (λ n. refused_call n ws area)
+  planned-unlisted (planned p) = finish-unlisted p
+  planned-unlisted (unplanned n) = refl
+
+  as-before : (link_def ws abi c area stubs list).outcome ≡ link_unlisted ws abi c area stubs
+  unfolding link_def link_unlisted
+  as-before =
+      by (eqb (set_refusal ws abi) 0)
+      (λ v.
+      rw v
+      (by (bad_class ws (text_of ws) c) (λ t. rw t)
+      (λ t.
+      rw t
+      (by (bad_area ws area) (λ u. rw u)
+      (λ u.
+      rw u
+      (by (bad_packages ws (text_of ws) abi (abi_text_of abi) c) (λ k. rw k)
+      (λ k. rw k (planned-unlisted (plan ws (text_of ws) abi (abi_text_of abi) area c)))))))))
+      (λ v. rw v)
+
+-- ---- one link, and two lists
 
 module _ (ws abi : List ℕ) (c : ℕ) (area stubs list other : List ℕ) where
   -- both as long as row 15 asks, or neither
@@ -125,6 +157,17 @@ step-long abi s (link c stubs) h =
 step-long abi s (ask c i stubs) h =
     elim (ask-cases s.set abi c i s.area stubs) [ inl r ↦ rw r.same_set h | inr a ↦ rw a.same_set h ]
 
+run-long : (abi : List ℕ) (ks : List Call) (s : State) → Long s → Long (run abi ks s)
+unfolding run
+run-long abi [] s h = h
+run-long abi (k ∷ ks) s h = run-long abi ks (step abi s k) (step-long abi s k h)
+
+each-as-before : (ws abi area list : List ℕ) → missing_short ws list ≡ false → (calls : List Call) (c : ℕ) (stubs : List ℕ)
+    → outcome abi (left ws abi area list calls) (link c stubs)
+    ≡ link_unlisted (left ws abi area list calls).set abi c (left ws abi area list calls).area stubs
+each-as-before ws abi area list h calls c stubs =
+    let s : State = left ws abi area list calls in as-before s.set abi c s.area stubs s.missing (run-long abi calls (start ws area list) h)
+
 -- ---- and so two states that differ in the list alone answer alike
 
 abbrev SameBut : State → State → Type 0
@@ -168,6 +211,8 @@ module _ (ws abi area list other : List ℕ) (h : missing_short ws list ≡ fals
 
 pub link-before : LinkBefore
 link-before = record {
+  as_before = as-before;
+  each_as_before = each-as-before;
   long = λ ws abi c area stubs list other h g. same ws abi c area stubs list other (h ∙ sym g);
   short_accepted = short_accepted;
   short_refused = short_refused;

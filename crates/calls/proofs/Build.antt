@@ -76,11 +76,13 @@ module _ (old new : List ℕ) (valid : Valid old) (like : Alike old new) (abi la
     pub read-words-kept : (t : List ℕ) → Tables R (read_words old (text_of old) abi labels c t) (read_words new (text_of new) abi labels c t)
     unfolding read_words
     read-words-kept t =
-        pairs-from (λ i. read_entry old (text_of old) abi labels c i (get_or t i 0)) (λ i. read_entry new (text_of new) abi labels c i (get_or t i 0)) 0 0 (length t)
+        pairs-from (λ i. read_entry old (text_of old) abi labels c i (get_or t i 0))
+        (λ i. read_entry new (text_of new) abi labels c i (get_or t i 0)) 0 0 (length t)
         (λ i h. read_same old (text_of old) new (text_of new) abi labels R kept c chain-kept (0 + i) (get_or t (0 + i) 0))
 
     -- the table of entries that are alike, whatever the class's kind
-    start-kept : 1 ≤ c → (P Q : List Entry) → Tables R P Q → Tables R (start_from old (text_of old) abi labels c P) (start_from new (text_of new) abi labels c Q)
+    start-kept : 1 ≤ c → (P Q : List Entry) → Tables R P Q
+        → Tables R (start_from old (text_of old) abi labels c P) (start_from new (text_of new) abi labels c Q)
     unfolding start_from
     start-kept s P Q h =
         let abis : List ℕ = chain_abi new (text_of new) abi labels c in

@@ -62,7 +62,19 @@ pub record Rows : Type 0 where
 
 pub rows : Rows
 unfolding opened shown ws sheet
-rows = record { answered = refl; first = refl; second = refl; third = refl; parent-known = refl; child_known = refl; child_new = refl; child_unknown = refl; methods = refl; fields = refl; bytes = refl }
+rows = record {
+  answered = refl;
+  first = refl;
+  second = refl;
+  third = refl;
+  parent-known = refl;
+  child_known = refl;
+  child_new = refl;
+  child_unknown = refl;
+  methods = refl;
+  fields = refl;
+  bytes = refl;
+}
 
 -- ---- so demand 3 speaks to class 3
 

@@ -195,7 +195,8 @@ module _ (ws abi area₃ area₀ missing₃ missing₀ : List ℕ) (unlinked : U
       three e (inl f) = omega arith
       three e (inr f) = omega arith
 
-  made₃ : (d : ℕ) → Memᴰ d (chain ws c) → Made ws text abi labels (table_of (final ws abi area₃ missing₃ valid₃ unlinked calls₃)) (P ws abi area₃ missing₃ valid₃ unlinked calls₃) d
+  made₃ : (d : ℕ) → Memᴰ d (chain ws c)
+      → Made ws text abi labels (table_of (final ws abi area₃ missing₃ valid₃ unlinked calls₃)) (P ws abi area₃ missing₃ valid₃ unlinked calls₃) d
   made₃ = chain-made ws abi area₃ missing₃ valid₃ unlinked calls₃ linked₃ plain₃
 
   fits : bad_packages ws text abi labels c ≡ false
@@ -248,14 +249,15 @@ module _ (ws abi area₃ area₀ missing₃ missing₀ : List ℕ) (unlinked : U
   made-zero d i =
       let m = made₀ d i in
       let j = class d i in
+      let above : List Entry = inherited_from ws text abi labels zeros d in
       let none : (e : ℕ) → Memᴰ e (chain ws d) → class_abi ws text abi labels e ≡ None = λ e y. no_entry ws text abi labels c fits here-kind e (up d i e y) in
       record {
         entries = m.entries;
         stubs = m.stubs;
-        from = sym (ap (add_methods ws text abi labels [] (own_methods ws d)) (start_is ws text abi labels d (inherited_from ws text abi labels zeros d) j.0 none))
-            ∙ ap (λ (abis : List ℕ). add_methods ws text abi labels abis (own_methods ws d) (start_from ws text abi labels d (inherited_from ws text abi labels zeros d)))
+        from = sym (ap (add_methods ws text abi labels [] (own_methods ws d)) (start_is ws text abi labels d above j.0 none))
+            ∙ ap (λ (abis : List ℕ). add_methods ws text abi labels abis (own_methods ws d) (start_from ws text abi labels d above))
             (sym (no_abis ws text abi labels d none))
-            ∙ built-same ws vs valid₃ like abi labels d j.1 (λ e y. unmoved e (up d i e y)) j.0 (inherited_from ws text abi labels zeros d)
+            ∙ built-same ws vs valid₃ like abi labels d j.1 (λ e y. unmoved e (up d i e y)) j.0 above
             (inherited_from vs (text_of vs) abi labels zeros d) (inherited-kept ws vs valid₃ like abi labels zeros d j.0 j.1 (λ e y. unmoved e (up d i e y)))
             ∙ zero-from d i m.entries m.from;
         words = m.words;
@@ -263,7 +265,8 @@ module _ (ws abi area₃ area₀ missing₃ missing₀ : List ℕ) (unlinked : U
 
   same : Same ws text abi labels (table_of (final ws abi area₃ missing₃ valid₃ unlinked calls₃)) (P ws abi area₃ missing₃ valid₃ unlinked calls₃) zeros c
   same =
-      same_tables ws text abi labels (table_of (final ws abi area₃ missing₃ valid₃ unlinked calls₃)) (P ws abi area₃ missing₃ valid₃ unlinked calls₃) zeros c c (omega arith)
+      same_tables ws text abi labels (table_of (final ws abi area₃ missing₃ valid₃ unlinked calls₃))
+      (P ws abi area₃ missing₃ valid₃ unlinked calls₃) zeros c c (omega arith)
       among.0 premises.packages (record { nonzero = premises.nonzero_targets; different = premises.different_targets })
       premises.open_methods (λ d m k i x y e f s. premises.once d m k i x y e f (signature-same ws text s)) made₃ made-zero
 
@@ -271,7 +274,8 @@ module _ (ws abi area₃ area₀ missing₃ missing₀ : List ℕ) (unlinked : U
   equal =
       sym (table_is ws abi area₃ missing₃ valid₃ unlinked calls₃ linked₃) ∙ same.equal ∙ table_is vs abi area₀ missing₀ valid₀ unlinked₀ calls₀ linked₀
 
-  as_zero : (n ≡ k) × (table_at (final ws abi area₃ missing₃ valid₃ unlinked calls₃).area p n ≡ table_at (final vs abi area₀ missing₀ valid₀ unlinked₀ calls₀).area q k)
+  as_zero : (n ≡ k)
+      × (table_at (final ws abi area₃ missing₃ valid₃ unlinked calls₃).area p n ≡ table_at (final vs abi area₀ missing₀ valid₀ unlinked₀ calls₀).area q k)
   as_zero = (
     sym (whole_is ws abi area₃ missing₃ valid₃ unlinked calls₃ linked₃) ∙ ap length equal ∙ whole_is vs abi area₀ missing₀ valid₀ unlinked₀ calls₀ linked₀,
     equal,

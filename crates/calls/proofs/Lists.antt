@@ -117,7 +117,8 @@ module _ (ws₀ abi : List ℕ) (valid₀ : Valid ws₀) (P : ℕ → Type 0) wh
             let o : LinkOutcome = link_def s.set abi c s.area stubs s.missing in
             let given : (x : ℕ) → Memᴰ x stubs → P x = λ x i. lent x (lent_now i) in
             let l = new-linked ws₀ abi valid₀ P s inv c stubs o a given in
-            let k = (run-goes ks (record { set = o.outcome.set; area = o.outcome.area; missing = o.missing }) (link-inv ws₀ abi valid₀ P s inv c stubs o a given) (λ x i. lent x (lent_later i))).keeps in
+            let k = (run-goes ks (record { set = o.outcome.set; area = o.outcome.area; missing = o.missing })
+            (link-inv ws₀ abi valid₀ P s inv c stubs o a given) (λ x i. lent x (lent_later i))).keeps in
             record {
               linked = still k c l;
               place = k.place c l ∙ new-place ws₀ abi valid₀ P s inv c stubs o a given ∙ sym a.answers-place ∙ f;

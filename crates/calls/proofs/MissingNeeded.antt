@@ -82,7 +82,8 @@ asked = asked-count ws sheet (fresh 60) (sevens 7) (unlinked-holds ws unlinked) 
 -- ---- needed
 
 -- the first of a class's words is n, and the count made anew is k
-differ : (sheet : List ℕ) (s : State) (c n k : ℕ) → get_or s.missing (missing_at c) 0 ≡ n → bit_count (bits_now sheet s c) ≡ k → (n ≡ k → ⊥) → Counted sheet s c → ⊥
+differ : (sheet : List ℕ) (s : State) (c n k : ℕ) → get_or s.missing (missing_at c) 0 ≡ n → bit_count (bits_now sheet s c) ≡ k
+    → (n ≡ k → ⊥) → Counted sheet s c → ⊥
 differ sheet s c n k e f d h = d (sym e ∙ count-read s.missing c (bits_now sheet s c) h.words ∙ f)
 
 abbrev two : assemble.Lent

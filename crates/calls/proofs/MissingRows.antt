@@ -6,7 +6,7 @@ use Rattle.class_sheet.specs.ClassSheet.{class_slot_count, put_class_kind}
 use Rattle.linking.specs.Counts.{missing_at}
 use Rattle.linking.specs.Missing.{missing_def}
 use Rattle.linking.proofs.Assemble as assemble
-use Rattle.linking.proofs.Assemble.{flagged, method, built, compiled, array, slot, abi, sized, lent, fresh, stubs_of, on_missing, answers}
+use Rattle.linking.proofs.Assemble.{flagged, method, built, compiled, slot, abi, sized, lent, fresh, stubs_of, on_missing, answers}
 use Rattle.linking.proofs.Packaged.{packaged, foo}
 use Rattle.linking.proofs.Opened.{opened}
 use Rattle.calls.specs.Calls.{State, link, start, step, run}
@@ -65,4 +65,15 @@ pub record Rows : Type 0 where
 
 pub rows : Rows
 unfolding opened after counts step run
-rows = record { holes = refl; copies = refl; moved = refl; nonzero = refl; appended = refl; several = refl; forty = refl; short = refl; enough = refl; asking = refl }
+rows = record {
+  holes = refl;
+  copies = refl;
+  moved = refl;
+  nonzero = refl;
+  appended = refl;
+  several = refl;
+  forty = refl;
+  short = refl;
+  enough = refl;
+  asking = refl;
+}

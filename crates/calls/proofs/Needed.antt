@@ -1,5 +1,6 @@
 -- Each premise of demand 3 is needed: a list for each, in which the class is linked, all premises but that one hold, and the claim fails. Of orderly
--- this is so of "each signature (name and descriptor) has one index"; "each index one signature" is not needed (`one-index-enough`, Theorem.antt). Assumes nothing.
+-- this is so of "each signature (name and descriptor) has one index"; "each index one signature" is not needed (`one-index-enough`, Theorem.antt).
+-- Assumes nothing.
 use Rattle.std.proofs.Common.{◌≡◌, refl, sym, ap, ◌∙◌, inl, inr, ◌≢◌, ◌⊎◌, Bool, true, false, true≢false, List, [], ◌∷◌, ℕ, ◌<◌, arith, length, get_or, replicate, Some, None}
 use mathlib.Core.List.Memᴰ
 use Rattle.class_sheet.specs.ClassSheet.{text_of, method_name, method_descriptor}
@@ -143,7 +144,8 @@ kinds-needed = record {
   linked = later (now (902 ∷ 903 ∷ []) refl refl refl);
   fails =
       broken generated_child 2 4 2 1 1 (omega arith) refl (now (901 ∷ []) refl refl refl)
-      (not_known generated_child 2 (final_table generated_child 4 2) (final_table generated_child 1 1) (7 ∷ 5 ∷ []) (5 ∷ []) refl refl 0 0 (omega arith) refl refl);
+      (not_known generated_child 2 (final_table generated_child 4 2)
+      (final_table generated_child 1 1) (7 ∷ 5 ∷ []) (5 ∷ []) refl refl 0 0 (omega arith) refl refl);
 }
 
 -- ---- "none of them an interface": an interface's table has its own methods alone
@@ -217,7 +219,8 @@ stubs-nonzero-needed = record {
   linked = later (now (902 ∷ []) refl refl refl);
   fails =
       broken zero_stub 2 4 1 1 1 (omega arith) refl (now (0 ∷ []) refl refl refl)
-      (other-target zero_stub 2 (final_table zero_stub 4 1) (final_table zero_stub 1 1) (902 ∷ []) (0 ∷ []) refl refl 0 0 (omega arith) refl (omega arith) refl);
+      (other-target zero_stub 2 (final_table zero_stub 4 1) (final_table zero_stub 1 1)
+      (902 ∷ []) (0 ∷ []) refl refl 0 0 (omega arith) refl (omega arith) refl);
 }
 
 -- ---- "the targets all different": two methods of one target read as the first

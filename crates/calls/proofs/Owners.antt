@@ -19,7 +19,8 @@ use Rattle.calls.proofs.Rows.{Accepted, link-cases, ask-cases}
 -- class c's method list in the new words: where it was, or past all that was there
 abbrev Own : List ℕ → List ℕ → ℕ → Type 0
 Own old new c =
-    ((class_first_method new c ≡ class_first_method old c) × (class_method_count new c ≡ class_method_count old c)) ⊎ (class_first_method new c ≡ method_count old)
+    ((class_first_method new c ≡ class_first_method old c) × (class_method_count new c ≡ class_method_count old c))
+    ⊎ (class_first_method new c ≡ method_count old)
 
 -- ---- one link that is accepted
 

@@ -46,7 +46,8 @@ module _ (old new : List ℕ) (valid : Valid old) (like : Alike old new) (abi la
     parent_below : parent_of old c ≤ class_count old
     parent_below = let w = parent-within old c in omega arith
 
-    pub inherited-kept : Tables (Own (method_count old)) (inherited_from old (text_of old) abi labels tables c) (inherited_from new (text_of new) abi labels tables c)
+    pub inherited-kept : Tables (Own (method_count old))
+        (inherited_from old (text_of old) abi labels tables c) (inherited_from new (text_of new) abi labels tables c)
     unfolding inherited_from
     inherited-kept =
         rw (parent-same old new valid like c s a)

@@ -99,7 +99,8 @@ module _ (ws abi : List ℕ) (c : ℕ) (area stubs missing : List ℕ) where
   abbrev Either : LinkOutcome → Type 0
   Either o = Refused o ws area missing ⊎ Accepted ws abi c area stubs missing o
 
-  finish : set_refusal ws abi ≡ 0 → ClassOk ws c → Sound ws area → bad_packages ws (text_of ws) abi (abi_text_of abi) c ≡ false → (p : Plan) → plan ws (text_of ws) abi (abi_text_of abi) area c ≡ planned p
+  finish : set_refusal ws abi ≡ 0 → ClassOk ws c → Sound ws area → bad_packages ws (text_of ws) abi (abi_text_of abi) c ≡ false → (p : Plan)
+      → plan ws (text_of ws) abi (abi_text_of abi) area c ≡ planned p
       → Either (finish_link ws abi c area stubs missing p)
   unfolding finish_link
   finish v k a f p e =
@@ -129,7 +130,8 @@ module _ (ws abi : List ℕ) (c : ℕ) (area stubs missing : List ℕ) where
         new-missing = refl;
       })))))
 
-  go_on : set_refusal ws abi ≡ 0 → ClassOk ws c → Sound ws area → bad_packages ws (text_of ws) abi (abi_text_of abi) c ≡ false → (q : Planned) → plan ws (text_of ws) abi (abi_text_of abi) area c ≡ q
+  go_on : set_refusal ws abi ≡ 0 → ClassOk ws c → Sound ws area → bad_packages ws (text_of ws) abi (abi_text_of abi) c ≡ false → (q : Planned)
+      → plan ws (text_of ws) abi (abi_text_of abi) area c ≡ q
       → Either (on_plan q (finish_link ws abi c area stubs missing) (λ n. refused_link n ws area missing))
   go_on v k a f (planned p) e = finish v k a f p e
   go_on v k a f (unplanned n) e = inl (refused-link ws area missing n (unplanned-number ws (text_of ws) abi (abi_text_of abi) area c n e))
@@ -199,7 +201,8 @@ module _ (ws abi : List ℕ) (c i : ℕ) (area stubs : List ℕ) where
         (inr (record { class = k; lent = a; entries = T; room = fits area stubs (length T) t; same_set = refl; new-area = refl })))
     put-node nodes (refused n) = inl (untouched ws area n)
 
-    walked : (w : Walk) → Any (on_walk w (λ n nodes. record { refusal = 0; first = n + 1; second = nodes; set = ws; area = area }) (build_node ws abi c i area stubs) (refused_call 7 ws area))
+    walked : (w : Walk) → Any (on_walk w (λ n nodes. record { refusal = 0; first = n + 1; second = nodes; set = ws; area = area })
+        (build_node ws abi c i area stubs) (refused_call 7 ws area))
     unfolding build_node
     walked (hit n nodes) = inl (record { same_set = refl; same_area = refl })
     walked (missed nodes) =

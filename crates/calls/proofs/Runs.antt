@@ -139,7 +139,8 @@ module _ (ws₀ abi : List ℕ) (valid₀ : Valid ws₀) (P : ℕ → Type 0) wh
       → made_from ws₀ (text_of ws₀) abi (abi_text_of abi) t c ≡ made_from ws₀ (text_of ws₀) abi (abi_text_of abi) u c
   unfolding made_from packages_from
   from-same t u c h =
-      let q : introduced_from ws₀ (text_of ws₀) abi (abi_text_of abi) t (parent_of ws₀ c) ≡ introduced_from ws₀ (text_of ws₀) abi (abi_text_of abi) u (parent_of ws₀ c) =
+      let q : introduced_from ws₀ (text_of ws₀) abi (abi_text_of abi) t (parent_of ws₀ c)
+      ≡ introduced_from ws₀ (text_of ws₀) abi (abi_text_of abi) u (parent_of ws₀ c) =
       fun_ext (introduced-same t u (parent_of ws₀ c) h) in
       rw (q, inherited-same t u c (λ n. h (parent_of ws₀ c) (chain-here ws₀ (parent_of ws₀ c) (omega arith))))
 

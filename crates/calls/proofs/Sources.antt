@@ -266,7 +266,8 @@ module _ (ws text abi labels : List ℕ) where
     interface-built : All Here (build_interface_methods ws text c)
     unfolding build_interface_methods
     interface-built =
-        interface-all ws text abi labels Here blank (keep (eligible ws text) (own_methods ws c)) (λ m i. own m (keep-member (eligible ws text) (own_methods ws c) m i))
+        interface-all ws text abi labels Here blank (keep (eligible ws text) (own_methods ws c))
+        (λ m i. own m (keep-member (eligible ws text) (own_methods ws c) m i))
 
     -- a declared method has its own target, an added one that of its slot
     target-of : (xs : List New) (m : ℕ) → m < method_limit → target_of ws xs m ≡ method_target ws m

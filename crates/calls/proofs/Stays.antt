@@ -170,7 +170,8 @@ module _ (ws abi : List ℕ) (c : ℕ) (area stubs missing : List ℕ) (o : Link
       (rows_more ValidDescriptor MethodFlags (bytes_of s) (new_text M) s.methods old-methods)
       (rows_append ValidDescriptor MethodFlags (bytes_of s ++ new_text M) copy (new_members s.bytes M)
       (rows_more ValidDescriptor MethodFlags (bytes_of s) (new_text M) copy
-      (rows-part ValidDescriptor MethodFlags (bytes_of s) s.methods (row_word s.classes (c - 1) first_method_word) (row_word s.classes (c - 1) method_count_word)
+      (rows-part ValidDescriptor MethodFlags (bytes_of s) s.methods
+      (row_word s.classes (c - 1) first_method_word) (row_word s.classes (c - 1) method_count_word)
       list-methods old-methods))
       (rows_new ValidDescriptor MethodFlags (bytes_of s) s.bytes (length-bytes s) M methods_added)))))
       (λ t.

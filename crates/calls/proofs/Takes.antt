@@ -18,7 +18,7 @@ use Rattle.linking.proofs.Plans.{packages-within, plans}
 use Rattle.slots.proofs.EntryFacts.{at}
 use Rattle.slots.proofs.TakenFacts.{taken_of, taken_in_lem, PutAt, stored, left, added, put-at, put-length, stores-length}
 use Rattle.calls.specs.Takes as spec
-use Rattle.calls.specs.Takes.{Picked, none, pick, skip, TakesSlot, Stands, taken, IsNew, Takes, LinkTakes, TakenSlots}
+use Rattle.calls.specs.Takes.{Picked, none, pick, skip, TakesSlot, Stands, taken, Takes, LinkTakes, TakenSlots}
 use Rattle.calls.proofs.Rows.{Accepted, link-cases}
 
 -- ---- lists
@@ -284,7 +284,8 @@ module _ (ws abi area : List ℕ) (c : ℕ) (some : 0 < c) (room : c ≤ class_l
 
 -- ---- THE THEOREM
 
-accepted-takes : (ws abi : List ℕ) (c : ℕ) (area stubs missing : List ℕ) → class_kind ws c ≡ 3 → Accepted ws abi c area stubs missing (link_def ws abi c area stubs missing)
+accepted-takes : (ws abi : List ℕ) (c : ℕ) (area stubs missing : List ℕ) → class_kind ws c ≡ 3
+    → Accepted ws abi c area stubs missing (link_def ws abi c area stubs missing)
     → LinkTakes ws abi c area stubs missing
 accepted-takes ws abi c area stubs missing kind a = record {
   table = a.coming.table;

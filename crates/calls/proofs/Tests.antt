@@ -82,13 +82,15 @@ module _ (ws abi : List ℕ) (calls : List Call) (c : ℕ) where
 
   abbrev agrees_in_index : ℕ → ℕ → Bool
   agrees_in_index s z =
-      not (same_bytes (abi_slot_name abi labels s) (abi_slot_name abi labels z) && same_bytes (abi_slot_descriptor abi labels s) (abi_slot_descriptor abi labels z))
+      not (same_bytes (abi_slot_name abi labels s) (abi_slot_name abi labels z)
+      && same_bytes (abi_slot_descriptor abi labels s) (abi_slot_descriptor abi labels z))
       || eqb (slot_index abi s) (slot_index abi z)
 
   abbrev one_signature : ℕ → ℕ → Bool
   one_signature s z =
       not (eqb (slot_index abi s) (slot_index abi z))
-      || (same_bytes (abi_slot_name abi labels s) (abi_slot_name abi labels z) && same_bytes (abi_slot_descriptor abi labels s) (abi_slot_descriptor abi labels z))
+      || (same_bytes (abi_slot_name abi labels s) (abi_slot_name abi labels z)
+      && same_bytes (abi_slot_descriptor abi labels s) (abi_slot_descriptor abi labels z))
 
   unfoldable pub is_orderly : Bool
   is_orderly = every (λ s. every (λ z. agrees_in_index s z && one_signature s z) (chain_slots ws abi c)) (chain_slots ws abi c)
@@ -153,7 +155,8 @@ module _ (ws abi : List ℕ) (calls : List Call) (c : ℕ) where
   signature h s z k l e =
       let n : Bool = same_bytes (abi_slot_name abi labels s) (abi_slot_name abi labels z) in
       let d : Bool = same_bytes (abi_slot_descriptor abi labels s) (abi_slot_descriptor abi labels z) in
-      let b = and_both n d (implied (eqb (slot_index abi s) (slot_index abi z)) (n && d) (pair h s z k l).1 (eq-eqb (slot_index abi s) (slot_index abi z) e)) in (
+      let b = and_both n d
+      (implied (eqb (slot_index abi s) (slot_index abi z)) (n && d) (pair h s z k l).1 (eq-eqb (slot_index abi s) (slot_index abi z) e)) in (
         same-is (abi_slot_name abi labels s) (abi_slot_name abi labels z) b.0,
         same-is (abi_slot_descriptor abi labels s) (abi_slot_descriptor abi labels z) b.1,
       )
@@ -163,7 +166,8 @@ module _ (ws abi : List ℕ) (calls : List Call) (c : ℕ) where
       → slot_index abi s ≡ slot_index abi z
   index h s z k l e f =
       eqb-true (slot_index abi s) (slot_index abi z)
-      (implied (same_bytes (abi_slot_name abi labels s) (abi_slot_name abi labels z) && same_bytes (abi_slot_descriptor abi labels s) (abi_slot_descriptor abi labels z))
+      (implied (same_bytes (abi_slot_name abi labels s) (abi_slot_name abi labels z)
+      && same_bytes (abi_slot_descriptor abi labels s) (abi_slot_descriptor abi labels z))
       (eqb (slot_index abi s) (slot_index abi z)) (pair h s z k l).0
       (rw (e, f, same_refl (abi_slot_name abi labels z), same_refl (abi_slot_descriptor abi labels z)) refl))
 
@@ -242,5 +246,6 @@ answers abi s (k ∷ ks) =
 
 -- what examples by computation open
 unfoldable pub shown : ℕ
-unfolding every gather chain_methods chain_slots stubs_lent is_unlinked by_old_rule built_or_array without_interface is_orderly targets_nonzero stubs_nonzero targets_different without_stub verdicts answers step run
+unfolding every gather chain_methods chain_slots stubs_lent is_unlinked by_old_rule built_or_array without_interface is_orderly targets_nonzero stubs_nonzero
+    targets_different without_stub verdicts answers step run
 shown = 0

@@ -78,6 +78,7 @@ module _ (old new : List ℕ) (valid : Valid old) (like : Alike old new) where
 
   -- ---- its ABI entry
 
-  pub class-abi : (abi labels : List ℕ) (c : ℕ) → 1 ≤ c → c ≤ class_count old → class_abi new (text_of new) abi labels c ≡ class_abi old (text_of old) abi labels c
+  pub class-abi : (abi labels : List ℕ) (c : ℕ) → 1 ≤ c → c ≤ class_count old
+      → class_abi new (text_of new) abi labels c ≡ class_abi old (text_of old) abi labels c
   unfolding class_abi
   class-abi abi labels c s a = rw (class-name c s a)

@@ -5,4 +5,5 @@ pub mod Takes
 pub mod KindZero
 pub mod Sources
 pub mod Stays
+pub mod Unlisted
 pub mod Missing

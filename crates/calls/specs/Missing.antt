@@ -9,8 +9,9 @@ use Rattle.linking.specs.Counts.{missing_width, missing_at, missing_bit, missing
 use Rattle.linking.specs.Link.{refused_call, link_def}
 use Rattle.linking.specs.Missing.{missing_def, table_by, recounted}
 use Rattle.slots.specs.Slots.{ChainMethod}
-use Rattle.calls.specs.Calls.{Call, State, start, outcome, run, Unlinked, table_at}
+use Rattle.calls.specs.Calls.{Call, link, State, start, outcome, run, Unlinked, table_at}
 use Rattle.calls.specs.Demand.{Conditions, Linked, table}
+use Rattle.calls.specs.Unlisted.{link_unlisted}
 
 -- class c is linked in the set that the calls left
 pub record HasTable (s : State) (c : ℕ) : Type 0 where
@@ -28,7 +29,8 @@ pub record Rebuilt (abi : List ℕ) (s : State) (c : ℕ) : Type 0 where
   pub anew : table_by s.set (text_of s.set) abi (abi_text_of abi) s.area c ≡ built entries
   pub many : length entries ≡ class_slot_count s.set c
   pub words : (i : ℕ) → i < length entries
-      → ((get_or entries i empty).word ≡ 0) ⊎ ((get_or entries i empty).word ≡ get_or (table_at s.area (class_table_place s.set c) (class_slot_count s.set c)) i 0)
+      → ((get_or entries i empty).word ≡ 0)
+      ⊎ ((get_or entries i empty).word ≡ get_or (table_at s.area (class_table_place s.set c) (class_slot_count s.set c)) i 0)
 
 -- its 33 words are the count made anew, and the list has room for every class
 pub record Counted (abi : List ℕ) (s : State) (c : ℕ) : Type 0 where
@@ -58,8 +60,15 @@ pub record CountIs : Type 0 where
   pub rest_zero : (list : List ℕ) (c : ℕ) (bits : List Bool) → take missing_width (drop (missing_at c) list) ≡ pack_bits bits
       → (j : ℕ) → length bits ≤ j → j < 1024 → missing_bit list c j ≡ false
 
--- "row 15 also takes a shorter list", and that is all that the list changes: answers, set and area are as with any other list
+-- "row 15 also takes a shorter list", and that is all that the list changes: answers, set and area are as before there was one, and as with any other
 pub record LinkBefore : Type 0 where
+  -- a link that is lent a list long enough answers and leaves what it did when none was lent
+  pub as_before : (ws abi : List ℕ) (c : ℕ) (area stubs list : List ℕ) → missing_short ws list ≡ false
+      → (link_def ws abi c area stubs list).outcome ≡ link_unlisted ws abi c area stubs
+  -- so does every link of a list of calls that begins with such a list: whatever calls went before, of the set and the area that they left
+  pub each_as_before : (ws abi area list : List ℕ) → missing_short ws list ≡ false → (calls : List Call) (c : ℕ) (stubs : List ℕ)
+      → outcome abi (left ws abi area list calls) (link c stubs)
+      ≡ link_unlisted (left ws abi area list calls).set abi c (left ws abi area list calls).area stubs
   -- a list that is long enough, whatever it holds
   pub long : (ws abi : List ℕ) (c : ℕ) (area stubs list other : List ℕ) → missing_short ws list ≡ false → missing_short ws other ≡ false
       → (link_def ws abi c area stubs list).outcome ≡ (link_def ws abi c area stubs other).outcome

@@ -48,5 +48,6 @@ pub record Sources : Type 0 where
       → Memᴰ m (class_methods ws (added_methods ws text abi labels area c) c)
   -- and a copy is one of the first entry of its method
   pub first : (ws text abi labels area : List ℕ) (c i j m k : ℕ) → length (compiler_targets ws c) ≤ i
-      → (get_or (compiler_table ws text abi labels area c) i empty).source ≡ Some j → (get_or (compiler_table ws text abi labels area c) i empty).method ≡ Some m
+      → (get_or (compiler_table ws text abi labels area c) i empty).source ≡ Some j
+      → (get_or (compiler_table ws text abi labels area c) i empty).method ≡ Some m
       → k < j → (get_or (parent_entries ws text abi labels area c) k empty).method ≢ Some m

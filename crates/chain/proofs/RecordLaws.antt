@@ -1,7 +1,6 @@
 -- Laws of member records that are read from the part of the words that begins with the first of them. Assumes nothing.
-use mathlib.Core.Path.{◌≡◌, refl, ◌∙◌}
-use mathlib.Core.Bool.{Bool}
-use mathlib.Core.List.{List, [], ◌∷◌}
+use mathlib.Core.Path.{◌≡◌, ◌∙◌}
+use mathlib.Core.List.{List}
 use Prim.Native.Nat.{ℕ, ◌+◌, ◌*◌}
 use native.Mathlib.Omega.{arith}
 use lib.ListN.{length, get_or, take, drop}
@@ -9,7 +8,7 @@ use lib.Seq.{get_or-drop}
 use lib.Dec.{eqb}
 use Rattle.words.proofs.Ext.{find-ext}
 use Rattle.words.proofs.Laws.{part-rest}
-use Rattle.words.specs.Lists.{numbers, find}
+use Rattle.words.specs.Lists.{numbers}
 use Rattle.class_sheet.specs.ClassSheet.{member_width, method_limit, target_word, methods_at, method_word, class_first_method, class_method_count, method_target}
 use Rattle.linking.specs.Chain.{list_count, own_methods, method_is, own_target}
 use Rattle.chain.specs.Records.{method_records, record_word, record_is, first_target}
@@ -47,4 +46,5 @@ unfolding first_target own_target own_methods
 record_target ws t c e g h =
     rw (e, g, h)
     (find-ext (λ m. eqb (record_word (method_records ws) member_width m target_word) t) (λ m. eqb (method_target ws m) t)
-    (numbers (class_first_method ws c) (list_count (class_first_method ws c) (class_method_count ws c) method_limit)) (λ m i. rw (method_record_lem ws m target_word)))
+    (numbers (class_first_method ws c) (list_count (class_first_method ws c) (class_method_count ws c) method_limit))
+    (λ m i. rw (method_record_lem ws m target_word)))

@@ -121,7 +121,8 @@ module _ (bs : List ℕ) where
         pub read_fits : held ≡ true → Fits bs targets fields methods text
         unfolding lists_hold sheet_holds
         read_fits n =
-            let r = and_4 (leb (member_width * length (file_fields bs)) (length fields)) (leb (member_width * length (file_methods bs targets)) (length methods))
+            let r = and_4 (leb (member_width * length (file_fields bs)) (length fields))
+            (leb (member_width * length (file_methods bs targets)) (length methods))
             (leb (length (file_text bs targets)) (4 * length text)) (eqb (length targets) (length (file_methods bs targets))) (held_is ∙ n) in
             let s = and_3 (leb (length (file_fields bs)) field_limit) (leb (length (file_methods bs targets)) method_limit)
             (leb (length (file_text bs targets)) text_limit) (file-passed bs targets accepted).sheet in

@@ -6,7 +6,7 @@ use native.Mathlib.Omega.{arith}
 use lib.ListN.{length, length-append}
 use Rattle.class_sheet.specs.ClassSheet.{member_width, member_words}
 use Rattle.linking.specs.Compiler.{New}
-use Rattle.linking.specs.Set.{write_at, new_records, new_text}
+use Rattle.linking.specs.Set.{write_at, new_record, new_records, new_text}
 use Rattle.linking.proofs.Writes.{write-none, write-more}
 use Rattle.class_file.proofs.Laws.{left_all, left_turn, left_end}
 
@@ -16,14 +16,14 @@ module _ (x : New) (xs : List New) where
   text_length = simp length-append (omega arith)
 
   pub records_turn : (t : List ℕ) (k at : ℕ) → k ≤ length t → write_at t k (new_records at (x ∷ xs))
-      ≡ write_at (write_at t k (member_words at (length x.name) (at + length x.name) (length x.descriptor) x.flags x.last)) (k + member_width)
+      ≡ write_at (write_at t k (member_words (new_record at x))) (k + member_width)
       (new_records (at + (length x.name + length x.descriptor)) xs)
   unfolding new_records
   records_turn t k at h =
       let e : at + length x.name + length x.descriptor ≡ at + (length x.name + length x.descriptor) = omega arith in
       rw e
       (sym
-      (write-more t k (member_words at (length x.name) (at + length x.name) (length x.descriptor) x.flags x.last)
+      (write-more t k (member_words (new_record at x))
       (new_records (at + (length x.name + length x.descriptor)) xs) (k + member_width) h (omega arith)))
 
   pub text_turn : (t : List ℕ) (at : ℕ) → at ≤ length t → write_at t at (new_text (x ∷ xs))

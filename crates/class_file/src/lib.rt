@@ -12,7 +12,7 @@ ghost use Rattle.class_file.specs.Walk.{row_four, row_five, tally, member_of, pa
 
 use class_form::{MARKS, Mark, Places, Pool};
 use class_members::FileHead;
-use class_sheet::MEMBER_WIDTH;
+use class_sheet::{MEMBER_WIDTH, MemberRecord};
 use refusal::Refusal;
 use text::Signature;
 
@@ -255,7 +255,7 @@ fn lists_hold(h: FileHead, targets: usize, fields: usize, methods: usize, text: 
 // ---- writing
 
 // The records of the members whose count stands at p, and their strings, from `start` on; answers where these end.
-#[tactic(auto, using(crate::proofs::WriteLaws::write_steps, growth::proofs::GrowthLaws::strings_put, growth::proofs::GrowthLaws::strings_next, growth::proofs::GrowthLaws::member_put))]
+#[tactic(auto, using(crate::proofs::WriteLaws::write_steps, growth::proofs::GrowthLaws::strings_put, growth::proofs::GrowthLaws::strings_next, growth::proofs::GrowthLaws::laid_is))]
 fn put_members(
     records: &mut [u32],
     text: &mut [u8],
@@ -277,12 +277,14 @@ fn put_members(
         growth::put_record(
             records,
             MEMBER_WIDTH * i,
-            at as u32,
-            signature.name.len() as u32,
-            (at + signature.name.len()) as u32,
-            signature.descriptor.len() as u32,
-            m.flags,
-            words::get_or(lasts, i, 0),
+            MemberRecord {
+                name_start: at as u32,
+                name_length: signature.name.len() as u32,
+                descriptor_start: (at + signature.name.len()) as u32,
+                descriptor_length: signature.descriptor.len() as u32,
+                flags: m.flags,
+                last: words::get_or(lasts, i, 0),
+            },
         );
         at = growth::put_strings(text, at, signature.name, signature.descriptor);
         next = m.next;

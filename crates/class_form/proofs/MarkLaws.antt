@@ -93,7 +93,8 @@ module _ (bs : List ℕ) (small : pool_count bs < 65536) where
             let b = ltb-true i (pool_count bs) g.1 in
             rw h
             (look_whole bs i (mark_of (pool_marks bs) i).index (mark_of (pool_marks bs) i).place
-            ∙ good-all (pool_count bs) 1 10 no_marks (omega arith) (length-replicate {A = Mark} 1024 no_mark) (λ x l. refl) (λ x l f. absurd (omega arith)) t i a
+            ∙ good-all (pool_count bs) 1 10 no_marks (omega arith)
+            (length-replicate {A = Mark} 1024 no_mark) (λ x l. refl) (λ x l f. absurd (omega arith)) t i a
             (omega arith)
             ∙ sym (look_whole bs i 1 10)))
             (λ h. rw h);

@@ -89,10 +89,7 @@ pub fn u2_after(bytes: &[u8], p: usize, n: usize) -> u32
     ensures is { result ≡ u2 bytes.now (p + n) }
     ensures small { result < 65536 }
 {
-    match take(bytes, p, n) {
-        Ok(q) => u2(bytes, q),
-        Err(_) => 0,
-    }
+    take(bytes, p, n).map_or(0, |q| u2(bytes, q))
 }
 
 // The number of four bytes n bytes after p.
@@ -100,15 +97,14 @@ pub fn u2_after(bytes: &[u8], p: usize, n: usize) -> u32
 fn u4_after(bytes: &[u8], p: usize, n: usize) -> u32
     ensures { result ≡ u4 bytes.now (p + n) }
 {
-    match take(bytes, p, n) {
-        Ok(q) => u32::from_be_bytes([
+    take(bytes, p, n).map_or(0, |q| {
+        u32::from_be_bytes([
             words::get_or(bytes, q, 0),
             words::get_or(bytes, q + 1, 0),
             words::get_or(bytes, q + 2, 0),
             words::get_or(bytes, q + 3, 0),
-        ]),
-        Err(_) => 0,
-    }
+        ])
+    })
 }
 
 // The tag at p.

@@ -59,11 +59,10 @@ pub record Examples : Type 0 where
 
 pub examples : Examples
 unfolding list_from fold some le_word name_at printable part_ok is_base_byte is_name_byte field_next is_field_descriptor method_next is_method_descriptor
-    byte_width begun_words begun_from is_method
-    method_flags_ok new_records new_text packed overlaid u2 u4 taken is_tag is_wide places body_size tag_ok after_constant after_constants pool_count after_pool
-    constant_from constant_at tagged_at utf8_at class_at after_name after_class after_parent after_interfaces after_attribute after_each after_counted
-    after_attributes after_member after_members after_head after_body after_file version_ok form_refusal head_place fields_place methods_place member_at
-    places_from field_places method_places utf8_bytes class_bytes file_flags file_name parent_index file_parent members_at file_fields file_methods file_text
-    string_ok field_ok method_ok field_typed method_typed every names_ok descriptors_ok sheet_holds lists_hold file_refusal read_refusal fields_start methods_start
-    read_class_file
+    byte_width begun_words begun_from is_method method_flags_ok new_records new_text packed overlaid u2 u4 taken is_tag is_wide places body_size tag_ok
+    after_constant after_constants pool_count after_pool constant_from constant_at tagged_at utf8_at class_at after_name after_class after_parent
+    after_interfaces after_attribute after_each after_counted after_attributes after_member after_members after_head after_body after_file version_ok
+    form_refusal head_place fields_place methods_place member_at places_from field_places method_places utf8_bytes class_bytes file_flags file_name
+    parent_index file_parent members_at file_fields file_methods file_text string_ok field_ok method_ok field_typed method_typed every names_ok descriptors_ok
+    sheet_holds lists_hold file_refusal read_refusal fields_start methods_start read_class_file
 examples = record { ab = refl }

@@ -172,7 +172,8 @@ module _ (name parent : List ℕ) (flags : ℕ) (fs ms : List New) (rest : List 
         and_both (string_ok (get_or fs f no_new).name) (string_ok (get_or fs f no_new).descriptor) (every-at field_ok fs good.fields-ok f h)
 
     method_strings : (m : ℕ) → m < length ms
-        → (string_ok (get_or ms m no_new).name ≡ true) × (string_ok (get_or ms m no_new).descriptor ≡ true) × (method_flags_ok (get_or ms m no_new).flags ≡ true)
+        → (string_ok (get_or ms m no_new).name ≡ true)
+        × (string_ok (get_or ms m no_new).descriptor ≡ true) × (method_flags_ok (get_or ms m no_new).flags ≡ true)
     unfolding method_ok
     method_strings m h =
         and_3 (string_ok (get_or ms m no_new).name) (string_ok (get_or ms m no_new).descriptor) (method_flags_ok (get_or ms m no_new).flags)

@@ -1,13 +1,15 @@
 -- Laws of row 3 for a class sheet, the reading's form as the code tests it, and of row 4's records as it reads them. Assumes nothing.
-use mathlib.Core.Path.{◌≡◌, refl, sym, ◌∙◌}
+use mathlib.Core.Path.{◌≡◌, refl, ◌∙◌}
 use mathlib.Core.Logic.{◌≢◌}
-use mathlib.Core.Bool.{Bool, true, false, not, ◌&&◌, ◌||◌, and-false, false≢true}
+use mathlib.Core.Bool.{Bool, true, false, not, ◌||◌, false≢true}
 use mathlib.Core.List.{List}
-use Prim.Native.Nat.{ℕ, zero, suc, ◌+◌, ◌*◌, ◌≤◌, ◌<◌}
+use Prim.Native.Nat.{ℕ, zero, suc, ◌+◌, ◌*◌, ◌/◌, ◌%◌, ◌≤◌}
+use Rattle.std.proofs.Common.{bit_and}
+use Rattle.std.proofs.lemmas.Nat.Bits.{and_high}
 use native.Mathlib.Omega.{arith}
 use lib.ListN.{length, get_or, take, drop}
-use lib.Dec.{eqb, leb, ltb}
-use borrow.Author.Tests.{eqb-true, le-leb, lt-leb, leb-true, not-true, not-false}
+use lib.Dec.{eqb, leb}
+use borrow.Author.Tests.{ne_eqb, eqb-true, leb-true, not-true, not-false}
 use Rattle.words.proofs.Bools.{and_both, and_4, and_6}
 use Rattle.words.proofs.Laws.{part-rest}
 use Rattle.words.specs.Folds.{all_of}
@@ -98,3 +100,12 @@ module _ (ws text : List ℕ) {clean : Bool} (told : clean ≡ printable text) w
   fields_are {p = p} e q f g =
       let rest : p ≡ drop (fields_at ws) ws = q ∙ rw e (part-rest ws (fields_at ws)) in
       g ∙ rw f (all-ext (field_count ws) _ _ (λ i l. member_is ws text told (fields_at ws) member_width 65535 i rest))
+
+-- ---- a flag that is masked is the bit of its definition
+
+worth : (q : ℕ) → eqb (q * 512) 0 ≡ eqb q 0
+worth zero = refl
+worth (suc q) = rw (ne_eqb (suc q * 512) 0 (omega arith), ne_eqb (suc q) 0 (omega arith)) refl
+
+pub flag_9 : (n : ℕ) → eqb (bit_and n 512) 0 ≡ eqb (n / 512 % 2) 0
+flag_9 n = rw (and_high n 1 9) (worth (n / 512 % 2))

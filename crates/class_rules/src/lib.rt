@@ -66,16 +66,13 @@ pub fn all_fresh(ws: &[u32]) -> bool
 }
 
 // Row 3 of a reading, for the words of whole blocks.
-#[tactic(auto, unfolding(crate::specs::ClassRules::class_form, block::specs::Block::least_fit))]
+#[tactic(auto, unfolding(crate::specs::ClassRules::class_form))]
 pub fn form_ok(ws: &[u32]) -> bool
     ensures { result ≡ class_form ws.now }
 {
-    let end = class_sheet::content_end(ws);
-    let text_end = 4 * class_sheet::text_at(ws) + class_sheet::text_length(ws) as usize;
     limits_ok(ws)
-        && end <= ws.len()
-        && ws.len() < end + 127
-        && text::zero_rest(ws, text_end)
+        && block::least_fit(class_sheet::content_end(ws), ws.len())
+        && text::zero_rest(ws, class_sheet::text_end(ws))
         && all_fresh(ws)
 }
 
@@ -152,11 +149,11 @@ fn classes_ok(ws: &[u32], text: Seen) -> bool
 }
 
 // Whether a method's flags lie within 0x1DFF.
-#[tactic(auto, unfolding(crate::specs::ClassRules::method_flags_ok))]
+#[tactic(auto, using(crate::proofs::Laws::flag_9), unfolding(crate::specs::ClassRules::method_flags_ok))]
 pub fn method_flags_ok(flags: u32) -> bool
     ensures { result ≡ method_flags_ok flags }
 {
-    (flags < 8192) & (flags / 512 % 2 == 0)
+    (flags < 8192) & (flags & 0x0200 == 0)
 }
 
 // Whether method m's record is in order; the records begin at `at`.
@@ -204,8 +201,7 @@ fn fields_ok(ws: &[u32], text: Seen) -> bool
 fn interface_ok(ws: &[u32], i: u32) -> bool
     ensures { result ≡ interface_names ws.now i }
 {
-    let c = class_sheet::interface_word(ws, i);
-    (1 <= c) & (c <= class_sheet::class_count(ws))
+    (1..=class_sheet::class_count(ws)).contains(&class_sheet::interface_word(ws, i))
 }
 
 // Whether each interface word names a class.

@@ -10,7 +10,9 @@ kind_known zero = refl
 kind_known (suc zero) = refl
 kind_known (suc (suc zero)) = refl
 kind_known (suc (suc (suc zero))) = refl
-kind_known (suc (suc (suc (suc n)))) = let m = suc (suc (suc (suc n))) in rw (ne_eqb m 0 (omega arith), ne_eqb m 1 (omega arith), ne_eqb m 2 (omega arith), ne_eqb m 3 (omega arith), lt-leb m 3 (omega arith)) refl
+kind_known (suc (suc (suc (suc n)))) =
+    let m = suc (suc (suc (suc n))) in
+    rw (ne_eqb m 0 (omega arith), ne_eqb m 1 (omega arith), ne_eqb m 2 (omega arith), ne_eqb m 3 (omega arith), lt-leb m 3 (omega arith)) refl
 
 pub known_kind : (n : ℕ) {r : _} {b : Bool} → r ≡ kind_at n → b ≡ is_ok r → b ≡ leb n 3
 known_kind n e q = q ∙ ap is_ok e ∙ kind_known n

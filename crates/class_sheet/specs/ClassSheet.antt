@@ -3,6 +3,7 @@
 -- ≤ 8,192), then those sections; text is four bytes a word, lowest byte first."
 use Rattle.std.specs.Prelude.{ℕ, ◌+◌, ◌*◌, ◌-◌, ◌/◌, Bool, ◌||◌, List, [], ◌∷◌, get_or, set, drop, eqb}
 use Rattle.words.specs.Words.{words_for}
+use Rattle.class_sheet.specs.declared.MemberRecord.{MemberRecord}
 use Rattle.text.specs.Text.{name_start_word, name_length_word, descriptor_start_word, descriptor_length_word, text_of_words, name_at}
 
 -- ---- widths, in words
@@ -256,7 +257,8 @@ class_slot_count ws c = class_word ws c slot_count_word
 abbrev pub class_static_words : List ℕ → ℕ → ℕ
 class_static_words ws c = class_word ws c static_words_word
 
--- ---- kinds: "kind (0 built, 1 generated, 2 array)", and "class kind 3, admitted by row 4: a built class, not an interface, linked by JVMS 5.4.5, in all else as kind 0"
+-- ---- kinds: "kind (0 built, 1 generated, 2 array)", and "class kind 3, admitted by row 4: a built class, not an interface, linked by JVMS 5.4.5,
+-- in all else as kind 0"
 
 -- a built class is of kind 0, or of kind 3, which is "in all else as kind 0"
 unfoldable pub is_built_kind : ℕ → Bool
@@ -375,11 +377,10 @@ abbrev pub put_index_at : ℕ → ℕ → ℕ → List ℕ → List ℕ
 put_index_at at f v ws = set ws (at + member_width * f + index_word) v
 
 -- a method or field record's words, in their order
-abbrev pub member_words : ℕ → ℕ → ℕ → ℕ → ℕ → ℕ → List ℕ
-member_words nameStart nameLength descriptorStart descriptorLength flags last =
-    nameStart ∷ nameLength ∷ descriptorStart ∷ descriptorLength ∷ flags ∷ last ∷ []
+abbrev pub member_words : MemberRecord → List ℕ
+member_words r = r.name_start ∷ r.name_length ∷ r.descriptor_start ∷ r.descriptor_length ∷ r.flags ∷ r.last ∷ []
 
 -- stored into the first words of a part, as many of them as it has
-abbrev pub put_member : List ℕ → ℕ → ℕ → ℕ → ℕ → ℕ → ℕ → List ℕ
-put_member ws nameStart nameLength descriptorStart descriptorLength flags last =
-    set (set (set (set (set (set ws 0 nameStart) 1 nameLength) 2 descriptorStart) 3 descriptorLength) 4 flags) 5 last
+abbrev pub put_member : List ℕ → MemberRecord → List ℕ
+put_member ws r =
+    set (set (set (set (set (set ws 0 r.name_start) 1 r.name_length) 2 r.descriptor_start) 3 r.descriptor_length) 4 r.flags) 5 r.last

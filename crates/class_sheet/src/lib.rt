@@ -1,9 +1,9 @@
 // The words of a class sheet by name: the one place of the code that knows its layout. Every read is total: 0 outside the words.
 #![tactic(auto)]
 
-ghost use Rattle.std.specs.Prelude.{◌≡◌, eqb, ◌<◌, ◌≤◌, ◌^◌};
+ghost use Rattle.std.specs.Prelude.{◌≡◌, ◌+◌, ◌*◌, eqb, ◌<◌, ◌≤◌, ◌^◌};
 ghost use Rattle.text.specs.Text.{unpacked_text};
-ghost use Rattle.class_sheet.specs.Flags.{is_private, is_static, is_interface, is_abstract};
+ghost use Rattle.class_sheet.specs.Flags.{is_public, is_private, is_protected, is_static, is_interface, is_abstract};
 ghost use Rattle.class_sheet.specs.Kinds.{kind_at, kind_number};
 ghost use Rattle.class_sheet.specs.ClassSheet.{count_at, class_count, method_count, field_count, interface_count, compiler_count, text_length, methods_at, fields_at, interfaces_at, compilers_at, text_at, content_end, class_word, method_word, field_word, interface_word, text_words, text_of, text_limit, class_name_start, class_name_length, class_parent, class_flags, class_kind, class_first_method, class_method_count, class_first_field, class_field_count, class_first_interface, class_interface_count, class_link_state, class_instance_words, class_compiler_table, class_compiler_slots, class_table_place, class_slot_count, class_static_words, is_built_kind, method_name_start, method_name_length, method_descriptor_start, method_descriptor_length, method_flags, method_target, field_name_start, field_name_length, field_descriptor_start, field_descriptor_length, field_flags, field_index, class_name, method_name, method_descriptor, field_name, field_descriptor, put_count, put_method_count, put_field_count, put_text_length, put_class_word, put_class_first_method, put_class_method_count, put_class_first_field, put_class_field_count, put_class_instance_words, put_class_table_place, put_class_slot_count, put_class_static_words, put_member};
 
@@ -18,7 +18,7 @@ pub const CLASS_WIDTH: usize = 18;
 
 pub const MEMBER_WIDTH: usize = 6;
 
-// The kinds of classes.
+// The kinds of classes, in the order of their numbers, from 0 on.
 #[derive(Clone, Copy, Debug, PartialEq, Eq)]
 pub enum Kind {
     Built,
@@ -49,12 +49,7 @@ impl From<Kind> for u32 {
     ghost from_gives = { λ kind n. n ≡ kind_number kind };
 
     fn from(kind: Kind) -> u32 {
-        match kind {
-            Kind::Built => 0,
-            Kind::Generated => 1,
-            Kind::Array => 2,
-            Kind::Packaged => 3,
-        }
+        kind as u32
     }
 }
 
@@ -237,6 +232,14 @@ pub fn content_end(ws: &[u32]) -> usize
     text_at(ws) + (text_length(ws) as usize).div_ceil(4)
 }
 
+// The byte where the text ends, counted from the first word.
+pub fn text_end(ws: &[u32]) -> usize
+    ensures is { result ≡ 4 * text_at ws.now + text_length ws.now }
+    ensures small { result < 2 ^ 44 }
+{
+    4 * text_at(ws) + text_length(ws) as usize
+}
+
 // Word k of class c's record.
 #[tactic(auto, unfolding(crate::specs::ClassSheet::class_word))]
 fn class_word(ws: &[u32], c: u32, k: u32) -> u32
@@ -335,11 +338,25 @@ pub fn has_kind(ws: &[u32], c: u32, kind: Kind) -> bool
 }
 
 // The bits of access flags, of a class, a method or a field.
+#[tactic(auto, using(crate::proofs::FlagLaws::public_bit))]
+pub fn is_public(flags: u32) -> bool
+    ensures { result ≡ is_public flags }
+{
+    flags & 0x0001 != 0
+}
+
 #[tactic(auto, using(crate::proofs::FlagLaws::private_bit))]
 pub fn is_private(flags: u32) -> bool
     ensures { result ≡ is_private flags }
 {
     flags & 0x0002 != 0
+}
+
+#[tactic(auto, using(crate::proofs::FlagLaws::protected_bit))]
+pub fn is_protected(flags: u32) -> bool
+    ensures { result ≡ is_protected flags }
+{
+    flags & 0x0004 != 0
 }
 
 #[tactic(auto, using(crate::proofs::FlagLaws::static_bit))]
@@ -670,23 +687,27 @@ pub fn put_class_static_words(ws: &mut [u32], c: u32, v: u32)
     put_class_word(ws, c, STATIC_WORDS, v);
 }
 
-// Stores a method or field record into the first words of a part: where its name and its descriptor begin and how long they are, its flags,
-// and its target or word index.
-pub fn put_member(
-    part: &mut [u32],
-    start: u32,
-    name: u32,
-    from: u32,
-    descriptor: u32,
-    flags: u32,
-    last: u32,
-)
-    ensures { part.new ≡ put_member part.old start name from descriptor flags last }
-{
-    words::put(part, 0, start);
-    words::put(part, 1, name);
-    words::put(part, 2, from);
-    words::put(part, 3, descriptor);
-    words::put(part, 4, flags);
-    words::put(part, 5, last);
+// A method or field record: where its name and its descriptor begin in the text and how long they are, its flags, and its target or word index.
+#[derive(Clone, Copy)]
+pub struct MemberRecord {
+    pub name_start: u32,
+    pub name_length: u32,
+    pub descriptor_start: u32,
+    pub descriptor_length: u32,
+    pub flags: u32,
+    pub last: u32,
+}
+
+impl MemberRecord {
+    // Stores it into the first words of a part, as many of them as it has.
+    pub fn put(self, part: &mut [u32])
+        ensures { part.new ≡ put_member part.old self }
+    {
+        words::put(part, 0, self.name_start);
+        words::put(part, 1, self.name_length);
+        words::put(part, 2, self.descriptor_start);
+        words::put(part, 3, self.descriptor_length);
+        words::put(part, 4, self.flags);
+        words::put(part, 5, self.last);
+    }
 }

@@ -1,22 +1,20 @@
 -- Laws of methods that are appended to a table. Assumes nothing.
-use mathlib.Core.Path.{◌≡◌, refl, sym, ap, ◌∙◌}
+use mathlib.Core.Path.{◌≡◌, refl, sym, ◌∙◌}
 use mathlib.Core.Bool.{Bool, true, false, not}
 use mathlib.Core.List.{List, [], ◌∷◌, ◌++◌}
-use Prim.Native.Nat.{ℕ, zero, suc, ◌+◌, ◌-◌, ◌≤◌, ◌<◌}
+use Prim.Native.Nat.{ℕ, ◌+◌, ◌-◌, ◌≤◌, ◌<◌}
 use native.Mathlib.Omega.{arith}
 use lib.ListN.{length}
-use borrow.Author.Tests.{lt-ltb, le-ltb}
-use Rattle.words.specs.Lists.{list_from, numbers, fold, some}
+use Rattle.words.specs.Lists.{numbers, fold, some}
 use Rattle.std.specs.Prelude.{Option, Some, None}
-use Rattle.words.proofs.ListLaws.{fold_from, fold_start, fold-turn}
-use Rattle.words.proofs.Ext.{list_ext}
+use Rattle.words.proofs.ListLaws.{fold_from, fold_start, fold-turn, fold_end}
 use Rattle.class_sheet.specs.ClassSheet.{class_first_method, class_method_count, method_limit}
 use Rattle.linking.specs.Chain.{list_count, own_methods, is_eligible}
 use Rattle.linking.specs.Vtable.{Entry}
 use Rattle.linking.specs.Compiler.{New, name_of, descriptor_of, flags_of, target_of, same_signature, has_slot, class_methods, append_from, append_entry}
 use Rattle.reading.specs.Arrays.{mark_of, method_of, source_of}
 use Rattle.reading.proofs.ArrayLaws.{method-back, no_source}
-use Rattle.compiler.specs.Methods.{same_method, takes_slot, method_number}
+use Rattle.compiler.specs.Methods.{same_method, takes_slot}
 
 module _ (ws text : List ℕ) (new : List New) where
   -- ---- whether a method takes a slot
@@ -56,54 +54,33 @@ module _ (ws text : List ℕ) (new : List New) where
   unfolding append_entry
   append_own E F w {m = m} h e f = f ∙ rw (e, method-back m h, no_source (Some m))
 
--- ---- declared and added methods, in order
+-- ---- methods in order, by number
 
-list_shift {ℓ} : {A : Type ℓ} (f : ℕ → A) (m k n : ℕ) → list_from f (m + k) n ≡ list_from (λ j. f (m + j)) k n
-unfolding list_from
-list_shift f m k zero = refl
-list_shift f m k (suc n) = let e : m + k + 1 ≡ m + (k + 1) = omega arith in rw (e, list_shift f m (k + 1) n)
+module _ {ℓ} {S : Type ℓ} (g : S → ℕ → S) (first n : ℕ) where
+  pub range-start : (s : S) → fold_from (λ k. k) g s first n (first - first) ≡ fold g s (numbers first n)
+  range-start s = let z : first - first ≡ 0 = omega arith in rw z (fold_start (λ k. k) g first n s)
 
-list-split {ℓ} : {A : Type ℓ} (f : ℕ → A) (m a b : ℕ) → list_from f m (a + b) ≡ list_from f m a ++ list_from f (m + a) b
-unfolding list_from
-list-split f m zero b = let e : m + 0 ≡ m = omega arith in let z : 0 + b ≡ b = omega arith in rw (e, z)
-list-split {A = A} f m (suc a) b =
-    let e : m + 1 + a ≡ m + suc a = omega arith in
-    let g : suc a + b ≡ suc (a + b) = omega arith in
-    rw g (ap (λ (l : List A). f m ∷ l) (rw e at (list-split f (m + 1) a b)))
+  pub range-turn : (m : ℕ) {s t : S} → first ≤ m → m < first + n → t ≡ g s m
+      → fold_from (λ k. k) g t first n (m + 1 - first) ≡ fold_from (λ k. k) g s first n (m - first)
+  range-turn m low h e =
+      let next : m + 1 - first ≡ m - first + 1 = omega arith in
+      let here : first + (m - first) ≡ m = omega arith in
+      rw next (fold-turn (λ k. k) g first n (m - first) (omega arith) (e ∙ rw here))
 
-pub number_own : (first own j : ℕ) → j < own → first + j ≡ method_number first own j
-unfolding method_number
-number_own first own j h = simp (lt-ltb j own h)
+  pub range_end : (m : ℕ) (s : S) → first + n ≤ m → s ≡ fold_from (λ k. k) g s first n (m - first)
+  range_end m s h = fold_end (λ k. k) g first n (m - first) s (omega arith)
 
-pub number_added : (first own j : ℕ) → own ≤ j → method_limit + (j - own) ≡ method_number first own j
-unfolding method_number
-number_added first own j h = simp (le-ltb j own h)
+-- declared and added ones: a fold along two lists, one after the other
 
-numbers_are : (first own n : ℕ) → list_from (method_number first own) 0 (own + n) ≡ numbers first own ++ numbers method_limit n
-numbers_are first own n =
-    let z : first + 0 ≡ first = omega arith in
-    let o : numbers first own ≡ list_from (method_number first own) 0 own =
-    (rw z at (list_shift (λ k. k) first 0 own)) ∙ list_ext (λ j. first + j) (method_number first own) 0 own (λ j l. number_own first own j (omega arith)) in
-    let a : numbers method_limit n ≡ list_from (method_number first own) (0 + own) n =
-    list_shift (λ k. k) method_limit 0 n ∙ list_same own n ∙ sym (list_shift (method_number first own) own 0 n) ∙ ap (λ (k : ℕ). list_from (method_number first own) k n) (omega arith) in
-    rw (o, a) (list-split (method_number first own) 0 own n)
-  where
-    list_same : (own n : ℕ) → list_from (λ j. method_limit + j) 0 n ≡ list_from (λ j. method_number first own (own + j)) 0 n
-    list_same own n =
-        list_ext (λ j. method_limit + j) (λ j. method_number first own (own + j)) 0 n
-        (λ j l. let e : own + j - own ≡ j = omega arith in rw e at (number_added first own (own + j) (omega arith)))
+fold_both {ℓ} : {S : Type ℓ} (g : S → ℕ → S) (s : S) (xs ys : List ℕ) → fold g s (xs ++ ys) ≡ fold g (fold g s xs) ys
+unfolding fold
+fold_both g s [] ys = refl
+fold_both g s (x ∷ xs) ys = fold_both g (g s x) xs ys
 
-pub methods-in : (ws : List ℕ) (new : List New) (c n : ℕ) {first own total : ℕ} → first ≡ class_first_method ws c
-    → own ≡ list_count (class_first_method ws c) (class_method_count ws c) method_limit → total ≡ own + n → length new ≡ n
-    → list_from (method_number first own) 0 total ≡ class_methods ws new c
+pub both-appended {ℓ} : {S : Type ℓ} (g : S → ℕ → S) (ws : List ℕ) (new : List New) (c n : ℕ) (s : S) {first own : ℕ} {t u : S}
+    → first ≡ class_first_method ws c → own ≡ list_count (class_first_method ws c) (class_method_count ws c) method_limit → length new ≡ n
+    → t ≡ fold g s (numbers first own) → u ≡ fold g t (numbers method_limit n) → u ≡ fold g s (class_methods ws new c)
 unfolding own_methods class_methods
-methods-in ws new c n {first = first} {own = own} e f g h = rw (g, h) (numbers_are first own n ∙ rw (f, e))
-
--- the loop along them
-
-module _ {ℓ} {S : Type ℓ} (f : ℕ → ℕ) (g : S → ℕ → S) (n : ℕ) where
-  pub numbers-start : (xs : List ℕ) (s : S) → list_from f 0 n ≡ xs → fold_from f g s 0 n 0 ≡ fold g s xs
-  numbers-start xs s e = fold_start f g 0 n s ∙ ap (fold g s) e
-
-  pub numbers-turn : (j : ℕ) {s t : S} {m : ℕ} → j < n → m ≡ f j → t ≡ g s m → fold_from f g t 0 n (j + 1) ≡ fold_from f g s 0 n j
-  numbers-turn j h e p = let z : 0 + j ≡ j = omega arith in fold-turn f g 0 n j h (p ∙ rw (e, z))
+both-appended g ws new c n s e f h p q =
+    let own : List ℕ = numbers (class_first_method ws c) (list_count (class_first_method ws c) (class_method_count ws c) method_limit) in
+    q ∙ rw (p, e, f, h) (sym (fold_both g s own (numbers method_limit n)))

@@ -1,5 +1,5 @@
 -- Laws of the slots of a compiler table: methods found by target, and the slots one after the other. Assumes nothing.
-use mathlib.Core.Path.{◌≡◌, refl, sym, ap, ◌∙◌}
+use mathlib.Core.Path.{◌≡◌, refl, sym, ◌∙◌}
 use mathlib.Core.Bool.{Bool, true, false}
 use mathlib.Core.List.{List, [], ◌∷◌, ◌++◌}
 use Prim.Native.Nat.{ℕ, zero, suc, ◌+◌, ◌-◌, ◌%◌, ◌≤◌, ◌<◌, min}
@@ -7,18 +7,19 @@ use native.Mathlib.Omega.{arith}
 use lib.ListN.{length, get_or}
 use lib.Dec.{eqb}
 use borrow.Author.Tests.{eq-eqb, ne_eqb}
-use Rattle.words.specs.Lists.{list_from, numbers, find, first_found, fold, some}
-use Rattle.std.specs.Option.{option_or, option_and_then}
-use Rattle.std.specs.Prelude.{Option, Some, None}
+use Rattle.words.specs.Lists.{list_from, numbers, find, first_found, fold}
+use Rattle.std.specs.Option.{option_map, option_or, option_and_then}
+use Rattle.std.specs.Prelude.{Option, Some, None, find as first_of}
 use Rattle.words.proofs.Bools.{by}
 use Rattle.words.proofs.ListLaws.{find-within, by-found}
-use Rattle.words.proofs.Ext.{list_ext}
 use Rattle.class_sheet.specs.ClassSheet.{class_first_method, class_method_count, class_compiler_table, class_compiler_slots, compiler_word, method_limit}
 use Rattle.linking.specs.Chain.{list_count, own_methods}
 use Rattle.linking.specs.Vtable.{Entry, empty, parent_entries}
 use Rattle.linking.specs.Compiler.{New, target_of, class_methods, entry_target, match_target, compiler_entry, compiler_entries, compiler_targets, append_from, append_entry, native_view, added_methods, compiler_table}
-use Rattle.reading.specs.Arrays.{mark_of, method_of, source_of, entry_at, entries_of}
-use Rattle.reading.proofs.ArrayLaws.{method-back, none-back, no_source, entry_found}
+use Rattle.reading.specs.declared.table.Slot.{Slot}
+use Rattle.reading.specs.Arrays.{mark_of, method_of, source_of}
+use Rattle.reading.specs.Tables.{entry}
+use Rattle.reading.proofs.ArrayLaws.{method-back, none-back, no_source}
 use Rattle.compiler.specs.Methods.{has_target}
 
 -- ---- marks
@@ -26,25 +27,6 @@ use Rattle.compiler.specs.Methods.{has_target}
 mark-again : (k : ℕ) → method_of (mark_of (method_of k)) ≡ method_of k
 unfolding method_of
 mark-again k = by (eqb (k % 4096) 0) (λ q. rw q none-back) (λ q. rw q (method-back (k % 4096 - 1) (omega arith)))
-
--- ---- a table's entries by their places
-
-places : (ts ms : List ℕ) (n : ℕ) → entries_of ts ms n ≡ list_from (λ i. get_or (entries_of ts ms n) i empty) 0 n
-unfolding entries_of
-places ts ms n =
-    list_ext (entry_at ts ms) (λ i. get_or (list_from (entry_at ts ms) 0 n) i empty) 0 n
-    (λ i l. sym (entry_found ts ms n i empty (omega arith)))
-
-some-list : (q : Entry → Bool) (e : ℕ → Entry) (m n : ℕ) → some q (list_from e m n) ≡ some (λ i. q (e i)) (numbers m n)
-unfolding some list_from
-some-list q e m zero = refl
-some-list q e m (suc n) = rw (some-list q e (m + 1) n)
-
--- some entry passes, as the code asks it place by place
-pub some_places : (q : Entry → Bool) (ts ms : List ℕ) (n : ℕ) {b : Bool} → b ≡ some (λ i. q (get_or (entries_of ts ms n) i empty)) (numbers 0 n)
-    → b ≡ some q (entries_of ts ms n)
-some_places q ts ms n e =
-    e ∙ sym (some-list q (λ i. get_or (entries_of ts ms n) i empty) 0 n) ∙ ap (some q) (sym (places ts ms n))
 
 -- ---- searches, in general
 
@@ -80,27 +62,20 @@ module _ (ws : List ℕ) (new : List New) where
         (λ q. rw q)
 
   module _ (t : ℕ) where
-    -- what a search by tests finds is what the definition's finds
-    view-found : (e : ℕ → Entry) (m n : ℕ) → first_found (entry_target ws new t) (list_from e m n)
-        ≡ option_and_then (λ i. (e i).method) (find (λ i. has_target ws new t (e i)) (numbers m n))
-    unfolding first_found find list_from
-    view-found e m zero = refl
-    view-found e m (suc n) =
-        by (has_target ws new t (e m)) (λ q. rw q (has_yes t (e m) (first_found (entry_target ws new t) (list_from e (m + 1) n)) q))
-        (λ q. rw (q, has_no t (e m) q) (view-found e (m + 1) n))
+    -- what a search by a test finds is what the definition's finds
+    view_found : (E : List Entry) → first_found (entry_target ws new t) E ≡ option_and_then (λ e. e.method) (first_of (has_target ws new t) E)
+    unfolding first_found
+    view_found [] = refl
+    view_found (e ∷ E) =
+        by (has_target ws new t e) (λ q. rw q (has_yes t e (first_found (entry_target ws new t) E) q)) (λ q. rw (q, has_no t e q) (view_found E))
 
-    module _ (ts ms : List ℕ) (n : ℕ) {o : Option ℕ} (f : o ≡ find (λ i. has_target ws new t (get_or (entries_of ts ms n) i empty)) (numbers 0 n)) where
-      view_found : first_found (entry_target ws new t) (entries_of ts ms n) ≡ option_and_then (λ i. (get_or (entries_of ts ms n) i empty).method) o
-      view_found =
-          ap (first_found (entry_target ws new t)) (places ts ms n) ∙ view-found (λ i. get_or (entries_of ts ms n) i empty) 0 n
-          ∙ ap (option_and_then (λ i. (get_or (entries_of ts ms n) i empty).method)) (sym f)
+    module _ (E : List Entry) {o : Option Slot} (f : option_map entry o ≡ first_of (has_target ws new t) E) where
+      pub view_hit : {s : Slot} {r : Option ℕ} → o ≡ Some s → r ≡ method_of s.mark
+          → (r ≡ first_found (entry_target ws new t) E) × (method_of (mark_of r) ≡ r)
+      view_hit {s = s} q h = (h ∙ sym (view_found E ∙ rw (← f, q) refl), rw h (mark-again s.mark))
 
-      pub view_hit : (w k : ℕ) {i : ℕ} → o ≡ Some i → ◌≡◌ {A = Entry} (record { word = w; method = method_of k; source = source_of k }) (get_or (entries_of ts ms n) i empty)
-          → method_of k ≡ first_found (entry_target ws new t) (entries_of ts ms n)
-      view_hit w k q h = ap (λ (x : Entry). x.method) h ∙ sym (rw q at view_found)
-
-      pub view_none : {k : ℕ} → o ≡ None → k ≡ mark_of None → method_of k ≡ first_found (entry_target ws new t) (entries_of ts ms n)
-      view_none q h = rw (h, none-back) (sym (rw q at view_found))
+      pub view_none : o ≡ None → None ≡ first_found (entry_target ws new t) E
+      view_none q = sym (view_found E ∙ rw (← f, q) refl)
 
     -- declared, added, native
     module _ (c : ℕ) (view : List Entry) {first count : ℕ} (ef : first ≡ class_first_method ws c)
@@ -118,17 +93,17 @@ module _ (ws : List ℕ) (new : List New) where
       unfolding match_target class_methods
       match_is = rw (find-append (λ m. eqb (target_of ws new m) t) (own_methods ws c) (numbers method_limit (length new)), ← own_is)
 
-      pub match_own : (m : ℕ) {k : ℕ} → r ≡ Some m → k ≡ mark_of (Some m) → method_of k ≡ match_target ws new c view t
-      match_own m q e = let l = own_room m q in rw (e, method-back m (omega arith), match_is, q)
+      pub match_own : (m : ℕ) → r ≡ Some m → (Some m ≡ match_target ws new c view t) × (method_of (mark_of (Some m)) ≡ Some m)
+      match_own m q = let l = own_room m q in (rw (match_is, q), method-back m (omega arith))
 
       module _ (z : r ≡ None) {n : ℕ} (en : length new ≡ n) {s : Option ℕ} (es : s ≡ find (λ m. eqb (target_of ws new m) t) (numbers method_limit n)) where
-        pub match_added : (m : ℕ) {k : ℕ} → n ≤ 1024 → s ≡ Some m → k ≡ mark_of (Some m) → method_of k ≡ match_target ws new c view t
-        match_added m h q e =
+        pub match_added : (m : ℕ) → n ≤ 1024 → s ≡ Some m → (Some m ≡ match_target ws new c view t) × (method_of (mark_of (Some m)) ≡ Some m)
+        match_added m h q =
             let l = find-within (λ m. eqb (target_of ws new m) t) method_limit n m (sym es ∙ q) in
-            rw (e, method-back m (omega arith), match_is, z, en, ← es, q)
+            (rw (match_is, z, en, ← es, q), method-back m (omega arith))
 
-        pub match_view : (k : ℕ) → s ≡ None → method_of k ≡ first_found (entry_target ws new t) view → method_of k ≡ match_target ws new c view t
-        match_view k q v = v ∙ rw (match_is, z, en, ← es, q)
+        pub match_view : {f : Option ℕ} → s ≡ None → f ≡ first_found (entry_target ws new t) view → f ≡ match_target ws new c view t
+        match_view q v = v ∙ rw (match_is, z, en, ← es, q)
 
   -- ---- the slots
 
@@ -138,11 +113,10 @@ module _ (ws : List ℕ) (new : List New) where
     slot_zero i {t = t} z h = rw (eq-eqb t 0 z) h
 
     -- the mark of a method found by its target is of no copy
-    pub slot_match : (i q : ℕ) {t k : ℕ} {f : Option ℕ} → (t ≡ 0 → ⊥) → method_of q ≡ match_target ws new c view t → f ≡ method_of q → k ≡ mark_of f
+    pub slot_match : (i : ℕ) {t k : ℕ} {f : Option ℕ} → (t ≡ 0 → ⊥) → f ≡ match_target ws new c view t → method_of (mark_of f) ≡ f → k ≡ mark_of f
         → ◌≡◌ {A = Entry} (record { word = t; method = method_of k; source = source_of k }) (compiler_entry ws new c view i t)
     unfolding compiler_entry
-    slot_match i q {t = t} z e g h =
-        rw (ne_eqb t 0 z, h, g, mark-again q, no_source (method_of q), e)
+    slot_match i {t = t} {f = f} z e g h = rw (ne_eqb t 0 z, h, g, no_source f, e)
 
     abbrev slot_at : ℕ → Entry
     slot_at i = compiler_entry ws new c view i (compiler_word ws (class_compiler_table ws c - 1 + i))
@@ -162,7 +136,8 @@ module _ (ws : List ℕ) (new : List New) where
 
 pub prepared_is : (ws text abi labels area : List ℕ) (c : ℕ) {new : List New} {view parent T : List Entry}
     → parent ≡ parent_entries ws text abi labels area c → view ≡ native_view ws text abi labels area c → new ≡ added_methods ws text abi labels area c
-    → T ≡ fold (append_entry ws text new) (fold (append_from ws text new None) (compiler_entries ws new c view 0 (compiler_targets ws c)) (class_methods ws new c)) parent
+    → T ≡ fold (append_entry ws text new)
+    (fold (append_from ws text new None) (compiler_entries ws new c view 0 (compiler_targets ws c)) (class_methods ws new c)) parent
     → T ≡ compiler_table ws text abi labels area c
 unfolding compiler_table
 prepared_is ws text abi labels area c p v n e = e ∙ rw (p, v, n)

@@ -38,7 +38,8 @@ module _ (ws text : List ℕ) (new : List New) (m : ℕ) (h : m < method_limit) 
 
 -- ---- an added one, or none
 
-module _ (ws text abi labels : List ℕ) (members : List Member) (m : ℕ) (h : method_limit ≤ m) {o : Option Member} (e : o ≡ slice_get members (m - method_limit)) where
+module _ (ws text abi labels : List ℕ) (members : List Member) (m : ℕ)
+    (h : method_limit ≤ m) {o : Option Member} (e : o ≡ slice_get members (m - method_limit)) where
   module _ {x : Member} (f : o ≡ Some x) where
     got : get_or (news_of ws text abi labels members) (m - method_limit) no_new ≡ new_of ws text abi labels x
     got = news_got ws text abi labels members (m - method_limit) no_new e f

@@ -1,7 +1,6 @@
 -- What is asked of methods of the sheet and of added ones, entry by entry, as the code asks it. Assumes nothing.
-use Rattle.std.specs.Prelude.{ℕ, ◌+◌, ◌-◌, Bool, false, cond, not, ◌&&◌, List, eqb, ltb}
+use Rattle.std.specs.Prelude.{ℕ, Bool, false, not, ◌&&◌, List, eqb}
 use Rattle.text.specs.Text.{same_bytes}
-use Rattle.class_sheet.specs.ClassSheet.{method_limit}
 use Rattle.linking.specs.Chain.{on_found, is_eligible}
 use Rattle.linking.specs.Vtable.{Entry}
 use Rattle.linking.specs.Compiler.{New, name_of, descriptor_of, flags_of, target_of, has_slot}
@@ -27,7 +26,3 @@ module _ (ws text : List ℕ) (new : List New) where
   -- method m is eligible, and none of these entries is of its signature
   unfoldable pub takes_slot : List Entry → ℕ → Bool
   takes_slot es m = is_eligible (flags_of ws new m) (name_of ws text new m) && not (has_slot ws text new m es)
-
--- the j-th of `own` methods from `first` on, or the (j - own)-th added one
-unfoldable pub method_number : ℕ → ℕ → ℕ → ℕ
-method_number first own j = cond (ltb j own) (first + j) (method_limit + (j - own))

@@ -7,10 +7,10 @@ ghost use Rattle.words.specs.Lists.{numbers, find, first_found, fold, some};
 ghost use Rattle.class_sheet.specs.ClassSheet.{method_limit};
 ghost use Rattle.linking.specs.Vtable.{empty};
 ghost use Rattle.linking.specs.Compiler.{name_of, descriptor_of, flags_of, target_of, class_methods, entry_target, match_target, compiler_entry, compiler_entries, compiler_targets, append_from, append_entry, compiler_table, added_methods};
-ghost use Rattle.reading.specs.Arrays.{method_of};
+ghost use Rattle.reading.specs.Arrays.{mark_of, method_of};
 ghost use Rattle.reading.specs.Tables.{entry, entries};
 ghost use Rattle.growth.specs.News.{news_of};
-ghost use Rattle.compiler.specs.Methods.{of_news, has_target, same_method, takes_slot, method_number};
+ghost use Rattle.compiler.specs.Methods.{of_news, has_target, same_method, takes_slot};
 ghost use Rattle.linking.specs.Sheets.{of_sheets};
 ghost use Rattle.text.specs.Signatures.{of_signature};
 
@@ -27,7 +27,7 @@ fn signature_of<'a>(sheets: Sheets<'a>, news: &News, m: u32) -> Signature<'a>
     if m < class_sheet::METHOD_LIMIT {
         return class_sheet::method_signature(sheets.set, sheets.text, m);
     }
-    if let Some(new) = news.get(m - class_sheet::METHOD_LIMIT) {
+    if let Some(new) = news.get((m - class_sheet::METHOD_LIMIT) as usize) {
         return growth::ref_signature(sheets, new.names);
     }
     let name = words::part(sheets.text, 0, 0);
@@ -45,7 +45,7 @@ fn flags_of(sheets: Sheets, news: &News, m: u32) -> u32
     if m < class_sheet::METHOD_LIMIT {
         return class_sheet::method_flags(sheets.set, m);
     }
-    news.get(m - class_sheet::METHOD_LIMIT)
+    news.get((m - class_sheet::METHOD_LIMIT) as usize)
         .map_or(0, |new| new.flags)
 }
 
@@ -57,7 +57,7 @@ fn target_of(sheets: Sheets, news: &News, m: u32) -> u32
     if m < class_sheet::METHOD_LIMIT {
         return class_sheet::method_target(sheets.set, m);
     }
-    news.get(m - class_sheet::METHOD_LIMIT)
+    news.get((m - class_sheet::METHOD_LIMIT) as usize)
         .map_or(0, |new| new.last)
 }
 
@@ -87,27 +87,34 @@ fn has_target(sheets: Sheets, news: &News, slot: Slot, t: u32) -> bool
     }
 }
 
-// The mark of the first slot of the view whose method has target t.
-fn view_target(sheets: Sheets, news: &News, view: &ReadTable, t: u32) -> u32
-    ensures { method_of result ≡ first_found (entry_target sheets.entry.set.now (of_sheets news_of sheets.entry news.now) t) (entries view.now) }
+// The method of the first slot of the view whose method has target t.
+fn view_target(sheets: Sheets, news: &News, view: &ReadTable, t: u32) -> Option<u32>
+    ensures is { result ≡ first_found (entry_target sheets.entry.set.now (of_sheets news_of sheets.entry news.now) t) (entries view.now) }
+    ensures marked { method_of (mark_of result) ≡ result }
 {
-    match words::find_in(0, view.len, |i| has_target(sheets, news, view.slot(i), t)) {
-        Some(i) => view.slot(i).mark,
-        None => reading::mark_of(None),
-    }
+    view.slots()
+        .find(|slot| has_target(sheets, news, *slot, t))?
+        .method()
 }
 
-// The mark of the first method with target t: declared, added, or of the native view's slots.
-fn match_target(sheets: Sheets, news: &News, c: u32, view: &ReadTable, t: u32) -> u32
-    ensures { method_of result ≡ match_target sheets.entry.set.now (of_sheets news_of sheets.entry news.now) c (entries view.now) t }
+// The first method with target t: declared, added, or of the native view's slots. A mark can hold it.
+fn match_target(sheets: Sheets, news: &News, c: u32, view: &ReadTable, t: u32) -> Option<u32>
+    ensures is { result ≡ match_target sheets.entry.set.now (of_sheets news_of sheets.entry news.now) c (entries view.now) t }
+    ensures marked { method_of (mark_of result) ≡ result }
 {
     let first = class_sheet::class_first_method(sheets.set, c);
     let count = chain::method_count(sheets.set, c);
     if let Some(m) = target_in(sheets, news, first, count, t) {
-        return reading::mark_of(Some(m));
+        return Some(m);
     }
-    if let Some(m) = target_in(sheets, news, class_sheet::METHOD_LIMIT, news.len(), t) {
-        return reading::mark_of(Some(m));
+    if let Some(m) = target_in(
+        sheets,
+        news,
+        class_sheet::METHOD_LIMIT,
+        news.len() as u32,
+        t,
+    ) {
+        return Some(m);
     }
     view_target(sheets, news, view, t)
 }
@@ -120,10 +127,9 @@ fn entry_slot(sheets: Sheets, news: &News, c: u32, view: &ReadTable, i: u32, t: 
     if t == 0 {
         return view.slot(i);
     }
-    let k = match_target(sheets, news, c, view, t);
     Slot {
         word: t,
-        mark: reading::mark_of(reading::method_of(k)),
+        mark: reading::mark_of(match_target(sheets, news, c, view, t)),
     }
 }
 
@@ -165,11 +171,9 @@ fn same_method(sheets: Sheets, news: &News, signature: Signature, slot: Slot) ->
 fn has_slot(sheets: Sheets, news: &News, signature: Signature, table: &BuiltTable) -> bool
     ensures { result ≡ some (of_signature (of_news same_method sheets.entry news.now) signature.entry) (entries table.now) }
 {
-    words::some_in(
-        0,
-        table.len,
-        |i| same_method(sheets, news, signature, table.slot(i)),
-    )
+    table
+        .slots()
+        .any(|slot| same_method(sheets, news, signature, slot))
 }
 
 // Whether method m takes a slot behind those of the table: it is eligible, and none of them has its signature.
@@ -201,17 +205,16 @@ fn append(sheets: Sheets, news: &News, slot: Slot, table: &mut BuiltTable)
     }
 }
 
-// The number of the j-th of a class's methods: `own` declared ones from `first` on, then the added ones.
-#[tactic(auto, using(crate::proofs::AppendLaws::number_own, crate::proofs::AppendLaws::number_added))]
-fn method_number(first: u32, own: u32, j: u32) -> u32
-    requires { (own ≤ method_limit - first) × (j < own + 1024) }
-    ensures is { result ≡ method_number first own j }
-    ensures small { result < 4095 }
+// Appends each of `count` methods from `first` on that takes a slot.
+fn append_from(sheets: Sheets, news: &News, first: u32, count: u32, table: &mut BuiltTable)
+    requires { (count ≤ 4095 - first) × (table.old.len + count ≤ 3584) }
+    ensures is { entries table.new ≡ fold (of_news append_from sheets.entry news.now None) (entries table.old) (numbers first count) }
+    ensures count { table.new.len ≤ table.old.len + count }
 {
-    if j < own {
-        return first + j;
+    for m in first..first + count {
+        let mark = reading::mark_of(Some(m));
+        append(sheets, news, Slot { word: 0, mark }, table);
     }
-    class_sheet::METHOD_LIMIT + (j - own)
 }
 
 // Appends class c's declared methods and the added ones.
@@ -223,11 +226,14 @@ fn append_methods(sheets: Sheets, news: &News, c: u32, table: &mut BuiltTable)
 {
     let first = class_sheet::class_first_method(sheets.set, c);
     let own = chain::method_count(sheets.set, c);
-    let total = own + news.len();
-    for j in 0..total {
-        let mark = reading::mark_of(Some(method_number(first, own, j)));
-        append(sheets, news, Slot { word: 0, mark }, table);
-    }
+    append_from(sheets, news, first, own, table);
+    append_from(
+        sheets,
+        news,
+        class_sheet::METHOD_LIMIT,
+        news.len() as u32,
+        table,
+    );
 }
 
 // Appends the methods of the parent's slots.
@@ -235,8 +241,8 @@ fn append_parent(sheets: Sheets, news: &News, parent: &ReadTable, table: &mut Bu
     requires { table.old.len ≤ 2560 }
     ensures { entries table.new ≡ fold (of_news append_entry sheets.entry news.now) (entries table.old) (entries parent.now) }
 {
-    for i in 0..parent.len {
-        append(sheets, news, parent.slot(i), table);
+    for slot in parent.slots() {
+        append(sheets, news, slot, table);
     }
 }
 

@@ -182,4 +182,14 @@ module _ (bs : List ℕ) (small : AreBytes bs) (accepted : old_sheet_refusal bs 
       let n : length (take (old_end ws) ws) ≡ old_end ws = length-take-le (old_end ws) ws fits in
       let w : length bs ≡ 512 * block_count bs = whole bs layout.sheet_words small rows.0 in
       let b : sheet_bytes (take (old_end ws) ws) (block_count bs) ≡ bs = rw again-old.1 at again-old.0 in
-      rw (new-sheet, blocks-words (forward ws) forward-small, keeps, back-content, n, again-old.1, le-ltb (length lent) (512 * block_count bs) (omega arith), b, w)
+      rw (
+        new-sheet,
+        blocks-words (forward ws) forward-small,
+        keeps,
+        back-content,
+        n,
+        again-old.1,
+        le-ltb (length lent) (512 * block_count bs) (omega arith),
+        b,
+        w,
+      )

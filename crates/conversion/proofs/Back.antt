@@ -16,6 +16,7 @@ use Rattle.class_sheet.specs.Sections.{Sections, Formed, laid_out, sections_by, 
 use Rattle.class_sheet.proofs.Sections as S
 use Rattle.class_sheet.proofs.Laws.{content-within}
 use Rattle.class_rules.specs.ClassRules.{class_limits, class_fits, unlinked, statics_clean, fresh, all_fresh, class_form, class_records}
+use Rattle.class_rules.proofs.CountLaws.{limits_same, end_same}
 use Rattle.class_rules.proofs.Laws as class
 use Rattle.set_rules.specs.SetRules.{class_refusal, class_descriptors}
 use Rattle.set_rules.specs.Valid.{IsClass, Valid}
@@ -154,7 +155,8 @@ module _ (ws : List ℕ) (accepted : class_rows ws ≡ 0) where
     rows-formed : (f : ℕ → ℕ) → Rows class_width (rows f)
     rows-formed f = rows-widen f 1 (rows-narrow (content-formed ws fits).classes)
 
-    rows_words : (f : ℕ → ℕ) (i k : ℕ) → i < length (sections_of ws).classes → k < static_words_word → row_word (rows f) i k ≡ row_word (sections_of ws).classes i k
+    rows_words : (f : ℕ → ℕ) (i k : ℕ) → i < length (sections_of ws).classes → k < static_words_word
+        → row_word (rows f) i k ≡ row_word (sections_of ws).classes i k
     rows_words f i k h g = widen-word f 1 (rows-narrow (content-formed ws fits).classes) i k g ∙ narrow-word (sections_of ws).classes i k g
 
     pub judged-alike : Alike (judged Q) K
@@ -222,29 +224,10 @@ module _ (ws : List ℕ) (accepted : class_rows ws ≡ 0) where
   O-count k h = O-at k ∙ narrowed-front ws fits k h
 
   O-end : old_end O ≡ old_end ws
-  unfolding end_by
-  O-end =
-      rw (
-        O-count class_count_number (omega arith),
-        O-count method_count_number (omega arith),
-        O-count field_count_number (omega arith),
-        O-count interface_count_number (omega arith),
-        O-count compiler_count_number (omega arith),
-        O-count text_length_number (omega arith),
-      )
+  O-end = end_same O ws O-count old_width
 
   O-limits : class_limits O ≡ true
-  unfolding class_limits
-  O-limits =
-      rw (
-        O-count class_count_number (omega arith),
-        O-count method_count_number (omega arith),
-        O-count field_count_number (omega arith),
-        O-count interface_count_number (omega arith),
-        O-count compiler_count_number (omega arith),
-        O-count text_length_number (omega arith),
-      )
-      four.0
+  O-limits = limits_same O ws O-count ∙ four.0
 
   pub narrowed-small : AreWords ws → AreWords N
   unfolding narrowed_word

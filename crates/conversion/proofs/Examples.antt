@@ -23,7 +23,7 @@ pub record Rows : Type 0 where
   pub accepted : widen_refusal (sheet_bytes (narrowed (class_sheet (made ∷ []))) 1) 512 ≡ 0
 
 pub rows : Rows
-unfolding widen_refusal room_refusal old_sheet_refusal sheet_refusal block_refusal shape_ok check_ok sheet_words content block block_count word_of le_word sheet_bytes
-    block_byte packed_word check_word byte_of sum_of table all_of opened joined cut laid_out sections_by end_by widen narrow widened narrowed forward_statics forward
-    old_fits old_form old_rows blocks_for least_fit zero_at zero_rest unlinked is_built_kind class_refusal
+unfolding widen_refusal room_refusal old_sheet_refusal sheet_refusal block_refusal shape_ok check_ok sheet_words content block block_count word_of le_word
+    sheet_bytes block_byte packed_word check_word byte_of sum_of table all_of opened joined cut laid_out sections_by end_by widen narrow widened narrowed
+    forward_statics forward old_fits old_form old_rows blocks_for least_fit zero_at zero_rest unlinked is_built_kind class_refusal
 rows = record { accepted = refl }

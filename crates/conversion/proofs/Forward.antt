@@ -12,6 +12,7 @@ use Rattle.class_sheet.specs.ClassSheet.{counts_width, class_width, static_words
 use Rattle.class_sheet.specs.Sections.{sections_by}
 use Rattle.class_sheet.proofs.Sections as S
 use Rattle.class_rules.specs.ClassRules.{class_limits, class_fits, unlinked, statics_clean, fresh, all_fresh, class_records}
+use Rattle.class_rules.proofs.CountLaws.{limits_same, text_at_same, content_same}
 use Rattle.set_rules.specs.SetRules.{class_refusal, class_descriptors}
 use Rattle.set_rules.specs.Valid.{IsClass, Valid}
 use Rattle.set_rules.proofs.Valid.{valid-class}
@@ -44,40 +45,13 @@ module _ (ws : List ℕ) (fitted : old_fits ws ≡ true) (f : ℕ → ℕ) where
   count_same k h = widened-front ws fits f k h
 
   pub limits-same : class_limits new ≡ true
-  unfolding class_limits
-  limits-same =
-      rw (
-        count_same class_count_number (omega arith),
-        count_same method_count_number (omega arith),
-        count_same field_count_number (omega arith),
-        count_same interface_count_number (omega arith),
-        count_same compiler_count_number (omega arith),
-        count_same text_length_number (omega arith),
-      )
-      (three ws fitted).0
+  limits-same = limits_same new ws count_same ∙ (three ws fitted).0
 
   pub end_same : content_end new ≡ content_end ws
-  unfolding content_end text_at compilers_at interfaces_at fields_at methods_at
-  end_same =
-      rw (
-        count_same class_count_number (omega arith),
-        count_same method_count_number (omega arith),
-        count_same field_count_number (omega arith),
-        count_same interface_count_number (omega arith),
-        count_same compiler_count_number (omega arith),
-        count_same text_length_number (omega arith),
-      )
+  end_same = content_same new ws count_same
 
   pub text-at-same : text_at new ≡ text_at ws
-  unfolding text_at compilers_at interfaces_at fields_at methods_at
-  text-at-same =
-      rw (
-        count_same class_count_number (omega arith),
-        count_same method_count_number (omega arith),
-        count_same field_count_number (omega arith),
-        count_same interface_count_number (omega arith),
-        count_same compiler_count_number (omega arith),
-      )
+  text-at-same = text_at_same new ws count_same
 
   pub new-length : length new ≡ content_end new
   new-length = widened-length ws fits f ∙ sym end_same
@@ -249,7 +223,8 @@ module _ (ws : List ℕ) (accepted : old_rows ws ≡ 0) where
   forward-content = new-content ws fitted F
 
   -- forward is the writing of these words
-  pub forward_writing : (out : List ℕ) → 512 * blocks_for (length (forward ws)) ≤ length out → blocks_or_row 0 (forward ws) out ≡ write_class_sheet (forward ws) out
+  pub forward_writing : (out : List ℕ) → 512 * blocks_for (length (forward ws)) ≤ length out
+      → blocks_or_row 0 (forward ws) out ≡ write_class_sheet (forward ws) out
   unfolding blocks_or_row write_class_sheet
   forward_writing out l =
       let w = write-accepts (forward ws) (length out) (forward-passed (length out) (omega (arith, forward-blocks))) in

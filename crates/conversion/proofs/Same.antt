@@ -1,4 +1,5 @@
--- Words laid out from sections that differ in static words alone, and in what follows the content: rows 4 and 5 judge them alike, their texts are the same, and so are the sums of a
+-- Words laid out from sections that differ in static words alone, and in what follows the content: rows 4 and 5 judge them alike, their texts are the
+-- same, and so are the sums of a
 -- class's static field widths. Assumes nothing.
 use Rattle.std.proofs.Common.{◌≡◌, refl, sym, ap, ◌∙◌, List, [], ◌∷◌, ℕ, ◌≤◌, ◌<◌, arith, length, get_or, ltb-true}
 use Rattle.words.specs.Rows.{Rows, row_word}

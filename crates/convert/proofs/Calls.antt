@@ -78,7 +78,8 @@ module _ (ws : List ℕ) (fitted : old_fits ws ≡ true) where
         ∙ sym (widened-table ws fits-end (λ c. 0) zeros (λ i h. sym (z i)))
 
   -- the sums of the judged words' classes; with them the words are those that are written
-  pub forward_sums : (d : List ℕ) {p o : List ℕ} → p ≡ judged ws → o ≡ stores (class_count p) (λ i. forward_statics p (text_of p) (i + 1)) d → o ≡ forward_words ws d
+  pub forward_sums : (d : List ℕ) {p o : List ℕ} → p ≡ judged ws → o ≡ stores (class_count p) (λ i. forward_statics p (text_of p) (i + 1)) d
+      → o ≡ forward_words ws d
   forward_sums d {p} j s =
       let n : class_count p ≡ class_count ws = ap class_count j ∙ widened-count ws fits-end (λ c. 0) in rw (n, j) at s
 

@@ -301,7 +301,8 @@ module _ (ws : List ℕ) (fits : content_end ws ≤ length ws) where
 
   pub content-length : length (laid_out new_sections) ≡ content_end ws
   content-length =
-      sections.length-laid new_sections content-formed ∙ omega (arith, ap content_end (sections.laid_of ws fits), sections.end-at new, sections.end-at new_sections)
+      sections.length-laid new_sections content-formed
+      ∙ omega (arith, ap content_end (sections.laid_of ws fits), sections.end-at new, sections.end-at new_sections)
 
   pub content-at : (j : ℕ) → j < content_end ws → get_or ws j 0 ≡ get_or (laid_out new_sections) j 0
   content-at j h =
@@ -350,7 +351,8 @@ module _ (ws : List ℕ) (fits : content_end ws ≤ length ws) where
       laid_record old_width (narrowed_sections ws) narrowed-formed i k (omega (arith, narrowed-classes)) g
       ∙ narrow-word new.classes i k g
       ∙ sym (laid_record class_width new_sections content-formed i k (omega (arith, content-classes)) (omega arith))
-      ∙ sym (content-at (counts_width + class_width * i + k) (omega (arith, content-length, length-laid class_width new_sections content-formed, content-classes)))
+      ∙ sym (content-at (counts_width + class_width * i + k)
+      (omega (arith, content-length, length-laid class_width new_sections content-formed, content-classes)))
 
   pub narrowed-after : (t : ℕ) → counts_width + old_width * class_count ws + t < old_end ws
       → get_or (narrowed ws) (counts_width + old_width * class_count ws + t) 0 ≡ get_or ws (counts_width + class_width * class_count ws + t) 0

@@ -91,18 +91,17 @@ fn old_text_end(ws: &[u32]) -> usize
     ensures is { result ≡ 4 * old_text_at ws.now + text_length ws.now }
     ensures small { result < 2 ^ 44 }
 {
-    let text_at = class_sheet::text_at(ws) - class_sheet::class_count(ws) as usize;
-    4 * text_at + class_sheet::text_length(ws) as usize
+    class_sheet::text_end(ws) - 4 * class_sheet::class_count(ws) as usize
 }
 
 // Row 3 of the old form but for the links: limits, the least blocks that hold the content, zeros after it.
-#[tactic(auto, unfolding(crate::specs::Convert::old_fits, block::specs::Block::least_fit))]
+#[tactic(auto, unfolding(crate::specs::Convert::old_fits))]
 fn old_fits(ws: &[u32]) -> bool
     ensures { result ≡ old_fits ws.now }
 {
-    let end = old_end(ws);
-    let n = ws.len();
-    class_rules::limits_ok(ws) && end <= n && n < end + 127 && text::zero_rest(ws, old_text_end(ws))
+    class_rules::limits_ok(ws)
+        && block::least_fit(old_end(ws), ws.len())
+        && text::zero_rest(ws, old_text_end(ws))
 }
 
 // The static words that class c gets going forward: of a generated class the sum of its static field widths.

@@ -5,5 +5,6 @@ pub mod Limit
 pub mod Machines
 pub mod Meaning
 pub mod Names
+pub mod Receiver
 pub mod Turns
 pub mod Unique

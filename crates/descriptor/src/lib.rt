@@ -226,10 +226,11 @@ fn parameter_words(s: &[u8]) -> u64
 }
 
 // The word of the receiver: none where the flags have 0x0008, static.
+#[tactic(auto, using(crate::proofs::Receiver::no_receiver, crate::proofs::Receiver::one_receiver))]
 fn receiver_words(flags: u32) -> u64
     ensures { result ≡ receiver_words flags }
 {
-    (1 - flags / 8 % 2) as u64
+    if flags & 0x0008 != 0 { 0 } else { 1 }
 }
 
 // Whether the bytes are the descriptor of a method with these flags: the grammar has them, and the arguments, the receiver's word among

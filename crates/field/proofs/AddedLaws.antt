@@ -3,7 +3,7 @@ use Rattle.std.proofs.Common.{◌≡◌, ℕ, ◌+◌, ◌<◌, ◌≤◌, max, 
 use Rattle.words.specs.Lists.{fold, keep}
 use Rattle.std.specs.Prelude.{Option, Some}
 use Rattle.words.proofs.Bools.{by}
-use Rattle.words.proofs.ListLaws.{rest_from, rest-start, rest-turn, rest_end}
+use Rattle.words.proofs.ListLaws.{push_room, rest_from, rest-start, rest-turn, rest_end}
 use Rattle.abi_sheet.specs.AbiSheet.{abi_class_first_field, abi_class_field_count, abi_field_limit, abi_field_descriptor}
 use Rattle.descriptor.specs.Words.{width}
 use Rattle.linking.specs.Chain.{list_count}
@@ -13,7 +13,6 @@ use Rattle.linking.specs.Link.{new_fields_of}
 use Rattle.growth.specs.declared.news.Member.{Member}
 use Rattle.growth.specs.declared.news.Named.TheVariants.{Field}
 use Rattle.growth.specs.News.{ref_name, ref_descriptor, new_of, news_of}
-use Rattle.growth.proofs.NewsLaws.{push_room}
 use Rattle.field.specs.Numbers.{undeclared, field_member, members_of, added_to}
 
 -- ---- lists of them, one after the other
@@ -53,7 +52,7 @@ module _ (ws text abi labels : List ℕ) (c : ℕ) where
     pub field_added : (ms : List Member) {v : ℕ} {ns : List Member} → b ≡ false → length ms < 1024 → v ≡ fixed_field_index abi g
         → ns ≡ take 1024 (ms ++ record { names = Field g; flags = 2; last = v } ∷ []) → ns ≡ ms ++ members_of abi (undeclared ws text abi labels c g)
     unfolding members_of
-    field_added ms f h q k = k ∙ rw (← e, f, q) (push_room ms (field_member abi g) h)
+    field_added ms f h q k = k ∙ rw (← e, f, q) (push_room 1024 ms (field_member abi g) h)
 
     pub word_added : (w : ℕ) {v : ℕ} → b ≡ false → v ≡ fixed_field_index abi g + width (abi_field_descriptor abi labels g)
         → max w v ≡ raised abi labels w (undeclared ws text abi labels c g)
@@ -110,11 +109,6 @@ module _ (ws text abi labels : List ℕ) (c : ℕ) where
 
   pub word-end : (m n i w : ℕ) → n ≤ i → w ≡ raised abi labels w (to_add m n i)
   word-end m n i w h = rw (to-add-end m n i h) (raised-none abi labels w)
-
-  -- what was made of the entry, said of the class
-  pub members-by : {own : Option ℕ} {ms : List Member} → own ≡ class_abi ws text abi labels c → ms ≡ members_of abi (added_fields ws text abi labels own c)
-      → ms ≡ members_of abi (added_to ws text abi labels c)
-  members-by e f = f ∙ rw e
 
 -- ---- what their records stand for
 

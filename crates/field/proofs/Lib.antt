@@ -1,5 +1,4 @@
 pub mod AddedLaws
-pub mod FrontLaws
 pub mod MovedLaws
 pub mod NumberLaws
 pub mod OutcomeLaws

@@ -1,16 +1,14 @@
 -- Laws of a generated class's fields: their words, fields that stand one after the other, and indices with the base added.
 -- Assumes nothing.
-use Rattle.std.proofs.Common.{◌≡◌, ℕ, zero, suc, ◌+◌, ◌-◌, ◌*◌, ◌<◌, ◌≤◌, Bool, true, false, ◌||◌, eqb, List, [], ◌∷◌, ◌++◌, length, take, drop, set, replicate, refl, sym, ◌∙◌, ◌%◌, ◌^◌, append_assoc, append-nil, add-one, arith, take-suc-set, le-ltb, lt-ltb, eqb-true}
+use Rattle.std.proofs.Common.{◌≡◌, ℕ, zero, suc, ◌+◌, ◌-◌, ◌*◌, ◌<◌, ◌≤◌, Bool, true, false, ◌||◌, eqb, List, [], ◌∷◌, ◌++◌, length, refl, sym, ◌∙◌, ◌%◌, ◌^◌, append_assoc, append-nil, arith, le-ltb, lt-ltb, eqb-true}
 use Rattle.words.specs.Lists.{list_from, numbers, fold}
 use Rattle.words.proofs.Bools.{by, and_both}
-use Rattle.words.proofs.ListLaws.{rest_from, rest-start, rest-turn, rest_end}
 use Rattle.class_sheet.specs.ClassSheet.{class_first_field, class_field_count, field_descriptor, field_flags, field_index, field_limit}
 use Rattle.linking.specs.Chain.{list_count, own_fields, is_static}
 use Rattle.linking.specs.Fields.{instance_words, add_static, add_width, declared_words, stand_from, generated_refusal, moved_index, indices_plus, generated_indices}
 use Rattle.std.specs.Prelude.{Result, Ok, Err}
-use Rattle.field.specs.Numbers.{add_words, Fits, Movable, numbering_of, numbered_of, generated_fields}
+use Rattle.field.specs.Numbers.{add_words, Fits, Movable, numbering_of, generated_fields}
 use Rattle.field.specs.declared.Numbered.{Numbered}
-use Rattle.field.proofs.FrontLaws.{front-over, answer-is}
 use Rattle.field.proofs.RuntimeLaws.{width_room}
 
 -- ---- one field
@@ -105,52 +103,47 @@ module _ (ws : List ℕ) (base f : ℕ) {b : Bool} (static : b ≡ is_static (fi
   index_moved t fits = let h = fits (sym static ∙ t) in rw (← static, t, index) (omega arith)
 
 module _ (ws : List ℕ) (base : ℕ) where
-  -- what is there after turn i of the n fields from m on, and what is to come
-  unfoldable pub moved_at : ℕ → ℕ → List ℕ → ℕ → List ℕ
-  moved_at m n l i = take i l ++ indices_plus ws base (rest_from (λ k. k) m n i)
+  -- what is there at field f, and what is to come, of those below `end`
+  unfoldable pub moved_at : ℕ → List ℕ → ℕ → List ℕ
+  moved_at end l f = l ++ indices_plus ws base (numbers f (end - f))
 
-  pub moved-start : (c : ℕ) (l : List ℕ) {m n : ℕ} → m ≡ class_first_field ws c → n ≡ list_count (class_first_field ws c) (class_field_count ws c) field_limit
-      → moved_at m n l 0 ≡ indices_plus ws base (own_fields ws c)
+  pub moved-start : (c : ℕ) {l : List ℕ} {m n : ℕ} → m ≡ class_first_field ws c
+      → n ≡ list_count (class_first_field ws c) (class_field_count ws c) field_limit → l ≡ []
+      → moved_at (m + n) l m ≡ indices_plus ws base (own_fields ws c)
   unfolding moved_at own_fields
-  moved-start c l {m = m} {n = n} e f = rw (rest-start (λ (k : ℕ). k) m n, f, e)
+  moved-start c {m = m} {n = n} e f g = let z : m + n - m ≡ n = omega arith in rw (g, z, f, e)
 
-  pub moved-turn : (m n i : ℕ) (l l' : List ℕ) {j v : ℕ} → i < n → i < length l → v ≡ moved_index ws base (m + i) → l' ≡ set l j v → j ≡ i
-      → moved_at m n l' (i + 1) ≡ moved_at m n l i
-  unfolding moved_at indices_plus
-  moved-turn m n i l l' {v = v} h k e f g =
-      rw (f, g, add-one, take-suc-set l i v k, ← add-one, rest-turn (λ (k : ℕ). k) m n i h, e)
-      (append_assoc (take i l) (moved_index ws base (m + i) ∷ []) (indices_plus ws base (rest_from (λ k. k) m n (i + 1))))
+  pub moved-turn : (end f : ℕ) (l : List ℕ) {l' : List ℕ} {v : ℕ} → f < end → v ≡ moved_index ws base f → l' ≡ l ++ (v ∷ [])
+      → moved_at end l' (f + 1) ≡ moved_at end l f
+  unfolding moved_at indices_plus list_from
+  moved-turn end f l h e g =
+      let more : end - f ≡ suc (end - (f + 1)) = omega arith in
+      rw (more, g, e) (append_assoc l (moved_index ws base f ∷ []) (indices_plus ws base (numbers (f + 1) (end - (f + 1)))))
 
-  moved-end : (m n i : ℕ) (l : List ℕ) → i ≡ n → take n l ≡ moved_at m n l i
-  unfolding moved_at indices_plus
-  moved-end m n i l e = rw (e, rest_end (λ (k : ℕ). k) m n n (omega arith)) (sym (append-nil (take n l)))
-
-  pub moved-done : (m n i : ℕ) (l xs : List ℕ) → i ≡ n → n ≤ length l → moved_at m n l i ≡ xs → drop i l ≡ drop i (replicate field_limit 0)
-      → ◌≡◌ {A = Numbered} (record { indices = l; n = n; words = 0 }) (numbering_of xs 0)
-  moved-done m n i l xs e h f g =
-      let y = front-over n l (replicate field_limit 0) h (moved-end m n i l e ∙ f) (rw e at g) in
-      answer-is xs y.0 y.1
+  pub moved-end : (end f : ℕ) (l : List ℕ) → end ≤ f → moved_at end l f ≡ l
+  unfolding moved_at indices_plus list_from
+  moved-end end f l h = let z : end - f ≡ 0 = omega arith in rw z (append-nil l)
 
 -- ---- what the fields come to
 
 module _ (ws text : List ℕ) (c : ℕ) {t o : ℕ} (total : t ≡ instance_words ws c)
     (own : o ≡ fold (add_width ws text) 0 (own_fields ws c)) where
-  pub row_8 : t < o → ◌≡◌ {A = Result Numbered ℕ} (Err 8) (numbered_of (generated_fields ws text c))
+  pub row_8 : t < o → ◌≡◌ {A = Result Numbered ℕ} (Err 8) (generated_fields ws text c)
   unfolding generated_fields generated_refusal declared_words
   row_8 h = rw (← total, ← own, lt-ltb t o h)
 
   module _ (h : o ≤ t) {a : Bool} (absolute : a ≡ stand_from ws text (t - o) (own_fields ws c)) where
     pub all_absolute : {f : Numbered} → a ≡ true → f ≡ numbering_of (indices_plus ws 0 (own_fields ws c)) 0
-        → ◌≡◌ {A = Result Numbered ℕ} (Ok f) (numbered_of (generated_fields ws text c))
+        → ◌≡◌ {A = Result Numbered ℕ} (Ok f) (generated_fields ws text c)
     unfolding generated_fields generated_refusal generated_indices declared_words
     all_absolute e f = rw (f, ← total, ← own, le-ltb t o h, ← absolute, e)
 
     module _ {r : Bool} (relative : r ≡ stand_from ws text 0 (own_fields ws c)) (n : a ≡ false) where
       pub all-relative : {f : Numbered} → r ≡ true → f ≡ numbering_of (indices_plus ws (t - o) (own_fields ws c)) 0
-          → ◌≡◌ {A = Result Numbered ℕ} (Ok f) (numbered_of (generated_fields ws text c))
+          → ◌≡◌ {A = Result Numbered ℕ} (Ok f) (generated_fields ws text c)
       unfolding generated_fields generated_refusal generated_indices declared_words
       all-relative e f = rw (f, ← total, ← own, le-ltb t o h, ← absolute, n, ← relative, e)
 
-      pub row_9 : r ≡ false → ◌≡◌ {A = Result Numbered ℕ} (Err 9) (numbered_of (generated_fields ws text c))
+      pub row_9 : r ≡ false → ◌≡◌ {A = Result Numbered ℕ} (Err 9) (generated_fields ws text c)
       unfolding generated_fields generated_refusal declared_words
       row_9 e = rw (← total, ← own, le-ltb t o h, ← absolute, n, ← relative, e)

@@ -1,11 +1,10 @@
 -- What a class's fields come to, as the code has it: their indices and the instance words, or the row that refuses them. Assumes nothing.
-use Rattle.std.specs.Prelude.{◌≡◌, ℕ, ◌+◌, ◌-◌, ◌^◌, ◌<◌, Bool, true, false, cond, not, ◌&&◌, List, [], ◌∷◌, length, replicate, ◌==◌, Result, Ok, Err, Option, Some, None}
+use Rattle.std.specs.Prelude.{◌≡◌, ℕ, ◌+◌, ◌-◌, ◌^◌, ◌<◌, Bool, true, false, cond, not, ◌&&◌, List, [], ◌∷◌, ◌==◌, Result, Ok, Err, Option, Some, None}
 use Rattle.std.specs.Option.{option_and_then}
 use Rattle.class_sheet.specs.ClassSheet.{class_first_field, class_field_count, field_name, field_descriptor, field_flags, field_index, field_limit}
 use Rattle.linking.specs.Chain.{on_found, list_count, parent_of, is_static}
 use Rattle.linking.specs.Abi.{fixed_field_index, fixed_field, given_words, class_abi, field_is}
 use Rattle.linking.specs.Fields.{is_negative, magnitude, instance_words, runtime_words, Numbering, number_fields, declares_field, added_fields, built_words, too_many_words, add_static, add_width, generated_refusal, generated_indices}
-use Rattle.linking.specs.Set.{overlaid}
 use Rattle.growth.specs.declared.news.Member.{Member}
 use Rattle.growth.specs.declared.news.Named.TheVariants.{Field}
 use Rattle.refusal.specs.declared.Refusal.{Refusal}
@@ -44,10 +43,6 @@ own_count ws c = list_count (class_first_field ws c) (class_field_count ws c) fi
 abbrev pub fixed_by : List ℕ → List ℕ → List ℕ → List ℕ → Option ℕ → ℕ → Option ℕ
 fixed_by ws text abi labels own f = option_and_then (fixed_field abi labels (field_name ws text f) (field_descriptor ws text f)) own
 
--- numbering came to N, of n indices: the code has its counters k, and the array l, which was d, with its indices in front
-abbrev pub Holds : Numbering → ℕ → Counters → List ℕ → List ℕ → Type 0
-Holds N n k l d = (counting N.indices k ≡ N) × (n ≡ length N.indices) × (l ≡ overlaid N.indices d)
-
 -- the index of a field, if it is an instance field, is a word after the base is added; and so those of a class's own fields
 abbrev pub Fits : List ℕ → ℕ → ℕ → Type 0
 Fits ws base f = is_static (field_flags ws f) ≡ false → base + field_index ws f < 2 ^ 32
@@ -84,35 +79,35 @@ given_or abi own word = cond (on_found own (given_words abi) 0 == 0) word (on_fo
 
 -- ---- what the fields come to
 
--- the class's indices and its instance words; or the row
-pub data Outcome : Type 0 where
-  numbered : List ℕ → ℕ → Outcome
-  refused : ℕ → Outcome
-
--- what the code answers of it: the indices and zeros after them, their count, and the instance words; or the row
+-- the class's indices and its instance words
 abbrev pub numbering_of : List ℕ → ℕ → Numbered
-numbering_of is words = record { indices = overlaid is (replicate field_limit 0); n = length is; words = words }
+numbering_of is words = record { indices = is; words = words }
 
-abbrev pub numbered_of : Outcome → Result Numbered ℕ
-numbered_of (numbered is words) = Ok (numbering_of is words)
-numbered_of (refused row) = Err row
+-- no fields, and no instance words
+abbrev pub no_fields : Numbered
+no_fields = numbering_of [] 0
 
 -- an answer with the number of the row that refuses
 abbrev pub by_row : {A : Type 0} → Result A Refusal → Result A ℕ
 by_row (Ok x) = Ok x
 by_row (Err refusal) = Err (row refusal)
 
+-- the answer and the lent memory, which holds the value where the answer is no refusal
+abbrev pub with_fields : Result (Unit {0}) Refusal → Numbered → Result Numbered Refusal
+with_fields (Ok u) f = Ok f
+with_fields (Err refusal) f = Err refusal
+
 -- a built class whose ABI entry is `own`; row 10: "built: instance words, or chain runtime words, would exceed 65,535"
-unfoldable pub fields_by : List ℕ → List ℕ → List ℕ → List ℕ → Option ℕ → ℕ → Outcome
+unfoldable pub fields_by : List ℕ → List ℕ → List ℕ → List ℕ → Option ℕ → ℕ → Result Numbered ℕ
 fields_by ws text abi labels own c =
     cond (too_many_words ws text abi labels own c)
-    (refused 10)
-    (numbered (number_fields ws text abi labels own c).indices (built_words ws text abi labels own c))
+    (Err 10)
+    (Ok (numbering_of (number_fields ws text abi labels own c).indices (built_words ws text abi labels own c)))
 
-abbrev pub built_fields : List ℕ → List ℕ → List ℕ → List ℕ → ℕ → Outcome
+abbrev pub built_fields : List ℕ → List ℕ → List ℕ → List ℕ → ℕ → Result Numbered ℕ
 built_fields ws text abi labels c = fields_by ws text abi labels (class_abi ws text abi labels c) c
 
 -- rows 8 and 9; a generated class keeps its instance words, so none are written, and adds no fields
-unfoldable pub generated_fields : List ℕ → List ℕ → ℕ → Outcome
+unfoldable pub generated_fields : List ℕ → List ℕ → ℕ → Result Numbered ℕ
 generated_fields ws text c =
-    cond (generated_refusal ws text c == 0) (numbered (generated_indices ws text c) 0) (refused (generated_refusal ws text c))
+    cond (generated_refusal ws text c == 0) (Ok (numbering_of (generated_indices ws text c) 0)) (Err (generated_refusal ws text c))

@@ -2,44 +2,57 @@
 // words and static words, and the ABI fields that are added to it.
 #![tactic(auto)]
 
-ghost use Rattle.std.specs.Prelude.{◌≡◌, ◌+◌, ◌-◌, ◌%◌, ◌^◌, ◌<◌, ◌≤◌, max, ◌||◌, [], ◌∷◌, ◌++◌, length, take, ◌==◌};
+ghost use Rattle.std.specs.Prelude.{◌≡◌, ◌+◌, ◌-◌, ◌%◌, ◌^◌, ◌<◌, ◌≤◌, ◌||◌, [], ◌∷◌, ◌++◌, length, take, ◌==◌};
 ghost use Rattle.abi_sheet.specs.AbiSheet.{abi_field_descriptor};
 ghost use Rattle.descriptor.specs.Words.{width};
 ghost use Rattle.words.specs.Lists.{fold};
 ghost use Rattle.class_sheet.specs.ClassSheet.{field_flags, field_index, field_limit};
 ghost use Rattle.linking.specs.Chain.{on_found, own_fields, chain, is_static};
 ghost use Rattle.linking.specs.Abi.{given_words, fixed_field_index};
-ghost use Rattle.linking.specs.Fields.{below_zero, field_width, instance_words, runtime_end, own_runtime, number_instance, number_field, number_fields, declares_field, added_fields, raised, static_words, stand_from, moved_index, indices_plus};
-ghost use Rattle.field.specs.Numbers.{below_of, counting, first_numbering, declared_by, own_count, fixed_by, Holds, Fits, Movable, undeclared, members_of, given_or, added_to, by_row, numbering_of, numbered_of, add_words, built_fields, generated_fields};
+ghost use Rattle.linking.specs.Fields.{below_zero, field_width, instance_words, runtime_end, own_runtime, number_fields, declares_field, added_fields, raised, static_words, stand_from, moved_index, indices_plus};
+ghost use Rattle.field.specs.Numbers.{below_of, counting, first_numbering, declared_by, fixed_by, Fits, Movable, undeclared, members_of, given_or, added_to, by_row, with_fields, no_fields, numbering_of, add_words, built_fields, generated_fields};
 ghost use Rattle.linking.specs.Sheets.{of_sheets};
 
 use growth::{Member, Named, News};
 use linking::Sheets;
 use refusal::Refusal;
+use words::BoundedList;
 
-// The index given last, and what the next ones count from: static words, runtime words and the running word.
+// How many fields a class has at most.
+const FIELDS: usize = class_sheet::FIELD_LIMIT as usize;
+
+// What the next indices count from: static words, runtime words and the running word.
 #[derive(Clone, Copy)]
 struct Counters {
-    index: u32,
     statics: u32,
     runtime: u32,
     running: u32,
 }
 
-// What a class's fields come to: the indices of its own fields, the first n, with zeros after them, and its instance words.
+// What a class's fields come to: the indices of its own fields, and its instance words.
 #[derive(Drop)]
 pub struct Numbered {
-    pub indices: [u32; class_sheet::FIELD_LIMIT as usize],
-    pub n: u32,
+    pub indices: BoundedList<u32, FIELDS>,
     pub words: u32,
 }
 
 impl Numbered {
-    // The indices of the class's own fields.
-    pub fn own_indices(&self) -> &[u32]
-        ensures { result.now ≡ take self.now.n self.now.indices }
+    // No fields, and no instance words.
+    pub fn new() -> Numbered
+        ensures { result ≡ no_fields }
     {
-        words::part(&self.indices, 0, self.n as usize)
+        Numbered {
+            indices: BoundedList::new(),
+            words: 0,
+        }
+    }
+
+    // So again, whatever they were.
+    pub fn clear(&mut self)
+        ensures { self.new ≡ no_fields }
+    {
+        self.indices.clear();
+        self.words = 0;
     }
 }
 
@@ -140,59 +153,6 @@ fn fixed_of(sheets: Sheets, own: Option<u32>, f: u32) -> Option<u32>
     abi::fixed_field(sheets.abi, sheets.labels, signature, own?)
 }
 
-// The index of an instance field of w words: the fixed one; else below zero, if the ABI gives instance words; else the running word.
-#[tactic(auto, unfolding(linking::specs::Abi::fixed_field_index))]
-fn number_instance(
-    abi: &[u32],
-    own: Option<u32>,
-    fixed: Option<u32>,
-    w: u32,
-    k: Counters,
-) -> Counters
-    requires { (w ≤ 2) × (k.runtime ≤ 2147484673) × (k.running ≤ 66559) }
-    ensures is { counting (result.index ∷ []) result ≡ number_instance abi.now own fixed w (counting [] k) }
-    ensures small { (result.statics ≡ k.statics) × (result.runtime ≤ k.runtime + 2) × (result.running ≤ max 4097 (k.running + 2)) }
-{
-    if let Some(g) = fixed {
-        let index = abi::fixed_field_index(abi, g);
-        return Counters {
-            index,
-            running: k.running.max(index + w),
-            ..k
-        };
-    }
-    if own_given(abi, own) == 0 {
-        return Counters {
-            index: k.running,
-            running: k.running + w,
-            ..k
-        };
-    }
-    Counters {
-        index: below_zero(k.runtime),
-        runtime: k.runtime + w,
-        ..k
-    }
-}
-
-// The index of field f, and what the next ones count from.
-#[tactic(auto, unfolding(linking::specs::Fields::number_field))]
-fn number_field(sheets: Sheets, own: Option<u32>, f: u32, k: Counters) -> Counters
-    requires { (k.statics ≤ 1024) × (k.runtime ≤ 2147484673) × (k.running ≤ 66559) }
-    ensures is { counting (result.index ∷ []) result ≡ of_sheets number_field sheets.entry own (counting [] k) f }
-    ensures small { (result.statics ≤ k.statics + 2) × (result.runtime ≤ k.runtime + 2) × (result.running ≤ max 4097 (k.running + 2)) }
-{
-    let w = field_width(sheets.set, sheets.text, f);
-    if is_static(sheets.set, f) {
-        return Counters {
-            index: k.statics,
-            statics: k.statics + w,
-            ..k
-        };
-    }
-    number_instance(sheets.abi, own, fixed_of(sheets, own, f), w, k)
-}
-
 // What class c's own fields count from: no static words, the runtime words of its parent's chain, and its parent's instance words.
 #[tactic(auto, using(crate::proofs::RuntimeLaws::runtime_room), unfolding(crate::specs::Numbers::first_numbering, linking::specs::Fields::runtime_words))]
 fn first_counters(ws: &[u32], text: &[u8], c: u32) -> Counters
@@ -206,29 +166,44 @@ fn first_counters(ws: &[u32], text: &[u8], c: u32) -> Counters
         instance_words(ws, parent)
     };
     Counters {
-        index: 0,
         statics: 0,
         runtime: runtime_words(ws, text, parent, 0),
         running,
     }
 }
 
-// Stores the indices of class c's own fields, and answers the counters after them.
+// Lists the indices of class c's own fields, and answers the counters after them. A static field counts from the static words; an instance
+// field has its fixed index, or else is below zero, if the ABI gives instance words, or else counts from the running word.
+#[tactic(auto, unfolding(linking::specs::Abi::fixed_field_index))]
 fn number_fields(
     sheets: Sheets,
     own: Option<u32>,
     c: u32,
-    indices: &mut [u32; class_sheet::FIELD_LIMIT as usize],
+    indices: &mut BoundedList<u32, FIELDS>,
 ) -> Counters
-    ensures { Holds (of_sheets number_fields sheets.entry own c)
-        (own_count sheets.entry.set.now c) result indices.new indices.old }
+    ensures { counting indices.new result ≡ of_sheets number_fields sheets.entry own c }
 {
     let first = class_sheet::class_first_field(sheets.set, c);
-    let n = chain::field_count(sheets.set, c);
+    let end = first + chain::field_count(sheets.set, c);
     let mut k = first_counters(sheets.set, sheets.text, c);
-    for i in 0..n {
-        k = number_field(sheets, own, first + i, k);
-        words::put(indices, i as usize, k.index);
+    indices.clear();
+    for f in first..end {
+        let w = field_width(sheets.set, sheets.text, f);
+        let index;
+        if is_static(sheets.set, f) {
+            index = k.statics;
+            k.statics += w;
+        } else if let Some(g) = fixed_of(sheets, own, f) {
+            index = abi::fixed_field_index(sheets.abi, g);
+            k.running = k.running.max(index + w);
+        } else if own_given(sheets.abi, own) == 0 {
+            index = k.running;
+            k.running += w;
+        } else {
+            index = below_zero(k.runtime);
+            k.runtime += w;
+        }
+        indices.push(index);
     }
     k
 }
@@ -314,25 +289,25 @@ fn built_words(abi: &[u32], own: Option<u32>, word: u32) -> u32
     word
 }
 
-// The fields of built class c, or row 10. The new members are then the ABI fields that no instance field of the class matches, also where the
-// row refuses.
-pub fn built_fields(sheets: Sheets, c: u32, news: &mut News) -> Result<Numbered, Refusal>
-    ensures is { by_row result ≡ numbered_of (of_sheets built_fields sheets.entry c) }
+// Puts what the fields of built class c come to, or refuses by row 10. The new members are then the ABI fields that no instance field of the
+// class matches, also where the row refuses.
+pub fn built_fields(
+    sheets: Sheets,
+    c: u32,
+    fields: &mut Numbered,
+    news: &mut News,
+) -> Result<(), Refusal>
+    ensures is { by_row (with_fields result fields.new) ≡ of_sheets built_fields sheets.entry c }
     ensures news { news.new ≡ members_of sheets.entry.abi.now (of_sheets added_to sheets.entry c) }
 {
     let own = abi::class_abi(sheets, c);
-    let mut indices = [0u32; class_sheet::FIELD_LIMIT as usize];
-    let k = number_fields(sheets, own, c, &mut indices);
+    let k = number_fields(sheets, own, c, &mut fields.indices);
     let word = add_fields(sheets, own, c, k.running, news);
-    let words = built_words(sheets.abi, own, word);
-    if (65535 < words) | (65535 < k.runtime) {
+    fields.words = built_words(sheets.abi, own, word);
+    if (65535 < fields.words) | (65535 < k.runtime) {
         return Err(Refusal::ManyWords);
     }
-    Ok(Numbered {
-        indices,
-        n: chain::field_count(sheets.set, c),
-        words,
-    })
+    Ok(())
 }
 
 // The words with those of field f, if it is static, or if it is not.
@@ -402,28 +377,28 @@ fn moved_index(ws: &[u32], base: u32, f: u32) -> u32
     base.wrapping_add(i)
 }
 
-// The indices of class c's own fields, with the base added to those of its instance fields.
-fn moved(ws: &[u32], c: u32, base: u32) -> Numbered
+// Puts the indices of class c's own fields, with the base added to those of its instance fields.
+fn put_moved(ws: &[u32], c: u32, base: u32, fields: &mut Numbered)
     requires { Movable ws.now c base }
-    ensures { result ≡ numbering_of (indices_plus ws.now base (own_fields ws.now c)) 0 }
+    ensures { fields.new ≡ numbering_of (indices_plus ws.now base (own_fields ws.now c)) 0 }
 {
     let first = class_sheet::class_first_field(ws, c);
-    let n = chain::field_count(ws, c);
-    let mut indices = [0u32; class_sheet::FIELD_LIMIT as usize];
-    for i in 0..n {
-        let index = moved_index(ws, base, first + i);
-        words::put(&mut indices, i as usize, index);
-    }
-    Numbered {
-        indices,
-        n,
-        words: 0,
+    let end = first + chain::field_count(ws, c);
+    fields.clear();
+    for f in first..end {
+        fields.indices.push(moved_index(ws, base, f));
     }
 }
 
-// The fields of generated class c: where all are absolute, nothing is written; where all are relative, the base is added; else rows 8 and 9.
-pub fn generated_fields(ws: &[u32], text: &[u8], c: u32) -> Result<Numbered, Refusal>
-    ensures { by_row result ≡ numbered_of (generated_fields ws.now text.now c) }
+// Puts what the fields of generated class c come to: where all are absolute, nothing is written; where all are relative, the base is added; else
+// rows 8 and 9 refuse.
+pub fn generated_fields(
+    ws: &[u32],
+    text: &[u8],
+    c: u32,
+    fields: &mut Numbered,
+) -> Result<(), Refusal>
+    ensures { by_row (with_fields result fields.new) ≡ generated_fields ws.now text.now c }
 {
     let total = instance_words(ws, c);
     let own = own_words(ws, text, false, c);
@@ -431,10 +406,12 @@ pub fn generated_fields(ws: &[u32], text: &[u8], c: u32) -> Result<Numbered, Ref
         return Err(Refusal::FewWords);
     }
     if stand_from(ws, text, c, total - own) {
-        return Ok(moved(ws, c, 0));
+        put_moved(ws, c, 0, fields);
+        return Ok(());
     }
     if stand_from(ws, text, c, 0) {
-        return Ok(moved(ws, c, total - own));
+        put_moved(ws, c, total - own, fields);
+        return Ok(());
     }
     Err(Refusal::MixedIndices)
 }

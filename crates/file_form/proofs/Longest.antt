@@ -142,7 +142,8 @@ module _ (bs : List ℕ) (bytes : AreBytes bs) where
   interfaces : (p : ℕ) → Within bs p interfaces_most (after_interfaces bs p)
   unfolding after_interfaces
   interfaces p =
-      then bs {l = 2 * 65535} (taken bs p 2) (λ q. taken bs q (2 * u2 bs p)) (takes bs p 2) (λ q e. more bs (omega (arith, u2-most p)) (takes bs q (2 * u2 bs p)))
+      then bs {l = 2 * 65535} (taken bs p 2) (λ q. taken bs q (2 * u2 bs p))
+      (takes bs p 2) (λ q e. more bs (omega (arith, u2-most p)) (takes bs q (2 * u2 bs p)))
 
   attribute : (p : ℕ) → Within bs p attribute_most (after_attribute bs p)
   unfolding after_attribute

@@ -1,35 +1,23 @@
--- Laws of new members: the list that holds them, what names them, and lists of them a member at a time. Assumes nothing.
+-- Laws of new members: what names them, and lists of them a member at a time. Assumes nothing.
 use mathlib.Core.Path.{◌≡◌, refl, sym, ap, ◌∙◌}
 use mathlib.Core.List.{List, [], ◌∷◌, ◌++◌, append_assoc, append-nil}
 use Prim.Native.Nat.{ℕ, zero, suc, ◌+◌, ◌*◌, ◌^◌, ◌≤◌, ◌<◌}
 use native.Mathlib.Omega.{arith}
 use native.Mathlib.Numerals.{add-one}
-use lib.ListN.{length, get_or, set, take, drop, length-append, length-take}
+use lib.ListN.{length, get_or, take, drop, length-append, length-take}
 use Rattle.std.specs.Prelude.{Option, Some, None, slice_get}
-use Rattle.std.proofs.Common.{take-suc-set, take-append-drop}
+use Rattle.std.proofs.Common.{take-append-drop}
 use Rattle.std.proofs.Math.Seq.{take-suc}
-use Rattle.std.proofs.lemmas.List.{take_all, take_at}
+use Rattle.std.proofs.lemmas.List.{take_all}
 use Rattle.text.specs.Text.{name_at}
 use Rattle.class_sheet.specs.ClassSheet.{member_width, member_words}
+use Rattle.class_sheet.specs.declared.MemberRecord.{MemberRecord}
 use Rattle.linking.specs.Compiler.{New}
-use Rattle.linking.specs.Set.{write_at, new_text, new_records}
+use Rattle.linking.specs.Set.{write_at, new_text, new_record, new_records}
 use Rattle.growth.specs.declared.news.Member.{Member}
 use Rattle.growth.specs.News.{ref_name, ref_descriptor, new_of, news_of}
 use Rattle.linking.proofs.Writes.{write-none, write-more}
-
--- ---- a member is added
-
-pub push_room : {A : Type 0} (xs : List A) (x : A) → length xs < 1024 → take 1024 (xs ++ x ∷ []) ≡ xs ++ x ∷ []
-push_room xs x h = take_all 1024 (xs ++ x ∷ []) (omega (arith, length-append xs (x ∷ [])))
-
-pub push_put : {A : Type 0} (l : List A) (n : ℕ) (x : A) → n < 1024 → n < length l → take (n + 1) (set l n x) ≡ take 1024 (take n l ++ x ∷ [])
-push_put l n x h k =
-    rw (push_room (take n l) x (omega (arith, length-take n l)), add-one) (take-suc-set l n x k)
-
-pub push_full : {A : Type 0} (l : List A) (n : ℕ) (x : A) {xs : List A} → take n l ≡ xs → n ≡ 1024 → length l ≡ 1024 → xs ≡ take 1024 (xs ++ x ∷ [])
-push_full l n x {xs = xs} e h k =
-    let y : length (take n l) ≡ 1024 = omega (arith, length-take n l) in
-    rw (← e) (sym (take_at (take n l) (x ∷ []) 1024 y))
+use Rattle.words.proofs.ListLaws.{push_room}
 
 -- ---- what names a member: parts no longer than a word can say
 
@@ -83,10 +71,11 @@ module _ (ws text abi labels : List ℕ) where
   pub news_push : (xs : List Member) (m : Member) {ys : List Member} → length xs < 1024 → ys ≡ take 1024 (xs ++ m ∷ [])
       → news_of ws text abi labels ys ≡ news_of ws text abi labels xs ++ (new_of ws text abi labels m ∷ [])
   unfolding news_of
-  news_push xs m h e = rw (e, push_room xs m h) (news-append xs (m ∷ []))
+  news_push xs m h e = rw (e, push_room 1024 xs m h) (news-append xs (m ∷ []))
 
   -- the i-th, and past the end
-  news_at : (xs : List Member) (i : ℕ) (d : New) {m : Member} → slice_get xs i ≡ Some m → get_or (news_of ws text abi labels xs) i d ≡ new_of ws text abi labels m
+  news_at : (xs : List Member) (i : ℕ) (d : New) {m : Member} → slice_get xs i ≡ Some m
+      → get_or (news_of ws text abi labels xs) i d ≡ new_of ws text abi labels m
   unfolding news_of
   news_at [] i d e = cc
   news_at (x ∷ xs) zero d e = ap (new_of ws text abi labels) (cc)
@@ -113,6 +102,10 @@ text_to ws text abi labels ms n = new_text (news_of ws text abi labels (take n m
 
 unfoldable pub records_to : ℕ → List ℕ → List ℕ → List ℕ → List ℕ → List Member → ℕ → List ℕ
 records_to start ws text abi labels ms n = new_records start (news_of ws text abi labels (take n ms))
+
+-- the record of a new member, whose name p begins at byte a and its descriptor q behind it
+abbrev pub record_at : ℕ → List ℕ → List ℕ → Member → MemberRecord
+record_at a p q m = new_record a (record { name = p; descriptor = q; flags = m.flags; last = m.last })
 
 module _ (ws text abi labels : List ℕ) (ms : List Member) where
   first-more : (i : ℕ) (m d : Member) → i < length ms → m ≡ get_or ms i d
@@ -180,7 +173,9 @@ module _ (ws text abi labels : List ℕ) (ms : List Member) where
     both-within =
         let e : new_text (news_of ws text abi labels (take (i + 1) ms)) ++ new_text (news_of ws text abi labels (drop (i + 1) ms))
         ≡ new_text (news_of ws text abi labels ms) =
-        sym (text-append (news_of ws text abi labels (take (i + 1) ms)) (news_of ws text abi labels (drop (i + 1) ms))) ∙ ap new_text (sym (news-append ws text abi labels (take (i + 1) ms) (drop (i + 1) ms))) ∙ ap (λ (l : List Member). new_text (news_of ws text abi labels l)) (take-append-drop (i + 1) ms) in
+        sym (text-append (news_of ws text abi labels (take (i + 1) ms)) (news_of ws text abi labels (drop (i + 1) ms)))
+        ∙ ap new_text (sym (news-append ws text abi labels (take (i + 1) ms) (drop (i + 1) ms)))
+        ∙ ap (λ (l : List Member). new_text (news_of ws text abi labels l)) (take-append-drop (i + 1) ms) in
         let a = ap length both-more in
         rw (← e)
         (omega (
@@ -207,19 +202,19 @@ module _ (ws text abi labels : List ℕ) (ms : List Member) where
       names-turn l x h f r = r ∙ rw (f, both-more) (write-more l k (text_to ws text abi labels ms i) (p ++ q) a (omega arith) begins)
 
     module _ (start : ℕ) {a : ℕ} (begins : a ≡ start + length (text_to ws text abi labels ms i)) where
-      records-more : records_to start ws text abi labels ms (i + 1)
-          ≡ records_to start ws text abi labels ms i ++ member_words a (length p) (a + length p) (length q) m.flags m.last
+      records-more : records_to start ws text abi labels ms (i + 1) ≡ records_to start ws text abi labels ms i ++ member_words (record_at a p q m)
       unfolding records_to text_to new_records new_of
       records-more =
           rw (one-more, records-append, name, descriptor, begins)
 
       pub records-turn : (l : List ℕ) (k x : ℕ) {d o : List ℕ} → k + x ≤ length l
           → d ≡ write_at l k (records_to start ws text abi labels ms i)
-          → o ≡ write_at d (k + member_width * i) (member_words a (length p) (a + length p) (length q) m.flags m.last)
+          → o ≡ write_at d (k + member_width * i) (member_words (record_at a p q m))
           → o ≡ write_at l k (records_to start ws text abi labels ms (i + 1))
       records-turn l k x h f b =
-          let n : length (records_to start ws text abi labels ms i) ≡ member_width * i = length_to start i (let a : i < length ms = rw all at among in omega arith) in
+          let n : length (records_to start ws text abi labels ms i) ≡ member_width * i =
+          length_to start i (let a : i < length ms = rw all at among in omega arith) in
           b
           ∙ rw (f, records-more)
-          (write-more l k (records_to start ws text abi labels ms i) (member_words a (length p) (a + length p) (length q) m.flags m.last)
+          (write-more l k (records_to start ws text abi labels ms i) (member_words (record_at a p q m))
           (k + member_width * i) (omega arith) (omega arith))

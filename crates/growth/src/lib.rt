@@ -10,7 +10,7 @@ ghost use Rattle.growth.specs.News.{ref_name, ref_descriptor, news_of};
 ghost use Rattle.growth.specs.Growth.{laid, laid_end, can_grow, methods_grown, fields_grown, tail_of, methods_of, fields_of, growing, methods_counted, fields_counted, appended, Placed, Room};
 ghost use Rattle.linking.specs.Sheets.{of_sheets, of_lent};
 
-use class_sheet::MEMBER_WIDTH;
+use class_sheet::{MEMBER_WIDTH, MemberRecord};
 use linking::{Lent, Sheets};
 pub use news::{Member, Named, News};
 use text::Signature;
@@ -55,7 +55,7 @@ pub fn new_text_length(sheets: Sheets, news: &News) -> usize
     ensures small { result < 2 ^ 44 }
 {
     let mut sum: usize = 0;
-    for new in news.members() {
+    for new in news.as_slice() {
         let own = ref_signature(sheets, new.names);
         sum += own.name.len() + own.descriptor.len();
     }
@@ -120,7 +120,7 @@ pub fn growing(set: &[u32], c: u32) -> Section
 pub fn section_full(sheets: Sheets, list: Section, news: &News) -> bool
     ensures { result ≡ section_full sheets.entry.set.now list.count list.own (of_sheets news_of sheets.entry news.now) }
 {
-    let members = (list.count as usize) + ((list.own as usize) + (news.len() as usize));
+    let members = (list.count as usize) + ((list.own as usize) + news.len());
     ((class_sheet::MEMBER_LIMIT as usize) < members)
         | ((class_sheet::TEXT_LIMIT as usize) < grown_text(sheets, news))
 }
@@ -130,8 +130,9 @@ pub fn section_full(sheets: Sheets, list: Section, news: &News) -> bool
 pub fn grown_end(sheets: Sheets, list: Section, news: &News) -> usize
     ensures { result ≡ grown_end sheets.entry.set.now list.own (of_sheets news_of sheets.entry news.now) }
 {
-    let members = (list.own as usize) + (news.len() as usize);
-    class_sheet::text_at(sheets.set) + MEMBER_WIDTH * members + (grown_text(sheets, news) + 3) / 4
+    let members = (list.own as usize) + news.len();
+    let text = grown_text(sheets, news).div_ceil(4);
+    class_sheet::text_at(sheets.set) + MEMBER_WIDTH * members + text
 }
 
 // Whether a list can grow.
@@ -157,14 +158,14 @@ pub fn put_indices(set: &mut [u32], at: usize, first: u32, indices: &[u32])
 }
 
 // Two strings, one after the other, from `at` on, where there is room for them, and else nothing; answers where they end, or `at`. By
-// `copy_from_slice` the compiled library would need memmove too, where it needs memcpy and memset alone.
+// `copy_from_slice`, which is compiled to memmove between two lent slices, the library would need that too, where it needs memcpy and memset alone.
 #[tactic(auto, using(crate::proofs::GrowthLaws::strings_laid, crate::proofs::GrowthLaws::strings_end, crate::proofs::GrowthLaws::strings_none, crate::proofs::GrowthLaws::strings_stay))]
 pub fn put_strings(text: &mut [u8], at: usize, first: &[u8], second: &[u8]) -> usize
     ensures is { text.new ≡ laid text.old at (first.now ++ second.now) }
     ensures end { result ≡ laid_end text.old at (first.now ++ second.now) }
 {
     let n = first.len() + second.len();
-    if (text.len() < n) || (text.len() - n < at) {
+    if text.len() < at.saturating_add(n) {
         return at;
     }
     let middle = at + first.len();
@@ -182,34 +183,15 @@ pub fn put_strings(text: &mut [u8], at: usize, first: &[u8], second: &[u8]) -> u
     end
 }
 
-// The record of a member whose name begins at byte `start` of the text, and its descriptor at byte `from`, where there is room for it, and
-// else nothing.
+// A member's record, where there is room for it, and else nothing.
 #[tactic(auto, using(crate::proofs::GrowthLaws::member_laid, crate::proofs::GrowthLaws::member_none))]
-pub fn put_record(
-    out: &mut [u32],
-    at: usize,
-    start: u32,
-    name: u32,
-    from: u32,
-    descriptor: u32,
-    flags: u32,
-    last: u32,
-)
-    ensures { out.new ≡ laid out.old at (member_words start name from descriptor flags last) }
+pub fn put_record(out: &mut [u32], at: usize, member: MemberRecord)
+    ensures { out.new ≡ laid out.old at (member_words member) }
 {
-    if (out.len() < MEMBER_WIDTH) || (out.len() - MEMBER_WIDTH < at) {
+    if out.len() < at.saturating_add(MEMBER_WIDTH) {
         return;
     }
-    let end = at + MEMBER_WIDTH;
-    class_sheet::put_member(
-        &mut out[at..end],
-        start,
-        name,
-        from,
-        descriptor,
-        flags,
-        last,
-    );
+    member.put(&mut out[at..at + MEMBER_WIDTH]);
 }
 
 // Bytes as words, four a word, lowest first, zeros after the last, where there is room for them, and else nothing.
@@ -218,7 +200,7 @@ pub fn put_packed(out: &mut [u32], at: usize, bytes: &[u8])
     ensures { out.new ≡ laid out.old at (packed bytes.now) }
 {
     let n = bytes.len().div_ceil(4);
-    if (out.len() < n) || (out.len() - n < at) {
+    if out.len() < at.saturating_add(n) {
         return;
     }
     let end = at + n;
@@ -235,7 +217,7 @@ fn put_names(bytes: &mut [u8], at: usize, sheets: Sheets, news: &News)
     ensures { bytes.new ≡ write_at bytes.old at (new_text (of_sheets news_of sheets.entry news.now)) }
 {
     let mut next: usize = at;
-    for new in news.members() {
+    for new in news.as_slice() {
         let own = ref_signature(sheets, new.names);
         next = put_strings(bytes, next, own.name, own.descriptor);
     }
@@ -248,19 +230,21 @@ fn put_records(out: &mut [u32], at: usize, start: u32, sheets: Sheets, news: &Ne
 {
     let mut next: u32 = start;
     let mut place: usize = at;
-    for new in news.members() {
+    for new in news.as_slice() {
         let own = ref_signature(sheets, new.names);
         let name = own.name.len() as u32;
         let descriptor = own.descriptor.len() as u32;
         put_record(
             out,
             place,
-            next,
-            name,
-            next + name,
-            descriptor,
-            new.flags,
-            new.last,
+            MemberRecord {
+                name_start: next,
+                name_length: name,
+                descriptor_start: next + name,
+                descriptor_length: descriptor,
+                flags: new.flags,
+                last: new.last,
+            },
         );
         place += MEMBER_WIDTH;
         next += name + descriptor;
@@ -288,7 +272,7 @@ fn put_tail(out: &mut [u32], end: usize, from: usize, own: u32, sheets: Sheets, 
     ensures { out.new ≡ write_at out.old 0 (tail_of sheets.entry.set.now end from own (of_sheets news_of sheets.entry news.now)) }
 {
     let kept = MEMBER_WIDTH * (own as usize);
-    let grown = kept + MEMBER_WIDTH * (news.len() as usize);
+    let grown = kept + MEMBER_WIDTH * news.len();
     let rest = class_sheet::text_at(sheets.set) - end;
     let start = class_sheet::text_length(sheets.set);
     words::copy(sheets.set, from, kept, out, 0);
@@ -325,7 +309,7 @@ fn append(set: &mut [u32], list: Section, lent: Lent, news: &News) -> Option<Gro
     if !can_grow(sheets, list, news) {
         return None;
     }
-    let members = list.own + news.len();
+    let members = list.own + news.len() as u32;
     let bytes = grown_text(sheets, news) as u32;
     let from = list.at + MEMBER_WIDTH * (list.first as usize);
     let n = grown_end(sheets, list, news) - list.end;

@@ -49,8 +49,10 @@ link-short : (ws abi : List ℕ) (c : ℕ) (area stubs missing : List ℕ) → P
 unfolding link_def bad_class
 link-short ws abi c area stubs missing p =
     let number : LinkOutcome → ℕ = λ o. o.outcome.refusal in
-    let q = both-passed number (λ n. refused_link n ws area missing) (λ n. refl) (set_refusal ws abi) _ (bad_class ws (text_of ws) c) _ refl (set-rows ws abi) p in
-    let a = or-neither (no_class ws c || is_linked ws c || (not (eqb (parent_of ws c) 0) && not (is_linked ws (parent_of ws c)))) (bad_array ws (text_of ws) c) q.1 in
+    let q = both-passed number (λ n. refused_link n ws area missing) (λ n. refl)
+    (set_refusal ws abi) _ (bad_class ws (text_of ws) c) _ refl (set-rows ws abi) p in
+    let a = or-neither (no_class ws c || is_linked ws c || (not (eqb (parent_of ws c) 0) && not (is_linked ws (parent_of ws c))))
+    (bad_array ws (text_of ws) c) q.1 in
     let b = or-neither (no_class ws c || is_linked ws c) (not (eqb (parent_of ws c) 0) && not (is_linked ws (parent_of ws c))) a.0 in
     class-short ws c (((valid_exactly ws abi).0 q.0).0.number_of_classes) (or-neither (no_class ws c) (is_linked ws c) b.0).0
 

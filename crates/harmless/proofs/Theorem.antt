@@ -196,7 +196,8 @@ module _ (Q : ℕ → Type 0) (all : (n : ℕ) → 3 ≤ n → n ≤ 15 → Q n)
   built-row : (c : ℕ) → Plans Q (plan_built ws text abi labels area c)
   unfolding plan_built built_table
   built-row c =
-      plans-either Q (too_many_words ws text abi labels (class_abi ws text abi labels c) c) (unplanned 10) _ (no_plan_lem 10 (λ h. all 10 (omega arith) (omega arith)))
+      plans-either Q (too_many_words ws text abi labels (class_abi ws text abi labels c) c)
+      (unplanned 10) _ (no_plan_lem 10 (λ h. all 10 (omega arith) (omega arith)))
       (on_table_lem Q (table-either Q (is_packaged ws c) _ _ (a-table _) (table-either Q (is_interface (class_flags ws c)) _ _ (a-table _) (build-row c)))
       (λ T. slots-row _))
 
@@ -204,7 +205,8 @@ module _ (Q : ℕ → Type 0) (all : (n : ℕ) → 3 ≤ n → n ≤ 15 → Q n)
   unfolding generated_refusal
   fields-row c =
       num-either Q (ltb (instance_words ws c) (declared_words ws text c)) 8 _ (λ h. all 8 (omega arith) (omega arith))
-      (num-either Q (stand_from ws text (generated_base ws text c) (own_fields ws c) || stand_from ws text 0 (own_fields ws c)) 0 9 (none Q) (λ h. all 9 (omega arith) (omega arith)))
+      (num-either Q (stand_from ws text (generated_base ws text c) (own_fields ws c) || stand_from ws text 0 (own_fields ws c)) 0 9
+      (none Q) (λ h. all 9 (omega arith) (omega arith)))
 
   generated-row : (c : ℕ) → Plans Q (plan_generated ws text abi labels area c)
   unfolding plan_generated generated_table
@@ -302,7 +304,8 @@ module _ (Q : ℕ → Type 0) (three : Q 3) (four : Q 4) (five : Q 5) (six : Q 6
   or-none : (b : Bool) (n : ℕ) (o : Outcome) → Num Q n → AskEnds o → AskEnds (cond b (away n) o)
   or-none b n o h e = ends-either Q ask_row away (λ n. refl) b (away n) o (refused-ask n h) e
 
-  on_dispatch_lem : {b : Built} {f : List Entry → Outcome} → Table Q b → ((T : List Entry) → AskEnds (f T)) → AskEnds (on_dispatch b f (λ n. refused_call n ws area))
+  on_dispatch_lem : {b : Built} {f : List Entry → Outcome} → Table Q b → ((T : List Entry) → AskEnds (f T))
+      → AskEnds (on_dispatch b f (λ n. refused_call n ws area))
   on_dispatch_lem (a-table T) k = k T
   on_dispatch_lem (no_table n h) k = refused-ask n h
 
@@ -339,7 +342,8 @@ read-few : (most : ℕ) (refusal : List ℕ → ℕ → ℕ) (bs ws : List ℕ) 
 unfolding read_sheet
 read-few most refusal bs ws h = chosen (eqb (refusal bs (length ws)) 0)
   where
-    chosen : (b : Bool) → (cond {A = sheet.Outcome} b (record { refusal = 0; words = 127 * block_count bs; memory = sheet_words bs ++ drop (127 * block_count bs) ws })
+    chosen : (b : Bool)
+        → (cond {A = sheet.Outcome} b (record { refusal = 0; words = 127 * block_count bs; memory = sheet_words bs ++ drop (127 * block_count bs) ws })
         (record { refusal = refusal bs (length ws); words = 0; memory = ws })).refusal ≤ most
     chosen true = omega arith
     chosen false = h
@@ -352,7 +356,8 @@ abi-few : (abi : List ℕ) → abi_rows abi ≤ 5
 unfolding abi_rows abi_refusal
 abi-few abi =
     at_most 5 (not (abi_form abi)) 3 _ (omega arith)
-    (at_most 5 (not (abi_records abi (abi_text_of abi))) 4 _ (omega arith) (at_most 5 (not (abi_descriptors abi (abi_text_of abi))) 5 0 (omega arith) (omega arith)))
+    (at_most 5 (not (abi_records abi (abi_text_of abi))) 4 _ (omega arith)
+    (at_most 5 (not (abi_descriptors abi (abi_text_of abi))) 5 0 (omega arith) (omega arith)))
 
 -- ---- THE THEOREM
 

@@ -51,20 +51,6 @@ fn call_words(answer: Answer) -> [u32; 2]
     [answer.first, answer.second]
 }
 
-// A class file's six words.
-fn file_words(head: FileHead) -> [u32; 6]
-    ensures { result ≡ head.name ∷ head.parent ∷ head.flags ∷ head.fields ∷ head.methods ∷ head.text ∷ [] }
-{
-    [
-        head.name,
-        head.parent,
-        head.flags,
-        head.fields,
-        head.methods,
-        head.text,
-    ]
-}
-
 // `sheet::read_class_sheet`: the answer word is the number of words filled.
 #[unsafe(no_mangle)]
 pub extern "C" fn lgt_read_class_sheet(
@@ -257,7 +243,7 @@ pub extern "C" fn lgt_read_class_file(
     ensures { file_by result answer.new fields.new methods.new text.new ≡ read_class_file bytes.now targets.now fields.old methods.old text.old }
 {
     let head = class_file::read_class_file(bytes, targets, fields, methods, text);
-    give(head.map(file_words), 0, answer)
+    give(head.map(FileHead::words), 0, answer)
 }
 
 // `class_file::class_file_head`: the same words without lists.
@@ -266,7 +252,7 @@ pub extern "C" fn lgt_class_file_head(bytes: &[u8], answer: &mut [u32; 6]) -> u3
     ensures { file_by result answer.new [] [] [] ≡ class_file_head bytes.now }
 {
     give(
-        class_file::class_file_head(bytes).map(file_words),
+        class_file::class_file_head(bytes).map(FileHead::words),
         0,
         answer,
     )

@@ -95,7 +95,8 @@ module _ (ws text abi labels : List ℕ) (b : Bounded ws) (v : ValidAbi abi) whe
 -- ---- the same on sections
 
 pub record BoundedIn (s : Sections) : Type 0 where
-  pub list : (d : ℕ) → 1 ≤ d → d ≤ length s.classes → row_word s.classes (d - 1) first_method_word + row_word s.classes (d - 1) method_count_word ≤ length s.methods
+  pub list : (d : ℕ) → 1 ≤ d → d ≤ length s.classes
+      → row_word s.classes (d - 1) first_method_word + row_word s.classes (d - 1) method_count_word ≤ length s.methods
   pub name : (d : ℕ) → 1 ≤ d → d ≤ length s.classes → row_word s.classes (d - 1) name_length_word ≤ 255
   pub method : (m : ℕ) → m < length s.methods → (row_word s.methods m name_length_word ≤ 255) × (row_word s.methods m descriptor_length_word ≤ 255)
 
@@ -127,7 +128,12 @@ module _ (ws : List ℕ) (fits : content_end ws ≤ length ws) where
       let m = l.methods in
       record {
         list = λ d h k.
-            omega (arith, b.list d (h, omega arith), class_of ws fits d first_method_word h (omega arith) (omega arith), class_of ws fits d method_count_word h (omega arith) (omega arith));
+            omega (
+              arith,
+              b.list d (h, omega arith),
+              class_of ws fits d first_method_word h (omega arith) (omega arith),
+              class_of ws fits d method_count_word h (omega arith) (omega arith),
+            );
         name = λ d h k. omega (arith, b.name d (h, omega arith), class_of ws fits d name_length_word h (omega arith) (omega arith));
         method = λ i h.
             let p = b.method i (omega arith) in (
@@ -243,7 +249,8 @@ relisted-row rs c k l first count i j m n =
 -- ---- an accepted link
 
 module _ (s : Sections) (f : Formed class_width s) (c place words statics : ℕ) (p : Plan) (some : 1 ≤ c) (among : c ≤ length s.classes) (b : BoundedIn s)
-    (methods : ShortNews p.new_methods) (fields : row_word s.classes (c - 1) first_field_word + row_word s.classes (c - 1) field_count_word ≤ length s.fields) where
+    (methods : ShortNews p.new_methods)
+    (fields : row_word s.classes (c - 1) first_field_word + row_word s.classes (c - 1) field_count_word ≤ length s.fields) where
   abbrev rows : List (List ℕ)
   rows = record_rows s.classes c place (length p.table) words statics
 
@@ -332,12 +339,14 @@ module _ (s : Sections) (f : Formed class_width s) (c place words statics : ℕ)
       (λ u.
       rw (t, u) (
         length-relisting rows c first_method_word method_count_word (length s.methods) (row_word rows (c - 1) method_count_word + length p.new_methods) ∙ l,
-        λ i. relisted-row rows c first_method_word method_count_word (length s.methods) (row_word rows (c - 1) method_count_word + length p.new_methods) i slot_count_word (omega arith) (omega arith),
+        λ i. relisted-row rows c first_method_word method_count_word (length s.methods)
+            (row_word rows (c - 1) method_count_word + length p.new_methods) i slot_count_word (omega arith) (omega arith),
       )))
       (λ t.
       rw t (
         length-relisting rows c first_field_word field_count_word (length s.fields) (row_word rows (c - 1) field_count_word + length p.new_fields) ∙ l,
-        λ i. relisted-row rows c first_field_word field_count_word (length s.fields) (row_word rows (c - 1) field_count_word + length p.new_fields) i slot_count_word (omega arith) (omega arith),
+        λ i. relisted-row rows c first_field_word field_count_word (length s.fields)
+            (row_word rows (c - 1) field_count_word + length p.new_fields) i slot_count_word (omega arith) (omega arith),
       ))
 
   linked-slots : (d : ℕ) → 1 ≤ d → d ≤ length s.classes → class_slot_count (laid_out after) d ≡ row_word rows (d - 1) slot_count_word

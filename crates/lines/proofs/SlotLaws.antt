@@ -62,9 +62,11 @@ module _ (ws text abi labels : List ℕ) (c : ℕ) where
   slots-end T i h = rw (drop_of_length-le T {i = i} h)
 
 -- a class that is listed has texts within their limits
-pub texts-short : (ws abi : List ℕ) (c : ℕ) {b : Bool} → b ≡ is_unlisted ws abi c → b ≡ false → (text_length ws ≤ text_limit) × (abi_text_length abi ≤ abi_text_limit)
+pub texts-short : (ws abi : List ℕ) (c : ℕ) {b : Bool} → b ≡ is_unlisted ws abi c → b ≡ false
+    → (text_length ws ≤ text_limit) × (abi_text_length abi ≤ abi_text_limit)
 unfolding is_unlisted
 texts-short ws abi c e f =
-    let q = or-neither (no_class ws c || ltb class_limit (class_count ws) || ltb text_limit (text_length ws)) (ltb abi_text_limit (abi_text_length abi)) (sym e ∙ f) in
+    let q = or-neither (no_class ws c || ltb class_limit (class_count ws) || ltb text_limit (text_length ws))
+    (ltb abi_text_limit (abi_text_length abi)) (sym e ∙ f) in
     let r = or-neither (no_class ws c || ltb class_limit (class_count ws)) (ltb text_limit (text_length ws)) q.0 in
     (ltb-false _ _ r.1, ltb-false _ _ q.1)

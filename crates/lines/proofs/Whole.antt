@@ -33,8 +33,10 @@ whole (b ∷ bs) o k {q} e h =
     let w =
     whole bs (set o k b) (k + 1) (e ∙ ap (λ (p : List ℕ × ℕ). put p bs) (sym (byte_put o k b l refl)))
     (rw (length-set o k b) h)
-    in
-    (w.0 ∙ omega arith, w.1 ∙ (ap (λ (s : List ℕ). s ++ bs) (ap (λ (i : ℕ). take i (set o k b)) (add-one k) ∙ take-suc-set o k b l) ∙ append_assoc (take k o) (b ∷ []) bs)))
+    in (
+      w.0 ∙ omega arith,
+      w.1 ∙ (ap (λ (s : List ℕ). s ++ bs) (ap (λ (i : ℕ). take i (set o k b)) (add-one k) ∙ take-suc-set o k b l) ∙ append_assoc (take k o) (b ∷ []) bs),
+    ))
     (λ f. let g = ltb-false k (length o) f in let s = ap (λ (p : List ℕ × ℕ). p.1) (e ∙ full o k (b ∷ bs) g) in absurd (omega arith))
 
 -- the place after a text for which there is room

@@ -47,7 +47,8 @@ module _ (ws : List ℕ) (c : ℕ) (p : Plan) (new : List New) (methods : p.new_
     room_fields n =
         let a = (neither (is_none p.new_methods) (is_none p.new_fields) _ _ full).1 n in
         can_grow_lem ws p.new_fields (field_count ws) (class_first_field ws c) (class_field_count ws c) (valid.class c (some, among)).fields a
-        (fields-end ws p.new_fields valid.number_of_classes valid.number_of_interfaces valid.number_of_compilers (class_field_count ws c) valid.number_of_methods a)
+        (fields-end ws p.new_fields valid.number_of_classes valid.number_of_interfaces valid.number_of_compilers
+        (class_field_count ws c) valid.number_of_methods a)
         ((neither (is_none p.new_methods) (is_none p.new_fields) _ _ short).1 n)
 
     room-methods : is_none p.new_methods ≡ false
@@ -56,7 +57,8 @@ module _ (ws : List ℕ) (c : ℕ) (p : Plan) (new : List New) (methods : p.new_
     room-methods n =
         let a = (neither (is_none p.new_methods) (is_none p.new_fields) _ _ full).0 n in
         can_grow_lem ws p.new_methods (method_count ws) (class_first_method ws c) (class_method_count ws c) (valid.class c (some, among)).methods a
-        (methods-end ws p.new_methods valid.number_of_classes valid.number_of_interfaces valid.number_of_compilers (class_method_count ws c) valid.number_of_fields a)
+        (methods-end ws p.new_methods valid.number_of_classes valid.number_of_interfaces valid.number_of_compilers
+        (class_method_count ws c) valid.number_of_fields a)
         ((neither (is_none p.new_methods) (is_none p.new_fields) _ _ short).0 n)
 
     -- ---- the class words

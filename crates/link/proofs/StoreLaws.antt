@@ -35,7 +35,8 @@ statics-other ws text c t n = rw (← t, n)
 
 -- ---- the record
 
-module _ (ws : List ℕ) (c place slots words statics : ℕ) {g : Bool} (kind : g ≡ eqb (class_kind ws c) 1) {s t : List ℕ} (placed : s ≡ put_class_table_place ws c place)
+module _ (ws : List ℕ) (c place slots words statics : ℕ) {g : Bool}
+    (kind : g ≡ eqb (class_kind ws c) 1) {s t : List ℕ} (placed : s ≡ put_class_table_place ws c place)
     (counted : t ≡ put_class_slot_count s c slots) where
   pub record_worded : {u v : List ℕ} → g ≡ false → u ≡ put_class_instance_words t c words → v ≡ put_class_static_words u c statics
       → v ≡ linked_record ws c place slots words statics
@@ -104,7 +105,8 @@ module _ (ws text abi labels : List ℕ) (ms : List Member) {n : ℕ} (size : n 
         let k : g ≡ lists.methods_of ws c = rw q at list in
         let f : b ≡ section_full ws (method_count ws) (class_method_count ws c) (news_of ws text abi labels ms) = rw k at e in
         rw q (rw (f, ← news-is)
-        (sym (or-last (not (is_none (news_of ws text abi labels ms)) && section_full ws (method_count ws) (class_method_count ws c) (news_of ws text abi labels ms))))))
+        (sym (or-last (not (is_none (news_of ws text abi labels ms))
+        && section_full ws (method_count ws) (class_method_count ws c) (news_of ws text abi labels ms))))))
 
     pub short_is : {m : ℕ} → m ≡ grown_end ws g.own (news_of ws text abi labels ms)
         → (not (eqb n 0) && ltb (length ws) m) ≡ set_short ws c (members_plan ws c (news_of ws text abi labels ms))
@@ -119,7 +121,8 @@ module _ (ws text abi labels : List ℕ) (ms : List Member) {n : ℕ} (size : n 
         let k : g ≡ lists.methods_of ws c = rw q at list in
         let f : m ≡ grown_end ws (class_method_count ws c) (news_of ws text abi labels ms) = rw k at e in
         rw q (rw (f, ← news-is)
-        (sym (or-last (not (is_none (news_of ws text abi labels ms)) && ltb (length ws) (grown_end ws (class_method_count ws c) (news_of ws text abi labels ms)))))))
+        (sym (or-last (not (is_none (news_of ws text abi labels ms))
+        && ltb (length ws) (grown_end ws (class_method_count ws c) (news_of ws text abi labels ms)))))))
 
 -- ---- what a link stores
 

@@ -12,10 +12,9 @@ use Rattle.linking.specs.Link.{Plan, is_none, linked_record, lists_full, set_sho
 use Rattle.growth.specs.Growth.{methods_grown, fields_grown}
 use Rattle.area.specs.Area.{outcome}
 use Rattle.area.specs.declared.Answer.{Answer}
-use Rattle.plan.specs.Plans.{methods_of, fields_of, Plans}
-use Rattle.field.specs.declared.Numbered.{Numbered}
-use Rattle.reading.specs.declared.table.Table.{Table}
-use Rattle.reading.specs.Tables.{entries}
+use Rattle.plan.specs.Plans.{methods_of, fields_of, Leaves}
+use Rattle.plan.specs.declared.Plan as P
+use Rattle.growth.specs.News.{news_of}
 use Rattle.refusal.specs.declared.Refusal.{Refusal}
 use Rattle.refusal.specs.Rows.{row}
 
@@ -72,12 +71,12 @@ pub record Accepted (ws abi : List ℕ) (c : ℕ) (area text labels : List ℕ) 
   pub tables : bad_area ws area ≡ false
   pub packages : bad_packages ws (text_of ws) abi (abi_text_of abi) c ≡ false
 
--- a plan with its table and new members, which rows 14 and 15 do not refuse
-pub record Roomy (ws text abi labels : List ℕ) (c : ℕ) (area stubs missing : List ℕ) (f : Numbered) (t : Table 3584) (new : List New) : Type 0 where
-  pub planned : Plans plan ws text abi labels area c (Ok f) (entries t) new
-  pub room : 0 ≡ room_row ws c (members_plan ws c new) area stubs missing t.len
+-- a plan that rows 14 and 15 do not refuse
+pub record Roomy (ws text abi labels : List ℕ) (c : ℕ) (area stubs missing : List ℕ) (p : P.Plan) : Type 0 where
+  pub planned : Leaves plan ws text abi labels area c (Ok p.fields) p
+  pub room : 0 ≡ room_row ws c (members_plan ws c (news_of ws text abi labels p.news)) area stubs missing p.table.len
 
 -- what rows 8 to 15 say: a plan, or a row that refuses the link
-abbrev pub Judged : List ℕ → List ℕ → List ℕ → List ℕ → ℕ → List ℕ → List ℕ → List ℕ → Result Numbered Refusal → Table 3584 → List New → Type 0
-Judged ws text abi labels c area stubs missing (Ok f) t new = Roomy ws text abi labels c area stubs missing f t new
-Judged ws text abi labels c area stubs missing (Err r) t new = refused_link (row r) ws area missing ≡ link_def ws abi c area stubs missing
+abbrev pub Judged : List ℕ → List ℕ → List ℕ → List ℕ → ℕ → List ℕ → List ℕ → List ℕ → Result (Unit {0}) Refusal → P.Plan → Type 0
+Judged ws text abi labels c area stubs missing (Ok u) p = Roomy ws text abi labels c area stubs missing p
+Judged ws text abi labels c area stubs missing (Err r) p = refused_link (row r) ws area missing ≡ link_def ws abi c area stubs missing

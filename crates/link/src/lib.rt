@@ -10,10 +10,9 @@ ghost use Rattle.linking.specs.Sheets.{of_sheets, of_lent};
 
 use area::Answer;
 use class_sheet::Kind;
-use field::Numbered;
 use growth::News;
 use linking::{Lent, Sheets};
-use reading::{BuiltTable, Table};
+use plan::Plan;
 use refusal::Refusal;
 
 // The static words that a link gives class c, unless it is generated.
@@ -132,15 +131,21 @@ fn judge(
     area: &[u32],
     stubs: &[u32],
     missing: &[u32],
-    table: &mut BuiltTable,
-    news: &mut News,
-) -> Result<Numbered, Refusal>
+    made: &mut Plan,
+) -> Result<(), Refusal>
     requires { Accepted sheets.set.now sheets.abi.now c area.now sheets.text.now sheets.labels.now }
-    ensures { of_sheets Judged sheets.entry c area.now stubs.now missing.now result table.new (of_sheets news_of sheets.entry news.new) }
+    ensures { of_sheets Judged sheets.entry c area.now stubs.now missing.now result made.new }
 {
-    let fields = plan::plan_link(sheets, area, c, table, news)?;
-    room_row(sheets, c, news, area, stubs, missing, table.len as usize)?;
-    Ok(fields)
+    plan::plan_link(sheets, area, c, made)?;
+    room_row(
+        sheets,
+        c,
+        &made.news,
+        area,
+        stubs,
+        missing,
+        made.table.len as usize,
+    )
 }
 
 // The same rows and the effect, of the sheets' texts. Nothing is written before the last refusal.
@@ -155,26 +160,26 @@ fn link_planned(
     requires { Accepted set.old lent.abi.now c area.old lent.text.now lent.labels.now }
     ensures { link_outcome result set.new area.new missing.new ≡ link_def set.old lent.entry.abi.now c area.old stubs.now missing.old }
 {
-    let mut table = Table::for_building();
-    let mut news = News::new();
+    let mut made = Plan::new();
     let sheets = Sheets {
         set,
         text: lent.text,
         abi: lent.abi,
         labels: lent.labels,
     };
-    let fields = judge(sheets, c, area, stubs, missing, &mut table, &mut news)?;
+    judge(sheets, c, area, stubs, missing, &mut made)?;
+    let table = &made.table;
     let linked = Linked {
         place: words::get_or(area, 0, 0),
         slots: table.len,
-        words: fields.words,
+        words: made.fields.words,
         statics: new_statics(set, lent.text, c),
     };
     let parent = chain::parent_of(set, c);
     missing::count_class(missing, c, parent, &table.words, &table.marks, table.len);
     area::write_table(area, c, &table.words, table.len as usize, stubs);
-    let indices = fields.own_indices();
-    store_link(set, c, linked, indices, lent, &news);
+    let indices = made.fields.indices.as_slice();
+    store_link(set, c, linked, indices, lent, &made.news);
     Ok(Answer {
         first: linked.place,
         second: linked.slots,

@@ -104,7 +104,8 @@ listed-room abi slots a s n t =
       slots a n,
     )
 
-pub slot-room : (ws text abi labels : List ℕ) → ((a : ℕ) → a < abi_class_count abi → abi_class_first_slot abi a + abi_class_slot_count abi a ≤ abi_slot_count abi)
+pub slot-room : (ws text abi labels : List ℕ)
+    → ((a : ℕ) → a < abi_class_count abi → abi_class_first_slot abi a + abi_class_slot_count abi a ≤ abi_slot_count abi)
     → (i a s d : ℕ) → class_abi ws text abi labels d ≡ Some a → slot_at abi i a ≡ Some s → s < abi_slot_count abi
 unfolding slot_at
 slot-room ws text abi labels slots i a s d e f =
@@ -252,7 +253,8 @@ module _ (ws abi : List ℕ) (v : Valid ws) (w : ValidAbi abi) where
       by-found (find (λ s. slot_is abi labels s (method_name ws text m) (method_descriptor ws text m)) (abi_slots abi a))
       (λ s q.
       let n = listed-room abi (λ a k. (w.class a k).slots) a s h (find-member _ (abi_slots abi a) s q) in
-      let r = and_both (same_bytes (abi_slot_name abi labels s) (method_name ws text m)) (same_bytes (abi_slot_descriptor abi labels s) (method_descriptor ws text m))
+      let r = and_both (same_bytes (abi_slot_name abi labels s) (method_name ws text m))
+      (same_bytes (abi_slot_descriptor abi labels s) (method_descriptor ws text m))
       (find-passes (λ s. slot_is abi labels s (method_name ws text m) (method_descriptor ws text m)) (abi_slots abi a) s q) in
       rw (sym (same-is (abi_slot_descriptor abi labels s) (method_descriptor ws text m) r.1)) (slot-within s (method_flags ws m) n))
       (λ q. not_found (rw q at e))

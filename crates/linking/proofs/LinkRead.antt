@@ -51,7 +51,8 @@ pub record Added (ws ws' : List ℕ) (c : ℕ) (new : List New) : Type 0 where
   pub first : class_first_method ws' c ≡ method_count ws
   pub many : class_method_count ws' c ≡ class_method_count ws c + length new
   pub text : text_of ws' ≡ text_of ws ++ new_text new
-  pub copied : (j k : ℕ) → j < class_method_count ws c → k < member_width → method_word ws' (method_count ws + j) k ≡ method_word ws (class_first_method ws c + j) k
+  pub copied : (j k : ℕ) → j < class_method_count ws c → k < member_width
+      → method_word ws' (method_count ws + j) k ≡ method_word ws (class_first_method ws c + j) k
   pub new-name : (j : ℕ) → j < length new → method_name ws' (text_of ws') (method_count ws + (class_method_count ws c + j)) ≡ (get_or new j no_new).name
   pub new-descriptor : (j : ℕ) → j < length new
       → method_descriptor ws' (text_of ws') (method_count ws + (class_method_count ws c + j)) ≡ (get_or new j no_new).descriptor

@@ -3,7 +3,7 @@
 use mathlib.Core.Path.{◌≡◌, refl, sym, ◌∙◌}
 use mathlib.Core.Logic.{◌⊎◌, inl, inr, ⊎_elim}
 use mathlib.Core.Bool.{Bool, true, false, not, false≢true}
-use mathlib.Core.List.{List, [], ◌∷◌, ◌++◌, Memᴰ}
+use mathlib.Core.List.{List, [], ◌∷◌, Memᴰ}
 use Prim.Native.Nat.{ℕ, zero, suc, ◌+◌, ◌≤◌, ◌<◌}
 use native.Mathlib.Omega.{arith}
 use lib.Dec.{eqb}
@@ -168,7 +168,8 @@ module _ (ws text : List ℕ) where
   pub same_of : (m k : ℕ) → same_methods ws text m k ≡ true → SameSignature ws text m k
   unfolding same_methods method_is
   same_of m k h =
-      let p = and_both (same_bytes (method_name ws text k) (method_name ws text m)) (same_bytes (method_descriptor ws text k) (method_descriptor ws text m)) h in
+      let p = and_both (same_bytes (method_name ws text k) (method_name ws text m))
+      (same_bytes (method_descriptor ws text k) (method_descriptor ws text m)) h in
       record { name = sym (same-is _ _ p.0); descriptor = sym (same-is _ _ p.1) }
 
   abbrev same : ℕ → ℕ → Bool
@@ -248,13 +249,15 @@ module _ (ws text : List ℕ) where
     reached-stays : (R : List ℕ) (p e : ℕ) → Memᴰ e R → Memᴰ e (reached_with same ws text m R p)
     unfolding reached_with
     reached-stays R p e h =
-        by (some (λ k. not (is_private (method_flags ws k))) (overridden_in same ws text m R p)) (λ t. rw t (mathlib.Core.List.Memᴰ.append_left (p ∷ []) h)) (λ t. rw t h)
+        by (some (λ k. not (is_private (method_flags ws k))) (overridden_in same ws text m R p))
+        (λ t. rw t (mathlib.Core.List.Memᴰ.append_left (p ∷ []) h)) (λ t. rw t h)
 
     reached-new : (R : List ℕ) (p k : ℕ) → Memᴰ k (overridden_in same ws text m R p) → is_private (method_flags ws k) ≡ false
         → Memᴰ p (reached_with same ws text m R p)
     unfolding reached_with
     reached-new R p k h n =
-        rw (some_in (λ k. not (is_private (method_flags ws k))) (overridden_in same ws text m R p) h (rw n)) (mathlib.Core.List.Memᴰ.append_right R (mathlib.Core.List.Memᴰ.head refl))
+        rw (some_in (λ k. not (is_private (method_flags ws k))) (overridden_in same ws text m R p) h (rw n))
+        (mathlib.Core.List.Memᴰ.append_right R (mathlib.Core.List.Memᴰ.head refl))
 
     sound-next : (R : List ℕ) (p : ℕ) → 0 < p → Sound R p → Sound (reached_with same ws text m R p) (parent_of ws p)
     sound-next R p h s e i =

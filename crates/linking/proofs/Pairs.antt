@@ -119,7 +119,8 @@ module _ {R : ℕ → ℕ → Type 0} where
   pairs-find p q e (pair {x} {y} r h) = by (q y) (λ t. rw (e x y r, t) (both r)) (λ t. rw (e x y r, t) (pairs-find p q e h))
 
 -- searches along one list
-pub both_first : (R : ℕ → ℕ → Type 0) (f g : ℕ → Option ℕ) (xs : List ℕ) → ((x : ℕ) → Memᴰ x xs → Both R (f x) (g x)) → Both R (first_found f xs) (first_found g xs)
+pub both_first : (R : ℕ → ℕ → Type 0) (f g : ℕ → Option ℕ) (xs : List ℕ) → ((x : ℕ) → Memᴰ x xs → Both R (f x) (g x))
+    → Both R (first_found f xs) (first_found g xs)
 unfolding first_found
 both_first R f g [] h = neither
 both_first R f g (x ∷ xs) h = both-or (h x (Memᴰ.head refl)) (both_first R f g xs (λ y i. h y (Memᴰ.tail i)))

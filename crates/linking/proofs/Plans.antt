@@ -244,11 +244,12 @@ module _ (ws text abi labels area : List ℕ) (c : ℕ) where
   table-generated k =
       let n : is_built_kind (class_kind ws c) ≡ false = ap is_built_kind k ∙ kind-other 1 (omega arith) (omega arith) in rw (n, eq-eqb (class_kind ws c) 1 k)
 
-  pub table-array : is_built_kind (class_kind ws c) ≡ false → class_kind ws c ≢ 1 → table_by ws text abi labels area c ≡ built (parent_entries ws text abi labels area c)
+  pub table-array : is_built_kind (class_kind ws c) ≡ false → class_kind ws c ≢ 1
+      → table_by ws text abi labels area c ≡ built (parent_entries ws text abi labels area c)
   unfolding table_by
   table-array n m = rw (n, ne_eqb (class_kind ws c) 1 m)
 
-  abbrev built_plan : List Entry → Plan
+  abbrev pub built_plan : List Entry → Plan
   built_plan T =
       record {
         table = T;
@@ -257,7 +258,7 @@ module _ (ws text abi labels area : List ℕ) (c : ℕ) where
         new_fields = new_fields_of abi labels (added_fields ws text abi labels (class_abi ws text abi labels c) c);
       }
 
-  abbrev generated_plan : List Entry → Plan
+  abbrev pub generated_plan : List Entry → Plan
   generated_plan T =
       record { table = T; indices = generated_indices ws text c; new_methods = generated_methods ws text abi labels area c; new_fields = [] }
 

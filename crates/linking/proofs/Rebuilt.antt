@@ -49,40 +49,13 @@ abbrev pub Any : ℕ → ℕ → Type 0
 Any m k = Unit {0}
 
 untouched-state : Untouched link_state_word
-untouched-state = record {
-  first-method = omega arith;
-  number_of_methods = omega arith;
-  first_field = omega arith;
-  number_of_fields = omega arith;
-  words = omega arith;
-  place = omega arith;
-  slots = omega arith;
-  statics = omega arith;
-}
+untouched-state = omega arith
 
 untouched-interface : (k : ℕ) → first_interface_word ≤ k → k ≤ interface_count_word → Untouched k
-untouched-interface k a b = record {
-  first-method = omega arith;
-  number_of_methods = omega arith;
-  first_field = omega arith;
-  number_of_fields = omega arith;
-  words = omega arith;
-  place = omega arith;
-  slots = omega arith;
-  statics = omega arith;
-}
+untouched-interface k a b = omega arith
 
 pub untouched-compiler : (k : ℕ) → compiler_table_word ≤ k → k ≤ compiler_slots_word → Untouched k
-untouched-compiler k a b = record {
-  first-method = omega arith;
-  number_of_methods = omega arith;
-  first_field = omega arith;
-  number_of_fields = omega arith;
-  words = omega arith;
-  place = omega arith;
-  slots = omega arith;
-  statics = omega arith;
-}
+untouched-compiler k a b = omega arith
 
 module _ (ws ws' abi : List ℕ) (c : ℕ) (valid : Valid ws) (after : After ws ws' c)
     (moves : Unmoved ws ws' c ⊎ (class_first_method ws' c ≡ method_count ws)) where
@@ -369,7 +342,8 @@ module _ (ws ws' abi area area' : List ℕ) (c : ℕ) (valid : Valid ws) (after 
         (tables_less (signed new new) view-held) (tables_less (signed new new) parents-held)
         (compiler_targets ws d)))
 
-    generated-held : SameBuilt Any (generated_table ws (text_of ws) abi (abi_text_of abi) area d) (generated_table ws' (text_of ws') abi (abi_text_of abi) area' d)
+    generated-held : SameBuilt Any (generated_table ws (text_of ws) abi (abi_text_of abi) area d)
+        (generated_table ws' (text_of ws') abi (abi_text_of abi) area' d)
     unfolding generated_table
     generated-held =
         rw (word_same ws ws' abi c valid after moves d compiler_table_word l (omega arith) (untouched-compiler compiler_table_word (omega arith) (omega arith)))

@@ -237,6 +237,12 @@ module _ (ws ws' abi area area' : List ℕ) (c : ℕ) (valid : Valid ws) (after 
       unfolding generated_table
       table-grown kind some-table =
           let k = word_same ws ws' abi c valid after moves c kind_word l (omega arith) (early kind_word (omega arith)) in
-          let t = word_same ws ws' abi c valid after moves c compiler_table_word l (omega arith) (untouched-compiler compiler_table_word (omega arith) (omega arith)) in
-          rw (table-generated ws text abi labels area c kind, table-generated ws' text' abi labels area' c (k ∙ kind), t, ne_eqb (class_compiler_table ws c) 0 some-table)
+          let t = word_same ws ws' abi c valid after moves c compiler_table_word l
+          (omega arith) (untouched-compiler compiler_table_word (omega arith) (omega arith)) in
+          rw (
+            table-generated ws text abi labels area c kind,
+            table-generated ws' text' abi labels area' c (k ∙ kind),
+            t,
+            ne_eqb (class_compiler_table ws c) 0 some-table,
+          )
           (both-built compiler-grown)

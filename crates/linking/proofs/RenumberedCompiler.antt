@@ -24,7 +24,8 @@ module _ (ws text ws' text' abi labels : List ℕ) (R : ℕ → ℕ → Type 0) 
   module _ (owner : (m k : ℕ) → R m k → owner_state ws m ≡ owner_state ws' k) where
     -- ---- (a) the native view
 
-    emptied-same : (abis : List ℕ) (i : ℕ) (e e' : Entry) → SameEntry R e e' → is_emptied ws text abi labels abis i e ≡ is_emptied ws' text' abi labels abis i e'
+    emptied-same : (abis : List ℕ) (i : ℕ) (e e' : Entry) → SameEntry R e e'
+        → is_emptied ws text abi labels abis i e ≡ is_emptied ws' text' abi labels abis i e'
     unfolding is_emptied
     emptied-same abis i e e' s =
         by_both s.method (λ m k p q r. rw (p, q, owner m k r, fixed_same ws text ws' text' abi labels R keeps m k r abis)) (λ p q. rw (p, q))
@@ -52,7 +53,8 @@ module _ (ws text ws' text' abi labels : List ℕ) (R : ℕ → ℕ → Type 0) 
   pub from-same : (m k t : ℕ) → R m k → from_method ws text m t ≡ from_method ws' text' k t
   from-same m k t r = rw (keeps.name m k r, keeps.descriptor m k r, keeps.flags m k r)
 
-  module _ (c : ℕ) (own : Pairs R (own_methods ws c) (own_methods ws' c)) (sources : signature_sources ws text abi labels c ≡ signature_sources ws' text' abi labels c) where
+  module _ (c : ℕ) (own : Pairs R (own_methods ws c) (own_methods ws' c))
+      (sources : signature_sources ws text abi labels c ≡ signature_sources ws' text' abi labels c) where
     declared_same : (x : New) → is_declared ws text c x ≡ is_declared ws' text' c x
     unfolding is_declared method_is
     declared_same x =

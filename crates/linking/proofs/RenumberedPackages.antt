@@ -216,13 +216,18 @@ module _ (ws text ws' text' abi labels : List ℕ) (R : ℕ → ℕ → Type 0) 
       (parent : SameParent ws ws' area area' c) (above : Chain (parent_of ws c))
       (chains : (d : ℕ) → Memᴰ d (chain ws (parent_of ws c)) → Chain d)
       (held : (d : ℕ) → Memᴰ d (chain ws (parent_of ws c)) → Held ws ws' area area' d) where
-    pub packages-same : Tables R (build_packages (same_methods ws text) ws text abi labels area c) (build_packages (same_methods ws' text') ws' text' abi labels area' c)
+    pub packages-same : Tables R (build_packages (same_methods ws text) ws text abi labels area c)
+        (build_packages (same_methods ws' text') ws' text' abi labels area' c)
     packages-same =
         by (ltb class_limit c)
         (λ t. let l = ltb-true class_limit c t in
         rw (packages-beyond (same_methods ws text) ws text abi labels area c l, packages-beyond (same_methods ws' text') ws' text' abi labels area' c l) none)
         (λ t. let l = ltb-false class_limit c t in
-        rw (packages-within (same_methods ws text) ws text abi labels area c l, packages-within (same_methods ws' text') ws' text' abi labels area' c l, ← parent.parent)
+        rw (
+          packages-within (same_methods ws text) ws text abi labels area c l,
+          packages-within (same_methods ws' text') ws' text' abi labels area' c l,
+          ← parent.parent,
+        )
         (over-same one (introducing ws text abi labels area (parent_of ws c)) (introducing ws' text' abi labels area' (parent_of ws c))
         (introducing-same area area' (parent_of ws c) above chains held) c here parent.parent above
         (parents-same ws text ws' text' abi labels R keeps area area' c parent above)))

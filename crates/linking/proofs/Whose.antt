@@ -103,7 +103,13 @@ fixed-there ws text abi labels i d m e =
     (λ a p. by-found (slot_at abi i a)
     (λ s q. let h : own_method ws text (abi_slot_name abi labels s) (abi_slot_descriptor abi labels s) d ≡ Some m = rw q at (rw p at e) in (
       own-method-member ws text (abi_slot_name abi labels s) (abi_slot_descriptor abi labels s) d m h,
-      record { entry = a; row = s; entry_found = p; row_is = q; signature = own-method-is ws text (abi_slot_name abi labels s) (abi_slot_descriptor abi labels s) d m h },
+      record {
+        entry = a;
+        row = s;
+        entry_found = p;
+        row_is = q;
+        signature = own-method-is ws text (abi_slot_name abi labels s) (abi_slot_descriptor abi labels s) d m h;
+      },
     ))
     (λ q. none (rw q at (rw p at e))))
     (λ p. none (rw p at e))

@@ -21,7 +21,8 @@ unfolding write_at
 write-more l k xs ys m h e =
     let t : length (take k l) ≡ k = length-take-le k l h in
     let u : length (take k l ++ xs) ≡ m = length-append (take k l) xs ∙ omega arith in
-    let a : take k l ++ (xs ++ drop (k + length xs) l) ≡ (take k l ++ xs) ++ drop (k + length xs) l = sym (append_assoc (take k l) xs (drop (k + length xs) l)) in
+    let a : take k l ++ (xs ++ drop (k + length xs) l) ≡ (take k l ++ xs) ++ drop (k + length xs) l =
+    sym (append_assoc (take k l) xs (drop (k + length xs) l)) in
     let p : take m ((take k l ++ xs) ++ drop (k + length xs) l) ≡ take k l ++ xs = take_at (take k l ++ xs) (drop (k + length xs) l) m u in
     let n : k + length xs + length ys ≡ k + length (xs ++ ys) = omega (arith, length-append xs ys) in
     let q : drop (m + length ys) ((take k l ++ xs) ++ drop (k + length xs) l) ≡ drop (k + length (xs ++ ys)) l =

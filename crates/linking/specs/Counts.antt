@@ -1,4 +1,5 @@
--- Which slots are missing, and the list that says it: "A count shall be kept for each class as it is linked: the number of slots that took a stub when written or
+-- Which slots are missing, and the list that says it: "A count shall be kept for each class as it is linked: the number of slots that took a stub when
+-- written or
 -- were copied from parent entries that the parent's count included; a nonzero compiler slot is no copy, an appended parent method is." What is a copy of which
 -- parent slot: `source` (Vtable.antt, Compiler.antt). Assumes nothing.
 use Rattle.std.specs.Prelude.{ℕ, zero, suc, ◌+◌, ◌*◌, ◌-◌, ◌/◌, ◌%◌, ◌^◌, Bool, false, cond, not, ◌&&◌, ◌||◌, List, [], ◌∷◌, length, get_or, eqb, ltb}

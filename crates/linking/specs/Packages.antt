@@ -2,11 +2,12 @@
 -- the chain; the method that introduced a slot; the table; row 26; and beside the walk the section itself, as a type. The section is that of the
 -- Java SE 8 edition, told here in our words (docs/DECISIONS.md has what earlier editions say). `same` compares the signatures of two methods. Assumes
 -- nothing.
-use Rattle.std.specs.Prelude.{ℕ, ◌/◌, ◌%◌, ◌<◌, min, ◌≡◌, ◌≢◌, ◌↔◌, Bool, true, false, cond, not, ◌&&◌, ◌||◌, length, get_or, set, take, eqb, ltb, Option, Some, None}
+use Rattle.std.specs.Prelude.{ℕ, ◌<◌, min, ◌≡◌, ◌≢◌, ◌↔◌, Bool, true, false, cond, not, ◌&&◌, ◌||◌, length, get_or, set, take, eqb, ltb, Option, Some, None}
 use mathlib.Core.List.{List, [], ◌∷◌, ◌++◌, Memᴰ}
 use Rattle.words.specs.Lists.{numbers, fold, keep, some}
 use Rattle.std.specs.Option.{option_or, option_and_then}
 use Rattle.text.specs.Text.{same_bytes}
+pub use Rattle.class_sheet.specs.Flags.{is_public, is_protected}
 use Rattle.class_sheet.specs.ClassSheet.{class_limit, text_of, class_flags, is_packaged, class_table_place, class_slot_count, class_name, method_flags}
 use Rattle.set_rules.specs.Valid.{IsClass, Valid}
 use Rattle.linking.specs.Chain.{on_found, own_methods, parent_of, chain, is_private, is_static, is_interface, is_virtual, eligible, same_methods, SameSignature}
@@ -26,12 +27,6 @@ pub record PackageMeaning : Type 0 where
       → package_of name ≡ take i name
   -- "empty without one"
   pub without : (name : List ℕ) → ((j : ℕ) → j < length name → get_or name j 0 ≢ 47) → package_of name ≡ []
-
-abbrev pub is_public : ℕ → Bool
-is_public flags = eqb (flags % 2) 1
-
-abbrev pub is_protected : ℕ → Bool
-is_protected flags = eqb (flags / 4 % 2) 1
 
 module _ (ws text : List ℕ) where
   abbrev pub package_at : ℕ → List ℕ

@@ -3,6 +3,7 @@ use Rattle.std.specs.Prelude.{ℕ, ◌+◌, ◌*◌, ◌-◌, Bool, ◌||◌, Li
 use Rattle.words.specs.Lists.{list_from}
 use Rattle.words.specs.Words.{le_word, words_for}
 use Rattle.class_sheet.specs.ClassSheet.{member_width, member_limit, text_limit, method_count, field_count, text_length, methods_at, fields_at, interfaces_at, text_at, text_of, class_first_method, class_method_count, class_first_field, class_field_count, put_method_count, put_field_count, put_text_length, put_class_first_method, put_class_method_count, put_class_first_field, put_class_field_count, put_index_at, member_words}
+use Rattle.class_sheet.specs.declared.MemberRecord.{MemberRecord}
 use Rattle.linking.specs.Compiler.{New}
 
 -- words laid over a list from place k on
@@ -17,12 +18,21 @@ put_indices at first (i ∷ is) ws = put_indices at (first + 1) is (put_index_at
 -- ---- "A list that grows is copied whole to the end of its section, the old records left unowned; each new name, then descriptor, is
 -- appended to the text."
 
--- the records of new members whose names begin at byte `at` of the text
+-- the record of a new member whose name begins at byte `at` of the text, with its descriptor behind it
+abbrev pub new_record : ℕ → New → MemberRecord
+new_record at x = record {
+  name_start = at;
+  name_length = length x.name;
+  descriptor_start = at + length x.name;
+  descriptor_length = length x.descriptor;
+  flags = x.flags;
+  last = x.last;
+}
+
+-- the records of new members whose names begin there
 unfoldable pub new_records : ℕ → List New → List ℕ
 new_records at [] = []
-new_records at (x ∷ xs) =
-    member_words at (length x.name) (at + length x.name) (length x.descriptor) x.flags x.last
-    ++ new_records (at + length x.name + length x.descriptor) xs
+new_records at (x ∷ xs) = member_words (new_record at x) ++ new_records (at + length x.name + length x.descriptor) xs
 
 unfoldable pub new_text : List New → List ℕ
 new_text [] = []

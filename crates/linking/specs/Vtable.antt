@@ -34,7 +34,8 @@ module _ (ws text abi labels : List ℕ) where
 
   unfoldable pub own_fixed : ℕ → ℕ → Option ℕ
   own_fixed i c =
-      option_and_then (λ s. own_method ws text (abi_slot_name abi labels s) (abi_slot_descriptor abi labels s) c) (option_and_then (slot_at abi i) (class_abi ws text abi labels c))
+      option_and_then (λ s. own_method ws text (abi_slot_name abi labels s) (abi_slot_descriptor abi labels s) c)
+      (option_and_then (slot_at abi i) (class_abi ws text abi labels c))
 
   unfoldable pub find_by_index : ℕ → ℕ → Option ℕ
   find_by_index c i = first_found (own_fixed i) (chain ws c)

@@ -68,7 +68,8 @@ module _ (abi stubs : List ℕ) (n : ℕ) where
   unfolding links_from
   links-start rows ws area missing = let g : n - 0 ≡ n = omega arith in rw g
 
-  pub links-turn : (i : ℕ) (rs : List (Option Refusal)) (a : Result Answer Refusal) {r : Option Refusal} (s t u ws area missing : List ℕ) → i < n → n ≤ length rs
+  pub links-turn : (i : ℕ) (rs : List (Option Refusal)) (a : Result Answer Refusal) {r : Option Refusal} (s t u ws area missing : List ℕ) → i < n
+      → n ≤ length rs
       → link_outcome a s t u ≡ link_def ws abi (i + 1) area stubs missing → r ≡ result_err a
       → links_from (i + 1) (map link_row (set rs i r)) s t u ≡ links_from i (map link_row rs) ws area missing
   unfolding links_from link_all

@@ -23,7 +23,7 @@ use Rattle.linking.specs.Fields.{number_fields, added_fields, too_many_words, ge
 use Rattle.linking.specs.Link.{next_free, Plan, planned, on_table, within_slots, new_fields_of, built_table, generated_table, plan_built, plan_generated, plan_array, plan, generated_methods, linked_area, new_words, new_statics, LinkOutcome, link_def}
 use Rattle.linking.specs.Set.{write_at}
 use Rattle.calls.proofs.Area.{linked-length}
-use Rattle.linking.proofs.Plans.{plans, planned-same, not-planned}
+use Rattle.linking.proofs.Plans.{plans, planned-same, not-planned, built_plan, generated_plan}
 use Rattle.calls.proofs.Rows.{Refused, Accepted, link-cases}
 use Rattle.lines.proofs.Lengths.{limit, decimal-few, class-refused-few, class_lines_few}
 use Rattle.lines.proofs.Bounded.{Bounded, valid-bounded, class-short, ShortNews, news-short, link_leaves}
@@ -54,31 +54,18 @@ module _ (ws text abi labels area : List ℕ) (c : ℕ) (p : Plan) where
   abbrev News : Type 0
   News = ([] ≡ p.new_methods) ⊎ (generated_methods ws text abi labels area c ≡ p.new_methods)
 
-  abbrev built_plan : List Entry → Plan
-  built_plan T =
-      record {
-        table = T;
-        indices = (number_fields ws text abi labels (class_abi ws text abi labels c) c).indices;
-        new_methods = [];
-        new_fields = new_fields_of abi labels (added_fields ws text abi labels (class_abi ws text abi labels c) c);
-      }
-
-  abbrev generated_plan : List Entry → Plan
-  generated_plan T =
-      record { table = T; indices = generated_indices ws text c; new_methods = generated_methods ws text abi labels area c; new_fields = [] }
-
   built-news : plan_built ws text abi labels area c ≡ planned p → News
   unfolding plan_built
   built-news e =
       by (too_many_words ws text abi labels (class_abi ws text abi labels c) c) (λ t. not-planned (rw t at e))
-      (λ t. inl (table-news (built_table ws text abi labels area c) built_plan p [] (λ T. refl) (rw t at e)))
+      (λ t. inl (table-news (built_table ws text abi labels area c) (built_plan ws text abi labels area c) p [] (λ T. refl) (rw t at e)))
 
   generated-news : plan_generated ws text abi labels area c ≡ planned p → News
   unfolding plan_generated
   generated-news e =
       by (eqb (generated_refusal ws text c) 0)
       (λ t.
-      inr (table-news (generated_table ws text abi labels area c) generated_plan p (generated_methods ws text abi labels area c) (λ T. refl) (rw t at e)))
+      inr (table-news (generated_table ws text abi labels area c) (generated_plan ws text abi labels area c) p (generated_methods ws text abi labels area c) (λ T. refl) (rw t at e)))
       (λ t. not-planned (rw t at e))
 
   plan-news : plan ws text abi labels area c ≡ planned p → News
@@ -87,7 +74,8 @@ module _ (ws text abi labels area : List ℕ) (c : ℕ) (p : Plan) where
       by (is_built_kind (class_kind ws c)) (λ t. built-news (rw t at e))
       (λ t.
       let r = rw t at e in
-      by (eqb (class_kind ws c) 1) (λ u. generated-news (rw u at r)) (λ u. inl (within-news (record { table = parent_entries ws text abi labels area c; indices = []; new_methods = []; new_fields = [] }) p (rw u at r))))
+      by (eqb (class_kind ws c) 1) (λ u. generated-news (rw u at r))
+      (λ u. inl (within-news (record { table = parent_entries ws text abi labels area c; indices = []; new_methods = []; new_fields = [] }) p (rw u at r))))
 
 none-short : ShortNews []
 none-short j h = absurd (omega arith)

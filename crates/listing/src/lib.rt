@@ -45,8 +45,8 @@ fn stub_words() -> [u32; STUB_WORDS]
     ensures { result ≡ stub_words }
 {
     let mut stubs = [0u32; STUB_WORDS];
-    for i in 0..STUB_WORDS as u32 {
-        words::put(&mut stubs, i as usize, 4026531840 + i);
+    for (i, stub) in stubs.iter_mut().enumerate() {
+        *stub = 4026531840 + i as u32;
     }
     stubs
 }

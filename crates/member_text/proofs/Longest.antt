@@ -114,7 +114,8 @@ by_rows : {X : Type 0} (bs : List ℕ) → (file_refusal bs [] ≡ 0 → X) → 
 by_rows bs f g =
     by_form bs f g (form_of bs) refl
   where
-    by_head : {X : Type 0} (bs : List ℕ) → (file_refusal bs [] ≡ 0 → X) → ((r : Refusal) → file_refusal bs [] ≡ row r → X) → (h : Result FileHead Refusal) → Judges bs h → X
+    by_head : {X : Type 0} (bs : List ℕ) → (file_refusal bs [] ≡ 0 → X) → ((r : Refusal) → file_refusal bs [] ≡ row r → X) → (h : Result FileHead Refusal)
+        → Judges bs h → X
     by_head bs f g (Ok h) e = f e.0
     by_head bs f g (Err r) e = g r e
 

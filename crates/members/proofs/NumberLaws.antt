@@ -8,7 +8,8 @@ use Rattle.members.specs.Number.{is_digit, with_digit, number_from, number_of}
 
 module _ (word : List ℕ) (n i : ℕ) (h : i < length word) where
   here : number_from n (drop i word)
-      ≡ cond (is_digit (get_or word i 0) && ltb (with_digit n (get_or word i 0)) 4294967296) (number_from (with_digit n (get_or word i 0)) (drop (i + 1) word)) None
+      ≡ cond (is_digit (get_or word i 0) && ltb (with_digit n (get_or word i 0)) 4294967296)
+      (number_from (with_digit n (get_or word i 0)) (drop (i + 1) word)) None
   unfolding number_from
   here = rw (drop-cons word i 0 h, add-one i)
 

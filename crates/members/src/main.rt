@@ -111,8 +111,7 @@ fn has_argument(rt: &impl Env, i: usize) -> bool {
 }
 
 fn main(rt: HostRuntime) -> io::Result<()> {
-    for k in 0..usize::MAX / EACH {
-        let path = 1 + EACH * k;
+    for path in (1..usize::MAX - 1).step_by(EACH) {
         if !has_argument(&rt, path) {
             break;
         }

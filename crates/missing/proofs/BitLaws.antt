@@ -1,19 +1,30 @@
 -- Laws of the bits of a table: one slot's, their number, and a word of 32. Assumes nothing.
 use mathlib.Core.Path.{◌≡◌, refl, sym, ap, ◌∙◌}
-use mathlib.Core.Bool.{Bool, false}
+use mathlib.Core.Bool.{Bool, false, not}
 use mathlib.Core.List.{List}
-use Prim.Native.Nat.{ℕ, zero, suc, ◌+◌, ◌*◌, ◌-◌, ◌^◌, ◌≤◌, ◌<◌}
+use Prim.Native.Nat.{ℕ, zero, suc, ◌+◌, ◌*◌, ◌-◌, ◌/◌, ◌%◌, ◌^◌, ◌≤◌, ◌<◌}
 use native.Mathlib.Nat.{pow-succ'}
 use native.Mathlib.Omega.{arith}
 use native.Mathlib.Numerals.{add-one}
 use lib.ListN.{length, get_or, drop, get_or-eq_default}
 use lib.Seq.{drop-cons, drop-length}
-use lib.Pow.{pow_pos}
-use Rattle.linking.specs.Vtable.{Entry, empty}
+use lib.Pow.{pow_pos, pow-lt}
+use lib.Bits.{bit_and}
+use lib.Dec.{eqb}
+use Rattle.class_sheet.proofs.FlagLaws.{bit_test}
+use Rattle.linking.specs.Vtable.{empty}
 use Rattle.linking.specs.Counts.{is_counted, bits_of, bit, bit_count, bits_from}
 use Rattle.linking.proofs.MissingLaws.{length-bits, bits_at, bit-small}
 use Rattle.reading.specs.Arrays.{method_of, source_of, entry_at, entries_of}
 use Rattle.reading.proofs.ArrayLaws.{length-entries, entry_found}
+
+-- ---- a bit, masked
+
+pub bit_masked : (w i : ℕ) → not (eqb (bit_and w (1 * 2 ^ (i % 32) % 4294967296)) 0) ≡ eqb (w / 2 ^ (i % 32) % 2) 1
+bit_masked w i =
+    let small : 2 ^ (i % 32) < 4294967296 = pow-lt {j = 32} (omega arith) in
+    let e : 1 * 2 ^ (i % 32) % 4294967296 ≡ 2 ^ (i % 32) = omega (arith, small) in
+    rw e (bit_test w (i % 32))
 
 -- ---- the bits of all slots
 

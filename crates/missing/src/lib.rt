@@ -32,10 +32,11 @@ fn place_of(c: u32) -> usize
 }
 
 // Bit i mod 32 of a word.
+#[tactic(auto, using(crate::proofs::BitLaws::bit_masked))]
 fn bit_of(w: u32, i: u32) -> bool
     ensures { result ≡ eqb (w / 2 ^ (i % 32) % 2) 1 }
 {
-    (w >> (i % 32)) % 2 == 1
+    w & (1 << (i % 32)) != 0
 }
 
 // The bit of slot j of parent p: none without a parent, or past a table's 1,024 slots.
@@ -120,8 +121,8 @@ fn packed_word(missing: &[u32], p: u32, slots: Slots, j: usize) -> u32
 fn pack(missing: &[u32], p: u32, slots: Slots, out: &mut [u32; WIDTH])
     ensures { out.new ≡ pack_bits (slot_bits missing.now p slots.entry) }
 {
-    for j in 0..WIDTH {
-        out[j] = packed_word(missing, p, slots, j);
+    for (j, word) in out.iter_mut().enumerate() {
+        *word = packed_word(missing, p, slots, j);
     }
 }
 

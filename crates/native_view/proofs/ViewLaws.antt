@@ -25,8 +25,8 @@ module _ (ws text abi labels : List ℕ) where
     unfolding is_emptied
     emptied_unknown q = rw (← method, q)
 
-    pub emptied_known : {s m : ℕ} {b : Bool} → o ≡ Some m → s ≡ owner_state ws m
-        → b ≡ on_found (fixed_of ws text abi labels abis m) (eqb i) false → (not (eqb s 3) && not b) ≡ is_emptied ws text abi labels abis i e
+    pub emptied_known : {m : ℕ} {l b : Bool} → o ≡ Some m → l ≡ eqb (owner_state ws m) 3
+        → b ≡ on_found (fixed_of ws text abi labels abis m) (eqb i) false → (not l && not b) ≡ is_emptied ws text abi labels abis i e
     unfolding is_emptied
     emptied_known q f g = rw (f, g) (rw (← method, q))
 

@@ -20,6 +20,9 @@ use linking::Sheets;
 use reading::{ReadTable, Slot};
 use text::Signature;
 
+// The link state of a class that the compiler linked.
+const LINKED: u32 = 3;
+
 // Whether class c's list holds method m.
 #[tactic(auto, unfolding(linking::specs::Compiler::holds))]
 fn holds(ws: &[u32], m: u32, c: u32) -> bool
@@ -27,7 +30,7 @@ fn holds(ws: &[u32], m: u32, c: u32) -> bool
 {
     let first = class_sheet::class_first_method(ws, c) as usize;
     let n = class_sheet::class_method_count(ws, c) as usize;
-    (first <= (m as usize)) & ((m as usize) < first + n)
+    (first..first + n).contains(&(m as usize))
 }
 
 // The class that method m belongs to: the first whose list holds it.
@@ -37,12 +40,12 @@ fn owner(ws: &[u32], m: u32) -> Option<u32>
     words::find_up_to(class_sheet::class_count(ws), |c| holds(ws, m, c))
 }
 
-// The link state of the class that method m belongs to.
+// Whether method m belongs to a class that the compiler linked.
 #[tactic(auto, unfolding(linking::specs::Compiler::owner_state))]
-fn owner_state(ws: &[u32], m: u32) -> u32
-    ensures { result ≡ owner_state ws.now m }
+fn is_owner_linked(ws: &[u32], m: u32) -> bool
+    ensures { result ≡ eqb (owner_state ws.now m) 3 }
 {
-    owner(ws, m).map_or(0, |c| class_sheet::class_link_state(ws, c))
+    owner(ws, m).is_some_and(|c| class_sheet::class_link_state(ws, c) == LINKED)
 }
 
 // Whether i is the index that the first of the ABI classes fixes for method m.
@@ -58,7 +61,7 @@ fn is_emptied(sheets: Sheets, abis: &[u32], i: u32, slot: Slot) -> bool
     ensures { result ≡ of_sheets is_emptied sheets.entry abis.now i (entry slot) }
 {
     match slot.method() {
-        Some(m) => { (owner_state(sheets.set, m) != 3) & !fixed_here(sheets, abis, i, m) }
+        Some(m) => { !is_owner_linked(sheets.set, m) & !fixed_here(sheets, abis, i, m) }
         None => false,
     }
 }
@@ -150,8 +153,7 @@ fn ref_flags(ws: &[u32], r: Named) -> u32
             }
             flags
         }
-        Named::Slot(_) => 1,
-        Named::Field(_) => 1,
+        Named::Slot(_) | Named::Field(_) => 1,
     }
 }
 
@@ -227,6 +229,6 @@ pub fn native_view(
 {
     reading::parent_entries(sheets, area, c, parent);
     let abis = abi::chain_abi(sheets, chain::parent_of(sheets.set, c));
-    view_entries(sheets, abis.list(), parent, view);
+    view_entries(sheets, abis.as_slice(), parent, view);
     add_methods(sheets, c, view, news);
 }

@@ -182,7 +182,8 @@ module _ (ws : List ℕ) (ok : Orderable ws) (below : (c : ℕ) → IsClass ws c
 
   interfaces-same : map (new_number o) (sections_of ws).interfaces ≡ (sections_of ws).interfaces
   interfaces-same =
-      let n : length (sections_of ws).interfaces ≡ interface_count ws = sym (number_of_interfaces (sections_of ws)) ∙ ap interface_count (laid_of ws (fits ws ok)) in
+      let n : length (sections_of ws).interfaces ≡ interface_count ws =
+      sym (number_of_interfaces (sections_of ws)) ∙ ap interface_count (laid_of ws (fits ws ok)) in
       let m = length-map (new_number o) (sections_of ws).interfaces in
       ext_get_or 0 (map (new_number o) (sections_of ws).interfaces) (sections_of ws).interfaces m
       (λ i h.

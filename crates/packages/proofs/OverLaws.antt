@@ -6,7 +6,6 @@ use Prim.Native.Nat.{ℕ, zero, suc, ◌+◌, ◌-◌, ◌≤◌, ◌<◌}
 use native.Mathlib.Omega.{arith}
 use lib.ListN.{length, length-append}
 use borrow.Author.Tests.{not-true, not-false}
-use Rattle.std.specs.List.{list_any}
 use Rattle.words.specs.Lists.{numbers, fold, keep, some}
 use Rattle.words.proofs.ListLaws.{rest_from, rest-start, rest-turn, rest_end}
 use Rattle.class_sheet.specs.ClassSheet.{class_limit, class_first_method, class_method_count, method_flags, method_limit}
@@ -14,12 +13,6 @@ use Rattle.linking.specs.Chain.{list_count, own_methods, parent_of, chain, is_pr
 use Rattle.linking.specs.Packages.{is_overridden, overridden_in, reached_with, overridden_along, overridden}
 use Rattle.linking.proofs.ChainLaws.{parent_below, parent-within, chain-none, chain_more}
 use Rattle.packages.specs.Marks.{mark, is_some}
-
--- `any`'s answer for a list
-pub some-any : (p : ℕ → Bool) (xs : List ℕ) → some p xs ≡ list_any p xs
-unfolding some
-some-any p [] = refl
-some-any p (x ∷ xs) = ap (λ b. p x || b) (some-any p xs)
 
 -- ---- along a class's methods
 

@@ -140,7 +140,8 @@ module _ (ws text abi labels area : List ℕ) (c : ℕ) where
   unfolding take_slots taken_slots
   take_ext f g n h T m =
       let ks = overridden (same_methods ws text) ws text c m in
-      let q : keep (λ i. on_found (f i) (λ k. some (λ j. eqb j k) ks) false) (numbers 0 n) ≡ keep (λ i. on_found (g i) (λ k. some (λ j. eqb j k) ks) false) (numbers 0 n) =
+      let q : keep (λ i. on_found (f i) (λ k. some (λ j. eqb j k) ks) false) (numbers 0 n)
+      ≡ keep (λ i. on_found (g i) (λ k. some (λ j. eqb j k) ks) false) (numbers 0 n) =
       keep-along (λ i. on_found (f i) (λ k. some (λ j. eqb j k) ks) false) (λ i. on_found (g i) (λ k. some (λ j. eqb j k) ks) false) 0 n
       (λ i l b. rw (h i (omega arith))) in
       rw q
@@ -177,7 +178,8 @@ module _ (ws text : List ℕ) (c : ℕ) (first count : ℕ) (g : List Entry → 
   unfolding takes own_methods
   takes-start T e f = rw (from_start first count, e, f)
 
-  pub takes-turn : (m : ℕ) {T U goal : List Entry} → first ≤ m → m < first + count → U ≡ g T m → takes first count g T m ≡ goal → takes first count g U (m + 1) ≡ goal
+  pub takes-turn : (m : ℕ) {T U goal : List Entry} → first ≤ m → m < first + count → U ≡ g T m → takes first count g T m ≡ goal
+      → takes first count g U (m + 1) ≡ goal
   unfolding takes fold
   takes-turn m {T = T} l h e q = rw e (sym (ap (fold g T) (from_turn first count m l h)) ∙ q)
 
@@ -196,7 +198,8 @@ module _ (tops : List ℕ) (marks : List Bool) (n : ℕ) where
   unfolding taken_in
   taken-left = left-start (is_taken tops marks) 0 n
 
-  pub stored_start : (T : List Entry) (e : Entry) → fold (λ l j. set l j e) T (left (is_taken tops marks) 0 n 0) ≡ fold (λ l j. set l j e) T (taken_in tops marks n)
+  pub stored_start : (T : List Entry) (e : Entry)
+      → fold (λ l j. set l j e) T (left (is_taken tops marks) 0 n 0) ≡ fold (λ l j. set l j e) T (taken_in tops marks n)
   stored_start T e = ap (fold (λ l j. set l j e) T) taken-left
 
   pub some-start : (false || is_some (left (is_taken tops marks) 0 n 0)) ≡ is_some (taken_in tops marks n)
@@ -216,7 +219,8 @@ module _ (tops : List ℕ) (marks : List Bool) (n : ℕ) where
       → (o || is_some (left (is_taken tops marks) 0 n i)) ≡ goal → (t || is_some (left (is_taken tops marks) 0 n (i + 1))) ≡ goal
   some_turn i o b h q v e s g = left-is-turn (is_taken tops marks) 0 n i o b (omega arith) (omega arith) (test_is i b q v e) s g
 
-  pub stored_end : (i : ℕ) (T : List Entry) (e : Entry) {goal : List Entry} → n ≤ i → fold (λ l j. set l j e) T (left (is_taken tops marks) 0 n i) ≡ goal → T ≡ goal
+  pub stored_end : (i : ℕ) (T : List Entry) (e : Entry) {goal : List Entry} → n ≤ i → fold (λ l j. set l j e) T (left (is_taken tops marks) 0 n i) ≡ goal
+      → T ≡ goal
   stored_end i T e h g = left-fold-end (is_taken tops marks) 0 n (λ l j. set l j e) i T (omega arith) g
 
   pub some_end : (i : ℕ) (o : Bool) {goal : Bool} → n ≤ i → (o || is_some (left (is_taken tops marks) 0 n i)) ≡ goal → o ≡ goal

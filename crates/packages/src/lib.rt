@@ -8,7 +8,7 @@ ghost use Rattle.text.specs.Text.{same_bytes};
 ghost use Rattle.class_sheet.specs.ClassSheet.{class_limit, method_limit, method_flags, is_packaged};
 ghost use Rattle.linking.specs.Chain.{is_private, chain, own_methods, same_methods};
 ghost use Rattle.linking.specs.Vtable.{read_slot, method_entry};
-ghost use Rattle.linking.specs.Packages.{package_of, package_at, is_public, is_protected, open_to, is_overridden, overridden_in, overridden_along, overridden, table_has, put_taken, take_slots, build_packages, unfit_for_packages, bad_packages};
+ghost use Rattle.linking.specs.Packages.{package_of, package_at, open_to, is_overridden, overridden_in, overridden_along, overridden, table_has, put_taken, take_slots, build_packages, unfit_for_packages, bad_packages};
 ghost use Rattle.reading.specs.Arrays.{method_of};
 ghost use Rattle.reading.specs.Tables.{entry, entries};
 ghost use Rattle.packages.specs.Marks.{mark, is_some, taken_by, taken_in, top_of, Laid, LaidUp, Tops};
@@ -16,13 +16,17 @@ ghost use Rattle.linking.specs.Sheets.{of_sheets};
 
 use class_sheet::Kind;
 use linking::Sheets;
-use reached::Reached;
 use reading::{BuiltTable, ReadTable, Slot, TABLE_LIMIT, Table};
-
-mod reached;
+use words::BoundedList;
 
 // How many methods.
 const METHODS: usize = class_sheet::METHOD_LIMIT as usize;
+
+// How many classes a method reaches at most.
+const CLASSES: usize = class_sheet::CLASS_LIMIT as usize;
+
+// The classes that a method has reached.
+type Reached = BoundedList<u32, CLASSES>;
 
 // ---- packages
 
@@ -48,28 +52,14 @@ fn same_package(ws: &[u32], text: &[u8], a: u32, c: u32) -> bool
     )
 }
 
-// Whether these flags say public.
-fn is_public(flags: u32) -> bool
-    ensures { result ≡ is_public flags }
-{
-    flags % 2 == 1
-}
-
-// Whether they say protected.
-fn is_protected(flags: u32) -> bool
-    ensures { result ≡ is_protected flags }
-{
-    flags / 4 % 2 == 1
-}
-
 // Whether method k of class a is open to class c.
 #[tactic(auto, unfolding(linking::specs::Packages::open_to))]
 fn open_to(ws: &[u32], text: &[u8], k: u32, a: u32, c: u32) -> bool
     ensures { result ≡ open_to ws.now text.now k a c }
 {
     let flags = class_sheet::method_flags(ws, k);
-    is_public(flags)
-        || is_protected(flags)
+    class_sheet::is_public(flags)
+        || class_sheet::is_protected(flags)
         || (!class_sheet::is_private(flags) && same_package(ws, text, a, c))
 }
 
@@ -131,7 +121,7 @@ fn mark_above(
     if a == 0 {
         return;
     }
-    if mark_class(ws, text, m, reached.classes(), a, marks) {
+    if mark_class(ws, text, m, reached.as_slice(), a, marks) {
         reached.push(a);
     }
     mark_above(ws, text, m, reached, chain::parent_of(ws, a), marks);
@@ -145,7 +135,8 @@ fn mark_overridden(ws: &[u32], text: &[u8], c: u32, m: u32, marks: &mut [bool; M
     if !chain::is_virtual(class_sheet::method_flags(ws, m)) {
         return;
     }
-    let mut reached = Reached::of(c);
+    let mut reached = Reached::new();
+    reached.push(c);
     mark_above(ws, text, m, &mut reached, chain::parent_of(ws, c), marks);
 }
 

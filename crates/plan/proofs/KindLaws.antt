@@ -5,12 +5,11 @@ use mathlib.Core.Logic.{◌≢◌}
 use mathlib.Core.List.{List, []}
 use Prim.Native.Nat.{ℕ, ◌≤◌, ◌<◌}
 use native.Mathlib.Omega.{arith}
-use lib.ListN.{length, replicate}
+use lib.ListN.{length}
 use lib.Dec.{eqb, ltb}
 use borrow.Author.Tests.{lt-ltb, le-ltb, ne_eqb}
 use Rattle.words.proofs.Bools.{by}
-use Rattle.class_sheet.specs.ClassSheet.{class_kind, is_built_kind, field_limit}
-use Rattle.linking.specs.Set.{overlaid}
+use Rattle.class_sheet.specs.ClassSheet.{class_kind, is_built_kind}
 use Rattle.linking.specs.Vtable.{Entry, Built, built, refused, parent_entries}
 use Rattle.linking.specs.Abi.{class_abi}
 use Rattle.linking.specs.Compiler.{New}
@@ -18,7 +17,7 @@ use Rattle.linking.specs.Fields.{number_fields, built_words, generated_refusal, 
 use Rattle.linking.specs.Link as L
 use Rattle.reading.specs.Arrays.{entries_of}
 use Rattle.reading.proofs.ArrayLaws.{length-entries}
-use Rattle.field.specs.Numbers.{added_to, members_of, numbering_of, numbered_of, built_fields, generated_fields}
+use Rattle.field.specs.Numbers.{added_to, members_of, numbering_of, no_fields, with_fields, built_fields, generated_fields}
 use Rattle.field.specs.declared.Numbered.{Numbered}
 use Rattle.field.proofs.OutcomeLaws.{built-accepted, built-refused, generated-accepted, generated-refused}
 use Rattle.field.proofs.AddedLaws.{members_are}
@@ -29,6 +28,7 @@ use Rattle.std.specs.Prelude.{Result, Ok, Err}
 use Rattle.refusal.specs.declared.Refusal.{Refusal}
 use Rattle.refusal.specs.Rows.{row}
 use Rattle.refusal.proofs.Rows.{row_above}
+use Rattle.vtable.specs.Tables.{step_of}
 use Rattle.plan.specs.Plans.{few_slots, methods_of, fields_of, Planning}
 
 -- ---- row 13
@@ -76,14 +76,14 @@ module _ (ws text abi labels area : List ℕ) (c : ℕ) where
   -- ---- a built class
 
   pub built-row : (words : ℕ) (T : List Entry) (new : List New) (refusal : Refusal)
-      → ◌≡◌ {A = Result Numbered ℕ} (Err (row refusal)) (numbered_of (built_fields ws text abi labels c))
+      → ◌≡◌ {A = Result Numbered ℕ} (Err (row refusal)) (built_fields ws text abi labels c)
       → Planning ws c words (L.plan_built ws text abi labels area c) (Err refusal) T new
   unfolding L.plan_built
   built-row words T new refusal numbers =
       let p = built-refused ws text abi labels c numbers in
       refused-plan ws c words T new refusal (rw (p.1, p.0))
 
-  module _ (f : Numbered) (numbers : ◌≡◌ {A = Result Numbered ℕ} (Ok f) (numbered_of (built_fields ws text abi labels c))) where
+  module _ (f : Numbered) (numbers : ◌≡◌ {A = Result Numbered ℕ} (Ok f) (built_fields ws text abi labels c)) where
     abbrev gs : List ℕ
     gs = added_to ws text abi labels c
 
@@ -109,7 +109,8 @@ module _ (ws text abi labels area : List ℕ) (c : ℕ) where
       unfolding L.plan_built L.within_slots
       built-passes = rw ((built-accepted ws text abi labels c numbers).0, ← table, few-passes T few)
 
-      built-words : is_built_kind (class_kind ws c) ≡ true → L.new_words ws text abi labels c ≡ built_words ws text abi labels (class_abi ws text abi labels c) c
+      built-words : is_built_kind (class_kind ws c) ≡ true
+          → L.new_words ws text abi labels c ≡ built_words ws text abi labels (class_abi ws text abi labels c) c
       unfolding L.new_words
       built-words k = rw k
 
@@ -119,6 +120,13 @@ module _ (ws text abi labels area : List ℕ) (c : ℕ) where
           let m : news_of ws text abi labels ms ≡ L.new_fields_of abi labels gs = rw e (members_are ws text abi labels gs) in
           accepted-plan ws c (L.new_words ws text abi labels c) T (news_of ws text abi labels ms) plan-of f built-passes
           (rw (built-words kind) (built-accepted ws text abi labels c numbers).1) refl (rw kind) (rw (kind, m))
+
+    -- row 13 of its table refuses, or the plan stands
+    pub built-done : (T : List Entry) (r : Result (Unit {0}) Refusal) {ms : List Member} → built T ≡ L.built_table ws text abi labels area c
+        → step_of r T ≡ few_slots (built T) → is_built_kind (class_kind ws c) ≡ true → ms ≡ members_of abi gs
+        → Planning ws c (L.new_words ws text abi labels c) (L.plan_built ws text abi labels area c) (with_fields r f) T (news_of ws text abi labels ms)
+    built-done T (Ok u) table few kind e = built-plan T table few kind e
+    built-done T (Err refusal) table few kind e = built-stops _ T _ refusal (row_then table few)
 
   -- ---- a class that gets no instance words
 
@@ -131,14 +139,14 @@ module _ (ws text abi labels area : List ℕ) (c : ℕ) where
   pub array_plan : (ps qs : List ℕ) (n : ℕ) {ms : List Member} → is_built_kind (class_kind ws c) ≡ false → n ≤ 1024
       → entries_of ps qs n ≡ parent_entries ws text abi labels area c → ms ≡ []
       → Planning ws c (L.new_words ws text abi labels c) (L.plan_array ws text abi labels area c)
-      (Ok (record { indices = replicate field_limit 0; n = 0; words = 0 })) (entries_of ps qs n) (news_of ws text abi labels ms)
-  unfolding L.plan_array L.within_slots overlaid
+      (Ok no_fields) (entries_of ps qs n) (news_of ws text abi labels ms)
+  unfolding L.plan_array L.within_slots
   array_plan ps qs n {ms = ms} kind few table none =
       let m : news_of ws text abi labels ms ≡ [] = rw none (news_none ws text abi labels) in
       rw (no_words kind, m)
       (accepted-plan ws c 0 (entries_of ps qs n) []
       (record { table = parent_entries ws text abi labels area c; indices = []; new_methods = []; new_fields = [] })
-      (record { indices = replicate field_limit 0; n = 0; words = 0 })
+      no_fields
       (rw (← table, length-entries ps qs n, le-ltb 1024 n few)) refl table (either (is_built_kind (class_kind ws c)))
       (either (is_built_kind (class_kind ws c))))
     where
@@ -149,7 +157,7 @@ module _ (ws text abi labels area : List ℕ) (c : ℕ) where
   -- ---- a generated class
 
   pub generated-row : (words : ℕ) (T : List Entry) (new : List New) (refusal : Refusal)
-      → ◌≡◌ {A = Result Numbered ℕ} (Err (row refusal)) (numbered_of (generated_fields ws text c))
+      → ◌≡◌ {A = Result Numbered ℕ} (Err (row refusal)) (generated_fields ws text c)
       → Planning ws c words (L.plan_generated ws text abi labels area c) (Err refusal) T new
   unfolding L.plan_generated
   generated-row words T new refusal numbers =
@@ -158,7 +166,7 @@ module _ (ws text abi labels area : List ℕ) (c : ℕ) where
       let n : generated_refusal ws text c ≢ 0 = (λ z. omega arith) in
       refused-plan ws c words T new refusal (rw p (simp (ne_eqb (generated_refusal ws text c) 0 n)))
 
-  module _ (f : Numbered) (numbers : ◌≡◌ {A = Result Numbered ℕ} (Ok f) (numbered_of (generated_fields ws text c))) where
+  module _ (f : Numbered) (numbers : ◌≡◌ {A = Result Numbered ℕ} (Ok f) (generated_fields ws text c)) where
     pub generated-stops : (words : ℕ) (T : List Entry) (new : List New) (refusal : Refusal)
         → refused (row refusal) ≡ few_slots (L.generated_table ws text abi labels area c)
         → Planning ws c words (L.plan_generated ws text abi labels area c) (Err refusal) T new
@@ -187,6 +195,13 @@ module _ (ws text abi labels area : List ℕ) (c : ℕ) where
           rw (no_words kind)
           (accepted-plan ws c 0 T new made_of f generated-passes (generated-accepted ws text c numbers).1 refl
           (rw (kind, e)) (rw kind))
+
+    -- row 13 of its table refuses, or the plan stands
+    pub generated-done : (T : List Entry) (r : Result (Unit {0}) Refusal) {new : List New} → built T ≡ L.generated_table ws text abi labels area c
+        → step_of r T ≡ few_slots (built T) → is_built_kind (class_kind ws c) ≡ false → new ≡ L.generated_methods ws text abi labels area c
+        → Planning ws c (L.new_words ws text abi labels c) (L.plan_generated ws text abi labels area c) (with_fields r f) T new
+    generated-done T (Ok u) table few kind e = generated-plan T table few kind e
+    generated-done T (Err refusal) table few kind e = generated-stops _ T _ refusal (row_then table few)
 
   -- ---- by the kind
 

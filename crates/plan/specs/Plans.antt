@@ -6,6 +6,9 @@ use Rattle.linking.specs.Compiler.{New}
 use Rattle.linking.specs.Link as L
 use Rattle.refusal.specs.declared.Refusal.{Refusal}
 use Rattle.field.specs.Numbers.{numbering_of, by_row}
+use Rattle.growth.specs.News.{news_of}
+use Rattle.reading.specs.Tables.{entries}
+use Rattle.plan.specs.declared.Plan.{Plan}
 use Rattle.field.specs.declared.Numbered.{Numbered}
 
 -- row 13: "more than 1,024 slots"
@@ -41,3 +44,8 @@ abbrev pub Plans : (List ℕ → List ℕ → List ℕ → List ℕ → List ℕ
     → Result Numbered Refusal → List Entry → List New → Type 0
 Plans of ws text abi labels area c r T new =
     Planning ws c (L.new_words ws text abi labels c) (of ws text abi labels area c) r T new
+
+-- and of a plan that the code made
+abbrev pub Leaves : (List ℕ → List ℕ → List ℕ → List ℕ → List ℕ → ℕ → L.Planned) → List ℕ → List ℕ → List ℕ → List ℕ → List ℕ → ℕ
+    → Result Numbered Refusal → Plan → Type 0
+Leaves of ws text abi labels area c r p = Plans of ws text abi labels area c r (entries p.table) (news_of ws text abi labels p.news)

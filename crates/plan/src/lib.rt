@@ -1,22 +1,47 @@
 // What a link comes to before anything is written: rows 8 to 13, by the class's kind.
 #![tactic(auto)]
 
-ghost use Rattle.std.specs.Prelude.{◌≡◌, true, false};
+ghost use Rattle.std.specs.Prelude.{◌≡◌, true, false, []};
 ghost use Rattle.class_sheet.specs.ClassSheet.{class_kind, is_built_kind};
 ghost use Rattle.linking.specs.Link.{built_table, generated_table, generated_methods, plan_built, plan_generated, plan_array, plan};
 ghost use Rattle.linking.specs.Vtable.{built};
 ghost use Rattle.growth.specs.News.{news_of};
 ghost use Rattle.linking.specs.Sheets.{of_sheets};
 ghost use Rattle.reading.specs.Tables.{entries};
+ghost use Rattle.field.specs.Numbers.{no_fields, with_fields};
 ghost use Rattle.vtable.specs.Tables.{step_of};
-ghost use Rattle.plan.specs.Plans.{few_slots, Plans};
+ghost use Rattle.plan.specs.Plans.{few_slots, Leaves};
 
 use class_sheet::Kind;
 use field::Numbered;
 use growth::News;
 use linking::Sheets;
-use reading::{BuiltTable, TABLE_LIMIT};
+use reading::{BuiltTable, TABLE_LIMIT, Table};
 use refusal::Refusal;
+
+// What a link comes to before anything is written: the class's table, the indices of its own fields with its instance words, and the members
+// that it adds.
+#[derive(Drop)]
+pub struct Plan {
+    pub table: BuiltTable,
+    pub fields: Numbered,
+    pub news: News,
+}
+
+impl Plan {
+    // One of nothing.
+    pub fn new() -> Plan
+        ensures table { entries result.table ≡ [] }
+        ensures fields { result.fields ≡ no_fields }
+        ensures news { result.news ≡ [] }
+    {
+        Plan {
+            table: Table::for_building(),
+            fields: Numbered::new(),
+            news: News::new(),
+        }
+    }
+}
 
 // Row 13, more than 1,024 slots.
 #[tactic(auto, using(crate::proofs::KindLaws::few_many, crate::proofs::KindLaws::few_left))]
@@ -66,79 +91,45 @@ fn generated_table(
 }
 
 // A built class: row 10, its table, and the ABI fields that it adds.
-fn plan_built(
-    sheets: Sheets,
-    area: &[u32],
-    c: u32,
-    table: &mut BuiltTable,
-    news: &mut News,
-) -> Result<Numbered, Refusal>
+fn plan_built(sheets: Sheets, area: &[u32], c: u32, made: &mut Plan) -> Result<(), Refusal>
     requires { is_built_kind (class_kind sheets.set.now c) ≡ true }
-    ensures { of_sheets (Plans plan_built) sheets.entry area.now c
-        result (entries table.new) (of_sheets news_of sheets.entry news.new) }
+    ensures { of_sheets (Leaves plan_built) sheets.entry area.now c (with_fields result made.new.fields) made.new }
 {
-    let fields = field::built_fields(sheets, c, news)?;
-    built_table(sheets, area, c, table)?;
-    few_slots(table)?;
-    Ok(fields)
+    field::built_fields(sheets, c, &mut made.fields, &mut made.news)?;
+    built_table(sheets, area, c, &mut made.table)?;
+    few_slots(&made.table)
 }
 
 // A generated class: rows 8 and 9, its table, and the methods that it adds.
-fn plan_generated(
-    sheets: Sheets,
-    area: &[u32],
-    c: u32,
-    table: &mut BuiltTable,
-    news: &mut News,
-) -> Result<Numbered, Refusal>
+fn plan_generated(sheets: Sheets, area: &[u32], c: u32, made: &mut Plan) -> Result<(), Refusal>
     requires { is_built_kind (class_kind sheets.set.now c) ≡ false }
-    ensures { of_sheets (Plans plan_generated) sheets.entry area.now c
-        result (entries table.new) (of_sheets news_of sheets.entry news.new) }
+    ensures { of_sheets (Leaves plan_generated) sheets.entry area.now c (with_fields result made.new.fields) made.new }
 {
-    let fields = field::generated_fields(sheets.set, sheets.text, c)?;
-    generated_table(sheets, area, c, table, news)?;
-    few_slots(table)?;
-    Ok(fields)
+    field::generated_fields(sheets.set, sheets.text, c, &mut made.fields)?;
+    generated_table(sheets, area, c, &mut made.table, &mut made.news)?;
+    few_slots(&made.table)
 }
 
 // An array class: the parent's entries, and no members.
-fn plan_array(
-    sheets: Sheets,
-    area: &[u32],
-    c: u32,
-    table: &mut BuiltTable,
-    news: &mut News,
-) -> Numbered
+fn plan_array(sheets: Sheets, area: &[u32], c: u32, made: &mut Plan)
     requires { is_built_kind (class_kind sheets.set.now c) ≡ false }
-    ensures { of_sheets (Plans plan_array) sheets.entry area.now c
-        (Ok result) (entries table.new) (of_sheets news_of sheets.entry news.new) }
+    ensures { of_sheets (Leaves plan_array) sheets.entry area.now c (Ok made.new.fields) made.new }
 {
-    reading::parent_entries(sheets, area, c, table);
-    news.clear();
-    Numbered {
-        indices: [0; class_sheet::FIELD_LIMIT as usize],
-        n: 0,
-        words: 0,
-    }
+    reading::parent_entries(sheets, area, c, &mut made.table);
+    made.fields.clear();
+    made.news.clear();
 }
 
-// What a link of class c comes to before anything is written: the indices of its own fields and its instance words, as the answer, its table, and
-// the members that it adds. What a refused link leaves of the two is the program's choice.
-pub fn plan_link(
-    sheets: Sheets,
-    area: &[u32],
-    c: u32,
-    table: &mut BuiltTable,
-    news: &mut News,
-) -> Result<Numbered, Refusal>
-    ensures { of_sheets (Plans plan) sheets.entry area.now c
-        result (entries table.new) (of_sheets news_of sheets.entry news.new) }
+// What a link of class c comes to before anything is written. What a refused link leaves of it is the program's choice.
+pub fn plan_link(sheets: Sheets, area: &[u32], c: u32, made: &mut Plan) -> Result<(), Refusal>
+    ensures { of_sheets (Leaves plan) sheets.entry area.now c (with_fields result made.new.fields) made.new }
 {
     if class_sheet::is_built(sheets.set, c) {
-        return plan_built(sheets, area, c, table, news);
+        return plan_built(sheets, area, c, made);
     }
     if class_sheet::has_kind(sheets.set, c, Kind::Generated) {
-        return plan_generated(sheets, area, c, table, news);
+        return plan_generated(sheets, area, c, made);
     }
-    Ok(plan_array(sheets, area, c, table, news))
+    plan_array(sheets, area, c, made);
+    Ok(())
 }

@@ -81,7 +81,8 @@ entry_found ts ms n i d h = get_d_list_from (entry_at ts ms) 0 n i d h ∙ ap (e
 
 -- what is read of slot i, and past the last
 pub slot_is : (ts ms : List ℕ) (n i : ℕ) → i < n
-    → ◌≡◌ {A = Entry} (record { word = get_or ts i 0; method = method_of (get_or ms i 0); source = source_of (get_or ms i 0) }) (get_or (entries_of ts ms n) i empty)
+    → ◌≡◌ {A = Entry} (record { word = get_or ts i 0; method = method_of (get_or ms i 0); source = source_of (get_or ms i 0) })
+    (get_or (entries_of ts ms n) i empty)
 unfolding entry_at
 slot_is ts ms n i h = sym (entry_found ts ms n i empty h)
 
@@ -107,7 +108,11 @@ pub put_slot : (ts ms : List ℕ) (n i w k : ℕ) → n ≤ length ts → n ≤ 
     → entries_of (set ts i w) (set ms i k) n ≡ set (entries_of ts ms n) i (record { word = w; method = method_of k; source = source_of k })
 put_slot ts ms n i w k r s =
     ext_get_or empty (entries_of (set ts i w) (set ms i k) n) (set (entries_of ts ms n) i (record { word = w; method = method_of k; source = source_of k }))
-    (rw (length-entries (set ts i w) (set ms i k) n, length-set (entries_of ts ms n) i (record { word = w; method = method_of k; source = source_of k }), length-entries ts ms n))
+    (rw (
+      length-entries (set ts i w) (set ms i k) n,
+      length-set (entries_of ts ms n) i (record { word = w; method = method_of k; source = source_of k }),
+      length-entries ts ms n,
+    ))
     (λ j l.
     let g : j < n = rw (length-entries (set ts i w) (set ms i k) n) at l in
     let e = length-entries ts ms n in
@@ -129,7 +134,8 @@ pub push_slot : (ts ms : List ℕ) (n w k : ℕ) → n < length ts → n < lengt
 push_slot ts ms n w k r s =
     let e = length-entries ts ms n in
     let f = length-append (entries_of ts ms n) (record { word = w; method = method_of k; source = source_of k } ∷ []) in
-    ext_get_or empty (entries_of (set ts n w) (set ms n k) (n + 1)) (entries_of ts ms n ++ (record { word = w; method = method_of k; source = source_of k } ∷ []))
+    ext_get_or empty (entries_of (set ts n w) (set ms n k) (n + 1))
+    (entries_of ts ms n ++ (record { word = w; method = method_of k; source = source_of k } ∷ []))
     (rw (length-entries (set ts n w) (set ms n k) (n + 1)) (omega arith))
     (λ j l.
     let g : j < n + 1 = rw (length-entries (set ts n w) (set ms n k) (n + 1)) at l in

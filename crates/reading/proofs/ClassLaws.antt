@@ -247,7 +247,8 @@ module _ (ws area : List ℕ) (place c n : ℕ) (ts ms cs : List ℕ) {us ns ds 
       (λ i. target_found ws c (get_or us i 0)) (λ i. target_sound ws c (get_or us i 0)) marks_room classes-room (paired_start n ms cs z y s q) k e
 
   -- and then by index
-  module _ (text abi labels : List ℕ) {fs : List ℕ} (f : fs ≡ classes_with (declared_by_index ws text abi labels c) n es) (at : place ≡ class_table_place ws c) where
+  module _ (text abi labels : List ℕ) {fs : List ℕ}
+      (f : fs ≡ classes_with (declared_by_index ws text abi labels c) n es) (at : place ≡ class_table_place ws c) where
     abbrev both : ℕ → Option Declared
     both i = option_or (declared_by_target ws c (get_or us i 0)) (declared_by_index ws text abi labels c i)
 

@@ -2,3 +2,4 @@ pub mod ArrayLaws
 pub mod ClassLaws
 pub mod MarkLaws
 pub mod ReadLaws
+pub mod SlotLaws

@@ -154,7 +154,8 @@ module _ (records ts : List ℕ) (first n : ℕ) (ms : List ℕ) where
   turn j {w = w} e f u h l =
       u ∙ rw e (marks_then (first_of records ts first j) n ms (λ i. cond (eqb w (get_or ts i 0)) (Some (first + j)) None) (first_of records ts first (j + 1)) l
       (λ i k. rw (f, find-more (λ m. eqb (record_word records member_width m target_word) (get_or ts i 0)) first j)
-      (mark-then k (first_of records ts first j i) (cond (eqb (record_word records member_width (first + j) target_word) (get_or ts i 0)) (Some (first + j)) None)
+      (mark-then k (first_of records ts first j i)
+      (cond (eqb (record_word records member_width (first + j) target_word) (get_or ts i 0)) (Some (first + j)) None)
       (λ m q. let b = find-within (λ m. eqb (record_word records member_width m target_word) (get_or ts i 0)) first j m q in omega arith))))
 
   pub targets-start : ms ≡ marks_with (first_of records ts first (first - first)) n ms
@@ -187,7 +188,8 @@ module _ (ws ts : List ℕ) (c n : ℕ) (ms : List ℕ) where
 
   pub targets-all : {r ns us : List ℕ} {first count p : ℕ} → r ≡ method_records ws → first ≡ class_first_method ws c
       → count ≡ class_method_count ws c → ns ≡ marks_with (λ i. first_target r first count (get_or ts i 0)) n ms → p ≡ parent_of ws c
-      → us ≡ marks_with (λ i. find_by_target ws p (get_or ts i 0)) n ns → 0 < c → n ≤ length ms → us ≡ marks_with (λ i. find_by_target ws c (get_or ts i 0)) n ms
+      → us ≡ marks_with (λ i. find_by_target ws p (get_or ts i 0)) n ns → 0 < c → n ≤ length ms
+      → us ≡ marks_with (λ i. find_by_target ws c (get_or ts i 0)) n ms
   targets-all {r = r} {first = first} {count = count} {p = p} e f g s q u h l =
       u ∙ rw s (marks_then (λ i. first_target r first count (get_or ts i 0)) n ms (λ i. find_by_target ws p (get_or ts i 0))
       (λ i. find_by_target ws c (get_or ts i 0)) l (λ i k. rw (record_target ws (get_or ts i 0) c e f g, q, target-step (get_or ts i 0) h)

@@ -21,16 +21,20 @@ module _ (ws text abi labels : List ℕ) where
     unfolding own_fixed
     fixed-none e = rw (← entry, e)
 
-  entry_eta : (c i w : ℕ) → ◌≡◌ {A = Entry} (record { word = w; method = (read_entry ws text abi labels c i w).method; source = Some i }) (read_entry ws text abi labels c i w)
+  entry_eta : (c i w : ℕ)
+      → ◌≡◌ {A = Entry} (record { word = w; method = (read_entry ws text abi labels c i w).method; source = Some i }) (read_entry ws text abi labels c i w)
   unfolding read_entry
   entry_eta c i w = refl
 
   -- an entry comes back from its word and mark
-  pub read_back : (c i w : ℕ) → ◌≡◌ {A = Entry} (record { word = w; method = method_of (mark_of (read_entry ws text abi labels c i w).method); source = Some i }) (read_entry ws text abi labels c i w)
+  pub read_back : (c i w : ℕ)
+      → ◌≡◌ {A = Entry} (record { word = w; method = method_of (mark_of (read_entry ws text abi labels c i w).method); source = Some i })
+      (read_entry ws text abi labels c i w)
   read_back c i w = read_is (found_back (read_entry ws text abi labels c i w).method (entry-room ws text abi labels c i w))
     where
       read_is : method_of (mark_of (read_entry ws text abi labels c i w).method) ≡ (read_entry ws text abi labels c i w).method
-          → ◌≡◌ {A = Entry} (record { word = w; method = method_of (mark_of (read_entry ws text abi labels c i w).method); source = Some i }) (read_entry ws text abi labels c i w)
+          → ◌≡◌ {A = Entry} (record { word = w; method = method_of (mark_of (read_entry ws text abi labels c i w).method); source = Some i })
+          (read_entry ws text abi labels c i w)
       read_is e = rw e (entry_eta c i w)
 
   module _ (area : List ℕ) (c : ℕ) where

@@ -18,7 +18,8 @@ ghost use Rattle.linking.specs.Sheets.{of_sheets};
 
 use linking::Sheets;
 pub use table::{
-    BUILD_LIMIT, BuiltTable, ReadTable, Slot, TABLE_LIMIT, Table, mark_of, method_of, source_of,
+    BUILD_LIMIT, BuiltTable, ReadTable, Slot, Slots, TABLE_LIMIT, Table, mark_of, method_of,
+    source_of,
 };
 
 mod table;

@@ -1,7 +1,7 @@
 // A table of virtual slots as the code holds it: two arrays, its slots' words and their marks, and how many slots there are. A mark is a word that
 // stands for a method's number or for none, and for the slot that it is a copy of or none: only this crate knows how.
 
-ghost use Rattle.std.specs.Prelude.{◌≡◌, ◌≤◌, ◌<◌, ◌+◌, length, get_or, set, replicate, [], ◌∷◌, ◌++◌, None, Some};
+ghost use Rattle.std.specs.Prelude.{◌≡◌, ◌≤◌, ◌<◌, ◌+◌, min, length, get_or, set, replicate, [], ◌∷◌, ◌++◌, None, Some};
 ghost use Rattle.class_sheet.specs.ClassSheet.{method_limit, method_target};
 ghost use Rattle.linking.specs.Vtable.{empty, method_entry};
 ghost use Rattle.reading.specs.Arrays.{mark_of, method_of, source_of};
@@ -79,6 +79,33 @@ impl Slot {
     }
 }
 
+// The slots of a table that are left, in their order.
+#[derive(Clone, Copy)]
+pub struct Slots<'a> {
+    words: &'a [u32],
+    marks: &'a [u32],
+    pub ghost lengths: { length marks.now ≡ length words.now },
+}
+
+impl<'a> Iterator for Slots<'a> {
+    ghost use Rattle.std.specs.Iterator.{YieldsFirstBy, item_count};
+    ghost use Rattle.reading.specs.Tables.{entry, entries_left};
+
+    type Item = Slot;
+
+    ghost next_gives = { YieldsFirstBy entry entries_left };
+
+    ghost remaining = { item_count entries_left };
+
+    #[tactic(auto, using(crate::proofs::SlotLaws::none_left, crate::proofs::SlotLaws::slot_left))]
+    fn next(&mut self) -> Option<Slot> {
+        let (&word, words) = self.words.split_first()?;
+        let (&mark, marks) = self.marks.split_first()?;
+        *self = Slots { words, marks };
+        Some(Slot { word, mark })
+    }
+}
+
 // How many slots a table of the area has at most.
 pub const TABLE_LIMIT: usize = 1024;
 
@@ -144,7 +171,19 @@ impl<const N: usize> Table<N> {
     ghost use Rattle.words.specs.Lists.{list_from};
     ghost use Rattle.linking.specs.Vtable.{Entry};
     ghost use Rattle.reading.specs.declared.table.Slot.{Slot};
-    ghost use Rattle.reading.specs.Tables.{entry, entries};
+    ghost use Rattle.reading.specs.Tables.{entry, entries, entries_left};
+
+    // Its slots, in their order.
+    #[tactic(auto, using(crate::proofs::SlotLaws::slots_of))]
+    pub fn slots(&self) -> Slots
+        ensures { entries_left result ≡ entries self.now }
+    {
+        let n = self.len as usize;
+        Slots {
+            words: &self.words[..n],
+            marks: &self.marks[..n],
+        }
+    }
 
     // Slot i, or an empty one past the table's end.
     #[tactic(auto, using(crate::proofs::ArrayLaws::slot_is, crate::proofs::ArrayLaws::slot_past))]
@@ -190,14 +229,14 @@ impl<const N: usize> Table<N> {
         }
     }
 
-    // Fills the table with the n slots that the closure gives, one for each number from 0 on.
+    // Fills the table with the n slots that the closure gives, one for each number from 0 on, or as many of them as there is room for.
     pub fn fill<F: Fn(u32) -> Slot>(&mut self, n: u32, slot: F)
-        requires { (n ≤ N) × F.IsAlwaysCallable slot }
-        ensures is { (g : ℕ → Entry) → ((i : ℕ) (r : Slot) → F.post slot i r → entry r ≡ g i) → entries self.new ≡ list_from g 0 n }
-        ensures len { self.new.len ≡ n }
+        requires { F.IsAlwaysCallable slot }
+        ensures is { (g : ℕ → Entry) → ((i : ℕ) (r : Slot) → F.post slot i r → entry r ≡ g i) → entries self.new ≡ list_from g 0 (min n N) }
+        ensures len { self.new.len ≡ min n N }
     {
         self.clear();
-        for i in 0..n {
+        for i in 0..n.min(N as u32) {
             self.push(slot(i));
         }
     }

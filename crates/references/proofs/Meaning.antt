@@ -43,7 +43,8 @@ module _ (bitmap : List ℕ) where
       rw next
       (by (is_marked bitmap n)
       (λ t. rw (before-take bitmap n t)
-      (⊎_elim (λ q. mathlib.Core.List.Memᴰ.append_right (marked_before bitmap n) (mathlib.Core.List.Memᴰ.head q)) (λ l. mathlib.Core.List.Memᴰ.append_left (n ∷ []) (member n i l e))
+      (⊎_elim (λ q. mathlib.Core.List.Memᴰ.append_right (marked_before bitmap n) (mathlib.Core.List.Memᴰ.head q))
+      (λ l. mathlib.Core.List.Memᴰ.append_left (n ∷ []) (member n i l e))
       (split h)))
       (λ t. rw (before-skip bitmap n t) (⊎_elim (λ (q : i ≡ n). absurd (true≢false (sym (rw q at e) ∙ t))) (λ l. member n i l e) (split h))))
 

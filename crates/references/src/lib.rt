@@ -76,12 +76,8 @@ fn put_marked(bitmap: &[u8], n: u32, list: &mut [u32])
     requires { length (marked_words bitmap.now n) ≤ length list.old }
     ensures { list.new ≡ written_over (marked_words bitmap.now n) list.old }
 {
-    let mut k: usize = 0;
-    for i in 0..n {
-        if is_marked(bitmap, i) {
-            words::put(list, k, i);
-            k += 1;
-        }
+    for (k, i) in (0..n).filter(|i| is_marked(bitmap, *i)).enumerate() {
+        words::put(list, k, i);
     }
 }
 

@@ -7,7 +7,7 @@ use std::fmt;
 // The rows in the order of their numbers, from 1 on.
 #[derive(Clone, Copy, Debug, PartialEq, Eq)]
 pub enum Refusal {
-    Blocks,
+    Blocks = 1,
     CheckWord,
     Form,
     Record,
@@ -43,34 +43,7 @@ impl From<Refusal> for u32 {
     ghost from_gives = { λ refusal n. n ≡ row refusal };
 
     fn from(refusal: Refusal) -> u32 {
-        match refusal {
-            Refusal::Blocks => 1,
-            Refusal::CheckWord => 2,
-            Refusal::Form => 3,
-            Refusal::Record => 4,
-            Refusal::Descriptor => 5,
-            Refusal::Class => 6,
-            Refusal::Area => 7,
-            Refusal::FewWords => 8,
-            Refusal::MixedIndices => 9,
-            Refusal::ManyWords => 10,
-            Refusal::MovedSlot => 11,
-            Refusal::TakenSlot => 12,
-            Refusal::ManySlots => 13,
-            Refusal::FullLists => 14,
-            Refusal::ShortMemory => 15,
-            Refusal::Unimplemented => 16,
-            Refusal::NotFresh => 17,
-            Refusal::ShortBytes => 18,
-            Refusal::Ring => 19,
-            Refusal::NotClassFile => 20,
-            Refusal::WrongEnd => 21,
-            Refusal::WrongPool => 22,
-            Refusal::LostStatics => 23,
-            Refusal::ShortBitmap => 24,
-            Refusal::ShortList => 25,
-            Refusal::MixedPackages => 26,
-        }
+        refusal as u32
     }
 }
 

@@ -34,7 +34,7 @@ pub record Rows : Type 0 where
       ≡ record { refusal = 0; classes = 2; set = set_of (class 0 0 0 ∷ class 1 1 2 ∷ []) (1 ∷ 2 ∷ 1 ∷ []); list = 2 ∷ 1 ∷ [] }
 
 pub rows : Rows
-unfolding all_of list_from find position some joined cut count_at class_word interface_word methods_at fields_at interfaces_at compilers_at text_at content_end
-    laid_out sections_by class_limits class_fits unlinked is_built_kind statics_clean fresh interface_names placed ready next_class order_from order_of new_number moved_record
-    renumbered renumber_form stray_parent names_classes returns_from returns cyclic renumber_refusal renumber_def
+unfolding all_of list_from find position some joined cut count_at class_word interface_word methods_at fields_at interfaces_at compilers_at text_at
+    content_end laid_out sections_by class_limits class_fits unlinked is_built_kind statics_clean fresh interface_names placed ready next_class order_from
+    order_of new_number moved_record renumbered renumber_form stray_parent names_classes returns_from returns cyclic renumber_refusal renumber_def
 rows = record { interfaces = refl }

@@ -3,9 +3,7 @@ use mathlib.Core.Path.{◌≡◌, refl, sym, ap, ◌∙◌}
 use mathlib.Core.List.{List, [], ◌∷◌, ◌++◌}
 use Prim.Native.Nat.{ℕ, suc, ◌+◌, ◌-◌, ◌≤◌, ◌<◌}
 use native.Mathlib.Omega.{arith}
-use native.Mathlib.Numerals.{add-one}
-use lib.ListN.{length, take, drop, set}
-use lib.Seq.{take-suc-set}
+use lib.ListN.{length, take, length-append}
 use lib.Dec.{eqb, ltb}
 use borrow.Author.Tests.{eq-eqb, ne_eqb, eqb-true, eqb-false, lt-ltb, le-ltb, ltb-true, ltb-false}
 use Rattle.std.specs.List.{list_any, position as first_place, position_or_len}
@@ -14,7 +12,8 @@ use Rattle.words.specs.Lists.{position, some}
 use Rattle.std.specs.Option.{option_map}
 use Rattle.std.specs.Prelude.{Option, Some, None}
 use Rattle.words.proofs.Bools.{by}
-use Rattle.class_sheet.specs.ClassSheet.{class_count}
+use Rattle.words.proofs.ListLaws.{push_room}
+use Rattle.class_sheet.specs.ClassSheet.{class_count, class_limit}
 use Rattle.renumber.specs.Renumber.{placed, next_class, order_from, order_of, or_none, new_number}
 
 -- ---- the place of a class in the list
@@ -47,7 +46,8 @@ number_counted l c e = rw (place_is l c 1, e) (sym (none_counted (first_place (�
 pub placed_found : (l : List ℕ) (c : ℕ) → list_any (λ y. eqb y c) l ≡ placed l c
 unfolding placed some
 placed_found [] c = refl
-placed_found (x ∷ l) c = rw (placed_found l c) (by (eqb x c) (λ t. rw (eqb-true x c t, eq-eqb c c refl)) (λ t. rw (t, ne_eqb c x (λ e. eqb-false x c t (sym e)))))
+placed_found (x ∷ l) c =
+    rw (placed_found l c) (by (eqb x c) (λ t. rw (eqb-true x c t, eq-eqb c c refl)) (λ t. rw (t, ne_eqb c x (λ e. eqb-false x c t (sym e)))))
 
 -- ---- the list as it is filled: what it becomes after k classes
 
@@ -63,17 +63,20 @@ module _ (ws : List ℕ) where
   unfolding order_left order_from
   place_end k l h = let g : class_count ws - k ≡ 0 = omega arith in rw g
 
-  -- one class more, or none, as the code finds it: the first k words as a part, searched
-  module _ (list : List ℕ) (k : ℕ) {p : List ℕ} {f : Option ℕ} (part : p ≡ take k (drop 0 list)) (first : f ≡ next_class ws p) where
-    pub place-turn : (c : ℕ) → f ≡ Some c → k < class_count ws → k < length list → {m : List ℕ} → m ≡ set list k c
-        → order_left ws (k + 1) (take (k + 1) m) ≡ order_left ws k (take k list)
+  -- one class more, or none, as the code finds it
+  module _ (list : List ℕ) (k : ℕ) {p : List ℕ} {f : Option ℕ} (all : p ≡ list) (first : f ≡ next_class ws p) where
+    pub place-turn : (c : ℕ) → f ≡ Some c → k < class_count ws → length list < class_limit → {m : List ℕ} → m ≡ take class_limit (list ++ c ∷ [])
+        → order_left ws (k + 1) m ≡ order_left ws k list
     unfolding order_left order_from
     place-turn c t h r {m} e =
         let g : class_count ws - k ≡ suc (class_count ws - (k + 1)) = omega arith in
-        let n : next_class ws (take k list) ≡ Some c = rw part at (sym first) ∙ t in
-        let t : take (k + 1) m ≡ take k list ++ (c ∷ []) = rw (e, add-one k) (take-suc-set list k c r) in
-        rw (g, t) (sym (order-turn ws (class_count ws - (k + 1)) (take k list) c n))
+        let n : next_class ws list ≡ Some c = rw all at (sym first) ∙ t in
+        rw (g, e, push_room class_limit list c r) (sym (order-turn ws (class_count ws - (k + 1)) list c n))
 
-    pub place-stuck : f ≡ None → order_left ws k (take k list) ≡ take k list
+    pub place-stuck : f ≡ None → order_left ws k list ≡ list
     unfolding order_left
-    place-stuck t = order_stuck ws (class_count ws - k) (take k list) (rw part at (sym first) ∙ t)
+    place-stuck t = order_stuck ws (class_count ws - k) list (rw all at (sym first) ∙ t)
+
+-- a class more is one more
+pub pushed-count : (list : List ℕ) (c : ℕ) {m : List ℕ} → length list < class_limit → m ≡ take class_limit (list ++ c ∷ []) → length m ≡ length list + 1
+pushed-count list c h e = rw (e, push_room class_limit list c h) (length-append list (c ∷ []))

@@ -4,8 +4,7 @@ use mathlib.Core.Bool.{true, not}
 use mathlib.Core.List.{List}
 use Prim.Native.Nat.{ℕ, ◌≤◌, ◌<◌}
 use native.Mathlib.Omega.{arith}
-use lib.ListN.{length, take}
-use lib.Seq.{length-take-le}
+use lib.ListN.{length}
 use lib.Dec.{ltb}
 use borrow.Author.Tests.{not-false, lt-ltb, le-ltb, ltb-true, ltb-false}
 use Rattle.words.proofs.Bools.{by, and_both, passed}
@@ -31,7 +30,8 @@ stop ws names =
     (λ f. by (cyclic ws) (λ c. absurd (omega (arith, s.0 c, ltb-false (length (order_of ws)) (class_count ws) f))) (λ c. c ∙ sym f))
 
 -- what 3 or 4 refuses is refused
-pub refuse_form : (ws : List ℕ) (room : ℕ) (r : Refusal) {x : Result ℕ Refusal} → x ≡ Err r → row r ≡ form_refusal ws → row_of x ≡ renumber_refusal ws room
+pub refuse_form : {A : Type 0} (ws : List ℕ) (room : ℕ) (r : Refusal) {x : Result A Refusal} → x ≡ Err r → row r ≡ form_refusal ws
+    → row_of x ≡ renumber_refusal ws room
 unfolding form_refusal renumber_refusal
 refuse_form ws room r e form =
     rw e
@@ -53,9 +53,9 @@ module _ (ws : List ℕ) (form : 0 ≡ form_refusal ws) where
       (f.0.classes, f.1)
 
   -- after the order is made: k classes are placed
-  module _ (room k : ℕ) (list : List ℕ) (is : take k list ≡ order_of ws) (count : k ≤ class_count ws) (size : length list ≡ class_limit) where
+  module _ (room k : ℕ) (list : List ℕ) (is : list ≡ order_of ws) (count : length list ≤ class_count ws) (size : k ≡ length list) where
     order-length : length (order_of ws) ≡ k
-    order-length = rw (← is) (length-take-le k list (omega (arith, form-fits)))
+    order-length = rw (← is) (sym size)
 
     pub refuse_19 : k < class_count ws → 19 ≡ renumber_refusal ws room
     unfolding renumber_refusal
@@ -72,12 +72,5 @@ module _ (ws : List ℕ) (form : 0 ≡ form_refusal ws) where
       refuse_0 r =
           rw (form-passed.0, form-passed.1, stop ws form-passed.1, order-length, le-ltb k (class_count ws) h, le-ltb room (class_count ws) r)
 
-      pub is-complete : Complete ws (take (class_count ws) list)
-      is-complete =
-          let e : k ≡ class_count ws = omega arith in
-          record {
-            order = rw (← e) is;
-            all = length-take-le (class_count ws) list (omega (arith, form-fits));
-            few = omega (arith, form-fits, length-take-le (class_count ws) list (omega (arith, form-fits)));
-            fits = form-fits.1;
-          }
+      pub is-complete : Complete ws list
+      is-complete = record { order = is; all = omega arith; few = omega (arith, form-fits); fits = form-fits.1 }

@@ -252,12 +252,11 @@ module _ (ws order : List ℕ) where
         let c = passed (cyclic ws) 19 _ (omega arith) b.1 in
         ltb-false _ _ (passed (ltb (length order) (class_count ws)) 15 0 (omega arith) c.1).0
 
-    -- the list as a part of the array
-    module _ (list : List ℕ) {n : ℕ} {l : List ℕ} (complete : (n ≡ class_count ws) × Complete ws (take n list)) (part : l ≡ take n (drop 0 list)) where
-      pub part-complete : Complete ws l × (length l ≤ length order)
-      part-complete = let o : Complete ws l = rw part complete.1 in (o, omega (arith, o.all, list-room))
+    module _ {l : List ℕ} (o : Complete ws l) where
+      pub order-room : length l ≤ length order
+      order-room = omega (arith, o.all, list-room)
 
-      pub call-made : {out last : List ℕ} → out ≡ renumbered ws l → last ≡ l ++ drop (length l) order → outcome (Ok n) out last ≡ renumber_def ws order
+      pub call-made : {n : ℕ} {out last : List ℕ} → n ≡ length l → out ≡ renumbered ws l → last ≡ l ++ drop (length l) order
+          → outcome (Ok n) out last ≡ renumber_def ws order
       unfolding renumber_def
-      call-made records front =
-          let o = part-complete.0 in rw (← is, records, front, o.all, o.order, complete.0)
+      call-made count records front = rw (← is, records, front, count, o.all, o.order)

@@ -1,30 +1,89 @@
 // Renumbering the classes of a class sheet's words, so that parents come first.
 #![tactic(auto)]
 
-ghost use Rattle.std.specs.Prelude.{◌≡◌, not, ◌++◌, map, ◌+◌, ◌*◌, ◌≤◌, length, take, drop, IfOk};
+ghost use Rattle.std.specs.Prelude.{◌≡◌, not, [], ◌++◌, map, ◌+◌, ◌*◌, ◌≤◌, length, take, drop, IfOk};
 ghost use Rattle.refusal.specs.Rows.{row_of};
 ghost use Rattle.words.specs.Folds.{all_of};
 ghost use Rattle.words.specs.Rows.{joined};
 ghost use Rattle.class_sheet.specs.ClassSheet.{class_limit, class_width, class_count, content_end};
 ghost use Rattle.set_rules.specs.Valid.{IsClass};
 ghost use Rattle.renumber.specs.Renumber.{outcome, placed, ready, next_class, order_of, new_number, moved_record, renumbered, stray_parent, renumber_refusal, renumber_def};
-ghost use Rattle.renumber.specs.Steps.{form_refusal, Complete, records_moved, interfaces_mapped};
+ghost use Rattle.renumber.specs.Steps.{form_refusal, Complete, interfaces_mapped};
 
 use refusal::Refusal;
+use words::BoundedList;
 
 // The words of a list of as many classes as there may be, and of their records.
 const LIST_WORDS: usize = class_sheet::CLASS_LIMIT as usize;
 
 const RECORD_WORDS: usize = class_sheet::CLASS_WIDTH * LIST_WORDS;
 
-// The place of class c in the list, counted from 1, or 0 where it is not there.
-fn new_number(list: &[u32], c: u32) -> u32
-    requires { length list.now ≤ class_limit }
-    ensures { result ≡ new_number list.now c }
-{
-    match list.iter().position(|x| *x == c) {
-        Some(i) => i as u32 + 1,
-        None => 0,
+// Classes in their new order: no more than there may be.
+#[derive(Clone, Copy)]
+struct Order<'a> {
+    list: &'a BoundedList<u32, LIST_WORDS>,
+}
+
+impl<'a> Order<'a> {
+    // Class c's new number: its place in the list, counted from 1, or 0 where it is not there.
+    fn new_number(self, c: u32) -> u32
+        ensures { result ≡ new_number self.entry.list.now c }
+    {
+        match self.list.as_slice().iter().position(|x| *x == c) {
+            Some(i) => i as u32 + 1,
+            None => 0,
+        }
+    }
+
+    // Replaces each word, the old number of a class, by its new number.
+    fn map_numbers(self, part: &mut [u32])
+        ensures { part.new ≡ map (new_number self.entry.list.now) part.old }
+    {
+        for x in part.iter_mut() {
+            *x = self.new_number(*x);
+        }
+    }
+
+    // Replaces the interface words of the set so.
+    fn map_interfaces(self, set: &mut [u32])
+        requires { content_end set.old ≤ length set.old }
+        ensures { set.new ≡ interfaces_mapped set.old self.entry.list.now }
+    {
+        let at = class_sheet::interfaces_at(set);
+        let end = class_sheet::compilers_at(set);
+        self.map_numbers(&mut set[at..end]);
+    }
+}
+
+// A set with the order of all its classes.
+#[derive(Clone, Copy)]
+struct Ordered<'a, 'b> {
+    set: &'a [u32],
+    order: Order<'b>,
+    ghost complete: { Complete set.now order.list.now },
+}
+
+impl<'a, 'b> Ordered<'a, 'b> {
+    // Puts class c's record, with its parent's new number, into the first words of a part.
+    fn put_record(self, c: u32, part: &mut [u32])
+        requires { IsClass self.set.now c × (class_width ≤ length part.old) }
+        ensures { part.new ≡ moved_record self.entry.set.now self.entry.order.list.now c ++ drop class_width part.old }
+    {
+        let at = class_sheet::COUNTS_WIDTH
+            + class_sheet::CLASS_WIDTH * c.saturating_sub(1) as usize;
+        words::copy(self.set, at, class_sheet::CLASS_WIDTH, part, 0);
+        let p = class_sheet::class_parent(self.set, c);
+        words::put(part, class_sheet::PARENT, self.order.new_number(p));
+    }
+
+    // Puts the records of all classes, in their new order, into the first words of an array.
+    fn put_records(self, records: &mut [u32; RECORD_WORDS])
+        ensures { take (class_width * length self.entry.order.list.now) records.new ≡ joined (map (moved_record self.entry.set.now self.entry.order.list.now) self.entry.order.list.now) }
+    {
+        for (i, c) in self.order.list.as_slice().iter().enumerate() {
+            let at = class_sheet::CLASS_WIDTH * i;
+            self.put_record(*c, &mut records[at..]);
+        }
     }
 }
 
@@ -53,21 +112,20 @@ fn first_ready(ws: &[u32], list: &[u32]) -> Option<u32>
     words::find_up_to(n, |c| is_ready(ws, list, c))
 }
 
-// Puts the smallest class that is ready after those already in the list, and so on, and answers how many there are: all of them, or fewer where at
-// some point none was ready.
-fn place_all(ws: &[u32], list: &mut [u32; LIST_WORDS]) -> u32
-    requires { class_count ws.now ≤ class_limit }
-    ensures is { take result list.new ≡ order_of ws.now }
-    ensures count { result ≤ class_count ws.now }
+// Puts the smallest class that is ready after those already in the list, and so on, as often as there are
+// classes: then the list has all of them, or fewer where at some point none was ready.
+fn place_all(ws: &[u32], list: &mut BoundedList<u32, LIST_WORDS>)
+    requires fits { class_count ws.now ≤ class_limit }
+    requires none { list.old ≡ [] }
+    ensures is { list.new ≡ order_of ws.now }
+    ensures count { length list.new ≤ class_count ws.now }
 {
-    let n = class_sheet::class_count(ws);
-    for k in 0..n {
-        let Some(c) = first_ready(ws, words::part(list, 0, k as usize)) else {
-            return k;
+    for _ in 0..class_sheet::class_count(ws) {
+        let Some(c) = first_ready(ws, list.as_slice()) else {
+            return;
         };
-        words::put(list, k as usize, c);
+        list.push(c);
     }
-    n
 }
 
 // Whether class c's parent number is at most the class count.
@@ -99,85 +157,30 @@ fn check_form(ws: &[u32]) -> Result<(), Refusal>
     Ok(())
 }
 
-// The number of classes, where the set and a list of `room` words are not refused: then the first words of `list` are the order.
-fn find_order(ws: &[u32], room: usize, list: &mut [u32; LIST_WORDS]) -> Result<u32, Refusal>
+// The order of the classes, in the empty list, where the set and a list of `room` words are not refused.
+fn find_order<'a, 'b>(
+    ws: &'a [u32],
+    room: usize,
+    list: &'b mut BoundedList<u32, LIST_WORDS>,
+) -> Result<Ordered<'a, 'b>, Refusal>
+    requires { list.old ≡ [] }
     ensures is { row_of result ≡ renumber_refusal ws.now room }
-    ensures order { IfOk result (λ n. (n ≡ class_count ws.now) × Complete ws.now (take n list.new)) }
+    ensures set { IfOk result (λ o. o.set.now ≡ ws.now) }
 {
     check_form(ws)?;
-    let n = class_sheet::class_count(ws);
-    let k = place_all(ws, list);
+    place_all(ws, list);
+    let n = class_sheet::class_count(ws) as usize;
+    let k = list.len();
     if k < n {
         return Err(Refusal::Ring);
     }
-    if room < n as usize {
+    if room < n {
         return Err(Refusal::ShortMemory);
     }
-    Ok(n)
-}
-
-// Puts class c's record, with its parent's new number, into the first words of a part.
-fn put_record(ws: &[u32], list: &[u32], c: u32, part: &mut [u32])
-    requires { (length list.now ≤ class_limit) × (content_end ws.now ≤ length ws.now) × IsClass ws.now c × (class_width ≤ length part.old) }
-    ensures { part.new ≡ moved_record ws.now list.now c ++ drop class_width part.old }
-{
-    let at = class_sheet::COUNTS_WIDTH + class_sheet::CLASS_WIDTH * c.saturating_sub(1) as usize;
-    words::copy(ws, at, class_sheet::CLASS_WIDTH, part, 0);
-    let p = class_sheet::class_parent(ws, c);
-    words::put(part, class_sheet::PARENT, new_number(list, p));
-}
-
-// Puts the records of the listed classes, in the list's order, into the first words of an array.
-fn put_records(ws: &[u32], list: &[u32], records: &mut [u32; RECORD_WORDS])
-    requires { Complete ws.now list.now }
-    ensures { take (class_width * length list.now) records.new ≡ joined (map (moved_record ws.now list.now) list.now) }
-{
-    for (i, c) in list.iter().enumerate() {
-        let at = class_sheet::CLASS_WIDTH * i;
-        put_record(ws, list, *c, &mut records[at..]);
-    }
-}
-
-// Moves the class records of the set to their new places.
-fn move_records(set: &mut [u32], list: &[u32])
-    requires { Complete set.old list.now }
-    ensures { set.new ≡ records_moved set.old list.now }
-{
-    let mut records = [0u32; RECORD_WORDS];
-    put_records(set, list, &mut records);
-    let n = class_sheet::CLASS_WIDTH * list.len();
-    words::copy(&records, 0, n, set, class_sheet::COUNTS_WIDTH);
-}
-
-// Replaces each word, the old number of a class, by its new number.
-fn map_numbers(part: &mut [u32], list: &[u32])
-    requires { length list.now ≤ class_limit }
-    ensures { part.new ≡ map (new_number list.now) part.old }
-{
-    for x in part.iter_mut() {
-        *x = new_number(list, *x);
-    }
-}
-
-// Replaces the interface words of the set so.
-fn map_interfaces(set: &mut [u32], list: &[u32])
-    requires { (length list.now ≤ class_limit) × (content_end set.old ≤ length set.old) }
-    ensures { set.new ≡ interfaces_mapped set.old list.now }
-{
-    let at = class_sheet::interfaces_at(set);
-    let end = class_sheet::compilers_at(set);
-    map_numbers(&mut set[at..end], list);
-}
-
-// Puts the list in front of the lent one, and the classes of the set into its order.
-fn put_renumbered(set: &mut [u32], list: &[u32], order: &mut [u32])
-    requires { Complete set.old list.now × (length list.now ≤ length order.old) }
-    ensures set { set.new ≡ renumbered set.old list.now }
-    ensures list { order.new ≡ list.now ++ drop (length list.now) order.old }
-{
-    words::copy(list, 0, list.len(), order, 0);
-    move_records(set, list);
-    map_interfaces(set, list);
+    Ok(Ordered {
+        set: ws,
+        order: Order { list },
+    })
 }
 
 // Renumbers the classes of the set: parents come first, and among those ready the smallest old number goes next. Parent and interface numbers
@@ -186,8 +189,16 @@ fn put_renumbered(set: &mut [u32], list: &[u32], order: &mut [u32])
 pub fn renumber_classes(set: &mut [u32], order: &mut [u32]) -> Result<u32, Refusal>
     ensures { outcome result set.new order.new ≡ renumber_def set.old order.old }
 {
-    let mut list = [0u32; LIST_WORDS];
-    let n = find_order(set, order.len(), &mut list)?;
-    put_renumbered(set, words::part(&list, 0, n as usize), order);
-    Ok(n)
+    let mut list = BoundedList::<u32, LIST_WORDS>::new();
+    let ordered = find_order(set, order.len(), &mut list)?;
+    let mut records = [0u32; RECORD_WORDS];
+    ordered.put_records(&mut records);
+    let new = ordered.order;
+    let list = new.list.as_slice();
+    let n = list.len();
+    let words = class_sheet::CLASS_WIDTH * n;
+    words::copy(&records, 0, words, set, class_sheet::COUNTS_WIDTH);
+    new.map_interfaces(set);
+    words::copy(list, 0, n, order, 0);
+    Ok(n as u32)
 }

@@ -70,7 +70,8 @@ over-append (suc at) xs ys [] = let e : suc at + length xs ≡ suc (at + length 
 over-append (suc at) xs ys (y ∷ old) =
     let e : suc at + length xs ≡ suc (at + length xs) = omega arith in rw e (ap (λ (t : List ℕ). y ∷ t) (over-append at xs ys old))
 
-answer-over : (a : Result Answer Refusal) (at : ℕ) (xs old : List ℕ) → over_at at (answer_words a ++ xs) old ≡ over_at (at + 3) xs (over_at at (answer_words a) old)
+answer-over : (a : Result Answer Refusal) (at : ℕ) (xs old : List ℕ)
+    → over_at at (answer_words a ++ xs) old ≡ over_at (at + 3) xs (over_at at (answer_words a) old)
 answer-over (Ok a) at xs old = over-append at (answer_words (Ok a)) xs old
 answer-over (Err k) at xs old = over-append at (answer_words (Err k)) xs old
 
@@ -194,7 +195,8 @@ module _ (abi calls stubs : List ℕ) where
     answers-turn old {new} f =
         let xs = answers_of abi (left (i + 1)) (step abi s (call_at calls stubs i)) in
         let g : 3 * (i + 1) ≡ 3 * i + 3 = omega arith in
-        let first : over_at (3 * (i + 1)) (answers_of abi (left (i + 1)) (start ws' ar' missing')) new ≡ over_at (3 * i + 3) xs (over_at (3 * i) (answer_words a) old) =
+        let first : over_at (3 * (i + 1)) (answers_of abi (left (i + 1)) (start ws' ar' missing')) new
+        ≡ over_at (3 * i + 3) xs (over_at (3 * i) (answer_words a) old) =
         rw (f, g, step_is) in
         let second : answer_words a ≡ answer_of (outcome abi s (call_at calls stubs i)) = sym (answer-is a ws' ar') ∙ ap answer_of made.0 in
         first ∙ sym (answer-over a (3 * i) xs old) ∙ ap (λ (t : List ℕ). over_at (3 * i) (t ++ xs) old) second

@@ -119,7 +119,8 @@ pub slots_typed : (abi text : List ℕ) (n : ℕ) → all_of n (record_typed Slo
 unfolding record_typed is_descriptor abi_slot_typed abi_slot_word
 slots_typed abi text n = all-ext n _ _ (λ i l. refl)
 
-pub abi-fields_typed : (abi text : List ℕ) (n : ℕ) → all_of n (record_typed Fields abi (abi_fields_at abi) abi_member_width text) ≡ all_of n (abi_field_typed abi text)
+pub abi-fields_typed : (abi text : List ℕ) (n : ℕ)
+    → all_of n (record_typed Fields abi (abi_fields_at abi) abi_member_width text) ≡ all_of n (abi_field_typed abi text)
 unfolding record_typed is_descriptor abi_field_typed abi_field_word
 abi-fields_typed abi text n = all-ext n _ _ (λ i l. refl)
 

@@ -5,7 +5,7 @@ ghost use Rattle.std.specs.Prelude.{◌≡◌, ◌^◌, ◌≤◌, ◌<◌, Bool
 ghost use Rattle.refusal.specs.Rows.{row_of};
 ghost use Rattle.words.specs.Folds.{all_of};
 ghost use Rattle.text.specs.Text.{name_at};
-ghost use Rattle.class_sheet.specs.ClassSheet.{member_width};
+ghost use Rattle.class_sheet.specs.ClassSheet.{member_width, text_length, text_limit, text_of};
 ghost use Rattle.set_rules.specs.Known.{is_descriptor, is_known, Known, record_typed};
 ghost use Rattle.set_rules.specs.SetRules.{judged, class_descriptors, abi_descriptors, class_refusal, abi_refusal, set_fits, records_refusal, set_refusal};
 
@@ -164,6 +164,14 @@ pub fn class_refusal(ws: &[u32], text: &[u8]) -> Result<(), Refusal>
         class_rules::records_ok(ws, text),
         || class_descriptors_ok(ws, text),
     )
+}
+
+// The same for words whose text is to be unpacked.
+pub fn unpacked_refusal(ws: &[u32]) -> Result<(), Refusal>
+    ensures { text_length ws.now ≤ text_limit → row_of result ≡ class_refusal ws.now (text_of ws.now) }
+{
+    let mut room = [0u8; class_sheet::TEXT_LIMIT as usize];
+    class_refusal(ws, class_sheet::text_bytes(ws, &mut room))
 }
 
 // Rows 4 and 5 for an ABI sheet.

@@ -33,7 +33,8 @@ block-fits bs room limit e =
     let p = passed (not (shape_ok (length bs) room limit)) 1 _ (omega arith) e in
     shape_fits (length bs) room limit (not-false _ p.0)
 
-module _ (limit : ℕ) (bs : List ℕ) (room : ℕ) (small : limit < 2 ^ 32) (first : 0 ≡ block_refusal bs room limit) {n : ℕ} (blocks : n ≡ block_count bs % 2 ^ 32) where
+module _ (limit : ℕ) (bs : List ℕ) (room : ℕ) (small : limit < 2 ^ 32)
+    (first : 0 ≡ block_refusal bs room limit) {n : ℕ} (blocks : n ≡ block_count bs % 2 ^ 32) where
   pub all-blocks : (n ≡ block_count bs) × (n ≤ limit) × (127 * n ≤ room)
   all-blocks = let k = block-fits bs room limit (sym first) in (omega arith, omega arith, omega arith)
 

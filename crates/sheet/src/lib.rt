@@ -31,8 +31,7 @@ fn class_rows(ws: &[u32]) -> Result<(), Refusal>
     if !class_rules::form_ok(ws) {
         return Err(Refusal::Form);
     }
-    let mut room = [0u8; class_sheet::TEXT_LIMIT as usize];
-    set_rules::class_refusal(ws, class_sheet::text_bytes(ws, &mut room))
+    set_rules::unpacked_refusal(ws)
 }
 
 // Row 3 for the words of a class sheet.

@@ -51,7 +51,8 @@ module _ (ws text : List ℕ) where
         good_more (length T) (method_signature ws text m) p (λ j k. absurd (none j k)) (λ j s k. cases j s k (snoc_at T e j empty)) g
       where
         cases : (j : ℕ) (s : Signature) → Shows (T ++ (e ∷ [])) j s
-            → ((j ≡ length T) × (at (T ++ (e ∷ [])) j ≡ e)) ⊎ (at (T ++ (e ∷ [])) j ≡ at T j) → ((j ≡ length T) × (s ≡ method_signature ws text m)) ⊎ Shows T j s
+            → ((j ≡ length T) × (at (T ++ (e ∷ [])) j ≡ e)) ⊎ (at (T ++ (e ∷ [])) j ≡ at T j)
+            → ((j ≡ length T) × (s ≡ method_signature ws text m)) ⊎ Shows T j s
         cases j s k (inl q) = inl (q.0, shows-entry (T ++ (e ∷ [])) j m s (ap (λ (x : Entry). x.method) q.1 ∙ known) k)
         cases j s k (inr q) = inr (shows_same (T ++ (e ∷ [])) T j j s q k)
 

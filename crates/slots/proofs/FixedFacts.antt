@@ -60,7 +60,8 @@ module _ (ws text abi labels : List ℕ) where
   unfolding slot_is slot_signature method_signature
   slot_same s k h =
       let p =
-      and_both (same_bytes (abi_slot_name abi labels s) (method_name ws text k)) (same_bytes (abi_slot_descriptor abi labels s) (method_descriptor ws text k)) h in
+      and_both (same_bytes (abi_slot_name abi labels s) (method_name ws text k))
+      (same_bytes (abi_slot_descriptor abi labels s) (method_descriptor ws text k)) h in
       same_parts (same-is (abi_slot_name abi labels s) (method_name ws text k) p.0)
       (same-is (abi_slot_descriptor abi labels s) (method_descriptor ws text k) p.1)
 

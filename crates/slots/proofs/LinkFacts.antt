@@ -23,7 +23,8 @@ module _ (ws text abi labels area : List ℕ) (c : ℕ) where
   built-from n = search rules
 
   -- "Array: the parent's entries."
-  array-from : class_kind ws c ≡ 2 → table_from ws text abi labels c (parent_entries ws text abi labels area c) ≡ built (parent_entries ws text abi labels area c)
+  array-from : class_kind ws c ≡ 2
+      → table_from ws text abi labels c (parent_entries ws text abi labels area c) ≡ built (parent_entries ws text abi labels area c)
   unfolding table_from
   array-from e = cc
 

@@ -195,7 +195,10 @@ module _ (ws abi : List ℕ) (c : ℕ) (area stubs missing : List ℕ) (o : Link
 module _ (ws abi : List ℕ) (c : ℕ) (area stubs missing : List ℕ) where
   pub linked : (link_def ws abi c area stubs missing).outcome.refusal ≡ 0 → Left ws (link_def ws abi c area stubs missing).outcome.set c
   linked e =
-      elim (link-cases ws abi c area stubs missing) [ inl r ↦ absurd (r.number e) | inr a ↦ left ws abi c area stubs missing (link_def ws abi c area stubs missing) a ]
+      elim (link-cases ws abi c area stubs missing) [
+        | inl r ↦ absurd (r.number e)
+        | inr a ↦ left ws abi c area stubs missing (link_def ws abi c area stubs missing) a
+      ]
 
   pub refused : (link_def ws abi c area stubs missing).outcome.refusal ≢ 0 → (link_def ws abi c area stubs missing).outcome.set ≡ ws
   refused n = elim (link-cases ws abi c area stubs missing) [ inl r ↦ r.same_set | inr a ↦ absurd (n a.number) ]

@@ -266,4 +266,7 @@ module _ (ws abi : List ℕ) (c : ℕ) (area stubs missing : List ℕ) (o : Link
 module _ (ws abi : List ℕ) (c : ℕ) (area stubs missing : List ℕ) where
   pub link-stand : (link_def ws abi c area stubs missing).outcome.refusal ≡ 0 → IsBuilt ws c → Standing (link_def ws abi c area stubs missing).outcome.set c
   link-stand e k =
-      elim (link-cases ws abi c area stubs missing) [ inl r ↦ absurd (r.number e) | inr a ↦ standing ws abi c area stubs missing (link_def ws abi c area stubs missing) a k ]
+      elim (link-cases ws abi c area stubs missing) [
+        | inl r ↦ absurd (r.number e)
+        | inr a ↦ standing ws abi c area stubs missing (link_def ws abi c area stubs missing) a k
+      ]

@@ -45,7 +45,8 @@ pub record Statics : Type 0 where
   -- 1. What a link leaves, accepted and refused.
   pub linked : (ws abi : List ℕ) (c : ℕ) (area stubs missing : List ℕ) → (link_def ws abi c area stubs missing).outcome.refusal ≡ 0
       → Left ws (link_def ws abi c area stubs missing).outcome.set c
-  pub refused : (ws abi : List ℕ) (c : ℕ) (area stubs missing : List ℕ) → (link_def ws abi c area stubs missing).outcome.refusal ≢ 0 → (link_def ws abi c area stubs missing).outcome.set ≡ ws
+  pub refused : (ws abi : List ℕ) (c : ℕ) (area stubs missing : List ℕ) → (link_def ws abi c area stubs missing).outcome.refusal ≢ 0
+      → (link_def ws abi c area stubs missing).outcome.set ≡ ws
   -- 2. The numbering counts to the sum, and that is at most 1,024.
   pub counted : (ws text abi labels : List ℕ) (own : Option ℕ) (c : ℕ) → (number_fields ws text abi labels own c).statics ≡ static_words ws text c
   pub most : (ws text : List ℕ) (c : ℕ) → static_words ws text c ≤ 1024

@@ -10,7 +10,7 @@ use native.Mathlib.Omega.{arith}
 use native.Mathlib.Numerals.{add-one}
 use native.Mathlib.Nat.{add-zero, add-suc, add_assoc, mul-le-mul_right}
 use lib.ListN.{length, get_or, set, take, drop}
-use lib.Seq.{take_at, get_or-drop}
+use lib.Seq.{take_at, get_or-drop, get_or-take, length-take-le}
 use lib.Dec.{eqb, leb}
 use borrow.Author.Tests.{eq-eqb, lt-ltb, le-ltb, le-leb, leb-true, eqb-true}
 use Rattle.words.specs.Words.{byte_of}
@@ -18,7 +18,7 @@ use Rattle.words.proofs.Bools.{by, and_both, and_3}
 use Rattle.words.proofs.Laws.{past, byte_0, byte_at}
 use Rattle.words.proofs.Lists.{part_at, length_part}
 use Rattle.words.specs.Folds.{all_of, table, stores}
-use Rattle.words.proofs.FoldLaws.{stores-is, stores-turn, length-table, all-ext}
+use Rattle.words.proofs.FoldLaws.{stores-is, stores-turn, stores-ext, length-table, all-ext}
 use Rattle.text.specs.Text.{text_byte, text_of_words, text_stores, unpacked_text, name_at, same_bytes, printable, part_ok, part_clean, signature_clean, member_clean}
 
 -- ---- unpacking
@@ -93,6 +93,16 @@ text_is ws n d {i = i} {m = m} {o = o} p q e l h =
     let f : i + (m - i) ≡ n = omega arith in
     let r : o ≡ stores n (text_byte ws) d = rw (← f) (q ∙ rw p (bytes_on ws i d (m - i))) in
     rw (r, stores-is n (text_byte ws) d h) (simp (le-ltb (length d) n h))
+
+-- the words of a part at the front, as the whole gives their bytes
+pub text-front : (ws : List ℕ) (n : ℕ) (d : List ℕ) {t : List ℕ} → n ≤ length ws → t ≡ stores (4 * length (take n ws)) (text_byte (take n ws)) d
+    → t ≡ stores (4 * n) (text_byte ws) d
+unfolding text_byte
+text-front ws n d h e =
+    let f = length-take-le n ws h in
+    rw f at e
+    ∙ stores-ext (4 * n) (text_byte (take n ws)) (text_byte ws) d
+    (λ k l. ap (λ w. byte_of w (k % 4)) (get_or-take n ws (k / 4) 0 (omega arith)))
 
 pub text-none : (ws : List ℕ) (n : ℕ) (d : List ℕ) → length d < n → d ≡ unpacked_text ws n d
 unfolding unpacked_text
@@ -252,5 +262,6 @@ unfolding all_of
 all-range p a zero = refl
 all-range p a (suc n) =
     let z : a + 0 ≡ a = omega arith in
-    ap (λ b. p a && b) (all-range p (a + 1) n ∙ all-ext n (λ k. p (a + 1 + k)) (λ k. p (a + (k + 1))) (λ i h. let e : a + 1 + i ≡ a + (i + 1) = omega arith in rw e refl))
+    ap (λ b. p a && b) (all-range p (a + 1) n
+    ∙ all-ext n (λ k. p (a + 1 + k)) (λ k. p (a + (k + 1))) (λ i h. let e : a + 1 + i ≡ a + (i + 1) = omega arith in rw e refl))
     ∙ rw z at (all-front n (λ k. p (a + k)))

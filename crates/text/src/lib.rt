@@ -15,13 +15,13 @@ pub const DESCRIPTOR_LENGTH: usize = 3;
 
 pub const NUMBER: usize = 4;
 
-// Stores the first n words, four bytes each, lowest byte first.
-fn unpack_words(ws: &[u32], n: usize, text: &mut [u8])
-    requires { (n ≤ length ws.now) × (4 * n ≤ length text.old) }
-    ensures { text.new ≡ stores (4 * n) (text_byte ws.now) text.old }
+// Stores the words, four bytes each, lowest byte first.
+fn unpack_words(ws: &[u32], text: &mut [u8])
+    requires { 4 * length ws.now ≤ length text.old }
+    ensures { text.new ≡ stores (4 * length ws.now) (text_byte ws.now) text.old }
 {
-    for w in 0..n {
-        text[4 * w..4 * w + 4].copy_from_slice(&ws[w].to_le_bytes());
+    for (w, word) in ws.iter().enumerate() {
+        text[4 * w..4 * w + 4].copy_from_slice(&word.to_le_bytes());
     }
 }
 
@@ -44,7 +44,7 @@ pub fn unpack_text(ws: &[u32], n: u32, text: &mut [u8])
         return;
     }
     let whole = (count / 4).min(ws.len());
-    unpack_words(ws, whole, text);
+    unpack_words(&ws[..whole], text);
     unpack_bytes(ws, 4 * whole, count, text);
 }
 
@@ -113,7 +113,7 @@ pub fn same(a: &[u8], b: &[u8]) -> bool
 pub fn is_printable(s: &[u8]) -> bool
     ensures { result ≡ printable s.now }
 {
-    s.iter().fold(true, |ok, b| ok & (33 <= *b) & (*b <= 126))
+    s.iter().fold(true, |ok, b| ok & b.is_ascii_graphic())
 }
 
 // A text of which it was seen, once for all of its parts, whether each byte is from 0x21 to 0x7E.

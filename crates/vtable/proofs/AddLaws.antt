@@ -46,7 +46,9 @@ module _ (ws text : List ℕ) (m : ℕ) where
         → name ≡ method_name ws text m → descriptor ≡ method_descriptor ws text m → s ≡ slot_of ws text name descriptor T
         → X ≡ put_method ws text f s m T → X ≡ add_method ws text abi labels abis m T
     unfolding add_method
-    add-put {s = s} X h g p q l x = let y : s ≡ slot_of ws text (method_name ws text m) (method_descriptor ws text m) T = l ∙ rw (p, q) in x ∙ rw (← able, h, g, y)
+    add-put {s = s} X h g p q l x =
+        let y : s ≡ slot_of ws text (method_name ws text m) (method_descriptor ws text m) T = l ∙ rw (p, q) in
+        x ∙ rw (← able, h, g, y)
 
 -- ---- all of a class's own methods
 

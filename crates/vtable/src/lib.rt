@@ -70,8 +70,8 @@ fn relay(sheets: Sheets, abis: &[u32], parent: &ReadTable, table: &mut BuiltTabl
     ensures is { entries table.new ≡ fold (of_sheets relay_step sheets.entry abis.now) (entries table.old) (entries parent.now) }
     ensures count { table.new.len ≤ 2048 }
 {
-    for i in 0..parent.len {
-        relay_entry(sheets, abis, parent.slot(i), table);
+    for slot in parent.slots() {
+        relay_entry(sheets, abis, slot, table);
     }
 }
 
@@ -203,7 +203,7 @@ pub fn build_methods(
     ensures count { table.new.len ≤ 2560 }
 {
     let classes = abi::chain_abi(sheets, c);
-    let abis = classes.list();
+    let abis = classes.as_slice();
     inherited_table(sheets, area, abis, c, table);
     add_methods(sheets, abis, c, table)
 }

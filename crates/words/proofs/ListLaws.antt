@@ -9,8 +9,8 @@ use mathlib.Core.List.{List, [], ◌∷◌, ◌++◌, Memᴰ}
 use Prim.Native.Nat.{ℕ, zero, suc, ◌+◌, ◌-◌, ◌≤◌, ◌<◌, max}
 use native.Mathlib.Omega.{arith}
 use native.Mathlib.Numerals.{add-one}
-use lib.ListN.{length, get_or, drop, drop_of_length-le}
-use lib.Seq.{drop-cons}
+use lib.ListN.{length, get_or, take, drop, drop_of_length-le, length-append}
+use lib.Seq.{drop-cons, take_all}
 use Rattle.words.specs.Lists.{list_from, numbers, find, first_found, all_found, fold, some}
 use Rattle.std.specs.Prelude.{Option, Some, None, is_some}
 use Rattle.std.proofs.lemmas.Option.{none-some}
@@ -70,32 +70,15 @@ unfolding some
 some-append p [] ys = refl
 some-append p (x ∷ xs) ys = by (p x) (λ t. rw t) (λ t. rw t (some-append p xs ys))
 
+-- one is added, where there is room for it
+pub push_room : {A : Type 0} (n : ℕ) (xs : List A) (x : A) → length xs < n → take n (xs ++ x ∷ []) ≡ xs ++ x ∷ []
+push_room n xs x h = take_all n (xs ++ x ∷ []) (omega (arith, length-append xs (x ∷ [])))
+
 -- nothing found is no number
 pub not_found : {X : Type 0} {m : ℕ} → ◌≡◌ {A = Option ℕ} None (Some m) → X
 not_found {m = m} e = absurd (none-some m e)
 
 -- ---- the first number that passes a test
-
-module _ (p : ℕ → Bool) where
-  -- the search at turn i of n from m on
-  unfoldable pub find_from : ℕ → ℕ → ℕ → Option ℕ
-  find_from m n i = find p (rest_from (λ k. k) m n i)
-
-  pub find-start : (m n : ℕ) → find_from m n 0 ≡ find p (numbers m n)
-  unfolding find_from
-  find-start m n = rw (rest-start (λ (k : ℕ). k) m n)
-
-  pub find-hit : (m n i : ℕ) {b : Bool} → i < n → b ≡ p (m + i) → b ≡ true → Some (m + i) ≡ find_from m n i
-  unfolding find_from find
-  find-hit m n i h e t = rw (rest-turn (λ (k : ℕ). k) m n i h, ← e, t)
-
-  pub find-miss : (m n i : ℕ) {b : Bool} → i < n → b ≡ p (m + i) → b ≡ false → find_from m n (i + 1) ≡ find_from m n i
-  unfolding find_from find
-  find-miss m n i h e t = rw (rest-turn (λ (k : ℕ). k) m n i h, ← e, t)
-
-  pub find-end : (m n i : ℕ) → n ≤ i → None ≡ find_from m n i
-  unfolding find_from find
-  find-end m n i h = rw (rest_end (λ (k : ℕ). k) m n i h)
 
 -- a number passes if and only if one is found
 some_found : (p : ℕ → Bool) (xs : List ℕ) → is_some (find p xs) ≡ some p xs
@@ -204,24 +187,6 @@ pub range_is : (m n : ℕ) → range_with_len m n ≡ numbers m n
 unfolding list_from
 range_is m zero = refl
 range_is m (suc n) = ap (λ (l : List ℕ). m ∷ l) (range_is (m + 1) n)
-
--- the fold from state q on, at place i of a list
-
-unfoldable pub fold_at {ℓ ℓ'} : {A : Type ℓ} {S : Type ℓ'} → (S → A → S) → S → List A → ℕ → S
-fold_at f q s i = fold f q (drop i s)
-
-module _ {ℓ ℓ'} {A : Type ℓ} {S : Type ℓ'} (f : S → A → S) (q : S) (s : List A) where
-  pub fold-at-start : fold f q s ≡ fold_at f q s 0
-  unfolding fold_at
-  fold-at-start = refl
-
-  pub fold-at-turn : (d : A) (i : ℕ) {x : A} {r : S} → i < length s → x ≡ get_or s i d → r ≡ f q x → fold_at f q s i ≡ fold_at f r s (i + 1)
-  unfolding fold_at fold
-  fold-at-turn d i h e g = rw (add-one, drop-cons s i d h, g, e)
-
-  pub fold-at-end : (i : ℕ) → length s ≤ i → fold_at f q s i ≡ q
-  unfolding fold_at fold
-  fold-at-end i h = rw (drop_of_length-le s h)
 
 -- ---- whether some element passes a test, at place i of a list
 

@@ -8,6 +8,10 @@ ghost use Rattle.words.specs.Words.{le_word, byte_of, inside, copy_elements};
 ghost use Rattle.words.specs.Folds.{Gives, Computes, all_of, sum_of, stores};
 ghost use Rattle.words.specs.Lists.{numbers, find, first_found, some};
 
+pub use list::BoundedList;
+
+mod list;
+
 // Element i, or another value past the end.
 pub fn get_or<T: Copy + Drop>(s: &[T], i: usize, otherwise: T) -> T
     ensures { result ≡ get_or s.now i otherwise }
@@ -126,8 +130,9 @@ pub fn store_each<T: Copy + Drop, F: Fn(usize) -> T>(out: &mut [T], n: usize, va
     requires { F.IsAlwaysCallable value }
     ensures { (f : ℕ → T) → Gives (F.post value) n f → out.new ≡ stores n f out.old }
 {
-    for i in 0..n {
-        put(out, i, value(i));
+    let end = n.min(out.len());
+    for (i, x) in out[..end].iter_mut().enumerate() {
+        *x = value(i);
     }
 }
 

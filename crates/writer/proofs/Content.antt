@@ -17,6 +17,7 @@ use Rattle.text.specs.Text.{zero_rest}
 use Rattle.class_sheet.specs.ClassSheet.{class_count_number, compiler_count_number, field_count_number, interface_count_number, method_count_number, text_length_number, counts_width, kind_word, table_place_word, slot_count_word, static_words_word, class_count, text_length, count_at, methods_at, fields_at, interfaces_at, compilers_at, text_at, content_end, text_of}
 use Rattle.class_sheet.proofs.Sections as kept
 use Rattle.class_rules.specs.ClassRules.{class_limits, class_fits, fresh, all_fresh, class_form}
+use Rattle.class_rules.proofs.CountLaws.{limits_same, content_same}
 use Rattle.class_rules.proofs.Laws as class
 use Rattle.set_rules.specs.SetRules.{class_refusal}
 use Rattle.set_rules.proofs.Kept.{class-fits-kept, class-records-kept, class-descriptors-kept}
@@ -72,28 +73,10 @@ module _ (ws : List ℕ) (e : ℕ) (counts : counts_width ≤ e) where
   count_cut k h = get_or-take e ws k 0 (omega arith)
 
   end-cut : content_end (take e ws) ≡ content_end ws
-  unfolding content_end text_at compilers_at interfaces_at fields_at methods_at
-  end-cut =
-      rw (
-        count_cut class_count_number (omega arith),
-        count_cut method_count_number (omega arith),
-        count_cut field_count_number (omega arith),
-        count_cut interface_count_number (omega arith),
-        count_cut compiler_count_number (omega arith),
-        count_cut text_length_number (omega arith),
-      )
+  end-cut = content_same (take e ws) ws count_cut
 
   limits-cut : class_limits (take e ws) ≡ class_limits ws
-  unfolding class_limits
-  limits-cut =
-      rw (
-        count_cut class_count_number (omega arith),
-        count_cut method_count_number (omega arith),
-        count_cut field_count_number (omega arith),
-        count_cut interface_count_number (omega arith),
-        count_cut compiler_count_number (omega arith),
-        count_cut text_length_number (omega arith),
-      )
+  limits-cut = limits_same (take e ws) ws count_cut
 
 module _ (ws : List ℕ) (fits : class_fits ws ≡ true) where
   here : content_end ws ≤ length ws

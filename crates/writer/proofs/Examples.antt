@@ -24,7 +24,8 @@ pub record Rows : Type 0 where
   pub check : take 4 (drop 508 (write_class_sheet a (replicate 512 7)).memory) ≡ 70 ∷ 0 ∷ 0 ∷ 0 ∷ []
 
 pub rows : Rows
-unfolding write_refusal link_rows storable write_class_sheet class_fits class_limits unlinked is_built_kind statics_clean fresh compiler_ok own_numbers class_numbers class_lists
-    class_record class_records class_refusal class_descriptors apart_before count_at methods_at fields_at interfaces_at compilers_at text_at content_end class_word
-    text_byte text_of_words zero_at zero_rest name_at printable part_ok byte_of inside sum_of all_of table blocks_for check_word packed_word block_byte sheet_bytes
+unfolding write_refusal link_rows storable write_class_sheet class_fits class_limits unlinked is_built_kind statics_clean fresh compiler_ok own_numbers
+    class_numbers class_lists class_record class_records class_refusal class_descriptors apart_before count_at methods_at fields_at interfaces_at compilers_at
+    text_at content_end class_word text_byte text_of_words zero_at zero_rest name_at printable part_ok byte_of inside sum_of all_of table blocks_for
+    check_word packed_word block_byte sheet_bytes
 rows = record { blocks = refl; check = refl }

@@ -94,7 +94,8 @@ module _ (ws : List ℕ) (small : AreWords ws) (fits : class_fits ws ≡ true) w
   bytes-rows room l =
       let f = few-blocks ws fits in
       rw (same_blocks, content-length ws fits) at
-      (blocks-rows (content_of ws) content-words class_rows room (omega (arith, same_blocks, f.0)) (omega (arith, same_blocks, f.1)) (omega (arith, same_blocks)))
+      (blocks-rows (content_of ws) content-words class_rows room
+      (omega (arith, same_blocks, f.0)) (omega (arith, same_blocks, f.1)) (omega (arith, same_blocks)))
 
 -- ---- what a reading left, written
 
@@ -167,7 +168,8 @@ module _ (bs out : List ℕ) (small : AreBytes bs) (e : class_sheet_refusal bs (
   left-written : (lent : List ℕ) → length bs ≤ length lent
       → write_class_sheet left lent ≡ record { refusal = 0; blocks = block_count bs; memory = bs ++ drop (length bs) lent }
   left-written lent l =
-      write-is left lent (write-accepts left (length lent) (left_passed (length lent) l)) ∙ rw (left-bytes, left-blocks, whole bs (length out) small rows-passed.0)
+      write-is left lent (write-accepts left (length lent) (left_passed (length lent) l))
+      ∙ rw (left-bytes, left-blocks, whole bs (length out) small rows-passed.0)
 
 -- ---- the four theorems
 

@@ -15,8 +15,7 @@ fn link_rows(set: &[u32]) -> Result<(), Refusal>
     if !class_rules::fits_ok(set) {
         return Err(Refusal::Form);
     }
-    let mut room = [0u8; class_sheet::TEXT_LIMIT as usize];
-    set_rules::class_refusal(set, class_sheet::text_bytes(set, &mut room))
+    set_rules::unpacked_refusal(set)
 }
 
 // Row 17: whether each class is as a sheet may bring it, and the bytes after the text in its last word are 0.
@@ -24,9 +23,8 @@ fn link_rows(set: &[u32]) -> Result<(), Refusal>
 fn is_storable(set: &[u32]) -> bool
     ensures { result ≡ storable set.now }
 {
-    let text_end = 4 * class_sheet::text_at(set) + (class_sheet::text_length(set) as usize);
     let content = words::part(set, 0, class_sheet::content_end(set));
-    class_rules::all_fresh(set) & text::zero_rest(content, text_end)
+    class_rules::all_fresh(set) & text::zero_rest(content, class_sheet::text_end(set))
 }
 
 // Rows 3, 4, 5, 17 and 18, where `room` bytes are lent.

@@ -12,19 +12,19 @@ returns-then-marks-start c = record { is = free-past _ _ _ c.if-marks-start.true
 pub loop-mark-init : goal.loop-mark-init
 loop-mark-init c = record { marks = marked-none _ _; free = all_none _ }
 
-pub returns-then-mark-ne0 : goal.returns-then-mark-ne0
-returns-then-mark-ne0 c =
+pub returns-then-mark : goal.returns-then-mark
+returns-then-mark c =
     let a = c.args in
     let m : a.first + a.n - a.first ≡ a.n = omega arith in
     let k = rw (m, length_part a.marks.now a.first a.n c.if-marks-start.false) at c.loop-mark-test.true in
-    record { is = list-stop _ _ _ c.if-marks-start.false m c.loop-mark.invariant.marks k c.if-mark-ne0.true; marks = λ e. absurd (false≢true e) }
+    record { is = list-stop _ _ _ c.if-marks-start.false m c.loop-mark.invariant.marks k c.if-mark.true; marks = λ e. absurd (false≢true e) }
 
 pub loop-mark-preserved : goal.loop-mark-preserved
 loop-mark-preserved c =
     let i = c.loop-mark.invariant in
     let k = c.loop-mark.mark-index in
     let z : 0 + k ≡ k = omega arith in
-    record { marks = rw z at (marked_turn _ 0 k i.marks); free = free-turn _ 0 k i.marks (rw z c.if-mark-ne0.false) i.free }
+    record { marks = rw z at (marked_turn _ 0 k i.marks); free = free-turn _ 0 k i.marks (rw z c.if-mark.false) i.free }
 
 pub returns : goal.returns
 returns c =

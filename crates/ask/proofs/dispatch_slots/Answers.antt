@@ -1,43 +1,35 @@
 -- A turn adds a slot, or row 16 refuses the table as it refuses the slot. Assumes nothing.
-use Rattle.std.proofs.Common.{sym, arith, ◌∙◌}
+use Rattle.std.proofs.Common.{sym, arith, ap, length, ◌∙◌}
 use Rattle.std.proofs.lemmas.Result.{err_from_is_err_and}
-use Rattle.reading.specs.Tables.{entries}
+use Rattle.reading.specs.Tables.{entries_left}
 use Rattle.reading.proofs.ArrayLaws.{length-entries}
 use Rattle.ask.proofs.DispatchLaws.{was-some, was-none, dispatch_start, dispatch_stop, dispatch_turn, dispatch_end}
 use Rattle.ask.proofs.dispatch_slots.Goals as goal
 
-pub loop-i-init : goal.loop-i-init
-loop-i-init c = record { count = c.clear.ensures.len; slots = rw c.clear.ensures.is (dispatch_start _ _ _ _) }
+pub loop-slot-init : goal.loop-slot-init
+loop-slot-init c =
+    let e = ap entries_left c.into_iter-slot-iterator.ensures.into_iter_gives ∙ c.slots-slot-items.ensures in
+    let n = ap length e ∙ length-entries _ _ _ in
+    let z = c.clear.ensures.len in record { count = omega arith; slots = rw (c.clear.ensures.is, e) (dispatch_start _ _ _ _) }
 
 -- no class of the chain implements the slot's method
-pub returns-in_err-slot : goal.returns-in_err-slot
-returns-in_err-slot c =
-    let a = c.args in
-    let t = a.from.now in
+pub returns-in_err-ok_or : goal.returns-in_err-ok_or
+returns-in_err-ok_or c =
     let p = err_from_is_err_and c.from_residual.result c.from_residual.ensures.1 in
-    let o = was-none c.dispatch_slot.result _ (sym c.ok_or.ensures.value ∙ c.in_err-slot.was) in
-    rw (p.1, p.2, o.1)
-    (dispatch_stop a.ws.now a.text.now a.c (entries t) c.loop-i.i c.dispatch_slot.result (omega (arith, length-entries t.words t.marks t.len))
-    c.slot.ensures c.dispatch_slot.ensures (entries c.loop-i.to) o.0
-    ∙ c.loop-i.invariant.slots)
+    let o = was-none c.dispatch_slot.result _ (sym c.ok_or.ensures.value ∙ c.in_err-ok_or.was) in
+    rw (p.1, p.2, o.1) (dispatch_stop _ _ _ _ _ c.in-Some.ensures.steps c.dispatch_slot.ensures o.0 ∙ c.loop-slot.invariant.slots)
 
 -- a slot more
-pub loop-i-preserved : goal.loop-i-preserved
-loop-i-preserved c =
-    let a = c.args in
-    let t = a.from.now in
-    let i = c.loop-i.invariant.count in
-    let o = was-some c.dispatch_slot.result _ (sym c.ok_or.ensures.value ∙ c.in_ok-slot.was) in record {
-      count = c.push.ensures.len (omega arith) ∙ omega arith;
-      slots = dispatch_turn a.ws.now a.text.now a.c (entries t) c.loop-i.i c.dispatch_slot.result (omega (arith, length-entries t.words t.marks t.len))
-          c.slot.ensures c.dispatch_slot.ensures (entries c.loop-i.to) c.in_ok-slot.slot o (c.push.ensures.is (omega arith))
-          ∙ c.loop-i.invariant.slots;
+pub loop-slot-preserved : goal.loop-slot-preserved
+loop-slot-preserved c =
+    let v = c.loop-slot.invariant in
+    let n = ap length c.in-Some.ensures.steps in
+    let o = was-some c.dispatch_slot.result _ (sym c.ok_or.ensures.value ∙ c.in_ok-ok_or.was) in
+    let k = c.push.ensures.count in record {
+      count = omega arith;
+      slots = dispatch_turn _ _ _ _ _ c.in-Some.ensures.steps c.dispatch_slot.ensures o (c.push.ensures.is (omega arith)) ∙ v.slots;
     }
 
 -- all slots are there
 pub returns : goal.returns
-returns c =
-    let a = c.args in
-    let t = a.from.now in
-    dispatch_end a.ws.now a.text.now a.c (entries t) (entries c.loop-i.to) c.loop-i.i (omega (arith, length-entries t.words t.marks t.len))
-    ∙ c.loop-i.invariant.slots
+returns c = dispatch_end _ _ _ _ c.in-None.ensures.steps.0 ∙ c.loop-slot.invariant.slots

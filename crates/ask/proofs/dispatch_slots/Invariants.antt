@@ -1,12 +1,12 @@
--- The slots so far are the definition's first i entries: the invariant. Assumes nothing.
-use Rattle.std.proofs.Common.{◌≡◌}
-use Rattle.reading.specs.Tables.{entries}
+-- The slots so far and what comes of those that are left are the definition's: the invariant. Assumes nothing.
+use Rattle.std.proofs.Common.{◌≡◌, ◌+◌, ◌≤◌, length}
+use Rattle.reading.specs.Tables.{entries, entries_left}
 use Rattle.linking.specs.Ask.{dispatch_entries}
 use Rattle.ask.proofs.DispatchLaws.{so_far}
 use Rattle.ask.proofs.dispatch_slots.Given as goal
 
-abbrev pub invariant-loop-i : goal.invariant-loop-i
-invariant-loop-i l = record {
-  count : l.to.len ≡ l.i;
-  slots : so_far l.ws l.text l.c (entries l.from) (entries l.to) l.i ≡ dispatch_entries l.ws l.text l.c (entries l.from);
+abbrev pub invariant-loop-slot : goal.invariant-loop-slot
+invariant-loop-slot l = record {
+  count : l.to.len + length (entries_left l.slot-iterator) ≤ l.from.len;
+  slots : so_far l.ws l.text l.c (entries l.to) (entries_left l.slot-iterator) ≡ dispatch_entries l.ws l.text l.c (entries l.from);
 }

@@ -8,12 +8,8 @@ use Rattle.class_form.proofs.after_counted.Goals as goal
 pub returns-in_err-at-2 : goal.returns-in_err-at-2
 unfolding after_counted
 returns-in_err-at-2 g c = λ item post.
-    let i = c.loop.invariant item post in
-    let r = post c.loop.at c.after_item.result c.after_item.ensures in
-    grind (arith, common_steps, each_turn)
+    grind (arith, common_steps, each_turn, c.loop.invariant item post, post c.loop.at c.after_item.result c.after_item.ensures)
 
 pub loop-preserved : goal.loop-preserved
 loop-preserved g c = λ item post.
-    let i = c.loop.invariant item post in
-    let r = post c.loop.at c.after_item.result c.after_item.ensures in
-    grind (arith, common_steps, each_turn)
+    grind (arith, common_steps, each_turn, c.loop.invariant item post, post c.loop.at c.after_item.result c.after_item.ensures)

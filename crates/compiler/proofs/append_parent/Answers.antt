@@ -1,24 +1,23 @@
 -- Each slot's turn is a step of the fold. Assumes nothing.
-use Rattle.std.proofs.Common.{◌∙◌, sym, arith}
+use Rattle.std.proofs.Common.{◌∙◌, ap, arith, length}
+use mathlib.Core.Path.{refl}
+use Rattle.reading.specs.Tables.{entries_left}
 use Rattle.reading.proofs.ArrayLaws.{length-entries}
-use Rattle.words.proofs.ListLaws.{fold-at-start, fold-at-turn, fold-at-end}
+use Rattle.reading.proofs.SlotLaws.{fold_more, fold_none}
 use Rattle.compiler.proofs.append_parent.Goals as goal
 
-pub loop-i-init : goal.loop-i-init
-loop-i-init c = record { end = omega arith; table = sym (fold-at-start _ _ _) }
+pub loop-slot-init : goal.loop-slot-init
+loop-slot-init c =
+    let e = ap entries_left c.into_iter-slot-iterator.ensures.into_iter_gives ∙ c.slots-slot-items.ensures in
+    let n = ap length e ∙ length-entries _ _ _ in record { end = omega arith; table = rw e refl }
 
 pub append-requires : goal.append-requires
-append-requires c = omega arith
+append-requires c = let n = ap length c.in-Some.ensures.steps in omega arith
 
-pub loop-i-preserved : goal.loop-i-preserved
-loop-i-preserved c =
-    let v = c.loop-i.invariant in
-    let n = length-entries c.args.parent.now.words c.args.parent.now.marks c.args.parent.now.len in record {
-      end = omega arith;
-      table = sym (fold-at-turn _ _ _ _ c.loop-i.i (omega arith) c.slot.ensures c.append.ensures.is) ∙ v.table;
-    }
+pub loop-slot-preserved : goal.loop-slot-preserved
+loop-slot-preserved c =
+    let v = c.loop-slot.invariant in
+    let n = ap length c.in-Some.ensures.steps in record { end = omega arith; table = fold_more _ c.in-Some.ensures.steps c.append.ensures.is v.table }
 
 pub returns : goal.returns
-returns c =
-    let n = length-entries c.args.parent.now.words c.args.parent.now.marks c.args.parent.now.len in
-    sym (fold-at-end _ _ _ c.loop-i.i (omega arith)) ∙ c.loop-i.invariant.table
+returns c = fold_none _ c.in-None.ensures.steps.0 c.loop-slot.invariant.table

@@ -1,18 +1,16 @@
 -- The table so far, with the methods of the slots left appended, is that of all; each slot appends one at most. Assumes nothing.
 use mathlib.Core.Path.{◌≡◌}
 use Prim.Native.Nat.{◌+◌, ◌≤◌}
-use Rattle.growth.specs.News.{news_of}
+use lib.ListN.{length}
 use Rattle.linking.specs.Compiler.{append_entry}
-use Rattle.reading.specs.Tables.{entries}
+use Rattle.reading.specs.Tables.{entries, entries_left}
+use Rattle.compiler.specs.Methods.{of_news}
 use Rattle.words.specs.Lists.{fold}
-use Rattle.words.proofs.ListLaws.{fold_at}
 use Rattle.compiler.proofs.append_parent.Given as goal
 
-abbrev pub invariant-loop-i : goal.invariant-loop-i
-invariant-loop-i l = record {
-  end : l.table.len ≤ l.initial.table.len + l.i;
-  table : fold_at (append_entry l.sheets.set.now l.sheets.text.now (news_of l.sheets.set.now l.sheets.text.now l.sheets.abi.now l.sheets.labels.now l.news))
-      (entries l.table) (entries l.parent) l.i
-      ≡ fold (append_entry l.sheets.set.now l.sheets.text.now (news_of l.sheets.set.now l.sheets.text.now l.sheets.abi.now l.sheets.labels.now l.news))
-      (entries l.initial.table) (entries l.parent);
+abbrev pub invariant-loop-slot : goal.invariant-loop-slot
+invariant-loop-slot l = record {
+  end : l.table.len + length (entries_left l.slot-iterator) ≤ l.initial.table.len + l.parent.len;
+  table : fold (of_news append_entry l.sheets l.news) (entries l.table) (entries_left l.slot-iterator)
+      ≡ fold (of_news append_entry l.sheets l.news) (entries l.initial.table) (entries l.parent);
 }

@@ -1,24 +1,31 @@
 -- The first slot whose method has the target, if there is one. Assumes nothing.
-use Rattle.std.proofs.Common.{rules, arith, ◌≡◌}
-use Rattle.std.specs.Prelude.{get_or}
-use Rattle.linking.specs.Vtable.{empty}
+use Rattle.std.proofs.Common.{rules, ◌≡◌, ◌∙◌}
+use Rattle.std.proofs.lemmas.Iterator.Consumers.{YieldsList-from_first}
+use Rattle.std.proofs.lemmas.Iterator.Search.{find_from_yields_List}
+use Rattle.std.specs.Option.{option_map}
+use Rattle.std.specs.Prelude.{find}
 use Rattle.linking.specs.Sheets.{of_sheets}
 use Rattle.growth.specs.News.{news_of}
-use Rattle.reading.specs.Tables.{entries}
+use Rattle.reading.specs.Tables.{entry, entries, entries_left}
 use Rattle.compiler.specs.Methods.{has_target}
+use Rattle.reading.proofs.ArrayLaws.{none-back}
 use Rattle.compiler.proofs.EntryLaws.{view_hit, view_none}
 use Rattle.compiler.proofs.view_target.Goals as goal
-use Rattle.compiler.proofs.view_target.Goals.{After-find_in}
-use Rattle.words.specs.Lists.{find, numbers}
+use Rattle.compiler.proofs.view_target.Goals.{After-find}
 
 -- what the search answers
-seen : (c : After-find_in) → let a = c.args in
-    c.find_in.result ≡ find (λ i. has_target a.sheets.set.now (of_sheets news_of a.sheets a.news.now) a.t (get_or (entries a.view.now) i empty))
-    (numbers 0 a.view.now.len)
-seen c = let a = c.args in c.find_in.ensures _ _ (omega arith) (λ i r l post. search rules)
+seen : (c : After-find) → let a = c.args in
+    option_map entry c.find.result ≡ find (has_target a.sheets.set.now (of_sheets news_of a.sheets a.news.now) a.t) (entries a.view.now)
+seen c =
+    let a = c.args in
+    find_from_yields_List (has_target a.sheets.set.now (of_sheets news_of a.sheets a.news.now) a.t) c.find.new.self _ c.find.result c.find.ensures.ran
+    (YieldsList-from_first entry entries_left (entries a.view.now) c.slots.ensures) (λ x b q k. search rules)
 
-pub returns-in-Some : goal.returns-in-Some
-returns-in-Some c = view_hit _ _ _ _ _ _ (seen (goal.at.returns-in-Some c).After-find_in) _ _ c.in-Some.is c.slot.ensures
+pub returns : goal.returns
+returns c =
+    let p = view_hit _ _ _ _ (seen (goal.at.returns c).After-find) c.in_ok-find.was c.method.ensures in record { is = p.0; marked = p.1 }
 
-pub returns-in-None : goal.returns-in-None
-returns-in-None c = view_none _ _ _ _ _ _ (seen (goal.at.returns-in-None c).After-find_in) c.in-None.is c.mark_of.ensures
+pub returns-in_err-find : goal.returns-in_err-find
+returns-in_err-find c =
+    let e = c.from_residual.ensures in
+    record { is = e ∙ view_none _ _ _ _ (seen (goal.at.returns-in_err-find c).After-find) c.in_err-find.was; marked = rw e none-back }

@@ -3,8 +3,8 @@ use Rattle.std.proofs.Common.{arith}
 use Rattle.convert.proofs.Judging.{old-text}
 use Rattle.convert.proofs.old_text_end.Goals as goal
 
-pub overflow_sub-text_at : goal.overflow_sub-text_at
-overflow_sub-text_at c = omega (arith, old-text c.args.ws.now)
+pub overflow_sub-result : goal.overflow_sub-result
+overflow_sub-result c = omega (arith, old-text c.args.ws.now)
 
 pub returns-clause-is : goal.returns-clause-is
 returns-clause-is c = omega (arith, old-text c.args.ws.now)

@@ -3,8 +3,8 @@
 use Rattle.field.proofs.NumberLaws.{row_10, built_is}
 use Rattle.field.proofs.built_fields.Goals as goal
 
-pub returns-then-words-k-clause-is : goal.returns-then-words-k-clause-is
-returns-then-words-k-clause-is c = search row_10
+pub returns-then-fields-k-clause-is : goal.returns-then-fields-k-clause-is
+returns-then-fields-k-clause-is c = search row_10
 
 pub returns-clause-is : goal.returns-clause-is
 returns-clause-is c = search built_is

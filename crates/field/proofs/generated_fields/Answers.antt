@@ -6,15 +6,15 @@ use Rattle.field.proofs.generated_fields.Goals as goal
 pub returns-then-total-own : goal.returns-then-total-own
 returns-then-total-own c = search row_8
 
-pub moved-requires : goal.moved-requires
-moved-requires c =
+pub put_moved-requires : goal.put_moved-requires
+put_moved-requires c =
     stand_movable _ _ _ (c.instance_words-total.result - c.own_words-own.result) 0 c.stand_from.ensures c.if-stand_from.true (omega arith) (omega arith)
 
 pub returns-then-stand_from : goal.returns-then-stand_from
 returns-then-stand_from c = search all_absolute
 
-pub moved-requires-then-stand_from-2 : goal.moved-requires-then-stand_from-2
-moved-requires-then-stand_from-2 c =
+pub put_moved-requires-then-stand_from-2 : goal.put_moved-requires-then-stand_from-2
+put_moved-requires-then-stand_from-2 c =
     stand_movable _ _ _ 0 (c.instance_words-total.result - c.own_words-own.result) c.stand_from-2.ensures c.if-stand_from-2.true (omega arith) (omega arith)
 
 pub returns-then-stand_from-2 : goal.returns-then-stand_from-2

@@ -11,8 +11,8 @@ pub loop-new-preserved : goal.loop-new-preserved
 loop-new-preserved c =
     let s = c.ref_signature-own.ensures in record {
       small = omega (arith, s.small);
-      sum = length-turn _ _ _ _ _ _ _ _ c.members-new-items.ensures.is c.loop-new-test.true refl s.name s.descriptor c.loop-new.invariant.sum;
+      sum = length-turn _ _ _ _ _ _ _ _ c.as_slice-new-items.ensures.is c.loop-new-test.true refl s.name s.descriptor c.loop-new.invariant.sum;
     }
 
 pub returns-clause-is : goal.returns-clause-is
-returns-clause-is c = length-done _ _ _ _ _ _ c.members-new-items.ensures.is c.loop-new-test.false c.loop-new.invariant.sum
+returns-clause-is c = length-done _ _ _ _ _ _ c.as_slice-new-items.ensures.is c.loop-new-test.false c.loop-new.invariant.sum

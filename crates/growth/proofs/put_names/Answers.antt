@@ -16,13 +16,13 @@ room : (c : After-put_strings-next)
     → c.loop-new.next + (length c.ref_signature-own.result.name.now + length c.ref_signature-own.result.descriptor.now) ≤ length c.loop-new.bytes
 room c =
     let s = c.ref_signature-own.ensures in
-    let w = parts_within _ _ _ _ _ _ _ _ c.members-new-items.ensures.is c.loop-new-test.true refl s.name s.descriptor _ c.loop-new.invariant.next c.requires in
+    let w = parts_within _ _ _ _ _ _ _ _ c.as_slice-new-items.ensures.is c.loop-new-test.true refl s.name s.descriptor _ c.loop-new.invariant.next c.requires in
     omega arith
 
 -- one more member's text is written
 pub loop-new-preserved : goal.loop-new-preserved
 loop-new-preserved c =
-    let all = c.members-new-items.ensures.is in
+    let all = c.as_slice-new-items.ensures.is in
     let s = c.ref_signature-own.ensures in
     let turn = c.loop-new.invariant in
     let r = room (goal.at.loop-new-preserved c).After-put_strings-next in record {
@@ -32,4 +32,4 @@ loop-new-preserved c =
     }
 
 pub returns : goal.returns
-returns c = names-done _ _ _ _ _ _ _ _ c.members-new-items.ensures.is c.loop-new-test.false c.loop-new.invariant.bytes
+returns c = names-done _ _ _ _ _ _ _ _ c.as_slice-new-items.ensures.is c.loop-new-test.false c.loop-new.invariant.bytes

@@ -2,7 +2,7 @@
 -- nothing.
 use Rattle.class_sheet.specs.ClassSheet.{text_limit}
 use Rattle.growth.proofs.NewsLaws.{records-none, records-turn, records-done, next-none, parts-turn, parts_within}
-use Rattle.growth.proofs.GrowthLaws.{member_put}
+use Rattle.growth.proofs.GrowthLaws.{laid_is}
 use mathlib.Core.Path.{refl, ap, ◌∙◌}
 use lib.ListN.{length}
 use Prim.Native.Nat.{◌+◌, ◌≤◌}
@@ -18,7 +18,7 @@ fits : (c : After-ref_signature-own)
     → c.loop-new.next + (length c.ref_signature-own.result.name.now + length c.ref_signature-own.result.descriptor.now) ≤ text_limit
 fits c =
     let s = c.ref_signature-own.ensures in
-    parts_within _ _ _ _ _ _ _ _ c.members-new-items.ensures.is c.loop-new-test.true refl s.name s.descriptor _ c.loop-new.invariant.next c.requires.1
+    parts_within _ _ _ _ _ _ _ _ c.as_slice-new-items.ensures.is c.loop-new-test.true refl s.name s.descriptor _ c.loop-new.invariant.next c.requires.1
 
 pub overflow_add-next : goal.overflow_add-next
 overflow_add-next c = omega (arith, fits (goal.at.overflow_add-next c).After-ref_signature-own)
@@ -32,14 +32,14 @@ overflow_add-next-in-loop-new-2 c = omega (arith, fits (goal.at.overflow_add-nex
 -- one more record is written
 pub loop-new-preserved : goal.loop-new-preserved
 loop-new-preserved c =
-    let all = c.members-new-items.ensures.is in
+    let all = c.as_slice-new-items.ensures.is in
     let s = c.ref_signature-own.ensures in
     let turn = c.loop-new.invariant in record {
       next = parts-turn _ _ _ _ _ _ _ _ all c.loop-new-test.true refl s.name s.descriptor _ turn.next;
       place = omega (arith, turn.place);
       out = records-turn _ _ _ _ _ _ _ _ all c.loop-new-test.true refl s.name s.descriptor _ turn.next _ _ _ c.requires.0 turn.out
-          (c.put_record.ensures ∙ member_put _ _ _ _ _ _ _ _ (omega (arith, c.requires.0, ap length all)) ∙ rw turn.place);
+          (c.put_record.ensures ∙ laid_is _ _ _ (omega (arith, c.requires.0, ap length all)) ∙ rw turn.place);
     }
 
 pub returns : goal.returns
-returns c = records-done _ _ _ _ _ _ _ _ _ c.members-new-items.ensures.is c.loop-new-test.false c.loop-new.invariant.out
+returns c = records-done _ _ _ _ _ _ _ _ _ c.as_slice-new-items.ensures.is c.loop-new-test.false c.loop-new.invariant.out

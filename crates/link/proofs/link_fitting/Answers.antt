@@ -11,10 +11,12 @@ returns-in_err-records_refusal c =
     let a = c.args in
     let above = row_above c.in_err-records_refusal.field-0.0 in
     rw (p.1, p.2)
-    (link-records a.set.now a.lent.abi.now a.c a.area.now a.stubs.now a.missing.now a.lent.text.now a.lent.labels.now c.requires c.in_err-records_refusal.ensures
+    (link-records a.set.now a.lent.abi.now a.c a.area.now a.stubs.now a.missing.now a.lent.text.now a.lent.labels.now c.requires
+    c.in_err-records_refusal.ensures
     (λ z. omega arith))
 
 pub link_read-requires : goal.link_read-requires
 link_read-requires c =
     let a = c.args in
-    link-texts a.set.now a.lent.abi.now a.c a.area.now a.stubs.now a.missing.now a.lent.text.now a.lent.labels.now c.requires c.in_ok-records_refusal.ensures refl
+    link-texts a.set.now a.lent.abi.now a.c a.area.now a.stubs.now a.missing.now a.lent.text.now a.lent.labels.now c.requires
+    c.in_ok-records_refusal.ensures refl

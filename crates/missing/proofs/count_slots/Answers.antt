@@ -8,10 +8,16 @@ pub loop-i-init : goal.loop-i-init
 loop-i-init c = record { small = omega arith; whole = count-start _ }
 
 pub loop-i-preserved : goal.loop-i-preserved
-loop-i-preserved c = record {
-  small = omega arith;
-  whole = count_turn _ c.loop-i.i c.loop-i.count (omega (arith, bits-length (parent_bit c.args.missing.now c.args.p) c.args.slots.words.now c.args.slots.marks.now c.args.slots.n)) c.bit_at-count.ensures.is c.loop-i.invariant.whole;
-}
+loop-i-preserved c =
+    let a = c.args in
+    let all = bits-length (parent_bit a.missing.now a.p) a.slots.words.now a.slots.marks.now a.slots.n in
+    record {
+      small = omega arith;
+      whole = count_turn _ c.loop-i.i c.loop-i.count (omega (arith, all)) c.bit_at-count.ensures.is c.loop-i.invariant.whole;
+    }
 
 pub returns : goal.returns
-returns c = count-end _ c.loop-i.i c.loop-i.count (omega (arith, bits-length (parent_bit c.args.missing.now c.args.p) c.args.slots.words.now c.args.slots.marks.now c.args.slots.n)) c.loop-i.invariant.whole
+returns c =
+    let a = c.args in
+    let all = bits-length (parent_bit a.missing.now a.p) a.slots.words.now a.slots.marks.now a.slots.n in
+    count-end _ c.loop-i.i c.loop-i.count (omega (arith, all)) c.loop-i.invariant.whole

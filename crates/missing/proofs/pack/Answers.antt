@@ -7,7 +7,7 @@ pub loop-j-init : goal.loop-j-init
 loop-j-init c = pack_start _
 
 pub loop-j-preserved : goal.loop-j-preserved
-loop-j-preserved c = pack_turn _ _ c.loop-j.j (search rules) c.loop-j-test.true c.loop-j.invariant c.packed_word.ensures refl
+loop-j-preserved c = pack_turn _ _ c.loop-j.j (search rules) (omega arith) c.loop-j.invariant c.packed_word.ensures refl
 
 pub returns : goal.returns
 returns c = pack_end _ _ c.loop-j.j (search rules) (omega arith) c.loop-j.invariant

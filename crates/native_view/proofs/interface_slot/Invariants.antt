@@ -12,6 +12,7 @@ abbrev pub invariant-loop-j : goal.invariant-loop-j
 invariant-loop-j l = record {
   count : l.n ≡ list_count (class_first_interface l.sheets.set.now l.c) (class_interface_count l.sheets.set.now l.c) interface_limit;
   first : l.first ≡ class_first_interface l.sheets.set.now l.c;
-  rest : found_from (interface_slot l.sheets.set.now l.sheets.text.now l.sheets.abi.now l.sheets.labels.now l.i) (own_interfaces l.sheets.set.now l.c) (l.j - l.first)
+  rest : found_from (interface_slot l.sheets.set.now l.sheets.text.now l.sheets.abi.now l.sheets.labels.now l.i) (own_interfaces l.sheets.set.now l.c)
+      (l.j - l.first)
       ≡ first_found (interface_slot l.sheets.set.now l.sheets.text.now l.sheets.abi.now l.sheets.labels.now l.i) (own_interfaces l.sheets.set.now l.c);
 }

@@ -6,7 +6,7 @@ use Rattle.native_view.proofs.native_view.Goals as goal
 
 pub returns : goal.returns
 returns c =
-    let abis = c.list.ensures.is ∙ c.chain_abi-abis.ensures in
+    let abis = c.as_slice.ensures.is ∙ c.chain_abi-abis.ensures in
     let v = native_is _ _ _ _ _ _ c.parent_entries.ensures.is _ c.parent_of.ensures abis c.view_entries.ensures.is in record {
       parent = c.parent_entries.ensures.is;
       view = v;

@@ -1,25 +1,19 @@
 -- Rows 8 and 9 refuse, or a row of the table, or row 13, or the fields and the table make the plan, with the added methods. Assumes nothing.
 use Rattle.std.proofs.lemmas.Result.{err_from_is_err_and}
-use Rattle.plan.proofs.KindLaws.{row_first, row_then, generated-row, generated-stops, generated-plan}
+use Rattle.plan.proofs.KindLaws.{row_first, generated-row, generated-stops, generated-done}
 use Rattle.plan.proofs.plan_generated.Goals as goal
 
-pub returns-in_err-fields : goal.returns-in_err-fields
-returns-in_err-fields c =
+pub returns-in_err-generated_fields : goal.returns-in_err-generated_fields
+returns-in_err-generated_fields c =
     let p = err_from_is_err_and c.from_residual.result c.from_residual.ensures.1 in
-    rw (p.1, p.2) (generated-row _ _ _ _ _ _ _ _ _ _ c.in_err-fields.ensures)
+    rw (p.1, p.2) (generated-row _ _ _ _ _ _ _ _ _ _ c.in_err-generated_fields.ensures)
 
 pub returns-in_err-generated_table : goal.returns-in_err-generated_table
 returns-in_err-generated_table c =
     let p = err_from_is_err_and c.from_residual-in_err-generated_table.result c.from_residual-in_err-generated_table.ensures.1 in
-    rw (p.1, p.2) (generated-stops _ _ _ _ _ _ _ c.in_ok-fields.ensures _ _ _ _ (row_first c.in_err-generated_table.ensures.is))
-
-pub returns-in_err-few_slots : goal.returns-in_err-few_slots
-returns-in_err-few_slots c =
-    let p = err_from_is_err_and c.from_residual-in_err-few_slots.result c.from_residual-in_err-few_slots.ensures.1 in
-    rw (p.1, p.2)
-    (generated-stops _ _ _ _ _ _ _ c.in_ok-fields.ensures _ _ _ _ (row_then c.in_ok-generated_table.ensures.is c.in_err-few_slots.ensures))
+    rw (p.1, p.2) (generated-stops _ _ _ _ _ _ _ c.in_ok-generated_fields.ensures _ _ _ _ (row_first c.in_err-generated_table.ensures.is))
 
 pub returns : goal.returns
 returns c =
     let t = c.in_ok-generated_table.ensures in
-    generated-plan _ _ _ _ _ _ _ c.in_ok-fields.ensures _ t.is c.in_ok-few_slots.ensures c.requires t.members
+    generated-done _ _ _ _ _ _ _ c.in_ok-generated_fields.ensures _ c.few_slots.result t.is c.few_slots.ensures c.requires t.members

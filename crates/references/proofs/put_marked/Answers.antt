@@ -1,23 +1,33 @@
--- A marked word is put at the next place, and any other one passed over. Assumes nothing.
-use Rattle.std.proofs.Common.{arith, sym}
-use Rattle.references.proofs.Laws.{before-bound, filled_none, filled_skip, filled_take, filled_all}
+-- `enumerate` gives the marked words with their places, in order, and each is put at its place. Assumes nothing.
+use Rattle.std.proofs.Common.{arith, rules, tests}
+use Rattle.std.proofs.lemmas.Iterator.{YieldsList-from_range}
+use Rattle.std.proofs.lemmas.Iterator.Consumers.{YieldsList-at, YieldsList-from_filter, YieldsList-from_enumerate, YieldsList-turn, YieldsList-end}
+use lib.Seq.{paste-zero}
+use Rattle.references.specs.References.{is_marked, marked_words}
+use Rattle.references.proofs.Laws.{filter_is, filled_turn, filled_all}
 use Rattle.references.proofs.put_marked.Goals as goal
-use Rattle.references.proofs.put_marked.Goals.{then-is_marked, else-is_marked}
 
-pub loop-i-init : goal.loop-i-init
-loop-i-init c = filled_none _ _
+pub loop-k-init : goal.loop-k-init
+loop-k-init c = paste-zero _ 0 (marked_words c.args.bitmap.now c.args.n)
 
-pub overflow_add-k : goal.overflow_add-k
-overflow_add-k c = omega (arith, c.loop-i.invariant.place, before-bound c.args.bitmap.now c.loop-i.i)
-
-pub loop-i-preserved : goal.loop-i-preserved
-loop-i-preserved c =
-    elim c.if-is_marked.branch [
-      | then-is_marked w ↦
-          rw (w.k-is, w.list-is, w.put.ensures)
-          (filled_take _ _ _ _ c.args.n (omega arith) c.requires (sym w.if-is_marked.ensures) c.loop-i.invariant)
-      | else-is_marked w ↦ rw (w.k-is, w.list-is) (filled_skip _ _ _ _ (sym w.if-is_marked.ensures) c.loop-i.invariant)
-    ]
+pub loop-k-preserved : goal.loop-k-preserved
+loop-k-preserved c =
+    let a = c.args in
+    let turn = YieldsList-turn
+    (YieldsList-at c.into_iter-k-iterator.ensures.into_iter_gives
+    (YieldsList-from_enumerate (YieldsList-at c.enumerate-k-items.ensures.source
+    (YieldsList-from_filter _ (is_marked a.bitmap.now) (YieldsList-from_range 0 _ a.n c.filter.ensures.source (omega arith))
+    c.filter.ensures.closure (λ x r q k. search (rules, tests)))) c.enumerate-k-items.ensures.count))
+    c.loop-k.yielded _ c.loop-k.yielded_by _ _ _ c.in-Some.is c.next.ensures.steps in
+    rw c.put.ensures (filled_turn _ _ _ _ c.requires (rw (filter_is a.bitmap.now a.n) at turn) c.loop-k.invariant)
 
 pub returns : goal.returns
-returns c = filled_all _ _ _ _ _ c.loop-i.invariant (omega arith)
+returns c =
+    let a = c.args in
+    let end = YieldsList-end
+    (YieldsList-at c.into_iter-k-iterator.ensures.into_iter_gives
+    (YieldsList-from_enumerate (YieldsList-at c.enumerate-k-items.ensures.source
+    (YieldsList-from_filter _ (is_marked a.bitmap.now) (YieldsList-from_range 0 _ a.n c.filter.ensures.source (omega arith))
+    c.filter.ensures.closure (λ x r q k. search (rules, tests)))) c.enumerate-k-items.ensures.count))
+    c.loop-k.yielded _ c.loop-k.yielded_by _ _ c.in-None.is c.next.ensures.steps in
+    filled_all _ _ _ (rw (filter_is a.bitmap.now a.n) at end.1) c.loop-k.invariant

@@ -1,6 +1,8 @@
--- The list holds the marked ones of the words before word i, k of them, over its front. Assumes nothing.
-use Rattle.references.proofs.Laws.{Filled}
+-- The words that the loop has been given stand over the list's front. Assumes nothing.
+use Rattle.std.proofs.Common.{◌≡◌, length}
+use lib.Seq.{paste}
+use Rattle.references.specs.References.{marked_words}
 use Rattle.references.proofs.put_marked.Given as goal
 
-abbrev pub invariant-loop-i : goal.invariant-loop-i
-invariant-loop-i l = Filled l.bitmap l.initial.list l.i l.k l.list
+abbrev pub invariant-loop-k : goal.invariant-loop-k
+invariant-loop-k l = l.list ≡ paste l.initial.list 0 (marked_words l.bitmap l.n) (length l.yielded)

@@ -8,4 +8,4 @@ pub returns : goal.returns
 unfolding class_rows
 returns c =
     let f = sym c.form_ok.ensures ∙ c.if-not-form_ok.false in
-    c.class_refusal.ensures ∙ rw (f, c.text_bytes.ensures (formed _ f).text)
+    c.unpacked_refusal.ensures (formed _ f).text ∙ rw f

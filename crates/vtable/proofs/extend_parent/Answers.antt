@@ -5,16 +5,10 @@ use Rattle.abi.proofs.Laws.{minimum_size-room}
 use Rattle.vtable.proofs.extend_parent.Goals as goal
 
 pub extend-requires : goal.extend-requires
-extend-requires c =
-    let a = c.args in
-    let m = minimum_size-room a.sheets.abi.now a.abis.now in
-    let e = c.largest_size.ensures in omega arith
+extend-requires c = omega (arith, minimum_size-room c.args.sheets.abi.now c.args.abis.now, c.largest_size.ensures)
 
 pub returns-clause-is : goal.returns-clause-is
 returns-clause-is c = search extended-is
 
 pub returns-clause-count : goal.returns-clause-count
-returns-clause-count c =
-    let a = c.args in
-    let m = minimum_size-room a.sheets.abi.now a.abis.now in
-    let e = c.largest_size.ensures in omega arith
+returns-clause-count c = omega (arith, minimum_size-room c.args.sheets.abi.now c.args.abis.now, c.largest_size.ensures)

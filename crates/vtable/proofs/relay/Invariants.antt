@@ -1,16 +1,14 @@
--- Relaying the parent's entries from i on, onto the table so far, makes what relaying all of them onto the first table makes. Assumes nothing.
-use Rattle.std.proofs.Common.{◌≡◌, ◌+◌, ◌≤◌}
+-- Relaying the parent's slots that are left onto the table so far makes what relaying all of them onto the first table makes. Assumes nothing.
+use Rattle.std.proofs.Common.{◌≡◌, ◌+◌, ◌≤◌, length}
 use Rattle.words.specs.Lists.{fold}
-use Rattle.words.proofs.ListLaws.{fold_from}
 use Rattle.linking.specs.Sheets.{of_sheets}
 use Rattle.linking.specs.Vtable.{relay_step}
-use Rattle.reading.specs.Arrays.{entry_at}
-use Rattle.reading.specs.Tables.{entries}
+use Rattle.reading.specs.Tables.{entries, entries_left}
 use Rattle.vtable.proofs.relay.Given as goal
 
-abbrev pub invariant-loop-i : goal.invariant-loop-i
-invariant-loop-i l = record {
-  slots : l.table.len ≤ l.initial.table.len + l.i;
-  rest : fold_from (entry_at l.parent.words l.parent.marks) (of_sheets relay_step l.sheets l.abis) (entries l.table) 0 l.parent.len l.i
+abbrev pub invariant-loop-slot : goal.invariant-loop-slot
+invariant-loop-slot l = record {
+  slots : l.table.len + length (entries_left l.slot-iterator) ≤ l.initial.table.len + l.parent.len;
+  rest : fold (of_sheets relay_step l.sheets l.abis) (entries l.table) (entries_left l.slot-iterator)
       ≡ fold (of_sheets relay_step l.sheets l.abis) (entries l.initial.table) (entries l.parent);
 }

@@ -8,4 +8,4 @@ pub returns : goal.returns
 unfolding link_rows
 returns c =
     let f = sym c.fits_ok.ensures ∙ c.if-not-fits_ok.false in
-    c.class_refusal.ensures ∙ rw (f, c.text_bytes.ensures (fits _ f).0.text)
+    c.unpacked_refusal.ensures (fits _ f).0.text ∙ rw f

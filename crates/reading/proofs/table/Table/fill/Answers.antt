@@ -1,5 +1,5 @@
 -- A turn adds one slot more. Assumes nothing.
-use Rattle.std.proofs.Common.{◌≡◌, arith, sym, ◌∙◌}
+use Rattle.std.proofs.Common.{◌≡◌, min, arith, sym, ◌∙◌}
 use Rattle.words.specs.Lists.{list_from}
 use Rattle.words.proofs.Ext.{list-more}
 use Rattle.reading.proofs.table.Table.fill.Goals as goal
@@ -16,4 +16,4 @@ loop-i-preserved g c =
     }
 
 pub returns-clause-is : goal.returns-clause-is
-returns-clause-is g c = λ f h. let e : c.loop-i.i ≡ c.args.n = omega arith in rw (← e) (c.loop-i.invariant.is f h)
+returns-clause-is g c = λ f h. let e : c.loop-i.i ≡ min c.args.n g.row.N = omega (arith, c.min-i-end.ensures) in rw (← e) (c.loop-i.invariant.is f h)
