@@ -4,14 +4,17 @@ use Rattle.text.specs.Text.{same_bytes}
 use Rattle.linking.specs.Chain.{on_found, is_eligible}
 use Rattle.linking.specs.Vtable.{Entry}
 use Rattle.linking.specs.Compiler.{New, name_of, descriptor_of, flags_of, target_of, has_slot}
-use Rattle.linking.specs.declared.Sheets.{Sheets}
 use Rattle.linking.specs.Sheets.{of_sheets}
-use Rattle.growth.specs.declared.news.Member.{Member}
+use Rattle.compiler.specs.declared.Members.{Members}
 use Rattle.growth.specs.News.{news_of}
 
 -- what f says of class words, their text and the methods that are added, where the code has these members
-abbrev pub of_news {ℓ} : {A : Type ℓ} → (List ℕ → List ℕ → List New → A) → Sheets → List Member → A
-of_news f sheets members = f sheets.set.now sheets.text.now (of_sheets news_of sheets members)
+abbrev pub of_members {ℓ} : {A : Type ℓ} → (List ℕ → List ℕ → List New → A) → Members → A
+of_members f m = f m.sheets.set.now m.sheets.text.now (of_sheets news_of m.sheets m.news.now)
+
+-- and of class words and those methods alone
+abbrev pub of_methods {ℓ} : {A : Type ℓ} → (List ℕ → List New → A) → Members → A
+of_methods f m = f m.sheets.set.now (of_sheets news_of m.sheets m.news.now)
 
 -- the entry's method has target t; no where there is none
 unfoldable pub has_target : List ℕ → List New → ℕ → Entry → Bool

@@ -1,6 +1,6 @@
 -- By cases: a method of the sheet, an added one, or neither. Assumes nothing.
 use Rattle.compiler.proofs.MethodLaws.{name_own, descriptor_own, name_added, descriptor_added, name_none, descriptor_none}
-use Rattle.compiler.proofs.signature_of.Goals as goal
+use Rattle.compiler.proofs.Members.signature_of.Goals as goal
 
 pub returns-then-m-lt-METHOD_LIMIT : goal.returns-then-m-lt-METHOD_LIMIT
 returns-then-m-lt-METHOD_LIMIT c = record { name = search name_own; descriptor = search descriptor_own }

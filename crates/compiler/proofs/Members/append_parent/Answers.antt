@@ -4,7 +4,7 @@ use mathlib.Core.Path.{refl}
 use Rattle.reading.specs.Tables.{entries_left}
 use Rattle.reading.proofs.ArrayLaws.{length-entries}
 use Rattle.reading.proofs.SlotLaws.{fold_more, fold_none}
-use Rattle.compiler.proofs.append_parent.Goals as goal
+use Rattle.compiler.proofs.Members.append_parent.Goals as goal
 
 pub loop-slot-init : goal.loop-slot-init
 loop-slot-init c =

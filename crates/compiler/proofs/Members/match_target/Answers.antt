@@ -2,7 +2,7 @@
 use Rattle.std.proofs.Common.{sym, ◌∙◌}
 use Rattle.growth.proofs.NewsLaws.{length-news}
 use Rattle.compiler.proofs.EntryLaws.{match_own, match_added, match_view}
-use Rattle.compiler.proofs.match_target.Goals as goal
+use Rattle.compiler.proofs.Members.match_target.Goals as goal
 
 pub returns-in-Some : goal.returns-in-Some
 returns-in-Some c =

@@ -2,7 +2,7 @@
 use Rattle.std.proofs.Common.{◌∙◌, sym}
 use Rattle.growth.proofs.NewsLaws.{length-news}
 use Rattle.compiler.proofs.AppendLaws.{both-appended}
-use Rattle.compiler.proofs.append_methods.Goals as goal
+use Rattle.compiler.proofs.Members.append_methods.Goals as goal
 
 pub returns-clause-is : goal.returns-clause-is
 returns-clause-is c =

@@ -1,7 +1,7 @@
 -- No method, or one that takes no slot, leaves the table; any other one goes behind its last slot. Assumes nothing.
 use native.Mathlib.Omega.{arith}
 use Rattle.compiler.proofs.AppendLaws.{append_none, append_left, append_new}
-use Rattle.compiler.proofs.append.Goals as goal
+use Rattle.compiler.proofs.Members.append.Goals as goal
 
 -- no method
 pub returns-in_default : goal.returns-in_default

@@ -1,7 +1,7 @@
 -- Each method's turn is a step of the fold. Assumes nothing.
 use Rattle.std.proofs.Common.{◌∙◌, arith}
 use Rattle.compiler.proofs.AppendLaws.{append_own, range-start, range-turn, range_end}
-use Rattle.compiler.proofs.append_from.Goals as goal
+use Rattle.compiler.proofs.Members.append_from.Goals as goal
 
 pub loop-m-init : goal.loop-m-init
 loop-m-init c = record { end = omega arith; table = range-start _ _ _ _ }

@@ -1,7 +1,7 @@
 -- The closure gives the slots of the compiler table, one for each number. Assumes nothing.
 use Rattle.std.proofs.Common.{◌≡◌, min, rules, arith}
 use Rattle.compiler.proofs.EntryLaws.{slots-all}
-use Rattle.compiler.proofs.compiler_entries.Goals as goal
+use Rattle.compiler.proofs.Members.compiler_entries.Goals as goal
 
 pub returns : goal.returns
 returns c =

@@ -4,13 +4,13 @@ use Prim.Native.Nat.{◌+◌, ◌≤◌}
 use lib.ListN.{length}
 use Rattle.linking.specs.Compiler.{append_entry}
 use Rattle.reading.specs.Tables.{entries, entries_left}
-use Rattle.compiler.specs.Methods.{of_news}
+use Rattle.compiler.specs.Methods.{of_members}
 use Rattle.words.specs.Lists.{fold}
-use Rattle.compiler.proofs.append_parent.Given as goal
+use Rattle.compiler.proofs.Members.append_parent.Given as goal
 
 abbrev pub invariant-loop-slot : goal.invariant-loop-slot
 invariant-loop-slot l = record {
   end : l.table.len + length (entries_left l.slot-iterator) ≤ l.initial.table.len + l.parent.len;
-  table : fold (of_news append_entry l.sheets l.news) (entries l.table) (entries_left l.slot-iterator)
-      ≡ fold (of_news append_entry l.sheets l.news) (entries l.initial.table) (entries l.parent);
+  table : fold (of_members append_entry l.self) (entries l.table) (entries_left l.slot-iterator)
+      ≡ fold (of_members append_entry l.self) (entries l.initial.table) (entries l.parent);
 }

@@ -4,21 +4,19 @@ use Rattle.std.proofs.lemmas.Iterator.Consumers.{YieldsList-from_first}
 use Rattle.std.proofs.lemmas.Iterator.Search.{find_from_yields_List}
 use Rattle.std.specs.Option.{option_map}
 use Rattle.std.specs.Prelude.{find}
-use Rattle.linking.specs.Sheets.{of_sheets}
-use Rattle.growth.specs.News.{news_of}
 use Rattle.reading.specs.Tables.{entry, entries, entries_left}
-use Rattle.compiler.specs.Methods.{has_target}
+use Rattle.compiler.specs.Methods.{of_methods, has_target}
 use Rattle.reading.proofs.ArrayLaws.{none-back}
 use Rattle.compiler.proofs.EntryLaws.{view_hit, view_none}
-use Rattle.compiler.proofs.view_target.Goals as goal
-use Rattle.compiler.proofs.view_target.Goals.{After-find}
+use Rattle.compiler.proofs.Members.view_target.Goals as goal
+use Rattle.compiler.proofs.Members.view_target.Goals.{After-find}
 
 -- what the search answers
 seen : (c : After-find) → let a = c.args in
-    option_map entry c.find.result ≡ find (has_target a.sheets.set.now (of_sheets news_of a.sheets a.news.now) a.t) (entries a.view.now)
+    option_map entry c.find.result ≡ find (of_methods has_target a.self a.t) (entries a.view.now)
 seen c =
     let a = c.args in
-    find_from_yields_List (has_target a.sheets.set.now (of_sheets news_of a.sheets a.news.now) a.t) c.find.new.self _ c.find.result c.find.ensures.ran
+    find_from_yields_List (of_methods has_target a.self a.t) c.find.new.self _ c.find.result c.find.ensures.ran
     (YieldsList-from_first entry entries_left (entries a.view.now) c.slots.ensures) (λ x b q k. search rules)
 
 pub returns : goal.returns
