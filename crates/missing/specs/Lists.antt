@@ -13,8 +13,8 @@ use Rattle.refusal.specs.Rows.{row}
 abbrev pub bits_in : List ℕ → ℕ → List ℕ → List ℕ → ℕ → List Bool
 bits_in missing p ts ms n = bits_of (parent_bit missing p) (entries_of ts ms n)
 
-abbrev pub slot_bits : List ℕ → ℕ → Slots → List Bool
-slot_bits missing p slots = bits_in missing p slots.words.now slots.marks.now slots.n
+abbrev pub slot_bits : Slots → List Bool
+slot_bits slots = bits_in slots.missing.now slots.parent slots.words.now slots.marks.now slots.n
 
 -- the list with the words of class c, whose parent is p; as it was where it has no room for them
 unfoldable pub counted : List ℕ → ℕ → ℕ → List Entry → List ℕ

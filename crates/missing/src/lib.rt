@@ -15,14 +15,6 @@ use refusal::Refusal;
 // How many words of the list are a class's.
 const WIDTH: usize = 33;
 
-// The slots of a table by their words and marks, and how many there are: past a slice's end they are 0.
-#[derive(Clone, Copy)]
-struct Slots<'a> {
-    words: &'a [u32],
-    marks: &'a [u32],
-    n: u32,
-}
-
 // The place of class c's words.
 fn place_of(c: u32) -> usize
     ensures is { result ≡ missing_at c }
@@ -59,70 +51,83 @@ fn is_counted(missing: &[u32], p: u32, slot: Slot) -> bool
     slot.word == 0 || slot.source().is_some_and(|j| parent_bit(missing, p, j))
 }
 
-// Whether slot i of the table is missing: none is past its end.
-#[tactic(auto, using(crate::proofs::BitLaws::bit_past, crate::proofs::BitLaws::bit_there))]
-fn is_missing(missing: &[u32], p: u32, slots: Slots, i: usize) -> bool
-    ensures { result ≡ get_or (slot_bits missing.now p slots.entry) i false }
-{
-    if slots.n as usize <= i {
-        return false;
+// The slots of a class's table by their words and marks, and how many there are (past a slice's end they are 0), beside the list as it is lent and
+// the class's parent, whose bits in it tell which copies are missing.
+#[derive(Clone, Copy)]
+struct Slots<'a> {
+    missing: &'a [u32],
+    parent: u32,
+    words: &'a [u32],
+    marks: &'a [u32],
+    n: u32,
+}
+
+impl<'a> Slots<'a> {
+    // Whether slot i of the table is missing: none is past its end.
+    #[tactic(auto, using(crate::proofs::BitLaws::bit_past, crate::proofs::BitLaws::bit_there))]
+    fn is_missing(self, i: usize) -> bool
+        ensures { result ≡ get_or (slot_bits self.entry) i false }
+    {
+        if self.n as usize <= i {
+            return false;
+        }
+        let slot = Slot {
+            word: words::get_or(self.words, i, 0),
+            mark: words::get_or(self.marks, i, 0),
+        };
+        is_counted(self.missing, self.parent, slot)
     }
-    let slot = Slot {
-        word: words::get_or(slots.words, i, 0),
-        mark: words::get_or(slots.marks, i, 0),
-    };
-    is_counted(missing, p, slot)
-}
 
-// 1 where slot i of the table is missing, and else 0.
-fn bit_at(missing: &[u32], p: u32, slots: Slots, i: usize) -> u32
-    ensures is { result ≡ bit (get_or (slot_bits missing.now p slots.entry) i false) }
-    ensures small { result ≤ 1 }
-{
-    u32::from(is_missing(missing, p, slots, i))
-}
-
-// How many of its slots are missing.
-fn count_slots(missing: &[u32], p: u32, slots: Slots) -> u32
-    ensures { result ≡ bit_count (slot_bits missing.now p slots.entry) }
-{
-    let mut count: u32 = 0;
-    for i in 0..slots.n as usize {
-        count += bit_at(missing, p, slots, i);
+    // 1 where slot i of the table is missing, and else 0.
+    fn bit_at(self, i: usize) -> u32
+        ensures is { result ≡ bit (get_or (slot_bits self.entry) i false) }
+        ensures small { result ≤ 1 }
+    {
+        u32::from(self.is_missing(i))
     }
-    count
-}
 
-// Word k of their bits, the first slot's lowest.
-fn bit_word(missing: &[u32], p: u32, slots: Slots, k: usize) -> u32
-    requires { k < 32 }
-    ensures { result ≡ bits_from (slot_bits missing.now p slots.entry) (32 * k) 32 }
-{
-    let mut w: u32 = 0;
-    for i in (0..32).rev() {
-        w = bit_at(missing, p, slots, 32 * k + i) + 2 * w;
+    // How many of its slots are missing.
+    fn count_slots(self) -> u32
+        ensures { result ≡ bit_count (slot_bits self.entry) }
+    {
+        let mut count: u32 = 0;
+        for i in 0..self.n as usize {
+            count += self.bit_at(i);
+        }
+        count
     }
-    w
-}
 
-// Word j of the class's 33: the count, and then the bits.
-#[tactic(auto, using(crate::proofs::ListLaws::word_first, crate::proofs::ListLaws::word_later))]
-fn packed_word(missing: &[u32], p: u32, slots: Slots, j: usize) -> u32
-    requires { j < 33 }
-    ensures { result ≡ get_or (pack_bits (slot_bits missing.now p slots.entry)) j 0 }
-{
-    if j == 0 {
-        return count_slots(missing, p, slots);
+    // Word k of their bits, the first slot's lowest.
+    fn bit_word(self, k: usize) -> u32
+        requires { k < 32 }
+        ensures { result ≡ bits_from (slot_bits self.entry) (32 * k) 32 }
+    {
+        let mut w: u32 = 0;
+        for i in (0..32).rev() {
+            w = self.bit_at(32 * k + i) + 2 * w;
+        }
+        w
     }
-    bit_word(missing, p, slots, j - 1)
-}
 
-// Fills a list of 33 with the words.
-fn pack(missing: &[u32], p: u32, slots: Slots, out: &mut [u32; WIDTH])
-    ensures { out.new ≡ pack_bits (slot_bits missing.now p slots.entry) }
-{
-    for (j, word) in out.iter_mut().enumerate() {
-        *word = packed_word(missing, p, slots, j);
+    // Word j of the class's 33: the count, and then the bits.
+    #[tactic(auto, using(crate::proofs::ListLaws::word_first, crate::proofs::ListLaws::word_later))]
+    fn packed_word(self, j: usize) -> u32
+        requires { j < 33 }
+        ensures { result ≡ get_or (pack_bits (slot_bits self.entry)) j 0 }
+    {
+        if j == 0 {
+            return self.count_slots();
+        }
+        self.bit_word(j - 1)
+    }
+
+    // Fills a list of 33 with the words.
+    fn pack(self, out: &mut [u32; WIDTH])
+        ensures { out.new ≡ pack_bits (slot_bits self.entry) }
+    {
+        for (j, word) in out.iter_mut().enumerate() {
+            *word = self.packed_word(j);
+        }
     }
 }
 
@@ -133,11 +138,13 @@ pub fn count_class(missing: &mut [u32], c: u32, p: u32, ts: &[u32], ms: &[u32], 
 {
     let mut own = [0u32; WIDTH];
     let slots = Slots {
+        missing,
+        parent: p,
         words: ts,
         marks: ms,
         n,
     };
-    pack(missing, p, slots, &mut own);
+    slots.pack(&mut own);
     words::copy(&own, 0, WIDTH, missing, place_of(c));
 }
 

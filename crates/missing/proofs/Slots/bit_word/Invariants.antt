@@ -3,7 +3,7 @@ use mathlib.Core.Path.{◌≡◌}
 use Prim.Native.Nat.{◌+◌, ◌*◌, ◌-◌}
 use Rattle.linking.specs.Counts.{bits_from}
 use Rattle.missing.specs.Lists.{slot_bits}
-use Rattle.missing.proofs.bit_word.Given as goal
+use Rattle.missing.proofs.Slots.bit_word.Given as goal
 
 abbrev pub invariant-loop-i : goal.invariant-loop-i
-invariant-loop-i l = l.w ≡ bits_from (slot_bits l.missing l.p l.slots) (32 * l.k + l.i) (32 - l.i)
+invariant-loop-i l = l.w ≡ bits_from (slot_bits l.self) (32 * l.k + l.i) (32 - l.i)

@@ -1,7 +1,7 @@
 -- A turn puts one bit more below those that are there. Assumes nothing.
 use Rattle.std.proofs.Common.{arith}
 use Rattle.missing.proofs.BitLaws.{word_room, word-start, word-turn, word_end}
-use Rattle.missing.proofs.bit_word.Goals as goal
+use Rattle.missing.proofs.Slots.bit_word.Goals as goal
 
 pub loop-i-init : goal.loop-i-init
 loop-i-init c = word-start _ _

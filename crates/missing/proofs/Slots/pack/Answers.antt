@@ -1,7 +1,7 @@
 -- A turn packs one more word. Assumes nothing.
 use Rattle.std.proofs.Common.{refl, arith, rules}
 use Rattle.missing.proofs.ListLaws.{pack_start, pack_turn, pack_end}
-use Rattle.missing.proofs.pack.Goals as goal
+use Rattle.missing.proofs.Slots.pack.Goals as goal
 
 pub loop-j-init : goal.loop-j-init
 loop-j-init c = pack_start _

@@ -2,10 +2,10 @@
 use Rattle.std.proofs.Common.{◌≡◌, ◌+◌, ◌≤◌, drop}
 use Rattle.linking.specs.Counts.{bit_count}
 use Rattle.missing.specs.Lists.{slot_bits}
-use Rattle.missing.proofs.count_slots.Given as goal
+use Rattle.missing.proofs.Slots.count_slots.Given as goal
 
 abbrev pub invariant-loop-i : goal.invariant-loop-i
 invariant-loop-i l = record {
   small : l.count ≤ l.i;
-  whole : l.count + bit_count (drop l.i (slot_bits l.missing l.p l.slots)) ≡ bit_count (slot_bits l.missing l.p l.slots);
+  whole : l.count + bit_count (drop l.i (slot_bits l.self)) ≡ bit_count (slot_bits l.self);
 }
