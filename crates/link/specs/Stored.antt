@@ -15,12 +15,18 @@ use Rattle.area.specs.declared.Answer.{Answer}
 use Rattle.plan.specs.Plans.{methods_of, fields_of, Leaves}
 use Rattle.plan.specs.declared.Plan as P
 use Rattle.growth.specs.News.{news_of}
+use Rattle.linking.specs.Sheets.{of_sheets}
+use Rattle.link.specs.declared.Growing.{Growing}
 use Rattle.refusal.specs.declared.Refusal.{Refusal}
 use Rattle.refusal.specs.Rows.{row}
 
 -- a plan by its new members alone: what row 14 and the set's part of row 15 ask for
 abbrev pub members_plan : List ℕ → ℕ → List New → Plan
 members_plan ws c new = record { table = []; indices = []; new_methods = methods_of ws c new; new_fields = fields_of ws c new }
+
+-- what f says of class words, a class and that plan, where the code has the class and its new members
+abbrev pub of_growing {ℓ} : {A : Type ℓ} → (List ℕ → ℕ → Plan → A) → Growing → A
+of_growing f g = f g.sheets.set.now g.c (members_plan g.sheets.set.now g.c (of_sheets news_of g.sheets g.news.now))
 
 -- ---- the class words
 

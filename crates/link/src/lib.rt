@@ -5,7 +5,7 @@ ghost use Rattle.std.specs.Prelude.{◌≡◌};
 ghost use Rattle.linking.specs.Link.{new_statics, linked_record, lists_full, set_short, link_def};
 ghost use Rattle.growth.specs.News.{news_of};
 ghost use Rattle.refusal.specs.Rows.{row_of};
-ghost use Rattle.link.specs.Stored.{link_outcome, members_plan, numbered, with_methods, stored_news, room_row, Fitting, Texts, Accepted, Judged};
+ghost use Rattle.link.specs.Stored.{link_outcome, of_growing, numbered, with_methods, stored_news, room_row, Fitting, Texts, Accepted, Judged};
 ghost use Rattle.linking.specs.Sheets.{of_sheets, of_lent};
 
 use area::Answer;
@@ -83,45 +83,47 @@ fn store_link(set: &mut [u32], c: u32, linked: Linked, indices: &[u32], lent: Le
     store_indices(set, c, linked, indices);
 }
 
-// Row 14: whether the list that grows, or the text, would exceed its limit.
-#[tactic(auto, using(crate::proofs::StoreLaws::full_is))]
-fn lists_full(sheets: Sheets, c: u32, news: &News) -> bool
-    ensures { result ≡ lists_full sheets.entry.set.now c (members_plan sheets.entry.set.now c (of_sheets news_of sheets.entry news.now)) }
-{
-    let list = growth::growing(sheets.set, c);
-    (news.len() != 0) & growth::section_full(sheets, list, news)
-}
-
-// Row 15, of the set: whether its slice has too few words for the grown sections.
-#[tactic(auto, using(crate::proofs::StoreLaws::short_is))]
-fn set_short(sheets: Sheets, c: u32, news: &News) -> bool
-    ensures { result ≡ set_short sheets.entry.set.now c (members_plan sheets.entry.set.now c (of_sheets news_of sheets.entry news.now)) }
-{
-    let list = growth::growing(sheets.set, c);
-    (news.len() != 0) & (sheets.set.len() < growth::grown_end(sheets, list, news))
-}
-
-// Rows 14 and 15 of a link with these new members and a table of n slots.
-fn room_row(
-    sheets: Sheets,
+// A class of the sheets, and the members that its link adds.
+#[derive(Clone, Copy)]
+struct Growing<'a> {
+    sheets: Sheets<'a>,
     c: u32,
-    news: &News,
-    area: &[u32],
-    stubs: &[u32],
-    missing: &[u32],
-    n: usize,
-) -> Result<(), Refusal>
-    ensures { row_of result ≡ room_row sheets.entry.set.now c (members_plan sheets.entry.set.now c (of_sheets news_of sheets.entry news.now))
-        area.now stubs.now missing.now n }
-{
-    if lists_full(sheets, c, news) {
-        return Err(Refusal::FullLists);
+    news: &'a News,
+}
+
+impl<'a> Growing<'a> {
+    // Row 14: whether the list that grows, or the text, would exceed its limit.
+    #[tactic(auto, using(crate::proofs::StoreLaws::full_is))]
+    fn lists_full(self) -> bool
+        ensures { result ≡ of_growing lists_full self.entry }
+    {
+        let list = growth::growing(self.sheets.set, self.c);
+        (self.news.len() != 0) & growth::section_full(self.sheets, list, self.news)
     }
-    let short = set_short(sheets, c, news);
-    if area::no_room(area, stubs, n) | short | missing::is_short(sheets.set, missing) {
-        return Err(Refusal::ShortMemory);
+
+    // Row 15, of the set: whether its slice has too few words for the grown sections.
+    #[tactic(auto, using(crate::proofs::StoreLaws::short_is))]
+    fn set_short(self) -> bool
+        ensures { result ≡ of_growing set_short self.entry }
+    {
+        let set = self.sheets.set;
+        let list = growth::growing(set, self.c);
+        (self.news.len() != 0) & (set.len() < growth::grown_end(self.sheets, list, self.news))
     }
-    Ok(())
+
+    // Rows 14 and 15 of a link with a table of n slots.
+    fn room_row(self, area: &[u32], stubs: &[u32], missing: &[u32], n: usize) -> Result<(), Refusal>
+        ensures { row_of result ≡ of_growing room_row self.entry area.now stubs.now missing.now n }
+    {
+        if self.lists_full() {
+            return Err(Refusal::FullLists);
+        }
+        let short = self.set_short();
+        if area::no_room(area, stubs, n) | short | missing::is_short(self.sheets.set, missing) {
+            return Err(Refusal::ShortMemory);
+        }
+        Ok(())
+    }
 }
 
 // Rows 8 to 15 of a set, a class and an area that rows 3 to 7 and 26 accept: what the link comes to, with its table and new members.
@@ -137,15 +139,12 @@ fn judge(
     ensures { of_sheets Judged sheets.entry c area.now stubs.now missing.now result made.new }
 {
     plan::plan_link(sheets, area, c, made)?;
-    room_row(
+    let growing = Growing {
         sheets,
         c,
-        &made.news,
-        area,
-        stubs,
-        missing,
-        made.table.len as usize,
-    )
+        news: &made.news,
+    };
+    growing.room_row(area, stubs, missing, made.table.len as usize)
 }
 
 // The same rows and the effect, of the sheets' texts. Nothing is written before the last refusal.

@@ -1,6 +1,6 @@
 -- The three tests are those of the rows. Assumes nothing.
 use Rattle.link.proofs.FinishLaws.{room-full, room-short, room-left}
-use Rattle.link.proofs.room_row.Goals as goal
+use Rattle.link.proofs.Growing.room_row.Goals as goal
 
 pub returns-then-lists_full : goal.returns-then-lists_full
 returns-then-lists_full c = search room-full
