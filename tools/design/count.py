@@ -157,8 +157,8 @@ POINTS = {
     "6a": ("functions that are lent a slice and a count beside it", lambda: [str(f) for f in functions if measured(f)]),
     "6b": ("functions that are lent two arrays of a table, or three of new members", lambda: [str(f) for f in functions if {"ts", "ms"} <= {n for n, _ in f.params} or {"refs", "flags", "lasts"} <= {n for n, _ in f.params}]),
     "7": ("switches on a number", switches),
-    "8a": ("answers in proofs/*/Answers.antt", lambda: [f"{p}:{m.group(1)}" for p in sorted(root.glob("crates/*/proofs/*/Answers.antt")) for m in re.finditer(r"^pub (\S+) : goal", p.read_text(), re.M)]),
-    "8b": ("answers that are a tactic alone, without a law", lambda: [f"{p}:{m.group(1)}" for p in sorted(root.glob("crates/*/proofs/*/Answers.antt")) for m in re.finditer(r"^(\S+) (?:[gtc] )*c = (?:search(?: rules)?|omega arith|refl|cc)$", p.read_text(), re.M)]),
+    "8a": ("answers in proofs/**/Answers.antt", lambda: [f"{p}:{m.group(1)}" for p in sorted(root.glob("crates/*/proofs/**/Answers.antt")) for m in re.finditer(r"^pub (\S+) : goal", p.read_text(), re.M)]),
+    "8b": ("answers that are a tactic alone, without a law", lambda: [f"{p}:{m.group(1)}" for p in sorted(root.glob("crates/*/proofs/**/Answers.antt")) for m in re.finditer(r"^(\S+) (?:[gtc] )*c = (?:search(?: rules)?|omega arith|refl|cc)$", p.read_text(), re.M)]),
     "8c": ("lines of proofs/", lambda: [str(p) for p in sorted(root.glob("crates/*/proofs/**/*.antt")) for _ in p.read_text().splitlines()]),
 }
 if args:
