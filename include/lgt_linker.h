@@ -340,8 +340,9 @@ static inline const char *lgt_refusal_text(uint32_t refusal)
         return "The class would have more than 65,535 instance words, or its chain more than 65,535 runtime words: take "
                "fields out of the class or its ancestors.";
     case LGT_REFUSED_MOVED_SLOT:
-        return "The ABI sheet fixes another index for this method than the one that the class inherits: give both the "
-               "same index, or drop the ABI entry.";
+        return "The ABI sheet fixes another index for this method than the one that the class inherits, or the class "
+               "inherits it behind the fixed slots, where another signature holds the index: give both the same index, "
+               "or drop the ABI entry.";
     case LGT_REFUSED_TAKEN_SLOT:
         return "The ABI sheet fixes for this method a slot that another method already holds: give one of the two "
                "another index.";

@@ -21,6 +21,7 @@ COMMAND = r"(?:\./|tools/|oracle/|bench/|examples/|bash |rt |cargo |make |python
 # The gate has these on a line of its own, which begins so.
 IN_THE_GATE = {
     "oracle/run SEED COUNT": "oracle/run 1 ", "oracle/run 1 1000000": "oracle/run 1 ", "oracle/run --model SEED COUNT": "oracle/run --model 1 ",
+    "oracle/run --before SEED COUNT": "oracle/run --before 1 ",
     "oracle/faults SEED COUNT": "oracle/faults 1 ", "oracle/corpus SEED N FILE": "oracle/corpus 1 280 ",
     "oracle/corpus packages SEED N FILE": "oracle/corpus packages 1 100 ",
     "oracle/corpus telling FILE": "oracle/corpus telling ", "oracle/corpus answers SEED N FILE": "oracle/corpus answers 1 50 ",

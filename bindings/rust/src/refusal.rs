@@ -175,8 +175,8 @@ const REFUSALS: &[Row] = &[
         number: 11,
         refusal: Refusal::MovedSlot,
         wrong: "the ABI fixes another index for a method than the one that the class inherits",
-        mend: "The ABI sheet fixes another index for this method than the one that the class inherits: give both the same index, or drop \
-         the ABI entry.",
+        mend: "The ABI sheet fixes another index for this method than the one that the class inherits, or the class inherits it behind \
+         the fixed slots, where another signature holds the index: give both the same index, or drop the ABI entry.",
     },
     Row {
         number: 12,

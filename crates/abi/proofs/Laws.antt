@@ -1,19 +1,22 @@
 -- Laws of the ABI lookups as the code makes them: a chain of ABI classes that grows, and what indices and sizes are at most.
 -- Assumes nothing.
 use mathlib.Core.Path.{◌≡◌, refl, sym, ap, ◌∙◌}
+use mathlib.Core.Bool.{Bool, true, false, true≢false}
 use mathlib.Core.List.{List, [], ◌∷◌, ◌++◌, Memᴰ, append_assoc, append-nil}
 use Prim.Native.Nat.{ℕ, zero, suc, ◌+◌, ◌-◌, ◌≤◌, ◌<◌, min}
 use native.Mathlib.Omega.{arith}
-use lib.ListN.{length, take, length-take}
-use lib.Seq.{take_all}
+use native.Mathlib.Numerals.{add-one}
+use lib.ListN.{length, get_or, take, drop, length-take, drop_of_length-le}
+use lib.Seq.{take_all, drop-cons}
 use lib.Dec.{eqb}
 use Rattle.class_sheet.specs.ClassSheet.{class_limit}
 use Rattle.words.specs.Lists.{cons_found, all_found}
 use Rattle.std.specs.Prelude.{Option, Some, None}
+use Rattle.std.specs.Option.{is_some}
 use Rattle.abi_sheet.specs.AbiSheet.{abi_class_table_size_plus_one, abi_class_first_slot, abi_class_slot_count, abi_slot_limit}
 use Rattle.linking.specs.Chain.{list_count, parent_of, chain}
-use Rattle.linking.specs.Abi.{abi_slots, slot_index, slot_at, class_size, minimum_size}
-use Rattle.words.proofs.ListLaws.{numbers-within, find-member, largest_room}
+use Rattle.linking.specs.Abi.{abi_slots, slot_index, slot_at, vtable_index, class_size, fixer_distance, minimum_size}
+use Rattle.words.proofs.ListLaws.{by-found, numbers-within, find-member, largest_room}
 use Rattle.linking.proofs.ChainLaws.{chain_more, all_none}
 
 -- ---- a list that is cut
@@ -76,3 +79,28 @@ class-size-room abi a =
 pub minimum_size-room : (abi abis : List ℕ) → minimum_size abi abis ≤ 1024
 unfolding minimum_size
 minimum_size-room abi abis = largest_room (class_size abi) abis 0 1024 (omega arith) (class-size-room abi)
+
+-- ---- how far up the chain an index comes from, counted from the i-th ABI class on
+
+module _ (abi labels name descriptor abis : List ℕ) where
+  unfoldable pub distance_from : ℕ → ℕ
+  distance_from i = i + fixer_distance abi labels (drop i abis) name descriptor
+
+  pub distance-start : distance_from 0 ≡ fixer_distance abi labels abis name descriptor
+  unfolding distance_from
+  distance-start = omega arith
+
+  module _ (i : ℕ) {r : Option ℕ} (within : i < length abis) (finds : r ≡ vtable_index abi labels name descriptor (get_or abis i 0)) where
+    pub distance-hit : {b : Bool} → b ≡ is_some r → b ≡ true → i ≡ distance_from i
+    unfolding distance_from fixer_distance
+    distance-hit s t =
+        by-found r (λ k e. rw (drop-cons abis i 0 within, ← finds, e) (omega arith)) (λ e. absurd (true≢false (sym t ∙ s ∙ ap is_some e)))
+
+    pub distance-miss : {b : Bool} → b ≡ is_some r → b ≡ false → distance_from (i + 1) ≡ distance_from i
+    unfolding distance_from fixer_distance
+    distance-miss s t =
+        by-found r (λ k e. absurd (true≢false (sym (ap is_some e) ∙ sym s ∙ t))) (λ e. rw (drop-cons abis i 0 within, ← finds, e, add-one) (omega arith))
+
+  pub distance-end : (i : ℕ) → i ≤ length abis → length abis ≤ i → length abis ≡ distance_from i
+  unfolding distance_from fixer_distance
+  distance-end i h l = rw (drop_of_length-le abis l) (omega arith)

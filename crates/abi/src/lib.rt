@@ -9,8 +9,8 @@ ghost use Rattle.words.specs.Lists.{find, all_found};
 ghost use Rattle.text.specs.Text.{number_word, same_bytes};
 ghost use Rattle.abi_sheet.specs.AbiSheet.{abi_member_width, abi_class_name, abi_class_first_slot, abi_class_slot_count, abi_class_first_field, abi_class_field_count, abi_slot_limit, abi_field_limit};
 ghost use Rattle.linking.specs.Chain.{list_count, chain};
-ghost use Rattle.linking.specs.Abi.{abi_named, abi_slots, slot_index, fixed_field_index, slot_is, vtable_index, slot_at, field_is, fixed_field, class_size, given_words, class_abi, chain_abi, fixed_index, minimum_size};
-ghost use Rattle.linking.specs.Vtable.{fixed_of};
+ghost use Rattle.linking.specs.Abi.{abi_named, abi_slots, slot_index, fixed_field_index, slot_is, vtable_index, slot_at, field_is, fixed_field, class_size, given_words, class_abi, chain_abi, fixed_index, fixer_distance, minimum_size};
+ghost use Rattle.linking.specs.Vtable.{fixed_of, distance_of};
 ghost use Rattle.chain.specs.Records.{record_word};
 ghost use Rattle.abi.specs.Abis.{slot_records, field_records, class_slot};
 ghost use Rattle.linking.specs.Sheets.{of_sheets};
@@ -234,6 +234,31 @@ pub fn fixed_of(sheets: Sheets, abis: &[u32], m: u32) -> Option<u32>
     ensures { result ≡ of_sheets fixed_of sheets.entry abis.now m }
 {
     first_fixed(
+        sheets.abi,
+        sheets.labels,
+        abis,
+        class_sheet::method_signature(sheets.set, sheets.text, m),
+    )
+}
+
+// How many ABI classes stand before the first that fixes an index for this signature.
+fn fixer_distance(abi: &[u32], labels: &[u8], abis: &[u32], signature: Signature) -> usize
+    ensures { result ≡ of_signature (fixer_distance abi.now labels.now abis.now) signature.entry }
+{
+    for i in 0..abis.len() {
+        if vtable_index(abi, labels, signature, abis[i]).is_some() {
+            return i;
+        }
+    }
+    abis.len()
+}
+
+// How far up the chain's ABI classes the one stands that method m's index comes from.
+#[tactic(auto, unfolding(linking::specs::Vtable::distance_of))]
+pub fn distance_of(sheets: Sheets, abis: &[u32], m: u32) -> usize
+    ensures { result ≡ of_sheets distance_of sheets.entry abis.now m }
+{
+    fixer_distance(
         sheets.abi,
         sheets.labels,
         abis,

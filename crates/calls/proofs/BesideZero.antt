@@ -27,7 +27,7 @@ module _ (ws : List ℕ) (c : ℕ) where
       every (λ m. not (eligible ws (text_of ws) m) || (is_public (method_flags ws m) || is_protected (method_flags ws m))) (chain_methods ws c)
 
   abbrev again : ℕ → ℕ → Bool
-  again m k = not (eligible ws (text_of ws) m && eligible ws (text_of ws) k && same_methods ws (text_of ws) m k) || eqb m k
+  again m k = not (eligible ws (text_of ws) m && eligible ws (text_of ws) k && same_methods ws (text_of ws) k m) || eqb m k
 
   unfoldable pub once : Bool
   once = every (λ d. every (λ m. every (again m) (own_methods ws d)) (own_methods ws d)) (chain ws c)
@@ -56,7 +56,7 @@ module _ (ws : List ℕ) (c : ℕ) where
           e);
       once = λ d m k i j l e f s.
           eqb-true m k
-          (implied (eligible ws (text_of ws) m && eligible ws (text_of ws) k && same_methods ws (text_of ws) m k) (eqb m k)
+          (implied (eligible ws (text_of ws) m && eligible ws (text_of ws) k && same_methods ws (text_of ws) k m) (eqb m k)
           (every-each (again m)
           (every-each (λ m. every (again m) (own_methods ws d))
           (every-each (λ d. every (λ m. every (again m) (own_methods ws d)) (own_methods ws d)) p.once-only i) j) l)

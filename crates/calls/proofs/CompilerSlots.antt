@@ -14,6 +14,7 @@ use Rattle.calls.specs.Sources.{Sources}
 use Rattle.text.proofs.Laws.{same_refl}
 use Rattle.slots.proofs.ListFacts.{found-same}
 use Rattle.calls.proofs.Sources.{all-at, read-parent, table-built}
+use Rattle.calls.proofs.RelayedCopies.{relayed-copy, relayed-ordered}
 use Rattle.calls.proofs.SameIndex.{table-placed}
 
 -- ---- the compiler's slots
@@ -266,6 +267,8 @@ pub sources : Sources
 sources = record {
   slots = λ ws text abi labels area c T e i h. all-at (table-built ws text abi labels area c T e) i h;
   same_index = λ ws text abi labels area c T e none no_table. table-placed ws text abi labels area c none no_table T e;
+  relayed = relayed-copy;
+  in_order = relayed-ordered;
   nonzero = nonzero-slot;
   zero = zero-slot;
   own = own-from;

@@ -1,6 +1,6 @@
--- Each premise of demand 3 is needed: a list for each, in which the class is linked, all premises but that one hold, and the claim fails. Of orderly
--- this is so of "each signature (name and descriptor) has one index"; "each index one signature" is not needed (`one-index-enough`, Theorem.antt).
--- Assumes nothing.
+-- Each premise of demand 3 is needed, and each half of orderly: a list for each, in which the class is linked, all premises but that one hold, and the
+-- claim fails. Of the half "each index one signature" less is enough: no class of the chain inherits two signatures of one index (`one-index-enough`,
+-- Theorem.antt). Assumes nothing.
 use Rattle.std.proofs.Common.{◌≡◌, refl, sym, ap, ◌∙◌, inl, inr, ◌≢◌, ◌⊎◌, Bool, true, false, true≢false, List, [], ◌∷◌, ℕ, ◌<◌, arith, length, get_or, replicate, Some, None}
 use mathlib.Core.List.Memᴰ
 use Rattle.class_sheet.specs.ClassSheet.{text_of, method_name, method_descriptor}
@@ -16,7 +16,7 @@ use Rattle.words.proofs.ListLaws.{not_found}
 use Rattle.slots.proofs.ListFacts.{in_none}
 use Rattle.calls.specs.Calls.{Call, link, start, run, Unlinked, LinkedIn, now, later, table_at, lent_now}
 use Rattle.calls.specs.Demand.{Conditions, Claim}
-use Rattle.calls.proofs.Tests.{is_unlinked, by_old_rule, old-holds, verdicts, shown}
+use Rattle.calls.proofs.Tests.{is_unlinked, by_old_rule, old-holds, OneIndex, one_index-holds, verdicts, shown}
 
 pub record Case : Type 0 where
   pub set : List ℕ
@@ -42,9 +42,9 @@ module _ (x : Case) where
   abbrev pub Reads : ℕ → List ℕ → ℕ → ℕ → Type 0
   Reads c t i m = (read_entry x.set (text_of x.set) x.sheet (abi_text_of x.sheet) c i (get_or t i 0)).method ≡ Some m
 
-  a-known : (c : ℕ) (t u : List ℕ) → t ≡ u → (i m : ℕ) → i < length u → Reads c u i m
+  a_known : (c : ℕ) (t u : List ℕ) → t ≡ u → (i m : ℕ) → i < length u → Reads c u i m
       → Known x.set (text_of x.set) x.sheet (abi_text_of x.sheet) c t i m
-  a-known c t u e i m h r = rw e (record { slot = h; reads = r })
+  a_known c t u e i m h r = rw e (record { slot = h; reads = r })
 
   -- two known slots have one signature
   not-unique : (c p n : ℕ) (u : List ℕ) → final_table p n ≡ u → (i j m k : ℕ) → i ≢ j → i < length u → j < length u → Reads c u i m → Reads c u j k
@@ -52,7 +52,7 @@ module _ (x : Case) where
       → method_descriptor x.set (text_of x.set) m ≡ method_descriptor x.set (text_of x.set) k
       → Unique x.set (text_of x.set) x.sheet (abi_text_of x.sheet) c (final_table p n) → ⊥
   not-unique c p n u e i j m k d hi hj ri rj a b unique =
-      d (unique i j m k (a-known c (final_table p n) u e i m hi ri) (a-known c (final_table p n) u e j k hj rj) (record { name = a; descriptor = b }))
+      d (unique i j m k (a_known c (final_table p n) u e i m hi ri) (a_known c (final_table p n) u e j k hj rj) (record { name = a; descriptor = b }))
 
   -- so by the old rule
   twice : (c p n : ℕ) (u : List ℕ) → final_table p n ≡ u → (i j m k : ℕ) → i ≢ j → i < length u → j < length u → Reads c u i m → Reads c u j k
@@ -71,12 +71,12 @@ module _ (x : Case) where
   module _ (c : ℕ) (t q u v : List ℕ) (child : t ≡ u) (parent : q ≡ v) (i m : ℕ) (h : i < length v) (known : Reads (parent_of x.set c) v i m) where
     not_known : (read_entry x.set (text_of x.set) x.sheet (abi_text_of x.sheet) c i (get_or u i 0)).method ≡ None → KeptAt c t q → ⊥
     not_known r kept =
-        let g = kept i m (a-known (parent_of x.set c) q v parent i m h known) in
+        let g = kept i m (a_known (parent_of x.set c) q v parent i m h known) in
         not_found (sym r ∙ (rw child at g.known.reads))
 
     other-target : get_or u i 0 ≢ get_or v i 0 → own_methods x.set c ≡ [] → KeptAt c t q → ⊥
     other-target d bare kept =
-        let g = kept i m (a-known (parent_of x.set c) q v parent i m h known) in
+        let g = kept i m (a_known (parent_of x.set c) q v parent i m h known) in
         elim g.target [
           | inl s ↦ d (ap (λ (t : List ℕ). get_or t i 0) (sym child) ∙ s ∙ ap (λ (t : List ℕ). get_or t i 0) parent)
           | inr s ↦ in_none bare s.own
@@ -185,15 +185,47 @@ orderly-needed = record {
   fails = twice two_indices 1 1 2 (5 ∷ 902 ∷ []) refl 0 1 0 0 (omega arith) (omega arith) (omega arith) refl refl refl refl refl;
 }
 
+-- ---- "and each index one signature". C inherits a, which is known by its index alone and stays at 0, and b, of the same index, which follows. Slot 0
+-- then reads, by C's own entry, as the b that C declares, which is static: b is shown twice
+
+unfoldable pub shared_index : Case
+shared_index =
+    from (built "P" 0 (flagged 9 "a" 5 ∷ method "b" 6 ∷ []) [] ∷ built "C" 1 (flagged 9 "b" 7 ∷ []) [] ∷ [])
+    (abi "P" (slot "a" 0 ∷ []) [] ∷ abi "C" (slot "b" 0 ∷ slot "a" 0 ∷ []) [] ∷ [])
+    (link 1 (901 ∷ 902 ∷ []) ∷ link 2 (911 ∷ 912 ∷ []) ∷ [])
+
+pub record SharedIndex : Type 0 where
+  pub breaks : Breaks shared_index 2 5 2 true (true ∷ true ∷ false ∷ true ∷ true ∷ true ∷ true ∷ [])
+  -- the other half holds
+  pub one_index : OneIndex shared_index.set shared_index.sheet shared_index.calls 2
+
+shared-index : SharedIndex
+unfolding opened shown shared_index
+shared-index = record {
+  breaks = record {
+    start_is = refl;
+    premises = refl;
+    outside = λ u k.
+        apart
+        (ap (λ (n : List ℕ). get_or n 0 0)
+        (k.orderly.one_name 0 1 (record { class = 1; along = Memᴰ.tail (Memᴰ.head refl); entry = 0; named = refl; own = Memᴰ.head refl })
+        (record { class = 2; along = Memᴰ.head refl; entry = 1; named = refl; own = Memᴰ.head refl }) refl))
+        (omega arith);
+    linked = later (now (911 ∷ 912 ∷ []) refl refl refl);
+    fails = twice shared_index 2 5 2 (901 ∷ 6 ∷ []) refl 0 1 2 1 (omega arith) (omega arith) (omega arith) refl refl refl refl refl;
+  };
+  one_index = one_index-holds shared_index.set shared_index.sheet shared_index.calls 2 refl;
+}
+
 -- ---- "the chain's method targets and all stubs lent are nonzero", of the targets: a method of target 0 leaves a stub where the parent's slot was known
 
 unfoldable pub zero_target : Case
 zero_target =
     from (built "P" 0 (method "a" 5 ∷ []) [] ∷ built "C" 1 (method "a" 0 ∷ []) [] ∷ []) [] (link 1 (901 ∷ []) ∷ link 2 (902 ∷ []) ∷ [])
 
-targets-nonzero-needed : Breaks zero_target 2 4 1 true (true ∷ true ∷ true ∷ false ∷ true ∷ true ∷ true ∷ [])
+targets_nonzero-needed : Breaks zero_target 2 4 1 true (true ∷ true ∷ true ∷ false ∷ true ∷ true ∷ true ∷ [])
 unfolding opened shown zero_target
-targets-nonzero-needed = record {
+targets_nonzero-needed = record {
   start_is = refl;
   premises = refl;
   outside = λ u k. k.nonzero_targets 1 (record { owner = 2; along = Memᴰ.head refl; own = Memᴰ.head refl }) refl;
@@ -228,9 +260,9 @@ stubs-nonzero-needed = record {
 unfoldable pub same_targets : Case
 same_targets = from (built "C" 0 (method "a" 5 ∷ method "b" 5 ∷ []) [] ∷ []) [] (link 1 (901 ∷ 902 ∷ []) ∷ [])
 
-targets-different-needed : Breaks same_targets 1 1 2 true (true ∷ true ∷ true ∷ true ∷ true ∷ false ∷ true ∷ [])
+targets_different-needed : Breaks same_targets 1 1 2 true (true ∷ true ∷ true ∷ true ∷ true ∷ false ∷ true ∷ [])
 unfolding opened shown same_targets
-targets-different-needed = record {
+targets_different-needed = record {
   start_is = refl;
   premises = refl;
   outside = λ u k.
@@ -313,6 +345,7 @@ pub record Needed : Type 0 where
   pub kinds : Breaks generated_child 2 4 2 true (false ∷ true ∷ true ∷ true ∷ true ∷ true ∷ true ∷ [])
   pub no_interface : Breaks interface_child 2 4 0 true (true ∷ false ∷ true ∷ true ∷ true ∷ true ∷ true ∷ [])
   pub orderly : Breaks two_indices 1 1 2 true (true ∷ true ∷ false ∷ true ∷ true ∷ true ∷ true ∷ [])
+  pub one_signature : SharedIndex
   pub nonzero_targets : Breaks zero_target 2 4 1 true (true ∷ true ∷ true ∷ false ∷ true ∷ true ∷ true ∷ [])
   pub nonzero_stubs : Breaks zero_stub 2 4 1 true (true ∷ true ∷ true ∷ true ∷ false ∷ true ∷ true ∷ [])
   pub different_targets : Breaks same_targets 1 1 2 true (true ∷ true ∷ true ∷ true ∷ true ∷ false ∷ true ∷ [])
@@ -326,9 +359,10 @@ needed = record {
   kinds = kinds-needed;
   no_interface = no_interface-needed;
   orderly = orderly-needed;
-  nonzero_targets = targets-nonzero-needed;
+  one_signature = shared-index;
+  nonzero_targets = targets_nonzero-needed;
   nonzero_stubs = stubs-nonzero-needed;
-  different_targets = targets-different-needed;
+  different_targets = targets_different-needed;
   no_stub = no_stub-needed;
   without-entry = without-entry-needed;
   old_rule = second-slot;

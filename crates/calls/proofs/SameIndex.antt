@@ -19,12 +19,12 @@ use Rattle.calls.proofs.Sources.{all_get, adds, packages, interface-all, read-pa
 abbrev Placed : List Entry → Type 0
 Placed T = (i j : ℕ) → (get_or T i empty).source ≡ Some j → j ≡ i
 
-abbrev NoCopy : Entry → Type 0
+abbrev pub NoCopy : Entry → Type 0
 NoCopy e = e.source ≡ None
 
 -- ---- entries that are no copies, stored or at the end
 
-set-either : (T : List Entry) (k i : ℕ) (e : Entry) → (get_or (set T k e) i empty ≡ e) ⊎ (get_or (set T k e) i empty ≡ get_or T i empty)
+pub set-either : (T : List Entry) (k i : ℕ) (e : Entry) → (get_or (set T k e) i empty ≡ e) ⊎ (get_or (set T k e) i empty ≡ get_or T i empty)
 set-either [] k i e = inr refl
 set-either (x ∷ T) zero zero e = inl refl
 set-either (x ∷ T) zero (suc i) e = inr refl

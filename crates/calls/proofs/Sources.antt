@@ -9,7 +9,7 @@ use Rattle.words.proofs.ListLaws.{by-found, length-list-from, get_d_list_from, n
 use Rattle.class_sheet.specs.ClassSheet.{class_kind, is_built_kind, is_packaged, is_generated, class_flags, class_compiler_table, class_table_place, class_slot_count, method_target, method_limit, method_name, method_descriptor, class_limit}
 use Rattle.linking.specs.Chain.{on_found, own_methods, parent_of, is_interface, is_eligible, eligible, same_methods}
 use Rattle.linking.specs.Abi.{class_abi, chain_abi, minimum_size}
-use Rattle.linking.specs.Vtable.{Entry, empty, built, read_entry, read_slot, table_entries, parent_entries, entry_is_other, method_entry, extended, put_fixed, fixed_of, slot_of, relay, relay_step, relayed, inherited_table, put_method, add_method, add_methods, build_methods, method_entries, build_interface_methods}
+use Rattle.linking.specs.Vtable.{Entry, empty, built, read_entry, read_slot, table_entries, parent_entries, entry_is_other, method_entry, extended, fixed_of, slot_of, relayed, inherited_table, put_method, add_method, add_methods, build_methods, method_entries, build_interface_methods, is_of, last_of, standing, follows, following, laid_out, staying_of}
 use Rattle.linking.specs.Packages.{introducing, overridden, taken_slots, put_taken, take_slots, packages_over, build_packages}
 use Rattle.linking.specs.Compiler.{New, is_emptied, view_from, native_view, compiler_targets, added_methods, name_of, flags_of, target_of, class_methods, match_target, compiler_entry, compiler_entries, has_slot, append_from, append_entry, compiler_table}
 use Rattle.linking.specs.Link.{built_table, generated_table, generated_methods}
@@ -129,18 +129,35 @@ module _ (ws text abi labels : List ℕ) (S : Entry → Type 0) (Q : List Entry 
 -- ---- tables that are built from entries P of which S holds, over the empty entry and those of methods
 
 module _ (ws text abi labels : List ℕ) (S : Entry → Type 0) (blank : S empty) where
-  put-fixed : (f : Option ℕ) (e : Entry) (T : List Entry) → S e → All S T → All S (put_fixed f e T)
-  put-fixed (Some i) e T s a = all_set e i s a
-  put-fixed None e T s a = all_append a (more s none)
+  -- what stands at an index is one of them or empty, and what follows is of them
+  module _ (same : ℕ → ℕ → Bool) (fixed staying : ℕ → Option ℕ) where
+    last-all : (m : ℕ) (l : Entry) {P : List Entry} → S l → All S P → S (last_of same m l P)
+    unfolding last_of fold
+    last-all m l s none = s
+    last-all m l s (more {e} t a) = by (is_of same m e) (λ q. rw q (last-all m e t a)) (λ q. rw q (last-all m l s a))
 
-  relay-one : (abis : List ℕ) (f : Option ℕ) (e : Entry) (T : List Entry) → S e → All S T → All S (relay ws text abi labels abis f e T)
-  relay-one abis (Some m) e T s a = put-fixed (fixed_of ws text abi labels abis m) e T s a
-  relay-one abis None e T s a = a
+    standing-all : {P : List Entry} → All S P → (i : ℕ) → S (standing same staying P i)
+    unfolding standing
+    standing-all a i = by-found (staying i) (λ h q. rw q (last-all h empty blank a)) (λ q. rw q blank)
+
+    following-all : {P : List Entry} → All S P → All S (following same fixed staying P)
+    unfolding following
+    following-all none = none
+    following-all (more {e} {T} s a) =
+        by (follows same fixed staying e T) (λ q. rw q (more s (following-all a))) (λ q. rw q (following-all a))
+
+  list_all : (f : ℕ → Entry) → ((i : ℕ) → S (f i)) → (m n : ℕ) → All S (list_from f m n)
+  unfolding list_from
+  list_all f h m zero = none
+  list_all f h m (suc n) = more (h m) (list_all f h (m + 1) n)
 
   pub relayed-all : (abis : List ℕ) {P : List Entry} → All S P → All S (relayed ws text abi labels abis P)
-  unfolding relayed relay_step
-  relayed-all abis p =
-      all-over (relay_step ws text abi labels abis) (λ T e s a. relay-one abis e.method e T s a) p (all-blank blank (minimum_size abi abis))
+  unfolding relayed laid_out
+  relayed-all abis {P} p =
+      all_append
+      (list_all (standing (same_methods ws text) (staying_of ws text abi labels abis P) P)
+      (standing-all (same_methods ws text) (fixed_of ws text abi labels abis) (staying_of ws text abi labels abis P) p) 0 (minimum_size abi abis))
+      (following-all (same_methods ws text) (fixed_of ws text abi labels abis) (staying_of ws text abi labels abis P) p)
 
   pub extended-all : (abis : List ℕ) {P : List Entry} → All S P → All S (extended abi abis P)
   unfolding extended

@@ -1,6 +1,6 @@
 -- An accepted link leaves a set that rows 3 to 5 accept: what it adds is fine, and it writes into the class's record what rows
 -- 10 and 13 bound. Assumes nothing.
-use Rattle.std.proofs.Common.{◌≡◌, sym, ap, ◌∙◌, ◌≢◌, ◌⊎◌, inl, inr, ⊎_elim, false, not, ◌&&◌, List, [], ◌∷◌, ◌++◌, ℕ, ◌+◌, ◌-◌, ◌≤◌, ◌<◌, arith, length, get_or, take, drop, eqb, ltb, eqb-true, ltb-false}
+use Rattle.std.proofs.Common.{◌≡◌, refl, sym, ap, ◌∙◌, ◌≢◌, ◌⊎◌, inl, inr, ⊎_elim, false, not, ◌&&◌, List, [], ◌∷◌, ◌++◌, ℕ, ◌+◌, ◌-◌, ◌≤◌, ◌<◌, arith, length, get_or, take, drop, eqb, ltb, eqb-true, ltb-false}
 use borrow.Author.Tests.{eqb-false}
 use Rattle.words.proofs.Bools.{by, or-neither}
 use Rattle.words.proofs.Lists.{length_part}
@@ -18,19 +18,20 @@ use Rattle.set_rules.specs.Valid.{IsClass, ValidClass, MethodFlags, Valid, Valid
 use Rattle.set_rules.proofs.Valid.{valid, accepted}
 use Rattle.linking.specs.Compiler.{New, no_new}
 use Rattle.linking.specs.Set.{new_text, section_full}
-use Rattle.linking.specs.Link.{next_free, Plan, is_none, lists_full, new_words, new_statics, LinkOutcome, link_def}
+use Rattle.linking.specs.Vtable.{build_methods}
+use Rattle.linking.specs.Link.{next_free, Plan, is_none, built_table, plan_built, generated_table, plan_generated, plan, plan_with, lists_full, new_words, new_statics, linked_words, LinkOutcome, link_def}
 use Rattle.linking.specs.Grown.{bytes_of, linked_sections, methods_growing, fields_growing, new_members, row_indices}
 use Rattle.linking.proofs.Grown.{length-bytes, length-row-indices}
 use Rattle.linking.proofs.Appended.{text-back, word_kept, first-is, count_is, length-all, name-front}
 use Rattle.linking.proofs.Added.{none-new}
 use Rattle.linking.proofs.Packed.{text-bytes}
-use Rattle.linking.proofs.Plans.{Plans, plans}
+use Rattle.linking.proofs.PlansWith.{PlansWith, plans_with}
 use Rattle.linking.proofs.LinkedSections.{lies-of, record_instance, length_record, linked-laid}
 use Rattle.linking.proofs.LinkedBack as back
 use Rattle.linking.proofs.LinkedBack.{Untouched, Left, num, num-formed, linked-left, still-num, still-fields}
 use Rattle.calls.specs.Calls.{Call, link, ask, State, step, run}
 use Rattle.calls.specs.Stays.{StaysAccepted}
-use Rattle.calls.proofs.Rows.{Accepted, link-cases, ask-cases}
+use Rattle.calls.proofs.Rows.{ClassOk, Accepted, link-cases, ask-cases}
 use Rattle.calls.proofs.Members.{AllRows, Row, row_same, rows_more, rows_append, rows-part, rows_indexed, rows_new, part-more}
 use Rattle.calls.proofs.Fine.{FineMethod, FineField, fine_methods, fine_added}
 
@@ -46,10 +47,9 @@ record Counts (s g : Sections) : Type 0 where
   pub more-fields : length s.fields ≤ length g.fields
   pub bytes : g.bytes ≤ text_limit
 
-module _ (ws abi : List ℕ) (c : ℕ) (area stubs missing : List ℕ) (o : LinkOutcome) (acc : Accepted ws abi c area stubs missing o) where
-  abbrev p : Plan
-  p = acc.coming
-
+-- a plan, whatever table `build_methods` made for it
+module _ (ws abi : List ℕ) (c : ℕ) (area : List ℕ) (accepts : set_refusal ws abi ≡ 0) (class : ClassOk ws c) (p : Plan)
+    (plan : PlansWith ws (text_of ws) abi (abi_text_of abi) area c p) (lists : lists_full ws c p ≡ false) where
   abbrev s : Sections
   s = sections_of ws
 
@@ -66,22 +66,19 @@ module _ (ws abi : List ℕ) (c : ℕ) (area stubs missing : List ℕ) (o : Link
   g = linked_sections s c place words_new statics_new p
 
   v : Valid ws
-  v = (valid ws abi acc.valid).0
+  v = (valid ws abi (accepts)).0
 
   w : ValidAbi abi
-  w = (valid ws abi acc.valid).1
-
-  plan : Plans ws (text_of ws) abi (abi_text_of abi) area c p
-  plan = plans ws (text_of ws) abi (abi_text_of abi) area c p acc.comes
+  w = (valid ws abi (accepts)).1
 
   fit : content_end ws ≤ length ws
   fit = v.fits
 
   one : 1 ≤ c
-  one = acc.class.some
+  one = class.some
 
   in_set : c ≤ class_count ws
-  in_set = acc.class.among
+  in_set = class.among
 
   in_rows : c ≤ length s.classes
   in_rows = omega (arith, in_set, (lies-of ws fit).classes)
@@ -147,14 +144,14 @@ module _ (ws abi : List ℕ) (c : ℕ) (area stubs missing : List ℕ) (o : Link
   first-method : row_word n.classes (c - 1) first_method_word ≡ row_word s.classes (c - 1) first_method_word
   first-method = same-num first_method_word (omega arith) (omega arith)
 
-  methods_own : row_word n.classes (c - 1) method_count_word ≡ row_word s.classes (c - 1) method_count_word
-  methods_own = same-num method_count_word (omega arith) (omega arith)
+  own-methods : row_word n.classes (c - 1) method_count_word ≡ row_word s.classes (c - 1) method_count_word
+  own-methods = same-num method_count_word (omega arith) (omega arith)
 
   first_field : row_word n.classes (c - 1) first_field_word ≡ row_word s.classes (c - 1) first_field_word
   first_field = same-num first_field_word (omega arith) (omega arith)
 
-  fields_own : row_word n.classes (c - 1) field_count_word ≡ row_word s.classes (c - 1) field_count_word
-  fields_own = same-num field_count_word (omega arith) (omega arith)
+  own-fields : row_word n.classes (c - 1) field_count_word ≡ row_word s.classes (c - 1) field_count_word
+  own-fields = same-num field_count_word (omega arith) (omega arith)
 
   rows-methods : AllRows (MethodRow (bytes_of g)) g.methods
   unfolding linked_sections methods_growing fields_growing
@@ -165,7 +162,7 @@ module _ (ws abi : List ℕ) (c : ℕ) (area stubs missing : List ℕ) (o : Link
       (λ u.
       let M : List New = p.new_methods in
       let copy : List (List ℕ) = take (row_word s.classes (c - 1) method_count_word) (drop (row_word s.classes (c - 1) first_method_word) s.methods) in
-      rw (t, u, text-back s M method-bytes, first-method, methods_own)
+      rw (t, u, text-back s M method-bytes, first-method, own-methods)
       (rows_append ValidDescriptor MethodFlags (bytes_of s ++ new_text M) s.methods (copy ++ new_members s.bytes M)
       (rows_more ValidDescriptor MethodFlags (bytes_of s) (new_text M) s.methods old-methods)
       (rows_append ValidDescriptor MethodFlags (bytes_of s ++ new_text M) copy (new_members s.bytes M)
@@ -195,7 +192,7 @@ module _ (ws abi : List ℕ) (c : ℕ) (area stubs missing : List ℕ) (o : Link
       let F : List New = p.new_fields in
       let part : List (List ℕ) = take (row_word s.classes (c - 1) field_count_word) (drop (row_word s.classes (c - 1) first_field_word) s.fields) in
       let copy : List (List ℕ) = row_indices 0 p.indices part in
-      rw (t, text-back s F field-bytes, first_field, fields_own)
+      rw (t, text-back s F field-bytes, first_field, own-fields)
       (rows_append D W (bytes_of s ++ new_text F) s.fields (copy ++ new_members s.bytes F)
       (rows_more D W (bytes_of s) (new_text F) s.fields old-fields)
       (rows_append D W (bytes_of s ++ new_text F) copy (new_members s.bytes F)
@@ -263,7 +260,7 @@ module _ (ws abi : List ℕ) (c : ℕ) (area stubs missing : List ℕ) (o : Link
   unfolding linked_sections methods_growing fields_growing
   method-list =
       let e₅ = first-method in
-      let e₆ = methods_own in
+      let e₆ = own-methods in
       by (is_none p.new_fields)
       (λ t.
       by (is_none p.new_methods) (λ u. rw (t, u) (inl (e₅, e₆)))
@@ -289,7 +286,7 @@ module _ (ws abi : List ℕ) (c : ℕ) (area stubs missing : List ℕ) (o : Link
   unfolding linked_sections methods_growing fields_growing
   field-list =
       let e₇ = first_field in
-      let e₈ = fields_own in
+      let e₈ = own-fields in
       by (is_none p.new_fields)
       (λ t.
       by (is_none p.new_methods) (λ u. rw (t, u) (inl (e₇, e₈)))
@@ -317,7 +314,7 @@ module _ (ws abi : List ℕ) (c : ℕ) (area stubs missing : List ℕ) (o : Link
   unfolding lists_full
   full =
       or-neither (not (is_none p.new_methods) && section_full ws (method_count ws) (class_method_count ws c) p.new_methods)
-      (not (is_none p.new_fields) && section_full ws (field_count ws) (class_field_count ws c) p.new_fields) acc.lists
+      (not (is_none p.new_fields) && section_full ws (field_count ws) (class_field_count ws c) p.new_fields) lists
 
   room : (count own : ℕ) (new : List New) → section_full ws count own new ≡ false
       → (count + (own + length new) ≤ member_limit) × (text_length ws + length (new_text new) ≤ text_limit)
@@ -334,9 +331,9 @@ module _ (ws abi : List ℕ) (c : ℕ) (area stubs missing : List ℕ) (o : Link
       let f = v.number_of_fields in
       let b = v.length_of_text in
       let e₅ = first-method in
-      let e₆ = methods_own in
+      let e₆ = own-methods in
       let e₇ = first_field in
-      let e₈ = fields_own in
+      let e₈ = own-fields in
       let o₆ = own-word method_count_word (omega arith) in
       let o₈ = own-word field_count_word (omega arith) in
       let i = length-row-indices (row_word s.classes (c - 1) first_field_word) p.indices s.fields in
@@ -459,8 +456,8 @@ module _ (ws abi : List ℕ) (c : ℕ) (area stubs missing : List ℕ) (o : Link
         let b = other d slot_count_word h (omega arith) (eqb-false d c t) in
         rw b (vd.slots (λ q. z (a ∙ q))))
 
-    methods_fit : class_first_method N d + class_method_count N d ≤ method_count N
-    methods_fit =
+    methods-fit : class_first_method N d + class_method_count N d ≤ method_count N
+    methods-fit =
         ⊎_elim (λ q. omega (arith, q.0, q.1, vd.methods, more-methods)) (λ q. omega (arith, q.2)) (methods-lie d h)
 
     fields_fit : class_first_field N d + class_field_count N d ≤ field_count N
@@ -477,7 +474,7 @@ module _ (ws abi : List ℕ) (c : ℕ) (area stubs missing : List ℕ) (o : Link
       words_of_instance = words_of_instance;
       compiler_slots = rw (quiet d compiler_slots_word h (omega arith) (omega arith) (omega arith)) vd.compiler_slots;
       slots = slots;
-      methods = methods_fit;
+      methods = methods-fit;
       fields = fields_fit;
       interfaces = rw (
         quiet d first_interface_word h (omega arith) (omega arith) (omega arith),
@@ -572,13 +569,24 @@ module _ (ws abi : List ℕ) (c : ℕ) (area stubs missing : List ℕ) (o : Link
         (same_class a ka) (same_class b kb);
   }
 
-  laid : o.outcome.set ≡ N
-  laid =
-      acc.new-set
-      ∙ linked-laid ws fit c place words_new statics_new p one in_set (omega (arith, plan.indices, vc.fields)) vc.methods vc.fields
+  pub plan-stands : set_refusal (linked_words ws c place words_new statics_new p) abi ≡ 0
+  plan-stands =
+      rw (linked-laid ws fit c place words_new statics_new p one in_set (omega (arith, plan.indices, vc.fields)) vc.methods vc.fields)
+      (accepted N abi stands w)
 
-  link-stands : set_refusal o.outcome.set abi ≡ 0
-  link-stands = rw laid (accepted N abi stands w)
+-- the linker's is one
+pub plan-is : (ws text abi labels area : List ℕ) (c : ℕ)
+    → plan ws text abi labels area c ≡ plan_with ws text abi labels area (build_methods ws text abi labels area c) c
+unfolding plan plan_with plan_built built_table plan_generated generated_table
+plan-is ws text abi labels area c = refl
+
+link-stands : (ws abi : List ℕ) (c : ℕ) (area stubs missing : List ℕ) (o : LinkOutcome) → Accepted ws abi c area stubs missing o
+    → set_refusal o.outcome.set abi ≡ 0
+link-stands ws abi c area stubs missing o a =
+    rw a.new-set
+    (plan-stands ws abi c area a.valid a.class a.coming
+    (plans_with ws (text_of ws) abi (abi_text_of abi) area c (build_methods ws (text_of ws) abi (abi_text_of abi) area c) a.coming
+    (sym (plan-is ws (text_of ws) abi (abi_text_of abi) area c) ∙ a.comes)) a.lists)
 
 -- ---- THE THEOREM
 

@@ -92,6 +92,10 @@ module _ (ws abi : List ℕ) (calls : List Call) (c : ℕ) where
       || (same_bytes (abi_slot_name abi labels s) (abi_slot_name abi labels z)
       && same_bytes (abi_slot_descriptor abi labels s) (abi_slot_descriptor abi labels z))
 
+  -- the half "each signature (name and descriptor) has one index"
+  unfoldable pub one_index_each : Bool
+  one_index_each = every (λ s. every (λ z. agrees_in_index s z) (chain_slots ws abi c)) (chain_slots ws abi c)
+
   unfoldable pub is_orderly : Bool
   is_orderly = every (λ s. every (λ z. agrees_in_index s z && one_signature s z) (chain_slots ws abi c)) (chain_slots ws abi c)
 
@@ -161,15 +165,28 @@ module _ (ws abi : List ℕ) (calls : List Call) (c : ℕ) where
         same-is (abi_slot_descriptor abi labels s) (abi_slot_descriptor abi labels z) b.1,
       )
 
-  index : is_orderly ≡ true → (s z : ℕ) → ChainSlot ws (text_of ws) abi (abi_text_of abi) c s → ChainSlot ws (text_of ws) abi (abi_text_of abi) c z
-      → abi_slot_name abi labels s ≡ abi_slot_name abi labels z → abi_slot_descriptor abi labels s ≡ abi_slot_descriptor abi labels z
-      → slot_index abi s ≡ slot_index abi z
-  index h s z k l e f =
+  index-of : (s z : ℕ) → agrees_in_index s z ≡ true → abi_slot_name abi labels s ≡ abi_slot_name abi labels z
+      → abi_slot_descriptor abi labels s ≡ abi_slot_descriptor abi labels z → slot_index abi s ≡ slot_index abi z
+  index-of s z h e f =
       eqb-true (slot_index abi s) (slot_index abi z)
       (implied (same_bytes (abi_slot_name abi labels s) (abi_slot_name abi labels z)
       && same_bytes (abi_slot_descriptor abi labels s) (abi_slot_descriptor abi labels z))
-      (eqb (slot_index abi s) (slot_index abi z)) (pair h s z k l).0
+      (eqb (slot_index abi s) (slot_index abi z)) h
       (rw (e, f, same_refl (abi_slot_name abi labels z), same_refl (abi_slot_descriptor abi labels z)) refl))
+
+  abbrev pub OneIndex : Type 0
+  OneIndex = (s z : ℕ) → ChainSlot ws (text_of ws) abi (abi_text_of abi) c s → ChainSlot ws (text_of ws) abi (abi_text_of abi) c z
+      → abi_slot_name abi labels s ≡ abi_slot_name abi labels z → abi_slot_descriptor abi labels s ≡ abi_slot_descriptor abi labels z
+      → slot_index abi s ≡ slot_index abi z
+
+  pub one_index-holds : one_index_each ≡ true → OneIndex
+  unfolding one_index_each
+  one_index-holds h s z k l e f =
+      index-of s z (every-each (λ z. agrees_in_index s z)
+      (every-each (λ s. every (λ z. agrees_in_index s z) (chain_slots ws abi c)) h (a-slot k)) (a-slot l)) e f
+
+  index : is_orderly ≡ true → OneIndex
+  index h s z k l e f = index-of s z (pair h s z k l).0 e f
 
   pub orderly-holds : is_orderly ≡ true → Orderly ws (text_of ws) abi (abi_text_of abi) c
   orderly-holds h = record {
@@ -246,6 +263,6 @@ answers abi s (k ∷ ks) =
 
 -- what examples by computation open
 unfoldable pub shown : ℕ
-unfolding every gather chain_methods chain_slots stubs_lent is_unlinked by_old_rule built_or_array without_interface is_orderly targets_nonzero stubs_nonzero
-    targets_different without_stub verdicts answers step run
+unfolding every gather chain_methods chain_slots stubs_lent is_unlinked by_old_rule built_or_array without_interface one_index_each is_orderly
+    targets_nonzero stubs_nonzero targets_different without_stub verdicts answers step run
 shown = 0

@@ -19,6 +19,7 @@ use Rattle.slots.specs.Slots.{OldRule, Unique, Kept}
 use Rattle.slots.specs.Made.{Made}
 use Rattle.slots.proofs.ListFacts.{in_none}
 use Rattle.slots.proofs.ChainFacts.{chain-cases}
+use Rattle.slots.proofs.ClashFacts.{orderly-calm}
 use Rattle.slots.proofs.Tables.{table-unique, table_kept}
 use Rattle.slots.proofs.PackageTables.{packages-kept}
 use Rattle.calls.specs.Calls.{Call, link, ask, State, start, step, run, Unlinked, LinkedIn, now, later, table_at, Lent}
@@ -133,7 +134,8 @@ module _ (ws abi area missing : List ℕ) (valid₀ : Valid ws) (unlinked : Unli
   link_fits {c} linked = goes.inv.fits c (after linked).linked
 
   module _ (c place slots : ℕ) (linked : LinkedIn abi c place slots (start ws area missing) calls) (plain : Plain ws c)
-      (conditions : tables.Conditions ws (text_of ws) abi (abi_text_of abi) P c) where
+      (conditions : tables.Conditions ws (text_of ws) abi (abi_text_of abi) P c)
+      (calm : c ≤ class_limit → (d : ℕ) → Memᴰ d (chain ws c) → tables.Calm ws (text_of ws) abi (abi_text_of abi) (table_of final) d) where
     made : (d : ℕ) → Memᴰ d (chain ws c) → Made ws (text_of ws) abi (abi_text_of abi) (table_of final) P d
     made = chain-made linked plain
 
@@ -143,14 +145,14 @@ module _ (ws abi area missing : List ℕ) (valid₀ : Valid ws) (unlinked : Unli
     unique : OldRule ws c → Unique ws (text_of ws) abi (abi_text_of abi) c (table_at final.area place slots)
     unique old =
         subst (λ (t : List ℕ). Unique ws (text_of ws) abi (abi_text_of abi) c t) (table_is linked)
-        (table-unique ws (text_of ws) abi (abi_text_of abi) (table_of final) P c within old conditions made)
+        (table-unique ws (text_of ws) abi (abi_text_of abi) (table_of final) P c within old conditions made (calm within))
 
     -- by either rule
     both-kept : parent_of ws c ≢ 0 → class_abi ws (text_of ws) abi (abi_text_of abi) c ≡ None
         → Kept ws (text_of ws) abi (abi_text_of abi) c (table_of final c) (table_of final (parent_of ws c))
     both-kept n e =
         elim plain.kinds [
-          | inl old ↦ table_kept ws (text_of ws) abi (abi_text_of abi) (table_of final) P c within old conditions made n e
+          | inl old ↦ table_kept ws (text_of ws) abi (abi_text_of abi) (table_of final) P c within old conditions made (calm within) n e
           | inr packages ↦ packages-kept ws (text_of ws) abi (abi_text_of abi) (table_of final) P c packages
               (record { nonzero = conditions.nonzero_targets; different = conditions.different_targets }) made n
         ]
@@ -186,19 +188,30 @@ linked-valid ws abi area missing calls c place slots linked =
     (λ t. (valid ws abi (eqb-true (set_refusal ws abi) 0 t)).0)
     (λ f. absurd (never ws abi (eqb-false (set_refusal ws abi) 0 f) refl linked))
 
+enough : (ws abi area missing : List ℕ) → Unlinked ws → (calls : List Call) (c place slots : ℕ)
+    → LinkedIn abi c place slots (start ws area missing) calls → Plain ws c
+    → tables.Conditions ws (text_of ws) abi (abi_text_of abi) (λ x. Lent x calls) c
+    → (c ≤ class_limit → (d : ℕ) → Memᴰ d (chain ws c)
+    → tables.Calm ws (text_of ws) abi (abi_text_of abi) (table_of (run abi calls (start ws area missing))) d)
+    → Claim ws abi area missing calls c place slots
+enough ws abi area missing unlinked calls c place slots linked plain k calm =
+    claim ws abi area missing (linked-valid ws abi area missing calls c place slots linked) unlinked calls c place slots linked plain k calm
+
 -- for every class whose chain is plain and meets the conditions of Made.antt: of orderly, "each signature (name and descriptor) has one index" is
--- enough, whatever signatures share an index
+-- enough, where no class of the chain inherits two signatures of one index
 pub one-index-enough : (ws abi area missing : List ℕ) → Unlinked ws → (calls : List Call) (c place slots : ℕ)
     → LinkedIn abi c place slots (start ws area missing) calls → Plain ws c
-    → tables.Conditions ws (text_of ws) abi (abi_text_of abi) (λ x. Lent x calls) c → Claim ws abi area missing calls c place slots
-one-index-enough ws abi area missing unlinked calls c place slots linked plain k =
-    claim ws abi area missing (linked-valid ws abi area missing calls c place slots linked) unlinked calls c place slots linked plain k
+    → tables.Conditions ws (text_of ws) abi (abi_text_of abi) (λ x. Lent x calls) c
+    → ((d : ℕ) → Memᴰ d (chain ws c) → tables.Calm ws (text_of ws) abi (abi_text_of abi) (table_of (run abi calls (start ws area missing))) d)
+    → Claim ws abi area missing calls c place slots
+one-index-enough ws abi area missing unlinked calls c place slots linked plain k calm =
+    enough ws abi area missing unlinked calls c place slots linked plain k (λ within. calm)
 
 pub demand_3 : Demand3
 demand_3 ws abi area missing unlinked calls c place slots linked k =
     let valid₀ = linked-valid ws abi area missing calls c place slots linked in
     let fits = link_fits ws abi area missing valid₀ unlinked calls linked in
-    one-index-enough ws abi area missing unlinked calls c place slots linked
+    enough ws abi area missing unlinked calls c place slots linked
     (record { kinds = one_rule ws (text_of ws) abi (abi_text_of abi) c fits k.kinds; flags = λ d i q. k.no_interface d i })
     (record {
       one_index = k.orderly.one_index;
@@ -207,3 +220,4 @@ demand_3 ws abi area missing unlinked calls c place slots linked k =
       nonzero_stubs = k.nonzero_stubs;
       no_stub = k.no_stub;
     })
+    (λ within. orderly-calm ws (text_of ws) abi (abi_text_of abi) (table_of (run abi calls (start ws area missing))) c c (omega arith) within k.orderly)

@@ -1,5 +1,6 @@
 pub mod Calls
 pub mod Demand
+pub mod Elsewhere
 pub mod Owners
 pub mod Takes
 pub mod KindZero
@@ -7,3 +8,5 @@ pub mod Sources
 pub mod Stays
 pub mod Unlisted
 pub mod Missing
+pub mod OldRun
+pub mod OneSlot

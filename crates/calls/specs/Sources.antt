@@ -1,12 +1,13 @@
--- WHAT IS A COPY: `Sources`, at the end, is the statement; proofs/Sources.antt, SameIndex.antt and CompilerSlots.antt prove it. Of each slot of a class's
--- table it says, by the entry and not by how the table is built, whether the slot is "copied from parent entries", and from which; then, by the slot's index,
--- which it is. Assumes nothing.
-use Rattle.std.specs.Prelude.{ℕ, ◌≤◌, ◌<◌, ◌≡◌, ◌≢◌, true, length, get_or, List, Some, None}
+-- WHAT IS A COPY: `Sources`, at the end, is the statement; proofs/Sources.antt, SameIndex.antt, RelayedCopies.antt and CompilerSlots.antt prove it. Of
+-- each slot of a class's table it says, by the entry and not by how the table is built, whether the slot is "copied from parent entries", and from which;
+-- then, by the slot's index, which it is. Assumes nothing.
+use Rattle.std.specs.Prelude.{ℕ, suc, ◌≤◌, ◌<◌, ◌≡◌, ◌≢◌, Bool, true, false, length, get_or, drop, List, Option, Some, None}
 use mathlib.Core.List.{Memᴰ}
 use Rattle.class_sheet.specs.ClassSheet.{is_generated, class_compiler_table, method_target}
-use Rattle.linking.specs.Chain.{own_methods}
-use Rattle.linking.specs.Abi.{class_abi}
-use Rattle.linking.specs.Vtable.{Entry, empty, built, parent_entries, method_entry}
+use Rattle.linking.specs.Chain.{own_methods, same_methods}
+use Rattle.linking.specs.Abi.{class_abi, chain_abi, minimum_size}
+use Rattle.linking.specs.Vtable.{Entry, empty, built, parent_entries, method_entry, occurs, stays, follows, fixed_of, staying_of}
+use Rattle.linking.specs.Before.{relays_class}
 use Rattle.linking.specs.Compiler.{New, no_new, native_view, compiler_targets, added_methods, class_methods, compiler_table}
 use Rattle.linking.specs.Link.{generated_methods}
 use Rattle.linking.specs.Missing.{table_by}
@@ -30,6 +31,21 @@ pub data Slot (ws : List ℕ) (new : List New) (c : ℕ) (P : List Entry) (e : E
   added : HasCompiler ws c → (j : ℕ) → j < length new → e.word ≡ (get_or new j no_new).last → e.source ≡ None → Slot ws new c P e
   compiled : HasCompiler ws c → Memᴰ e.word (compiler_targets ws c) → e.word ≢ 0 → e.source ≡ None → Slot ws new c P e
 
+-- slot i is a copy of entry j of the parent's, P, where a class lays these out anew: `same`, `fixed` and `staying` are as in `laid_out`, n is the minimum size
+pub data Relayed (same : ℕ → ℕ → Bool) (fixed staying : ℕ → Option ℕ) (P : List Entry) (n i j : ℕ) : Type 0 where
+  -- "later known entries of one signature still overwrite earlier ones at a fixed index": the last one of the signature that stays at i
+  at_index : (m : ℕ) → (get_or P j empty).method ≡ Some m → fixed m ≡ Some i → stays same staying i m ≡ true → occurs same m (drop (suc j) P) ≡ false
+      → Relayed same fixed staying P n i j
+  -- "The last entry of each other follows after the minimum size, .. with the entries without a fixed index"
+  behind : n ≤ i → follows same fixed staying (get_or P j empty) (drop (suc j) P) ≡ true → Relayed same fixed staying P n i j
+
+module _ (ws text abi labels area : List ℕ) (c : ℕ) where
+  abbrev pub IsRelayed : ℕ → ℕ → Type 0
+  IsRelayed i j =
+      Relayed (same_methods ws text) (fixed_of ws text abi labels (chain_abi ws text abi labels c))
+      (staying_of ws text abi labels (chain_abi ws text abi labels c) (parent_entries ws text abi labels area c))
+      (parent_entries ws text abi labels area c) (minimum_size abi (chain_abi ws text abi labels c)) i j
+
 pub record Sources : Type 0 where
   pub slots : (ws text abi labels area : List ℕ) (c : ℕ) (T : List Entry) → table_by ws text abi labels area c ≡ built T → (i : ℕ) → i < length T
       → Slot ws (generated_methods ws text abi labels area c) c (parent_entries ws text abi labels area c) (get_or T i empty)
@@ -37,6 +53,13 @@ pub record Sources : Type 0 where
   pub same_index : (ws text abi labels area : List ℕ) (c : ℕ) (T : List Entry) → table_by ws text abi labels area c ≡ built T
       → class_abi ws text abi labels c ≡ None → (is_generated ws c ≡ true → class_compiler_table ws c ≡ 0)
       → (i j : ℕ) → (get_or T i empty).source ≡ Some j → j ≡ i
+  -- with an ABI entry of its own, where it builds its methods: a whole entry, at its fixed index or behind the minimum size, there "in inherited order"
+  pub relayed : (ws text abi labels area : List ℕ) (c : ℕ) (T : List Entry) → relays_class ws text abi labels c ≡ true
+      → table_by ws text abi labels area c ≡ built T → (i j : ℕ) → (get_or T i empty).source ≡ Some j
+      → (get_or T i empty ≡ get_or (parent_entries ws text abi labels area c) j empty) × IsRelayed ws text abi labels area c i j
+  pub in_order : (ws text abi labels area : List ℕ) (c : ℕ) (T : List Entry) → relays_class ws text abi labels c ≡ true
+      → table_by ws text abi labels area c ≡ built T → (i k j l : ℕ) → minimum_size abi (chain_abi ws text abi labels c) ≤ i → i < k
+      → (get_or T i empty).source ≡ Some j → (get_or T k empty).source ≡ Some l → j < l
   -- "a nonzero compiler slot is no copy"; a zero one is the native view's of its index
   pub nonzero : (ws text abi labels area : List ℕ) (c i : ℕ) → i < length (compiler_targets ws c) → get_or (compiler_targets ws c) i 0 ≢ 0
       → (get_or (compiler_table ws text abi labels area c) i empty).source ≡ None

@@ -1,7 +1,7 @@
 -- What an accepted link leaves, read in the class words: every record that was there, every other word of the class's own; and where its method list has
 -- grown, the copied records word by word and the added ones with the names, descriptors, flags and targets they took; fields likewise. Assumes nothing.
 use mathlib.Core.Path.{◌≡◌, sym, ap, ◌∙◌}
-use mathlib.Core.Logic.{◌≢◌}
+use mathlib.Core.Logic.{◌≢◌, ◌⊎◌, inl, inr}
 use mathlib.Core.Bool.{true, false}
 use mathlib.Core.List.{List, [], ◌++◌}
 use Prim.Native.Nat.{ℕ, ◌+◌, ◌-◌, ◌≤◌, ◌<◌}
@@ -11,7 +11,7 @@ use lib.Dec.{eqb}
 use borrow.Author.Tests.{eqb-true, eqb-false}
 use Rattle.words.proofs.Bools.{by}
 use Rattle.text.specs.Text.{name_at}
-use Rattle.class_sheet.specs.ClassSheet.{class_width, member_width, first_method_word, method_count_word, first_field_word, field_count_word, instance_words_word, table_place_word, slot_count_word, static_words_word, index_word, class_count, method_count, field_count, interface_count, compiler_count, content_end, text_of, class_word, class_first_method, class_method_count, class_first_field, class_field_count, class_name, method_word, field_word, interface_word, compiler_word, field_name, field_descriptor, field_flags, field_index, method_name, method_descriptor, method_flags, method_target}
+use Rattle.class_sheet.specs.ClassSheet.{class_width, member_width, kind_word, class_kind, first_method_word, method_count_word, first_field_word, field_count_word, instance_words_word, table_place_word, slot_count_word, static_words_word, index_word, class_count, method_count, field_count, interface_count, compiler_count, content_end, text_of, class_word, class_first_method, class_method_count, class_first_field, class_field_count, class_name, method_word, field_word, interface_word, compiler_word, field_name, field_descriptor, field_flags, field_index, method_name, method_descriptor, method_flags, method_target}
 use Rattle.words.specs.Rows.{row_word}
 use Rattle.words.specs.Words.{AreBytes}
 use Rattle.class_sheet.specs.Sections.{Sections, Formed, laid_out, sections_of, with_classes, with_fields}
@@ -21,9 +21,9 @@ use Rattle.linking.specs.Compiler.{New, no_new}
 use Rattle.linking.specs.Set.{new_text}
 use Rattle.linking.specs.Link.{Plan, is_none, linked_words}
 use Rattle.linking.specs.Grown.{member_row, row_indices, record_rows, methods_growing, fields_growing, linked_sections}
-use Rattle.linking.proofs.Appended.{name-front}
-use Rattle.linking.proofs.Grown.{index-other, length-row-indices}
-use Rattle.linking.proofs.LinkedSections.{length_record, record_word_lem, formed-recorded, lies-of, linked-laid}
+use Rattle.linking.proofs.Appended.{name-front, word_kept}
+use Rattle.linking.proofs.Grown.{index_at, index-other, index-before, index-after, length-row-indices}
+use Rattle.linking.proofs.LinkedSections.{length_record, record_word_lem, record_own, record_brought, record_words, record_statics, formed-recorded, lies-of, linked-laid}
 use Rattle.linking.proofs.LinkedBack.{Untouched, early, Left, linked-left, linked-still, still-num, left-num}
 use Rattle.linking.proofs.FieldsBack as back
 use Rattle.linking.proofs.FieldsBack.{fields_count, old-field, copied-field, copied-index, new-field, fields-text}
@@ -143,6 +143,79 @@ module _ (ws : List ℕ) (c place words statics : ℕ) (p : Plan) (some : 1 ≤ 
   link-still t k h =
       rw laid (class-here c k some among (omega arith) (linked-still s (formed-of ws fits) c place words statics p some within t k h))
 
+  -- ---- the class's own record
+
+  abbrev recorded : List (List ℕ)
+  recorded = record_rows s.classes c place (length p.table) words statics
+
+  own_row : (k : ℕ) → k ≢ first_method_word → k ≢ method_count_word → k ≢ first_field_word → k ≢ field_count_word
+      → row_word g.classes (c - 1) k ≡ row_word recorded (c - 1) k
+  unfolding linked_sections methods_growing fields_growing
+  own_row k n₀ n₁ n₂ n₃ =
+      by (is_none p.new_fields)
+      (λ t.
+      by (is_none p.new_methods) (λ u. rw (t, u))
+      (λ u.
+      rw (t, u)
+      (word_kept recorded c first_method_word method_count_word (length s.methods)
+      (row_word recorded (c - 1) method_count_word + length p.new_methods) k n₀ n₁)))
+      (λ t.
+      rw t
+      (word_kept recorded c first_field_word field_count_word (length s.fields) (row_word recorded (c - 1) field_count_word + length p.new_fields) k n₂ n₃))
+
+  at_own : (k : ℕ) → k < class_width → class_word (linked_words ws c place words statics p) c k ≡ row_word g.classes (c - 1) k
+  at_own k b = rw laid (class-word g left.formed c k some (omega (arith, left.classes, (lies-of ws fits).classes)) b)
+
+  kind_row : row_word s.classes (c - 1) kind_word ≡ class_kind ws c
+  kind_row = sym (own_of kind_word (omega arith))
+
+  -- instance and static words: a generated class's stay, another's are those given
+  pub link_brings : class_kind ws c ≡ 1 → (k : ℕ) → (k ≡ instance_words_word) ⊎ (k ≡ static_words_word)
+      → class_word (linked_words ws c place words statics p) c k ≡ class_word ws c k
+  link_brings e k (inl q) =
+      rw q
+      (at_own instance_words_word (omega arith) ∙ own_row instance_words_word (omega arith) (omega arith) (omega arith) (omega arith)
+      ∙ record_own s.classes c place (length p.table) words statics (kind_row ∙ e) ∙ sym (own_of instance_words_word (omega arith)))
+  link_brings e k (inr q) =
+      rw q
+      (at_own static_words_word (omega arith) ∙ own_row static_words_word (omega arith) (omega arith) (omega arith) (omega arith)
+      ∙ record_brought s.classes c place (length p.table) words statics (kind_row ∙ e) ∙ sym (own_of static_words_word (omega arith)))
+
+  pub link-words : class_kind ws c ≢ 1 → class_word (linked_words ws c place words statics p) c instance_words_word ≡ words
+  link-words n =
+      at_own instance_words_word (omega arith) ∙ own_row instance_words_word (omega arith) (omega arith) (omega arith) (omega arith)
+      ∙ record_words s.classes c place (length p.table) words statics (formed-of ws fits).classes (omega (arith, within)) (omega arith) (omega arith)
+      (omega arith) (λ e. n (sym kind_row ∙ e))
+
+  pub link-statics : class_kind ws c ≢ 1 → class_word (linked_words ws c place words statics p) c static_words_word ≡ statics
+  link-statics n =
+      at_own static_words_word (omega arith) ∙ own_row static_words_word (omega arith) (omega arith) (omega arith) (omega arith)
+      ∙ record_statics s.classes c place (length p.table) words statics (formed-of ws fits).classes (omega (arith, within)) (omega arith) (omega arith)
+      (omega arith) (λ e. n (sym kind_row ∙ e))
+
+  list-row : is_none p.new_fields ≡ true → (k : ℕ) → k ≢ first_method_word → k ≢ method_count_word
+      → row_word g.classes (c - 1) k ≡ row_word recorded (c - 1) k
+  unfolding linked_sections methods_growing fields_growing
+  list-row t k n₀ n₁ =
+      by (is_none p.new_methods) (λ u. rw (t, u))
+      (λ u.
+      rw (t, u)
+      (word_kept recorded c first_method_word method_count_word (length s.methods)
+      (row_word recorded (c - 1) method_count_word + length p.new_methods) k n₀ n₁))
+
+  list-word : is_none p.new_fields ≡ true → (k : ℕ) → k < class_width → k ≢ first_method_word → k ≢ method_count_word → k ≢ instance_words_word
+      → k ≢ table_place_word → k ≢ slot_count_word → k ≢ static_words_word → class_word (linked_words ws c place words statics p) c k ≡ class_word ws c k
+  list-word t k b n₀ n₁ n₂ n₃ n₄ n₅ =
+      at_own k b ∙ list-row t k n₀ n₁ ∙ record_word_lem s.classes c place (length p.table) words statics k n₂ n₃ n₄ n₅ ∙ sym (own_of k b)
+
+  -- where no field is added, the class's field list stays
+  pub link-listed : is_none p.new_fields ≡ true → (k : ℕ) → (k ≡ first_field_word) ⊎ (k ≡ field_count_word)
+      → class_word (linked_words ws c place words statics p) c k ≡ class_word ws c k
+  link-listed t k (inl q) =
+      rw q (list-word t first_field_word (omega arith) (omega arith) (omega arith) (omega arith) (omega arith) (omega arith) (omega arith))
+  link-listed t k (inr q) =
+      rw q (list-word t field_count_word (omega arith) (omega arith) (omega arith) (omega arith) (omega arith) (omega arith) (omega arith))
+
   -- where no field is added, the fields stay but for indices
   module _ (none-added : is_none p.new_fields ≡ true) where
     fields-of : g.fields ≡ row_indices (row_word s.classes (c - 1) first_field_word) p.indices s.fields
@@ -159,6 +232,33 @@ module _ (ws : List ℕ) (c place words statics : ℕ) (p : Plan) (some : 1 ≤ 
     pub link-field : (m k : ℕ) → m < field_count ws → k < member_width → k ≢ index_word
         → field_word (linked_words ws c place words statics p) m k ≡ field_word ws m k
     link-field m k h b n = rw laid (field-left m k h b n)
+
+    -- the class's own are those given
+    pub link-index : (j : ℕ) → j < length p.indices
+        → field_index (linked_words ws c place words statics p) (class_first_field ws c + j) ≡ get_or p.indices j 0
+    link-index j h =
+        let first : ℕ = row_word s.classes (c - 1) first_field_word in
+        let f : class_first_field ws c ≡ first = own_of first_field_word (omega arith) in
+        let l : length g.fields ≡ length s.fields = ap length fields-of ∙ length-row-indices first p.indices s.fields in
+        rw laid
+        (field-word g left.formed (class_first_field ws c + j) index_word (omega (arith, l, (lies-of ws fits).fields, inside)) (omega arith)
+        ∙ ap (λ (x : List (List ℕ)). row_word x (class_first_field ws c + j) index_word) fields-of
+        ∙ index_at first p.indices (class_first_field ws c + j) j (formed-of ws fits).fields (omega arith) h
+        (omega (arith, (lies-of ws fits).fields, inside)))
+
+    -- and other classes' indices
+    pub link-field-other : (m k : ℕ) → m < field_count ws → k < member_width
+        → (m < class_first_field ws c) ⊎ (class_first_field ws c + length p.indices ≤ m)
+        → field_word (linked_words ws c place words statics p) m k ≡ field_word ws m k
+    link-field-other m k h b o =
+        let first : ℕ = row_word s.classes (c - 1) first_field_word in
+        let f : class_first_field ws c ≡ first = own_of first_field_word (omega arith) in
+        let l : length g.fields ≡ length s.fields = ap length fields-of ∙ length-row-indices first p.indices s.fields in
+        let e : row_word (row_indices first p.indices s.fields) m k ≡ row_word s.fields m k =
+        elim o [ inl q ↦ index-before first p.indices s.fields m k (omega arith) | inr q ↦ index-after first p.indices s.fields m k (omega arith) ] in
+        rw laid
+        (field-word g left.formed m k (omega (arith, l, (lies-of ws fits).fields)) b
+        ∙ ap (λ (x : List (List ℕ)). row_word x m k) fields-of ∙ e ∙ sym (field_of ws fits m k h b))
 
   -- where methods are added
 
@@ -240,14 +340,14 @@ module _ (ws : List ℕ) (c place words statics : ℕ) (p : Plan) (some : 1 ≤ 
     first_field : row_word rec.classes (c - 1) first_field_word ≡ class_first_field ws c
     first_field = stays first_field_word (omega arith) (omega arith) (omega arith) (omega arith) (omega arith)
 
-    fields_own : row_word rec.classes (c - 1) field_count_word ≡ class_field_count ws c
-    fields_own = stays field_count_word (omega arith) (omega arith) (omega arith) (omega arith) (omega arith)
+    own-fields : row_word rec.classes (c - 1) field_count_word ≡ class_field_count ws c
+    own-fields = stays field_count_word (omega arith) (omega arith) (omega arith) (omega arith) (omega arith)
 
     fields_are : length rec.fields ≡ field_count ws
     fields_are = sym (lies-of ws fits).fields
 
     rec_in : row_word rec.classes (c - 1) first_field_word + row_word rec.classes (c - 1) field_count_word ≤ length rec.fields
-    rec_in = omega (arith, fields, first_field, fields_own, fields_are)
+    rec_in = omega (arith, fields, first_field, own-fields, fields_are)
 
     among-rec : c ≤ length rec.classes
     among-rec = omega (arith, within, length_record s.classes c place (length p.table) words statics)
@@ -265,23 +365,23 @@ module _ (ws : List ℕ) (c place words statics : ℕ) (p : Plan) (some : 1 ≤ 
     new-field-word : (j k : ℕ) → j < length more-fields → k < member_width
         → field_word grown-fields (field_count ws + (class_field_count ws c + j)) k
         ≡ get_or (member_row (rec.bytes + length (new_text (take j more-fields))) (get_or more-fields j no_new)) k 0
-    new-field-word j k h b = rw (fields_are, fields_own) at (new-field rec rec-formed c p.indices more-fields rec_in k b j h)
+    new-field-word j k h b = rw (fields_are, own-fields) at (new-field rec rec-formed c p.indices more-fields rec_in k b j h)
 
     fields-added : FieldsAdded ws grown-fields c p.indices more-fields
     fields-added = record {
-      fields = rw (fields_are, fields_own) at (fields_count rec rec-formed c p.indices more-fields rec_in);
+      fields = rw (fields_are, own-fields) at (fields_count rec rec-formed c p.indices more-fields rec_in);
       first = back.own_first rec rec-formed c p.indices more-fields rec_in some among-rec ∙ fields_are;
-      many = back.own-count rec rec-formed c p.indices more-fields rec_in some among-rec ∙ rw fields_own;
+      many = back.own-count rec rec-formed c p.indices more-fields rec_in some among-rec ∙ rw own-fields;
       text = fields-text rec rec-formed c p.indices more-fields rec_in field-bytes
           ∙ ap (λ (t : List ℕ). t ++ new_text more-fields) (sym (text-of-words ws fits));
       old = λ m k h b.
           old-field rec rec-formed c p.indices more-fields rec_in k b m (omega (arith, fields_are)) ∙ sym (field_of ws fits m k h b);
       copied = λ j k h b n.
-          (rw (fields_are, first_field) at (copied-field rec rec-formed c p.indices more-fields rec_in k b j (omega (arith, fields_own)) n))
+          (rw (fields_are, first_field) at (copied-field rec rec-formed c p.indices more-fields rec_in k b j (omega (arith, own-fields)) n))
           ∙ sym (field_of ws fits (class_first_field ws c + j) k (omega (arith, fields)) b);
-      copied-index = λ j h l. rw fields_are at (copied-index rec rec-formed c p.indices more-fields rec_in j (omega (arith, fields_own)) l);
-      new-name = λ j h. rw (fields_are, fields_own) at (back.read_name rec rec-formed c p.indices more-fields rec_in field-bytes j h);
-      new-descriptor = λ j h. rw (fields_are, fields_own) at (back.read-descriptor rec rec-formed c p.indices more-fields rec_in field-bytes j h);
+      copied-index = λ j h l. rw fields_are at (copied-index rec rec-formed c p.indices more-fields rec_in j (omega (arith, own-fields)) l);
+      new-name = λ j h. rw (fields_are, own-fields) at (back.read_name rec rec-formed c p.indices more-fields rec_in field-bytes j h);
+      new-descriptor = λ j h. rw (fields_are, own-fields) at (back.read-descriptor rec rec-formed c p.indices more-fields rec_in field-bytes j h);
       new-flags = λ j h. new-field-word j 4 h (omega arith);
       new-index = λ j h. new-field-word j 5 h (omega arith);
     }
@@ -302,6 +402,14 @@ module _ (ws ws' : List ℕ) (c : ℕ) (valid : Valid ws) (after : After ws ws' 
 
     pub record_descriptor : method_descriptor ws' (text_of ws') k ≡ method_descriptor ws (text_of ws) m
     record_descriptor = let p = (valid.method m h).descriptor.inside in rw (same 2 (omega arith), same 3 (omega arith)) (name-kept _ _ p)
+
+  -- and of each field
+  module _ (m k : ℕ) (h : m < field_count ws) (same : (w : ℕ) → w < index_word → field_word ws' k w ≡ field_word ws m w) where
+    pub field-name : field_name ws' (text_of ws') k ≡ field_name ws (text_of ws) m
+    field-name = let p = (valid.field m h).name.inside in rw (same 0 (omega arith), same 1 (omega arith)) (name-kept _ _ p)
+
+    pub field-descriptor : field_descriptor ws' (text_of ws') k ≡ field_descriptor ws (text_of ws) m
+    field-descriptor = let p = (valid.field m h).descriptor.inside in rw (same 2 (omega arith), same 3 (omega arith)) (name-kept _ _ p)
 
   pub class-name : (d : ℕ) → 1 ≤ d → d ≤ class_count ws → class_name ws' (text_of ws') d ≡ class_name ws (text_of ws) d
   class-name d l h =

@@ -110,12 +110,12 @@ module _ (ws text : List ℕ) where
 
   -- what a method overrides is so open: a path of methods is one path of classes
 
-  overrides-met : {c m a k : ℕ} → Overrides ws text c m a k → Virtual ws c m × Met c m a k
-  overrides-met {c} (open_method u v i s o) =
+  overrides_met : {c m a k : ℕ} → Overrides ws text c m a k → Virtual ws c m × Met c m a k
+  overrides_met {c} (open_method u v i s o) =
       (v, record { from = c; reach = first; above = u; declared = i; signature = s; opens = o })
-  overrides-met (through b n p q) =
-      let x = overrides-met p in
-      let y = overrides-met q in
+  overrides_met (through b n p q) =
+      let x = overrides_met p in
+      let y = overrides_met q in
       let l = x.1 in
       let r = y.1 in (
         x.0,
@@ -137,8 +137,8 @@ module _ (ws text : List ℕ) where
   reach-overrides v (next b n r u₁ w s₁ o₁) u i s o =
       through b n (reach-overrides v r u₁ w.declared s₁ o₁) (open_method u w i (same_then (same_back s₁) s) o)
 
-  met-overrides : {c m a k : ℕ} → Virtual ws c m → Met c m a k → Overrides ws text c m a k
-  met-overrides v r = reach-overrides v r.reach r.above r.declared r.signature r.opens
+  met_overrides : {c m a k : ℕ} → Virtual ws c m → Met c m a k → Overrides ws text c m a k
+  met_overrides v r = reach-overrides v r.reach r.above r.declared r.signature r.opens
 
   -- ---- the tests and what they say
 
@@ -161,11 +161,11 @@ module _ (ws text : List ℕ) where
       by (is_private (method_flags ws k)) (λ v. absurd (false≢true (rw v at r)))
       (λ v. in_package v (same-is (package_at ws text a) (package_at ws text c) (rw v at r)))))
 
-  pub same_true : {m k : ℕ} → SameSignature ws text m k → same_methods ws text m k ≡ true
+  pub same_true : {m k : ℕ} → SameSignature ws text m k → same_methods ws text k m ≡ true
   unfolding same_methods method_is
   same_true {k = k} s = rw (s.name, s.descriptor, same_refl (method_name ws text k)) (same_refl (method_descriptor ws text k))
 
-  pub same_of : (m k : ℕ) → same_methods ws text m k ≡ true → SameSignature ws text m k
+  pub same_of : (m k : ℕ) → same_methods ws text k m ≡ true → SameSignature ws text m k
   unfolding same_methods method_is
   same_of m k h =
       let p = and_both (same_bytes (method_name ws text k) (method_name ws text m))
@@ -197,7 +197,7 @@ module _ (ws text : List ℕ) where
   unfolding overridden_in is_overridden
   here_of m a k R h =
       let r = keep-of (is_overridden same ws text m R a) (own_methods ws a) h in
-      let t = and_3 (not (is_static (method_flags ws k))) (same m k) (some (open_to ws text k a) R) r.1 in
+      let t = and_3 (not (is_static (method_flags ws k))) (same k m) (some (open_to ws text k a) R) r.1 in
       let o = some_of (open_to ws text k a) R t.2 in
       record {
         declared = record { own = r.0; not_static = by (is_static (method_flags ws k)) (λ u. absurd (false≢true (rw u at t.0))) (λ u. u) };
@@ -270,12 +270,12 @@ module _ (ws text : List ℕ) where
         ]
 
     -- what the walk finds is met
-    walk-met : (bound p k : ℕ) (R : List ℕ) → p ≤ bound → Sound R p → Memᴰ k (overridden_along same ws text m R (chain ws p))
+    walk_met : (bound p k : ℕ) (R : List ℕ) → p ≤ bound → Sound R p → Memᴰ k (overridden_along same ws text m R (chain ws p))
         → (a : ℕ) × Memᴰ a (chain ws p) × Met c m a k
     unfolding overridden_along
-    walk-met zero p k R b s h =
+    walk_met zero p k R b s h =
         let e : p ≡ 0 = omega arith in absurd (mathlib.Core.List.Memᴰ.not-nil (rw (e, chain-none ws 0 refl) at h))
-    walk-met (suc bound) p k R b s h =
+    walk_met (suc bound) p k R b s h =
         by (eqb p 0)
         (λ t. absurd (mathlib.Core.List.Memᴰ.not-nil (rw (eqb-true p 0 t, chain-none ws 0 refl) at h)))
         (λ t.
@@ -297,7 +297,7 @@ module _ (ws text : List ℕ) where
                 },
               ))
           | inr i ↦ (let r =
-              walk-met bound (parent_of ws p) k (reached_with same ws text m R p) (omega arith) (sound-next R p (omega arith) s) i in
+              walk_met bound (parent_of ws p) k (reached_with same ws text m R p) (omega arith) (sound-next R p (omega arith) s) i in
               (r.0, chain_next p (omega arith) r.1, r.2))
         ])
 
@@ -335,11 +335,11 @@ module _ (ws text : List ℕ) where
         ]
 
     -- what is met is found
-    met-walk : (bound p k a : ℕ) (R : List ℕ) → p ≤ bound → p < c → Full R p → Memᴰ a (chain ws p) → Met c m a k
+    met_walk : (bound p k a : ℕ) (R : List ℕ) → p ≤ bound → p < c → Full R p → Memᴰ a (chain ws p) → Met c m a k
         → Memᴰ k (overridden_along same ws text m R (chain ws p))
     unfolding overridden_along
-    met-walk zero p k a R b l full i r = absurd (let w = chain-within ws p a i in omega arith)
-    met-walk (suc bound) p k a R b l full i r =
+    met_walk zero p k a R b l full i r = absurd (let w = chain-within ws p a i in omega arith)
+    met_walk (suc bound) p k a R b l full i r =
         let w = chain-within ws p a i in
         let f = parent_below ws p (omega arith) in
         rw (chain_more ws p (omega arith))
@@ -349,7 +349,7 @@ module _ (ws text : List ℕ) where
         mathlib.Core.List.Memᴰ.append_left _ (in_here R met.declared met.signature (held R p k (omega arith) full met) met.opens))
         (λ j.
         mathlib.Core.List.Memᴰ.append_right (overridden_in same ws text m R p)
-        (met-walk bound (parent_of ws p) k a (reached_with same ws text m R p) (omega arith) (omega arith) (full-next R p (omega arith) l full) j r))
+        (met_walk bound (parent_of ws p) k a (reached_with same ws text m R p) (omega arith) (omega arith) (full-next R p (omega arith) l full) j r))
         (mathlib.Core.List.Memᴰ.cases_cons (rw (chain_more ws p (omega arith)) at i)))
 
     -- at its start the walk holds c
@@ -389,12 +389,12 @@ module _ (ws text : List ℕ) where
     overridden-overrides k i h =
         by (is_virtual (method_flags ws m))
         (λ t.
-        let r = walk-met (parent_of ws c) (parent_of ws c) k (c ∷ []) (omega arith) sound-start (rw t at h) in
-        (r.0, r.1, met-overrides (virtual_of i t) r.2))
+        let r = walk_met (parent_of ws c) (parent_of ws c) k (c ∷ []) (omega arith) sound-start (rw t at h) in
+        (r.0, r.1, met_overrides (virtual_of i t) r.2))
         (λ t. absurd (mathlib.Core.List.Memᴰ.not-nil (rw t at h)))
 
-    met-above : {a k : ℕ} → Met c m a k → Memᴰ a (chain ws (parent_of ws c))
-    met-above r =
+    met_above : {a k : ℕ} → Met c m a k → Memᴰ a (chain ws (parent_of ws c))
+    met_above r =
         elim (reach-along r.from r.reach) [
           | inl q ↦ rw q at r.above
           | inr j ↦ (let w = chain-within ws (parent_of ws c) r.from j in
@@ -404,13 +404,13 @@ module _ (ws text : List ℕ) where
     pub overrides-overridden : {a k : ℕ} → 0 < c → Overrides ws text c m a k → Memᴰ k (overridden same ws text c m)
     unfolding overridden
     overrides-overridden {a} {k} h o =
-        let r = overrides-met o in
+        let r = overrides_met o in
         rw (virtual_true r.0)
-        (met-walk (parent_of ws c) (parent_of ws c) k a (c ∷ []) (omega arith) (parent_below ws c h) full_start (met-above r.1) r.1)
+        (met_walk (parent_of ws c) (parent_of ws c) k a (c ∷ []) (omega arith) (parent_below ws c h) full_start (met_above r.1) r.1)
 
     -- what is overridden has m's signature
     pub overridden-same : (k : ℕ) → Memᴰ m (own_methods ws c) → Memᴰ k (overridden same ws text c m) → SameSignature ws text m k
-    overridden-same k i h = let r = overridden-overrides k i h in (overrides-met r.2).1.signature
+    overridden-same k i h = let r = overridden-overrides k i h in (overrides_met r.2).1.signature
 
 -- ---- THE THEOREM
 
@@ -442,7 +442,7 @@ overrides-meaning ws valid c m a k class own above mine = (there, back)
     there h =
         let r = overridden-overrides ws (text_of ws) c m k own h in
         let o = r.2 in
-        rw (owner r.1 (overrides-met ws (text_of ws) o).1.declared.own) at o
+        rw (owner r.1 (overrides_met ws (text_of ws) o).1.declared.own) at o
 
     back : Overrides ws (text_of ws) c m a k → Memᴰ k (overridden (same_methods ws (text_of ws)) ws (text_of ws) c m)
     back o = overrides-overridden ws (text_of ws) c m class.0 o

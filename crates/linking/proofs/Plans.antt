@@ -77,12 +77,11 @@ module _ (ws text abi labels : List ℕ) (own : Option ℕ) where
   number-all [] n = omega arith
   number-all (f ∷ fs) n = omega (arith, number-all fs (number_field ws text abi labels own n f), number-one n f)
 
-  number-fields : (c : ℕ) → length (number_fields ws text abi labels own c).indices ≤ class_field_count ws c
+  pub numbered-length : (c : ℕ) → length (number_fields ws text abi labels own c).indices ≡ length (own_fields ws c)
   unfolding number_fields
-  number-fields c =
+  numbered-length c =
       omega (
         arith,
-        own-fields-length ws c,
         number-all (own_fields ws c) (record {
           indices = [];
           statics = 0;
@@ -91,12 +90,15 @@ module _ (ws text abi labels : List ℕ) (own : Option ℕ) where
         }),
       )
 
+  pub number-fields : (c : ℕ) → length (number_fields ws text abi labels own c).indices ≤ class_field_count ws c
+  number-fields c = omega (arith, own-fields-length ws c, numbered-length c)
+
 plus_length : (ws : List ℕ) (b : ℕ) (fs : List ℕ) → length (indices_plus ws b fs) ≡ length fs
 unfolding indices_plus
 plus_length ws b [] = refl
 plus_length ws b (f ∷ fs) = ap suc (plus_length ws b fs)
 
-generated-length : (ws text : List ℕ) (c : ℕ) → length (generated_indices ws text c) ≤ class_field_count ws c
+pub generated-length : (ws text : List ℕ) (c : ℕ) → length (generated_indices ws text c) ≤ class_field_count ws c
 unfolding generated_indices
 generated-length ws text c =
     omega (
@@ -191,11 +193,11 @@ not-planned e = absurd (omega (arith, zero_one e))
 unplanned-some : {m n : ℕ} → m ≢ 0 → unplanned m ≡ unplanned n → n ≢ 0
 unplanned-some h e z = h (unplanned-same e ∙ z)
 
-within-planned : (q p : Plan) → within_slots q ≡ planned p → q ≡ p
+pub within-planned : (q p : Plan) → within_slots q ≡ planned p → q ≡ p
 unfolding within_slots
 within-planned q p e = by (ltb 1024 (length q.table)) (λ t. not-planned (rw t at e)) (λ t. planned-same (rw t at e))
 
-within-small : (q p : Plan) → within_slots q ≡ planned p → length q.table ≤ 1024
+pub within-small : (q p : Plan) → within_slots q ≡ planned p → length q.table ≤ 1024
 unfolding within_slots
 within-small q p e =
     by (ltb 1024 (length q.table)) (λ t. not-planned (rw t at e)) (λ t. ltb-false 1024 (length q.table) t)
@@ -205,7 +207,7 @@ unfolding within_slots
 within-unplanned q n e =
     by (ltb 1024 (length q.table)) (λ t. unplanned-some {m = 13} (omega arith) (rw t at e)) (λ t. not-planned (sym (rw t at e)))
 
-table-planned : (b : Built) (f : List Entry → Plan) (p : Plan) → on_table b (λ T. within_slots (f T)) ≡ planned p
+pub table-planned : (b : Built) (f : List Entry → Plan) (p : Plan) → on_table b (λ T. within_slots (f T)) ≡ planned p
     → (T : List Entry) × (b ≡ built T) × (f T ≡ p) × (length (f T).table ≤ 1024)
 table-planned (built T) f p e = (T, refl, within-planned (f T) p e, within-small (f T) p e)
 table-planned (refused n) f p e = not-planned e
@@ -272,7 +274,7 @@ module _ (ws text abi labels area : List ℕ) (c : ℕ) where
   unfolding built_table
   packaged-table k T e = built-same (rw k at e)
 
-  built-words : is_built_kind (class_kind ws c) ≡ true → too_many_words ws text abi labels (class_abi ws text abi labels c) c ≡ false
+  pub built-words : is_built_kind (class_kind ws c) ≡ true → too_many_words ws text abi labels (class_abi ws text abi labels c) c ≡ false
       → new_words ws text abi labels c ≤ 65535
   unfolding new_words too_many_words
   built-words kind t =
@@ -280,7 +282,7 @@ module _ (ws text abi labels area : List ℕ) (c : ℕ) where
       (ltb-false 65535 (built_words ws text abi labels (class_abi ws text abi labels c) c)
       (or-neither (ltb 65535 (built_words ws text abi labels (class_abi ws text abi labels c) c)) _ t).0)
 
-  other_words : is_built_kind (class_kind ws c) ≡ false → new_words ws text abi labels c ≤ 65535
+  pub other_words : is_built_kind (class_kind ws c) ≡ false → new_words ws text abi labels c ≤ 65535
   unfolding new_words
   other_words n = rw n (omega arith)
 

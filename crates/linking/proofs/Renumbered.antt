@@ -17,10 +17,12 @@ use Rattle.words.proofs.ListLaws.{by-found}
 use Rattle.words.proofs.Ext.{founds_ext}
 use Rattle.class_sheet.specs.ClassSheet.{class_table_place, class_slot_count, class_name, method_name, method_descriptor, method_flags, method_target, class_limit}
 use Rattle.abi_sheet.specs.AbiSheet.{abi_slot_name, abi_slot_descriptor}
-use Rattle.linking.specs.Chain.{on_found, own_methods, parent_of, chain, eligible, method_is, own_target, find_by_target, own_method}
+use Rattle.linking.specs.Chain.{on_found, own_methods, parent_of, chain, eligible, method_is, same_methods, own_target, find_by_target, own_method}
 use Rattle.linking.specs.Abi.{slot_at, class_abi, chain_abi, minimum_size}
-use Rattle.linking.specs.Vtable.{Entry, empty, Built, built, refused, on_built, own_fixed, find_by_index, read_entry, read_slot, table_entries, parent_entries, entry_is, slot_of, entry_is_other, method_entry, fixed_of, put_fixed, relay, relay_step, relayed, extended, inherited_table, put_method, add_method, add_methods, build_methods, method_entries, build_interface_methods}
-use Rattle.linking.proofs.Pairs.{Both, both, neither, by_both, both-or, both_less, Pairs, none, pair, pairs-length, pairs-append, pairs-at, pairs_set, pairs-blank, pairs-from, pairs-position, pairs-keep, pairs-fold, pairs_less, pairs-find, both_first}
+use Rattle.linking.specs.Vtable.{Entry, empty, Built, built, refused, on_built, own_fixed, find_by_index, read_entry, read_slot, table_entries, parent_entries, entry_is, slot_of, entry_is_other, method_entry, fixed_of, distance_of, relayed, extended, inherited_table, put_method, add_method, add_methods, build_methods, method_entries, build_interface_methods}
+use Rattle.linking.proofs.Pairs.{Both, both, neither, by_both, both-or, both_less, Pairs, none, pair, pairs-length, pairs-append, pairs-at, pairs_set, pairs-blank, pairs-from, pairs-position, pairs-keep, pairs_less, pairs-find, both_first}
+use Rattle.linking.proofs.RelayLoop.{relayed_loop}
+use Rattle.linking.proofs.RelayRenamed.{relays-same}
 
 -- ---- slots and tables
 
@@ -152,27 +154,21 @@ module _ (ws text ws' text' abi labels : List ℕ) (R : ℕ → ℕ → Type 0) 
 
   -- ---- the table before the class's own methods
 
-  put_same : (f : Option ℕ) {e e' : Entry} {T U : List Entry} → SameEntry R e e' → Tables R T U
-      → Tables R (put_fixed f e T) (put_fixed f e' U)
-  put_same (Some i) s h = pairs_set h i s
-  put_same None s h = pairs-append h (pair s none)
+  same-method : (m k n l : ℕ) → R m k → R n l → same_methods ws text m n ≡ same_methods ws' text' k l
+  unfolding same_methods
+  same-method m k n l r q = rw (keeps.name n l q, keeps.descriptor n l q) (method-is m k r _ _)
 
-  relay-same : (abis : List ℕ) {f g : Option ℕ} → Both R f g → {e e' : Entry} {T U : List Entry} → SameEntry R e e' → Tables R T U
-      → Tables R (relay ws text abi labels abis f e T) (relay ws' text' abi labels abis g e' U)
-  relay-same abis (both {m} {k} r) s h = rw (fixed_same m k r abis) (put_same (fixed_of ws' text' abi labels abis k) s h)
-  relay-same abis neither s h = h
-
-  step_same : (abis : List ℕ) (T U : List Entry) (e e' : Entry) → Tables R T U → SameEntry R e e'
-      → Tables R (relay_step ws text abi labels abis T e) (relay_step ws' text' abi labels abis U e')
-  unfolding relay_step
-  step_same abis T U e e' h s = relay-same abis s.method s h
+  distance-same : (abis : List ℕ) (m k : ℕ) → R m k → distance_of ws text abi labels abis m ≡ distance_of ws' text' abi labels abis k
+  unfolding distance_of
+  distance-same abis m k r = rw (keeps.name m k r, keeps.descriptor m k r)
 
   pub relayed-same : (abis : List ℕ) {P Q : List Entry} → Tables R P Q
       → Tables R (relayed ws text abi labels abis P) (relayed ws' text' abi labels abis Q)
-  unfolding relayed
-  relayed-same abis h =
-      pairs-fold (Tables R) (relay_step ws text abi labels abis) (relay_step ws' text' abi labels abis) (step_same abis) h
-      (pairs-blank (minimum_size abi abis) empty empty (same-empty R))
+  relayed-same abis {P} {Q} h =
+      rw (relayed_loop ws text abi labels abis P, relayed_loop ws' text' abi labels abis Q)
+      (relays-same R (SameEntry R) (λ e e' s. s.method) (same_methods ws text) (same_methods ws' text') (fixed_of ws text abi labels abis)
+      (fixed_of ws' text' abi labels abis) (distance_of ws text abi labels abis) (distance_of ws' text' abi labels abis) same-method
+      (λ m k r. fixed_same m k r abis) (distance-same abis) h h (pairs-blank (minimum_size abi abis) empty empty (same-empty R)))
 
   pub extended-same : (abis : List ℕ) {P Q : List Entry} → Tables R P Q
       → Tables R (extended abi abis P) (extended abi abis Q)

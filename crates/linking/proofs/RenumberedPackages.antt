@@ -104,7 +104,7 @@ module _ (ws text ws' text' abi labels : List ℕ) (R : ℕ → ℕ → Type 0) 
     is_same reached ok a s x y q =
         rw (
           keeps.flags x y q,
-          same-methods m k x y r q,
+          same-methods x y m k q r,
           some-ext (open_to ws text x a) (open_to ws' text' y a) reached (λ e j. open_same x y q a e s (ok e j)),
         )
 

@@ -1,12 +1,12 @@
 -- The ABI sheet's lookups (abi.rs): "The first ABI class of a name, and in it the first match, counts." Indices and sizes above row 4's
 -- limits, which it refuses, count as the limit, so that every definition is total. Assumes nothing.
-use Rattle.std.specs.Prelude.{ℕ, ◌+◌, ◌-◌, max, min, Bool, ◌&&◌, List, take, eqb, Option}
+use Rattle.std.specs.Prelude.{ℕ, ◌+◌, ◌-◌, max, min, Bool, ◌&&◌, List, take, eqb, Option, suc, [], ◌∷◌}
 use Rattle.words.specs.Lists.{numbers, find, first_found, all_found, fold}
 use Rattle.std.specs.Option.{option_map}
 use Rattle.text.specs.Text.{same_bytes}
 use Rattle.class_sheet.specs.ClassSheet.{class_name, class_limit}
 use Rattle.abi_sheet.specs.AbiSheet.{abi_class_count, abi_class_name, abi_class_table_size_plus_one, abi_class_instance_words_plus_one, abi_class_first_slot, abi_class_slot_count, abi_class_first_field, abi_class_field_count, abi_slot_name, abi_slot_descriptor, abi_slot_index, abi_field_name, abi_field_descriptor, abi_field_index, abi_field_limit, abi_slot_limit}
-use Rattle.linking.specs.Chain.{list_count, chain}
+use Rattle.linking.specs.Chain.{on_found, list_count, chain}
 
 -- the first ABI class of the name
 unfoldable pub abi_named : List ℕ → List ℕ → List ℕ → Option ℕ
@@ -66,6 +66,12 @@ chain_abi ws text abi labels c = take class_limit (all_found (class_abi ws text 
 -- a signature's fixed index: the first match
 unfoldable pub fixed_index : List ℕ → List ℕ → List ℕ → List ℕ → List ℕ → Option ℕ
 fixed_index abi labels abis name descriptor = first_found (vtable_index abi labels name descriptor) abis
+
+-- how far up the chain's ABI classes the one stands that it comes from: as many as are nearer and do not fix the signature
+unfoldable pub fixer_distance : List ℕ → List ℕ → List ℕ → List ℕ → List ℕ → ℕ
+fixer_distance abi labels [] name descriptor = 0
+fixer_distance abi labels (a ∷ abis) name descriptor =
+    on_found (vtable_index abi labels name descriptor a) (λ i. 0) (suc (fixer_distance abi labels abis name descriptor))
 
 -- "the largest fixed index + 1 or table size among the chain's ABI classes"
 unfoldable pub minimum_size : List ℕ → List ℕ → ℕ

@@ -60,7 +60,7 @@ method_is ws text m name descriptor =
 
 -- two methods have one name and one descriptor
 unfoldable pub same_methods : List ℕ → List ℕ → ℕ → ℕ → Bool
-same_methods ws text m k = method_is ws text k (method_name ws text m) (method_descriptor ws text m)
+same_methods ws text m k = method_is ws text m (method_name ws text k) (method_descriptor ws text k)
 
 pub record SameSignature (ws text : List ℕ) (m k : ℕ) : Type 0 where
   pub name : method_name ws text m ≡ method_name ws text k

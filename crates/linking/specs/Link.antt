@@ -95,18 +95,22 @@ new_fields_of abi labels (g ∷ gs) =
     ∷ new_fields_of abi labels gs
 
 module _ (ws text abi labels area : List ℕ) where
-  unfoldable pub built_table : ℕ → Built
-  built_table c =
+  -- (the definitions `.._with` take the table that `build_methods` makes, so that a plan by another way of relaying is one line)
+  abbrev pub built_table_with : Built → ℕ → Built
+  built_table_with B c =
       cond (is_packaged ws c)
       (built (build_packages (same_methods ws text) ws text abi labels area c))
-      (cond (is_interface (class_flags ws c)) (built (build_interface_methods ws text c)) (build_methods ws text abi labels area c))
+      (cond (is_interface (class_flags ws c)) (built (build_interface_methods ws text c)) B)
 
-  unfoldable pub plan_built : ℕ → Planned
-  plan_built c =
+  unfoldable pub built_table : ℕ → Built
+  built_table c = built_table_with (build_methods ws text abi labels area c) c
+
+  abbrev pub plan_built_with : Built → ℕ → Planned
+  plan_built_with B c =
       let own : Option ℕ = class_abi ws text abi labels c in
       cond (too_many_words ws text abi labels own c)
       (unplanned 10)
-      (on_table (built_table c)
+      (on_table B
       (λ T. within_slots
       (record {
         table = T;
@@ -115,28 +119,43 @@ module _ (ws text abi labels area : List ℕ) where
         new_fields = new_fields_of abi labels (added_fields ws text abi labels own c);
       })))
 
+  unfoldable pub plan_built : ℕ → Planned
+  plan_built c = plan_built_with (built_table c) c
+
   -- "Generated without a compiler table: `build_methods`, interface or not."
+  abbrev pub generated_table_with : Built → ℕ → Built
+  generated_table_with B c = cond (eqb (class_compiler_table ws c) 0) B (built (compiler_table ws text abi labels area c))
+
   unfoldable pub generated_table : ℕ → Built
-  generated_table c =
-      cond (eqb (class_compiler_table ws c) 0) (build_methods ws text abi labels area c) (built (compiler_table ws text abi labels area c))
+  generated_table c = generated_table_with (build_methods ws text abi labels area c) c
 
   unfoldable pub generated_methods : ℕ → List New
   generated_methods c = cond (eqb (class_compiler_table ws c) 0) [] (added_methods ws text abi labels area c)
 
-  unfoldable pub plan_generated : ℕ → Planned
-  plan_generated c =
+  abbrev pub plan_generated_with : Built → ℕ → Planned
+  plan_generated_with B c =
       cond (eqb (generated_refusal ws text c) 0)
-      (on_table (generated_table c)
+      (on_table B
       (λ T. within_slots
       (record { table = T; indices = generated_indices ws text c; new_methods = generated_methods c; new_fields = [] })))
       (unplanned (generated_refusal ws text c))
+
+  unfoldable pub plan_generated : ℕ → Planned
+  plan_generated c = plan_generated_with (generated_table c) c
 
   -- "Array: the parent's entries."
   unfoldable pub plan_array : ℕ → Planned
   plan_array c = within_slots (record { table = parent_entries ws text abi labels area c; indices = []; new_methods = []; new_fields = [] })
 
+  -- by the class's kind
+  abbrev pub plan_by_kind : Planned → Planned → ℕ → Planned
+  plan_by_kind b g c = cond (is_built_kind (class_kind ws c)) b (cond (is_generated ws c) g (plan_array c))
+
   unfoldable pub plan : ℕ → Planned
-  plan c = cond (is_built_kind (class_kind ws c)) (plan_built c) (cond (is_generated ws c) (plan_generated c) (plan_array c))
+  plan c = plan_by_kind (plan_built c) (plan_generated c) c
+
+  unfoldable pub plan_with : Built → ℕ → Planned
+  plan_with B c = plan_by_kind (plan_built_with (built_table_with B c) c) (plan_generated_with (generated_table_with B c) c) c
 
 -- the instance words that linking sets, of a class that is not generated: "An array class has 0."
 unfoldable pub new_words : List ℕ → List ℕ → List ℕ → List ℕ → ℕ → ℕ
@@ -231,8 +250,9 @@ abbrev pub on_plan : Planned → (Plan → LinkOutcome) → (ℕ → LinkOutcome
 on_plan (planned p) f g = f p
 on_plan (unplanned n) f g = g n
 
-unfoldable pub link_def : List ℕ → List ℕ → ℕ → List ℕ → List ℕ → List ℕ → LinkOutcome
-link_def ws abi c area stubs missing =
+-- a link that comes to the plan P
+abbrev pub link_with : Planned → List ℕ → List ℕ → ℕ → List ℕ → List ℕ → List ℕ → LinkOutcome
+link_with P ws abi c area stubs missing =
     cond (not (eqb (set_refusal ws abi) 0))
     (refused_link (set_refusal ws abi) ws area missing)
     (cond (bad_class ws (text_of ws) c)
@@ -241,4 +261,7 @@ link_def ws abi c area stubs missing =
     (refused_link 7 ws area missing)
     (cond (bad_packages ws (text_of ws) abi (abi_text_of abi) c)
     (refused_link 26 ws area missing)
-    (on_plan (plan ws (text_of ws) abi (abi_text_of abi) area c) (finish_link ws abi c area stubs missing) (λ n. refused_link n ws area missing)))))
+    (on_plan P (finish_link ws abi c area stubs missing) (λ n. refused_link n ws area missing)))))
+
+unfoldable pub link_def : List ℕ → List ℕ → ℕ → List ℕ → List ℕ → List ℕ → LinkOutcome
+link_def ws abi c area stubs missing = link_with (plan ws (text_of ws) abi (abi_text_of abi) area c) ws abi c area stubs missing

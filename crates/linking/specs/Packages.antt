@@ -45,7 +45,7 @@ module _ (ws text : List ℕ) where
 
 module _ (same : ℕ → ℕ → Bool) (ws text : List ℕ) where
   unfoldable pub is_overridden : ℕ → List ℕ → ℕ → ℕ → Bool
-  is_overridden m reached a k = not (is_static (method_flags ws k)) && same m k && some (open_to ws text k a) reached
+  is_overridden m reached a k = not (is_static (method_flags ws k)) && same k m && some (open_to ws text k a) reached
 
   unfoldable pub overridden_in : ℕ → List ℕ → ℕ → List ℕ
   overridden_in m reached a = keep (is_overridden m reached a) (own_methods ws a)

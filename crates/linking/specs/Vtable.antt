@@ -1,12 +1,12 @@
 -- Virtual tables (vtable.rs): Reading, `build_methods`, `build_interface_methods`, and the words written. A known entry's method is a
 -- number of the class sheet's method section. Assumes nothing.
-use Rattle.std.specs.Prelude.{ℕ, ◌+◌, ◌-◌, min, Bool, false, cond, not, List, [], ◌∷◌, ◌++◌, length, get_or, set, replicate, eqb, Option, Some, None}
-use Rattle.words.specs.Lists.{list_from, first_found, position, fold, keep}
+use Rattle.std.specs.Prelude.{ℕ, ◌+◌, ◌-◌, min, Bool, false, cond, not, List, [], ◌∷◌, ◌++◌, length, get_or, set, replicate, eqb, Option, Some, None, true, ◌&&◌}
+use Rattle.words.specs.Lists.{list_from, first_found, position, fold, keep, numbers, some}
 use Rattle.std.specs.Option.{option_or, option_and_then}
 use Rattle.class_sheet.specs.ClassSheet.{class_table_place, class_slot_count, method_name, method_descriptor, method_target}
 use Rattle.abi_sheet.specs.AbiSheet.{abi_slot_name, abi_slot_descriptor}
-use Rattle.linking.specs.Chain.{on_found, own_methods, parent_of, chain, eligible, method_is, own_method, find_by_target}
-use Rattle.linking.specs.Abi.{slot_at, class_abi, chain_abi, fixed_index, minimum_size}
+use Rattle.linking.specs.Chain.{on_found, own_methods, parent_of, chain, eligible, method_is, same_methods, own_method, find_by_target}
+use Rattle.linking.specs.Abi.{slot_at, class_abi, chain_abi, fixed_index, fixer_distance, minimum_size}
 
 -- a slot: its word, 0 where it is empty, and its method where it is known
 pub record Entry : Type 0 where
@@ -79,29 +79,80 @@ method_entry ws m = record { word = method_target ws m; method = Some m; source 
 unfoldable pub extended : List ℕ → List ℕ → List Entry → List Entry
 extended abi abis inherited = inherited ++ replicate (minimum_size abi abis - length inherited) empty
 
-abbrev pub put_fixed : Option ℕ → Entry → List Entry → List Entry
-put_fixed (Some i) e T = set T i e
-put_fixed None e T = T ++ (e ∷ [])
+-- "A class with its own ABI entry" lays out what it inherits, E, anew; of "later ones overwriting" a later request says: "later known entries of one
+-- signature still overwrite earlier ones at a fixed index. Of several signatures, the one whose index comes from the ABI class nearest on the chain stays;
+-- from the same ABI class, the one whose first entry is earlier. The last entry of each other follows after the minimum size, in inherited order with the
+-- entries without a fixed index." Here `same` compares the signatures of methods, `fixed m` is the index of m's, and `distance m` how many of the chain's
+-- ABI classes are nearer than the one that it comes from.
+
+module _ (same : ℕ → ℕ → Bool) where
+  -- e is known, and of m's signature
+  unfoldable pub is_of : ℕ → Entry → Bool
+  is_of m e = on_found e.method (λ k. same k m) false
+
+  -- a known entry of m's signature is among es
+  unfoldable pub occurs : ℕ → List Entry → Bool
+  occurs m es = some (is_of m) es
+
+  -- the last entry of m's signature among es, and e if there is none
+  unfoldable pub last_of : ℕ → Entry → List Entry → Entry
+  last_of m e es = fold (λ l f. cond (is_of m f) f l) e es
+
+module _ (fixed : ℕ → Option ℕ) (distance : ℕ → ℕ) where
+  -- e's method, if its index is i and comes from the ABI class d up the chain
+  unfoldable pub comes_from : ℕ → ℕ → Entry → Option ℕ
+  comes_from i d e = on_found e.method (λ m. cond (on_found (fixed m) (λ j. eqb j i) false && eqb (distance m) d) (Some m) None) None
+
+  -- "the one whose index comes from the ABI class nearest on the chain stays; from the same ABI class, the one whose first entry is earlier": along n ABI
+  -- classes, nearest first, the first entry whose index i comes from there
+  unfoldable pub nearest_first : ℕ → List Entry → ℕ → Option ℕ
+  nearest_first n E i = first_found (λ d. first_found (comes_from i d) E) (numbers 0 n)
+
+-- `staying i` is a method of the signature that stays at index i
+module _ (same : ℕ → ℕ → Bool) (staying : ℕ → Option ℕ) where
+  -- m's signature stays at index i
+  unfoldable pub stays : ℕ → ℕ → Bool
+  stays i m = on_found (staying i) (λ k. same k m) false
+
+  -- what stands at index i: the last entry of the signature that stays there; empty where no known entry has the index
+  unfoldable pub standing : List Entry → ℕ → Entry
+  standing E i = on_found (staying i) (λ h. last_of same h empty E) empty
+
+module _ (same : ℕ → ℕ → Bool) (fixed : ℕ → Option ℕ) (staying : ℕ → Option ℕ) where
+  -- e, with es still to come, is known and follows: it has no fixed index, or is the last of a signature that gives way
+  unfoldable pub follows : Entry → List Entry → Bool
+  follows e es = on_found e.method (λ m. on_found (fixed m) (λ i. not (stays same staying i m) && not (occurs same m es)) true) false
+
+  unfoldable pub following : List Entry → List Entry
+  following [] = []
+  following (e ∷ es) = cond (follows e es) (e ∷ following es) (following es)
+
+  -- n slots, and what follows after them
+  unfoldable pub laid_out : List Entry → ℕ → List Entry
+  laid_out E n = list_from (standing same staying E) 0 n ++ following E
 
 module _ (ws text abi labels : List ℕ) where
   unfoldable pub fixed_of : List ℕ → ℕ → Option ℕ
   fixed_of abis m = fixed_index abi labels abis (method_name ws text m) (method_descriptor ws text m)
 
-  abbrev pub relay : List ℕ → Option ℕ → Entry → List Entry → List Entry
-  relay abis (Some m) e T = put_fixed (fixed_of abis m) e T
-  relay abis None e T = T
+  unfoldable pub distance_of : List ℕ → ℕ → ℕ
+  distance_of abis m = fixer_distance abi labels abis (method_name ws text m) (method_descriptor ws text m)
 
-  unfoldable pub relay_step : List ℕ → List Entry → Entry → List Entry
-  relay_step abis T e = relay abis e.method e T
+  -- the signatures that stay, of what a class inherits whose chain's ABI classes are abis
+  unfoldable pub staying_of : List ℕ → List Entry → ℕ → Option ℕ
+  staying_of abis E i = nearest_first (fixed_of abis) (distance_of abis) (length abis) E i
 
   unfoldable pub relayed : List ℕ → List Entry → List Entry
-  relayed abis inherited = fold (relay_step abis) (replicate (minimum_size abi abis) empty) inherited
+  relayed abis E = laid_out (same_methods ws text) (fixed_of abis) (staying_of abis E) E (minimum_size abi abis)
 
-  -- the table before the class's own methods
-  unfoldable pub inherited_table : List ℕ → ℕ → List Entry
-  inherited_table area c =
-      on_found (class_abi ws text abi labels c) (λ a. relayed (chain_abi ws text abi labels c) (parent_entries ws text abi labels area c))
+  -- the table before the class's own methods, by a way of relaying
+  abbrev pub inherited_by : (List ℕ → List Entry → List Entry) → List ℕ → ℕ → List Entry
+  inherited_by relaying area c =
+      on_found (class_abi ws text abi labels c) (λ a. relaying (chain_abi ws text abi labels c) (parent_entries ws text abi labels area c))
       (extended abi (chain_abi ws text abi labels c) (parent_entries ws text abi labels area c))
+
+  unfoldable pub inherited_table : List ℕ → ℕ → List Entry
+  inherited_table area c = inherited_by relayed area c
 
 -- "Rows 11 and 12 go method by method, 11 first": "a fixed index differs from the inherited one", "the fixed slot holds another
 -- signature"

@@ -11,7 +11,7 @@ use Rattle.linking.proofs.Assemble.{Lent, method, built, array, slot, abi, lent,
 use Rattle.linking.proofs.Opened.{opened}
 use Rattle.words.proofs.ListLaws.{get_d_list_from, not_found}
 use Rattle.slots.specs.Slots.{OldRule, Unique, Keeps, Kept, ChainMethod, ChainSlot}
-use Rattle.slots.specs.Made.{Made, Conditions, read_words, start_from, table_from, inherited_from, made_from}
+use Rattle.slots.specs.Made.{Made, Conditions, read_words, start_from, table_from, inherited_from, made_from, Calm}
 use Rattle.slots.proofs.ListFacts.{found-same, in_none}
 use Rattle.slots.proofs.Tables.{table-unique, table_kept}
 
@@ -160,6 +160,11 @@ made = each (Made ws text sheet labels tables P) (3 ∷ 2 ∷ 1 ∷ []) (third, 
       words = refl;
     }
 
+-- no class of the chain inherits two signatures of one index
+calm : (c : ℕ) → Memᴰ c (3 ∷ 2 ∷ 1 ∷ []) → Calm ws text sheet labels tables c
+unfolding opened ws text sheet labels inherited_from read_words
+calm = each (Calm ws text sheet labels tables) (3 ∷ 2 ∷ 1 ∷ []) (refl, (refl, (refl, tt)))
+
 -- ---- slot 1 of class 3: the child's foo over its parent's
 
 pub overridden : Keeps ws text sheet labels 3 (tables 3) (tables 2) 1 0
@@ -182,10 +187,11 @@ kinds : OldRule ws 3
 kinds d i = the_kinds d (rw along at i)
 
 pub unique : Unique ws text sheet labels 3 (tables 3)
-unique = table-unique ws text sheet labels tables P 3 (omega arith) kinds conditions (λ d i. made d (rw along at i))
+unique = table-unique ws text sheet labels tables P 3 (omega arith) kinds conditions (λ d i. made d (rw along at i)) (λ d i. calm d (rw along at i))
 
 pub kept : Kept ws text sheet labels 3 (tables 3) (tables (parent_of ws 3))
-kept = table_kept ws text sheet labels tables P 3 (omega arith) kinds conditions (λ d i. made d (rw along at i)) some-parent no_entry
+kept = table_kept ws text sheet labels tables P 3 (omega arith) kinds conditions (λ d i. made d (rw along at i)) (λ d i. calm d (rw along at i))
+    some-parent no_entry
   where
     some-parent : parent_of ws 3 ≢ 0
     some-parent e = let p : parent_of ws 3 ≡ 2 = unfold opened in unfold ws in refl in omega arith

@@ -1,8 +1,11 @@
 pub mod ListFacts
 pub mod PlaceFacts
 pub mod ChainFacts
+pub mod ClashFacts
 pub mod FixedFacts
 pub mod EntryFacts
+pub mod Moved
+pub mod MovedRows
 pub mod AddFacts
 pub mod StartFacts
 pub mod ReadFacts

@@ -1,12 +1,14 @@
--- What a class starts from: its parent's entries, extended, or laid out anew where the class has an ABI entry of its own. Either way a good
--- table stays good, there is room for all that the chain fixes, and each entry is an inherited one or empty. Assumes nothing.
+-- What a class starts from: its parent's entries, extended, or, where it has an ABI entry of its own, laid out anew (with no clash that is
+-- `relayed_before`). Either way a good table stays good, there is room for all that the chain fixes, and each entry is an inherited one or empty.
+-- Assumes nothing.
 use Rattle.std.proofs.lemmas.Grind.{common_steps}
 use Rattle.std.proofs.Common.{◌≡◌, refl, ap, ◌∙◌, inl, inr, List, [], ◌∷◌, ◌++◌, ℕ, suc, ◌≤◌, ◌<◌, arith, length, set, replicate, length-set, length-append, Some, None}
 use lib.ListN.{length-replicate}
 use Rattle.words.specs.Lists.{fold}
 use Rattle.words.proofs.ListLaws.{by-found}
 use Rattle.linking.specs.Abi.{chain_abi, minimum_size}
-use Rattle.linking.specs.Vtable.{Entry, empty, fixed_of, relay_step, relayed, extended}
+use Rattle.linking.specs.Vtable.{Entry, empty, fixed_of, extended}
+use Rattle.linking.specs.Before.{relay_step, relayed_before}
 use Rattle.slots.proofs.ListFacts.{set_at, snoc_at, blank-at}
 use Rattle.slots.proofs.PlaceFacts.{Signature, OneIndex, Good, good_less, good_none}
 use Rattle.slots.proofs.FixedFacts.{method_signature, Fixes, fixed-some, fixed-none, fixed-room}
@@ -153,17 +155,17 @@ module _ (ws text abi labels : List ℕ) where
         apart = λ i j s k n. blank_none (minimum_size abi (chain_abi ws text abi labels c)) i s k;
       }
 
-      pub relayed-good : Good (Fixes ws text abi labels c) (Shows ws text (relayed ws text abi labels (chain_abi ws text abi labels c) E))
-      unfolding relayed
+      pub relayed-good : Good (Fixes ws text abi labels c) (Shows ws text (relayed_before ws text abi labels (chain_abi ws text abi labels c) E))
+      unfolding relayed_before
       relayed-good = (lay-all (replicate (minimum_size abi (chain_abi ws text abi labels c)) empty) E lay-start).good
 
-      pub relayed-room : minimum_size abi (chain_abi ws text abi labels c) ≤ length (relayed ws text abi labels (chain_abi ws text abi labels c) E)
-      unfolding relayed
+      pub relayed-room : minimum_size abi (chain_abi ws text abi labels c) ≤ length (relayed_before ws text abi labels (chain_abi ws text abi labels c) E)
+      unfolding relayed_before
       relayed-room = (lay-all (replicate (minimum_size abi (chain_abi ws text abi labels c)) empty) E lay-start).room
 
       pub relayed-each : (R : ℕ → Entry → Type 0) → ((i j : ℕ) (e : Entry) → R i e → R j e) → ((i : ℕ) → R i empty) → ((i : ℕ) → R i (at E i))
-          → (i : ℕ) → R i (at (relayed ws text abi labels (chain_abi ws text abi labels c) E) i)
-      unfolding relayed
+          → (i : ℕ) → R i (at (relayed_before ws text abi labels (chain_abi ws text abi labels c) E) i)
+      unfolding relayed_before
       relayed-each R any blank h =
           lay-all-each R any (replicate (minimum_size abi (chain_abi ws text abi labels c)) empty) E lay-start
           (λ i. rw (blank-at (minimum_size abi (chain_abi ws text abi labels c)) i empty) (blank i)) h

@@ -9,10 +9,12 @@ use Rattle.class_sheet.specs.ClassSheet.{class_kind}
 use Rattle.linking.specs.Chain.{own_methods, parent_of, chain}
 use Rattle.linking.specs.Abi.{class_abi, chain_abi, minimum_size}
 use Rattle.linking.specs.Vtable.{Entry, built, read_entry, relayed, extended, add_methods, slot_words}
+use Rattle.linking.specs.Before.{relayed_before}
 use Rattle.linking.proofs.ChainLaws.{parent_below, parent-within}
 use Rattle.linking.proofs.Plans.{built-same}
+use Rattle.linking.proofs.Before.{relayed_as_before}
 use Rattle.slots.specs.Slots.{OldRule, Unique, Redeclares, Keeps, Kept}
-use Rattle.slots.specs.Made.{read_words, start_from, table_from, inherited_from, made_from, Made, Conditions}
+use Rattle.slots.specs.Made.{read_words, start_from, table_from, inherited_from, made_from, Made, Conditions, Calm}
 use Rattle.slots.proofs.ChainFacts.{chain-here, chain-up, method-here, conditions-up}
 use Rattle.slots.proofs.PlaceFacts.{OneIndex, Good, one-sub, good-sub, good_none}
 use Rattle.slots.proofs.FixedFacts.{method_signature, same_signature_lem, signature-same, Fixes, Live, live_fixes, fixes-once, live_up}
@@ -31,7 +33,8 @@ module _ (ws text abi labels : List ℕ) (tables : ℕ → List ℕ) (P : ℕ �
   -- ---- one class over its parent
 
   module _ (c : ℕ) (h : 0 < c) (within : c ≤ 64) (old : OldRule ws c) (k : Conditions ws text abi labels P c)
-      (made : (d : ℕ) → Memᴰ d (chain ws c) → Made ws text abi labels tables P d) (parent : parent_of ws c ≢ 0 → Linked (parent_of ws c)) where
+      (made : (d : ℕ) → Memᴰ d (chain ws c) → Made ws text abi labels tables P d) (calm : Calm ws text abi labels tables c)
+      (parent : parent_of ws c ≢ 0 → Linked (parent_of ws c)) where
     abbrev inherited : List Entry
     inherited = inherited_from ws text abi labels tables c
 
@@ -86,14 +89,17 @@ module _ (ws text abi labels : List ℕ) (tables : ℕ → List ℕ) (P : ℕ �
       firm : (i : ℕ) → Firm ws text abi labels P c i (at T i)
       same : class_abi ws text abi labels c ≡ None → (i : ℕ) → at T i ≡ at inherited i
 
-    relayed-starts : (a : ℕ) → class_abi ws text abi labels c ≡ Some a → Starts (relayed ws text abi labels (chain_abi ws text abi labels c) inherited)
-    relayed-starts a e = record {
+    before-starts : (a : ℕ) → class_abi ws text abi labels c ≡ Some a → Starts (relayed_before ws text abi labels (chain_abi ws text abi labels c) inherited)
+    before-starts a e = record {
       good = good-sub (live_fixes ws text abi labels c) (relayed-good ws text abi labels c within one inherited inherited-good.unique);
       room = relayed-room ws text abi labels c within one inherited inherited-good.unique;
       firm = relayed-each ws text abi labels c within one inherited inherited-good.unique (λ i e. Firm ws text abi labels P c i e)
           (firm-any ws text abi labels P e) (λ i. blank refl refl) inherited-firm;
       same = λ n. not_found (sym n ∙ e);
     }
+
+    relayed-starts : (a : ℕ) → class_abi ws text abi labels c ≡ Some a → Starts (relayed ws text abi labels (chain_abi ws text abi labels c) inherited)
+    relayed-starts a e = rw (relayed_as_before ws text abi labels (chain_abi ws text abi labels c) inherited calm) (before-starts a e)
 
     extended-starts : class_abi ws text abi labels c ≡ None → Starts (extended abi (chain_abi ws text abi labels c) inherited)
     extended-starts e = record {
@@ -188,23 +194,24 @@ module _ (ws text abi labels : List ℕ) (tables : ℕ → List ℕ) (P : ℕ �
   -- ---- along the chain, from its root
 
   all : (bound c : ℕ) → c ≤ bound → 0 < c → c ≤ 64 → OldRule ws c → Conditions ws text abi labels P c
-      → ((d : ℕ) → Memᴰ d (chain ws c) → Made ws text abi labels tables P d) → Linked c
-  all zero c b h within old k made = absurd (omega arith)
-  all (suc bound) c b h within old k made =
+      → ((d : ℕ) → Memᴰ d (chain ws c) → Made ws text abi labels tables P d) → ((d : ℕ) → Memᴰ d (chain ws c) → Calm ws text abi labels tables d) → Linked c
+  all zero c b h within old k made calm = absurd (omega arith)
+  all (suc bound) c b h within old k made calm =
       let f = parent_below ws c h in
-      link c h within old k made
+      link c h within old k made (calm c (chain-here ws c h))
       (λ n.
       all bound (parent_of ws c) (omega arith) (omega arith) (omega arith) (λ d i. old d (chain-up ws c h i)) (conditions-up ws text abi labels c h k)
-      (λ d i. made d (chain-up ws c h i)))
+      (λ d i. made d (chain-up ws c h i)) (λ d i. calm d (chain-up ws c h i)))
 
   -- ---- the claims
 
   -- "no two known slots in a class's table have one signature"
   pub table-unique : (c : ℕ) → c ≤ 64 → OldRule ws c → Conditions ws text abi labels P c
-      → ((d : ℕ) → Memᴰ d (chain ws c) → Made ws text abi labels tables P d) → Unique ws text abi labels c (tables c)
-  table-unique zero within old k made i j m n p q s = not_found (sym (read_no_class ws text abi labels i (get_or (tables 0) i 0)) ∙ p.reads)
-  table-unique (suc c) within old k made i j m n p q s =
-      let l = all (suc c) (suc c) (omega arith) (omega arith) within old k made in
+      → ((d : ℕ) → Memᴰ d (chain ws c) → Made ws text abi labels tables P d) → ((d : ℕ) → Memᴰ d (chain ws c) → Calm ws text abi labels tables d)
+      → Unique ws text abi labels c (tables c)
+  table-unique zero within old k made calm i j m n p q s = not_found (sym (read_no_class ws text abi labels i (get_or (tables 0) i 0)) ∙ p.reads)
+  table-unique (suc c) within old k made calm i j m n p q s =
+      let l = all (suc c) (suc c) (omega arith) (omega arith) within old k made calm in
       let a = known_read ws text abi labels (suc c) (tables (suc c)) i m p in
       let b = known_read ws text abi labels (suc c) (tables (suc c)) j n q in
       l.good.unique i j (method_signature ws text n)
@@ -213,8 +220,9 @@ module _ (ws text abi labels : List ℕ) (tables : ℕ → List ℕ) (P : ℕ �
   -- "In a child without an ABI entry, each known slot of its parent's table is known at the same index with the same signature, and the child's
   -- target there is the parent's or that of an eligible method of that signature which the child declares."
   pub table_kept : (c : ℕ) → c ≤ 64 → OldRule ws c → Conditions ws text abi labels P c
-      → ((d : ℕ) → Memᴰ d (chain ws c) → Made ws text abi labels tables P d) → parent_of ws c ≢ 0 → class_abi ws text abi labels c ≡ None
+      → ((d : ℕ) → Memᴰ d (chain ws c) → Made ws text abi labels tables P d) → ((d : ℕ) → Memᴰ d (chain ws c) → Calm ws text abi labels tables d)
+      → parent_of ws c ≢ 0 → class_abi ws text abi labels c ≡ None
       → Kept ws text abi labels c (tables c) (tables (parent_of ws c))
-  table_kept c within old k made n none =
+  table_kept c within old k made calm n none =
       let f = parent-within ws c in
-      (all c c (omega arith) (omega arith) within old k made).kept n none
+      (all c c (omega arith) (omega arith) within old k made calm).kept n none

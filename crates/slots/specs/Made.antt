@@ -1,13 +1,14 @@
 -- What a table that the linker made is made of: the local equation that the runs keep, and the conditions under which tables so made have
 -- demand 3's properties. Tables are lists of slot words, one for each class number. Assumes nothing.
-use Rattle.std.specs.Prelude.{ℕ, ◌<◌, ◌≤◌, ◌≡◌, ◌≢◌, cond, List, [], length, get_or, eqb, ltb, Option}
+use Rattle.std.specs.Prelude.{ℕ, ◌<◌, ◌≤◌, ◌≡◌, ◌≢◌, false, cond, List, [], length, get_or, eqb, ltb, Option}
 use Rattle.words.specs.Lists.{list_from}
 use Rattle.std.specs.Option.{option_and_then}
 use Rattle.class_sheet.specs.ClassSheet.{class_kind, is_array, is_packaged, method_target}
 use Rattle.abi_sheet.specs.AbiSheet.{abi_slot_name, abi_slot_descriptor}
 use Rattle.linking.specs.Chain.{on_found, own_methods, parent_of, chain, same_methods}
 use Rattle.linking.specs.Abi.{slot_index, class_abi, chain_abi}
-use Rattle.linking.specs.Vtable.{Entry, Built, built, read_entry, relayed, extended, add_methods, slot_words}
+use Rattle.linking.specs.Vtable.{Entry, Built, built, read_entry, fixed_of, relayed, extended, add_methods, slot_words}
+use Rattle.linking.specs.Before.{clash}
 use Rattle.linking.specs.Packages.{topmost, packages_over}
 use Rattle.slots.specs.Slots.{ChainMethod, ChainSlot}
 
@@ -32,6 +33,11 @@ module _ (ws text abi labels : List ℕ) where
   -- the parent's entries, where each class d has the table `tables d`
   unfoldable pub inherited_from : (ℕ → List ℕ) → ℕ → List Entry
   inherited_from tables c = cond (eqb (parent_of ws c) 0) [] (read_words (parent_of ws c) (tables (parent_of ws c)))
+
+  -- no two known inherited signatures of class c have one fixed index
+  abbrev pub Calm : (ℕ → List ℕ) → ℕ → Type 0
+  Calm tables c =
+      clash (same_methods ws text) (fixed_of ws text abi labels (chain_abi ws text abi labels c)) (inherited_from tables c) ≡ false
 
   -- ---- and of a class of kind 3, from the tables of its parent's chain
 

@@ -1,4 +1,5 @@
 pub mod AddLaws
 pub mod BuildLaws
+pub mod RelayLaws
 pub mod SlotLaws
 pub mod TableLaws

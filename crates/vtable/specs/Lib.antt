@@ -1,1 +1,2 @@
+pub mod Relay
 pub mod Tables

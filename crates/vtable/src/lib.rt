@@ -1,21 +1,32 @@
 // Virtual tables that are built (vtable.rs): `build_methods`, `build_interface_methods`.
 #![tactic(auto)]
 
-ghost use Rattle.std.specs.Prelude.{◌≡◌, ◌≤◌, ◌<◌, ◌+◌, ◌-◌, max, replicate, [], ◌∷◌, ◌++◌, None, Some};
+ghost use Rattle.std.specs.Prelude.{◌≡◌, ◌≤◌, ◌<◌, ◌+◌, ◌-◌, max, ltb, true, false, replicate, [], ◌∷◌, ◌++◌, get_or, drop, None, Some};
+ghost use Rattle.std.specs.Option.{option_and_then};
 ghost use Rattle.class_sheet.specs.ClassSheet.{method_limit, method_name, method_descriptor};
-ghost use Rattle.words.specs.Lists.{fold, keep};
-ghost use Rattle.linking.specs.Chain.{own_methods, eligible};
+ghost use Rattle.words.specs.Lists.{keep};
+ghost use Rattle.linking.specs.Chain.{on_found, own_methods, eligible, same_methods};
 ghost use Rattle.linking.specs.Abi.{chain_abi};
-ghost use Rattle.linking.specs.Vtable.{built, entry_is, entry_is_other, slot_of, parent_entries, relay_step, relayed, extended, inherited_table, put_method, add_method, add_methods, build_methods, method_entries, build_interface_methods, empty};
+ghost use Rattle.linking.specs.Vtable.{built, entry_is, entry_is_other, slot_of, parent_entries, occurs, fixed_of, distance_of, relayed, extended, inherited_table, put_method, add_method, add_methods, build_methods, method_entries, build_interface_methods, empty};
+ghost use Rattle.reading.specs.Arrays.{mark_of, method_of};
 ghost use Rattle.reading.specs.Tables.{entry, entries};
+ghost use Rattle.vtable.specs.Relay.{found_at, Indices, Holders, Held, place_of, put_place, relays_of};
 ghost use Rattle.vtable.specs.Tables.{step_of};
 ghost use Rattle.linking.specs.Sheets.{of_sheets};
 ghost use Rattle.text.specs.Signatures.{of_signature};
 
 use linking::Sheets;
-use reading::{BuiltTable, ReadTable, Slot, Table};
+use reading::{BuiltTable, ReadTable, Slot, TABLE_LIMIT, Table};
 use refusal::Refusal;
 use text::Signature;
+
+// Where an inherited slot goes in a class with its own ABI entry: to an index, after the last slot, or away.
+#[derive(Clone, Copy)]
+enum Place {
+    At(u32),
+    Last,
+    Away,
+}
 
 // Whether a slot's method has this name and descriptor.
 #[tactic(auto, unfolding(linking::specs::Vtable::entry_is))]
@@ -48,30 +59,155 @@ fn extend(table: &mut BuiltTable, size: u32)
     }
 }
 
-// Puts an inherited slot at its fixed index, or after the table's; an unknown one goes.
-#[tactic(auto, unfolding(linking::specs::Vtable::relay_step))]
-fn relay_entry(sheets: Sheets, abis: &[u32], slot: Slot, table: &mut BuiltTable)
-    requires { table.old.len < 3584 }
-    ensures is { entries table.new ≡ of_sheets relay_step sheets.entry abis.now (entries table.old) (entry slot) }
-    ensures count { table.new.len ≤ table.old.len + 1 }
+// The fixed index of a slot's method, as a mark.
+#[tactic(auto, unfolding(reading::specs::Arrays::mark_of))]
+fn fixed_mark(sheets: Sheets, abis: &[u32], slot: Slot) -> u32
+    ensures { result ≡ mark_of (option_and_then (of_sheets fixed_of sheets.entry abis.now) (entry slot).method) }
+{
+    match slot.method() {
+        Some(m) => reading::mark_of(abi::fixed_of(sheets, abis, m)),
+        None => 0,
+    }
+}
+
+// Fills an array with the fixed indices of the parent's slots.
+fn fixed_marks(sheets: Sheets, abis: &[u32], parent: &ReadTable, at: &mut [u32; TABLE_LIMIT])
+    ensures { Indices (of_sheets fixed_of sheets.entry abis.now) (entries parent.now) at.new }
+{
+    for i in 0..parent.len {
+        at[i as usize] = fixed_mark(sheets, abis, parent.slot(i));
+    }
+}
+
+// Whether method m takes an index that this method holds so far: none holds it, or one whose index comes from an ABI class farther up.
+fn takes(sheets: Sheets, abis: &[u32], m: u32, held: Option<u32>) -> bool
+    ensures { result ≡ on_found held (λ k. ltb (of_sheets distance_of sheets.entry abis.now m) (of_sheets distance_of sheets.entry abis.now k)) true }
+{
+    match held {
+        Some(k) => abi::distance_of(sheets, abis, m) < abi::distance_of(sheets, abis, k),
+        None => true,
+    }
+}
+
+// Gives the index with mark a, a slot's fixed one, to its method, if it takes it.
+fn hold_entry(sheets: Sheets, abis: &[u32], slot: Slot, a: u32, holders: &mut [u32; TABLE_LIMIT])
+    requires { method_of a ≡ option_and_then (of_sheets fixed_of sheets abis.now) (entry slot).method }
+    ensures { Held (of_sheets fixed_of sheets.entry abis.now) (of_sheets distance_of sheets.entry abis.now) (entry slot) holders.old holders.new }
 {
     let Some(m) = slot.method() else {
         return;
     };
-    match abi::fixed_of(sheets, abis, m) {
-        Some(i) => table.put(i, slot),
-        None => table.push(slot),
+    let Some(i) = reading::method_of(a) else {
+        return;
+    };
+    let held = reading::method_of(words::get_or(holders, i as usize, 0));
+    if takes(sheets, abis, m, held) {
+        words::put(holders, i as usize, slot.mark);
     }
 }
 
-// Puts each of the parent's slots so, in their order.
+// Fills an array, at first empty, with the methods that hold the indices, of the parent's slots with the fixed indices `at`.
+fn hold_entries(
+    sheets: Sheets,
+    abis: &[u32],
+    parent: &ReadTable,
+    at: &[u32; TABLE_LIMIT],
+    holders: &mut [u32; TABLE_LIMIT],
+)
+    requires indices { Indices (of_sheets fixed_of sheets abis.now) (entries parent.now) at.now }
+    requires none { holders.old ≡ replicate 1024 0 }
+    ensures { Holders (of_sheets fixed_of sheets.entry abis.now) (of_sheets distance_of sheets.entry abis.now) (entries parent.now) holders.new }
+{
+    for i in 0..parent.len {
+        hold_entry(sheets, abis, parent.slot(i), at[i as usize], holders);
+    }
+}
+
+// Whether methods k and m have one signature.
+#[tactic(auto, using(crate::proofs::RelayLaws::same_self), unfolding(linking::specs::Chain::same_methods))]
+fn same_methods(ws: &[u32], text: &[u8], k: u32, m: u32) -> bool
+    ensures { result ≡ same_methods ws.now text.now k m }
+{
+    if k == m {
+        return true;
+    }
+    chain::method_is(ws, text, k, class_sheet::method_signature(ws, text, m))
+}
+
+// Whether method m's signature is that of the method that holds its index.
+fn is_held(ws: &[u32], text: &[u8], m: u32, held: Option<u32>) -> bool
+    ensures { result ≡ on_found held (λ k. same_methods ws.now text.now k m) false }
+{
+    held.is_some_and(|k| same_methods(ws, text, k, m))
+}
+
+// Whether method m's signature is that of one of the parent's slots from the first on.
+fn occurs(ws: &[u32], text: &[u8], m: u32, parent: &ReadTable, first: u32) -> bool
+    ensures { result ≡ occurs (same_methods ws.now text.now) m (drop first (entries parent.now)) }
+{
+    let signature = class_sheet::method_signature(ws, text, m);
+    words::some_in(first, parent.len, |i| {
+        slot_is(ws, text, signature, parent.slot(i))
+    })
+}
+
+// Where the parent's slot k goes: to its fixed index, if its signature stays there, or after the last slot; an unknown one goes away, and one of a
+// signature that gives way and comes again.
+fn place_of(
+    ws: &[u32],
+    text: &[u8],
+    parent: &ReadTable,
+    at: &[u32; TABLE_LIMIT],
+    holders: &[u32; TABLE_LIMIT],
+    k: u32,
+) -> Place
+    requires { k < parent.now.len }
+    ensures { result
+        ≡ place_of (same_methods ws.now text.now) (found_at holders.now) (found_at at.now k) (get_or (entries parent.now) k empty).method (drop (k + 1) (entries parent.now)) }
+{
+    let Some(m) = parent.slot(k).method() else {
+        return Place::Away;
+    };
+    let Some(i) = reading::method_of(at[k as usize]) else {
+        return Place::Last;
+    };
+    let held = reading::method_of(words::get_or(holders, i as usize, 0));
+    if is_held(ws, text, m, held) {
+        return Place::At(i);
+    }
+    if occurs(ws, text, m, parent, k + 1) {
+        return Place::Away;
+    }
+    Place::Last
+}
+
+// Puts a slot to its place.
+#[tactic(auto, unfolding(crate::specs::Relay::put_place))]
+fn relay_entry(place: Place, slot: Slot, table: &mut BuiltTable)
+    requires { table.old.len < 3584 }
+    ensures is { entries table.new ≡ put_place place (entry slot) (entries table.old) }
+    ensures count { table.new.len ≤ table.old.len + 1 }
+{
+    match place {
+        Place::At(i) => table.put(i, slot),
+        Place::Last => table.push(slot),
+        Place::Away => {}
+    }
+}
+
+// Puts each of the parent's slots to its place, in their order: who holds each index, and then slot by slot.
 fn relay(sheets: Sheets, abis: &[u32], parent: &ReadTable, table: &mut BuiltTable)
     requires { table.old.len ≤ 1024 }
-    ensures is { entries table.new ≡ fold (of_sheets relay_step sheets.entry abis.now) (entries table.old) (entries parent.now) }
+    ensures is { entries table.new ≡ of_sheets relays_of sheets.entry abis.now (entries parent.now) (entries table.old) }
     ensures count { table.new.len ≤ 2048 }
 {
-    for slot in parent.slots() {
-        relay_entry(sheets, abis, slot, table);
+    let mut at = [0u32; TABLE_LIMIT];
+    fixed_marks(sheets, abis, parent, &mut at);
+    let mut holders = [0u32; TABLE_LIMIT];
+    hold_entries(sheets, abis, parent, &at, &mut holders);
+    for i in 0..parent.len {
+        let place = place_of(sheets.set, sheets.text, parent, &at, &holders, i);
+        relay_entry(place, parent.slot(i), table);
     }
 }
 

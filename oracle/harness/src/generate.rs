@@ -1,5 +1,6 @@
 //! The seeded generator of cases.
 
+mod clashing;
 mod draft;
 mod members;
 mod memory;
@@ -27,6 +28,11 @@ pub fn case(seed: u64, number: u64) -> Case {
     }
     missing::fill(&mut Random::for_case(seed.rotate_left(8), number), &mut case);
     case
+}
+
+/// Case `number` of the run with `seed` of the lists in which two inherited signatures have one fixed index.
+pub fn clashing(seed: u64, number: u64) -> Case {
+    clashing::case(&mut Random::for_case(seed.rotate_left(40), number))
 }
 
 /// Case `number` of the run with `seed` of the cases of kind 3, which the Rust does not judge.

@@ -1,6 +1,7 @@
 //! The oracle: the original Rust linker as a judge, a model of the specification beside it, and the
 //! machinery that compares them.
 
+pub mod before;
 pub mod buckets;
 pub mod case;
 pub mod class_files;

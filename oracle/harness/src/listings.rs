@@ -28,19 +28,20 @@ pub struct Folder {
     pub listing: String,
 }
 
-/// The sheets of a case, as if no class were linked; none of a case whose words are no sections, or have a class of kind 3, which is not the original's to list.
+/// The sheets of a case, as if no class were linked; none of a case whose words are no sections, or have a class of kind 3, or one that inherits two
+/// signatures of one fixed index, which are not the original's to list.
 pub fn folder(oracle: &mut Oracle, seed: u64, number: u64, counts: &mut Counts) -> Option<Folder> {
     let case = generate::case(seed, number);
     if Set::decode(&case.set)?.classes.iter().any(|class| class.get(class_word::KIND) == 3) {
         return None;
     }
     let (abi, classes) = (blocks(&Abi::decode(&case.abi)?.encode()), blocks(&unlinked(&case.set)?));
-    let listing = listing(oracle, &abi, &classes, counts);
+    let listing = listing(oracle, &abi, &classes, counts)?;
     Some(Folder { abi, classes, listing })
 }
 
 /// The listing of both sheets.
-fn listing(oracle: &mut Oracle, abi_sheet: &[u8], class_sheet: &[u8], counts: &mut Counts) -> String {
+fn listing(oracle: &mut Oracle, abi_sheet: &[u8], class_sheet: &[u8], counts: &mut Counts) -> Option<String> {
     let (mut set, mut abi, mut area) = (vec![0; CLASS_WORDS], vec![0; ABI_WORDS], vec![0; AREA_WORDS]);
     area[0] = 1;
     let stubs: Vec<u32> = (0..STUBS).map(|index| FIRST_STUB + index).collect();
@@ -48,13 +49,16 @@ fn listing(oracle: &mut Oracle, abi_sheet: &[u8], class_sheet: &[u8], counts: &m
     let read = [("abi", oracle.read_abi_sheet(abi_sheet, &mut abi)), ("classes", oracle.read_class_sheet(class_sheet, &mut set))];
     if let Some((sheet, answer)) = read.iter().find(|(_, answer)| answer.refusal != 0) {
         counts.hit("a sheet refused");
-        return format!("{sheet} refused {}\n", answer.refusal);
+        return Some(format!("{sheet} refused {}\n", answer.refusal));
     }
     oracle.new_case(false);
     let (before, abi_sections) = (decoded(&set), Abi::decode(&abi).expect("the sheet is read"));
     let mut lines = String::new();
     for class in 1..=before.classes.len() as u32 {
         let answer = oracle.link(&mut set, &abi, class, &mut area, &stubs, &mut missing);
+        if oracle.has_clashed() {
+            return None;
+        }
         if answer.refusal != 0 {
             counts.hit("a class refused");
             lines += &format!("class {class} refused {}\n", answer.refusal);
@@ -64,7 +68,7 @@ fn listing(oracle: &mut Oracle, abi_sheet: &[u8], class_sheet: &[u8], counts: &m
         counts.observe(&table);
         lines += &table.lines();
     }
-    lines
+    Some(lines)
 }
 
 fn decoded(words: &[u32]) -> Set {

@@ -1,6 +1,7 @@
 //! The oracle: the Rust judges tables, indices, lists and rows 8, 9, 11, 12 and 16; the
 //! harness itself decides the added rows, the places and how grown sections are laid out, which slots count as
-//! missing (`missing`), and all of class kind 3, which is never given to the Rust (`packages`).
+//! missing (`missing`), and all of class kind 3, which is never given to the Rust (`packages`). From a link on that inherits two signatures of one
+//! fixed index, of which the Rust keeps one, a case is judged by the model.
 
 pub mod class_files;
 mod descriptors;
@@ -11,6 +12,7 @@ pub mod packages;
 mod references;
 mod rows;
 
+use crate::model::{self, Model};
 use crate::sheet::{Abi, MemberRecord, Set, class_word};
 use crate::side::{Answer, FileAnswer, Linker};
 
@@ -28,6 +30,7 @@ pub struct Oracle {
     machine: Machine,
     bitmaps: Bitmaps,
     rebuilds: bool,
+    clashed: bool,
 }
 
 impl Oracle {
@@ -37,6 +40,12 @@ impl Oracle {
     pub fn new_case(&mut self, rebuilds: bool) {
         self.machine.clear();
         self.rebuilds = rebuilds;
+        self.clashed = false;
+    }
+
+    /// Whether a link of this case inherited two signatures of one fixed index: from there on the model alone judges its calls, as the original loses the entry.
+    pub fn has_clashed(&self) -> bool {
+        self.clashed
     }
 
     /// Links every class of an unlinked set by the original, in number order; `watch` makes the
@@ -201,6 +210,10 @@ impl Linker for Oracle {
     }
 
     fn link(&mut self, set: &mut [u32], abi: &[u32], class: u32, area: &mut [u32], stubs: &[u32], missing: &mut [u32]) -> Answer {
+        self.clashed = self.clashed || model::link_clashes(set, abi, class, area);
+        if self.clashed {
+            return Model.link(set, abi, class, area, stubs, missing);
+        }
         self.try_link(set, abi, class, area, stubs, missing).unwrap_or_else(Answer::refused)
     }
 
@@ -210,6 +223,9 @@ impl Linker for Oracle {
     }
 
     fn ask(&mut self, set: &mut [u32], abi: &[u32], class: u32, interface: u32, area: &mut [u32], stubs: &[u32]) -> Answer {
+        if self.clashed {
+            return Model.ask(set, abi, class, interface, area, stubs);
+        }
         self.try_ask(set, abi, class, interface, area, stubs).unwrap_or_else(Answer::refused)
     }
 

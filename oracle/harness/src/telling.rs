@@ -1,5 +1,6 @@
 //! Inputs that tell readings of the specification apart, by hand: calls on small sets, with the
-//! answers and what a reader sees afterwards. Each row is executed on the original Rust (those of kind 3 on the harness's own judge), on the
+//! answers and what a reader sees afterwards. Each row is executed on the original Rust (those of kind 3 on the harness's own judge, those of
+//! `one_slot` on the model from the link on that inherits two signatures of one fixed index), on the
 //! model (tests/telling.rs) and, as a stored corpus, on the proved linker (crates/corpus).
 
 mod areas;
@@ -13,6 +14,7 @@ mod links;
 mod lists;
 mod lookups;
 mod missing_slots;
+mod one_slot;
 mod packages;
 mod sheets;
 mod statics;
@@ -40,6 +42,7 @@ pub fn rows() -> Vec<Row> {
         lists::rows(),
         packages::rows(),
         missing_slots::rows(),
+        one_slot::rows(),
         arguments::rows(),
     ]
     .concat()

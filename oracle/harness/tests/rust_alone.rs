@@ -202,6 +202,15 @@ fn it_overrides_across_packages() {
 }
 
 #[test]
+fn it_loses_an_inherited_method() {
+    let mut bench = Bench::new(vec![abi("P", &[("a", 0)]), abi("Q", &[("b", 0)])]);
+    bench.build("P", None, &[("a", 5), ("b", 6)], &[]).unwrap();
+    let child = bench.build("Q", Some("P"), &[], &[]).unwrap();
+    assert_eq!(child.descriptor().unwrap().vtable_count, 1, "a and b both have the index 0");
+    assert_eq!(bench.slot(&child, 0), 6);
+}
+
+#[test]
 fn it_gives_array_classes_interfaces_and_flags_of_its_own() {
     let mut bench = Bench::new(Vec::new());
     bench.build("java/lang/Object", None, &[], &[]).unwrap();

@@ -22,13 +22,15 @@ fn by_the_original_rust() {
     let mut oracle = Oracle::default();
     oracle.new_case(true);
     let made = made(&mut oracle);
-    assert_eq!(made.calls, 5 * (1_313 + 281));
+    // (six are made from a link on that inherits two signatures of one fixed index, where the Rust is no judge)
+    assert_eq!(made.calls, 5 * (1_313 + 281 - 6));
     assert!(made.counted > 1_000, "{made:?}");
 }
 
 #[test]
 fn by_the_model() {
     let made = made(&mut Model);
-    assert_eq!(made.calls, 5 * (1_313 + 281));
+    // (six are made from a link on that inherits two signatures of one fixed index, where the Rust is no judge)
+    assert_eq!(made.calls, 5 * (1_313 + 281 - 6));
     assert!(made.counted > 1_000, "{made:?}");
 }

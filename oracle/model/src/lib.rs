@@ -29,7 +29,7 @@ pub use ask::ask;
 pub use class_file::{class_file_head, read_class_file};
 pub use descriptors::argument_words;
 pub use forms::{narrow_class_sheet, widen_class_sheet};
-pub use link::link;
+pub use link::{declares, link, link_before, link_clashes, moved};
 pub use missing::missing_slots;
 pub use names::compare_names;
 pub use order::{read_unordered_sheet, renumber_classes};
@@ -44,7 +44,7 @@ pub mod parts {
     pub use super::missing::is_counted;
     pub use super::packages::{introducing, overridden, package};
     pub use super::sheets::{AbiClass, AbiRecord, AbiSheet, ClassSheet, Method, text_of_abi_words, text_of_class_words};
-    pub use super::tables::{EMPTY, Entry, eligible, entry_of, fixed_index, minimum_size, native_view, reading};
+    pub use super::tables::{EMPTY, Entry, eligible, entry_of, fixed_index, minimum_size, native_view, reading, relaid};
 }
 
 /// The model as a side of the comparison.

@@ -1,6 +1,6 @@
 //! Linking a class.
 
-use super::fields::{built_fields, generated_fields};
+use super::fields::{BuiltFields, built_fields, generated_fields};
 use super::missing::{counted, row_15_of_list, write_counted};
 use super::packages::{build_packages, row_26};
 use super::rules::{row_3, rows_4_and_5};
@@ -8,7 +8,7 @@ use super::sheets::{
     ARRAY, AbiSheet, BUILT, CLASS_WORDS, ClassSheet, GENERATED, INTERFACE, MEMBER_WORDS, PACKAGED, class_content, pack, record,
     text_of_abi_words, text_of_class_words,
 };
-use super::tables::{Entry, build_interface_methods, build_methods, compiler_table, parent_entries};
+use super::tables::{Entry, Rule, build_interface_methods, build_methods, clash, compiler_table, eligible, parent_entries};
 use super::why::{Refused, Why};
 use super::{Because, refuse};
 
@@ -36,6 +36,78 @@ struct NewRecord {
 
 /// Links class `class`: answers its table's place and slots.
 pub fn link(set: &mut [u32], abi: &[u32], class: u32, area: &mut [u32], stubs: &[u32], missing: &mut [u32]) -> Result<(u32, u32), Refused> {
+    link_by(Rule::Today, set, abi, class, area, stubs, missing)
+}
+
+/// The same by the rule before.
+pub fn link_before(
+    set: &mut [u32],
+    abi: &[u32],
+    class: u32,
+    area: &mut [u32],
+    stubs: &[u32],
+    missing: &mut [u32],
+) -> Result<(u32, u32), Refused> {
+    link_by(Rule::Before, set, abi, class, area, stubs, missing)
+}
+
+/// Whether a link of the class comes to its table and relays there what it inherits, and two known inherited signatures have one fixed
+/// index. On other links the two rules are one.
+pub fn link_clashes(set: &[u32], abi: &[u32], class: u32, area: &[u32]) -> bool {
+    let clashes = || {
+        row_3(set, abi)?;
+        let (text, abi_text) = (text_of_class_words(set), text_of_abi_words(abi));
+        let abi = AbiSheet { words: abi, text: &abi_text };
+        let sheet = ClassSheet { words: set, text: &text };
+        rows_4_and_5(&sheet, &abi)?;
+        row_6(&sheet, class)?;
+        row_7(&sheet, area)?;
+        row_26(&sheet, &abi, class)?;
+        let record = sheet.class(class);
+        let relays = abi.class_named(sheet.name(class)).is_some()
+            && match record.kind {
+                BUILT => record.flags & INTERFACE == 0,
+                GENERATED => sheet.compiler_table_of(class).is_none(),
+                _ => false,
+            };
+        Ok(relays && fields_pass(&sheet, &abi, class) && clash(&sheet, &abi, area, class))
+    };
+    clashes().unwrap_or_else(|_: Refused| false)
+}
+
+/// The signatures, names and descriptors, that give way in a link of the class that clashes.
+pub fn moved(set: &[u32], abi: &[u32], class: u32, area: &[u32]) -> Vec<(Vec<u8>, Vec<u8>)> {
+    if !link_clashes(set, abi, class, area) {
+        return Vec::new();
+    }
+    let (text, abi_text) = (text_of_class_words(set), text_of_abi_words(abi));
+    super::tables::moved(&ClassSheet { words: set, text: &text }, &AbiSheet { words: abi, text: &abi_text }, area, class)
+}
+
+/// Whether an eligible method of the class, of a valid set, has a signature of this kind.
+pub fn declares(set: &[u32], class: u32, is_one: &dyn Fn(&[u8], &[u8]) -> bool) -> bool {
+    let text = text_of_class_words(set);
+    let sheet = ClassSheet { words: set, text: &text };
+    sheet.methods_of(class).any(|method| eligible(&method) && is_one(method.name, method.descriptor))
+}
+
+/// Rows 8 to 10 do not refuse.
+fn fields_pass(sheet: &ClassSheet, abi: &AbiSheet, class: u32) -> bool {
+    match sheet.class(class).kind {
+        BUILT => built_words(sheet, abi, class).is_ok(),
+        _ => generated_fields(sheet, class).is_ok(),
+    }
+}
+
+fn link_by(
+    rule: Rule,
+    set: &mut [u32],
+    abi: &[u32],
+    class: u32,
+    area: &mut [u32],
+    stubs: &[u32],
+    missing: &mut [u32],
+) -> Result<(u32, u32), Refused> {
     row_3(set, abi)?;
     let (text, abi_text) = (text_of_class_words(set), text_of_abi_words(abi));
     let abi = AbiSheet { words: abi, text: &abi_text };
@@ -44,7 +116,7 @@ pub fn link(set: &mut [u32], abi: &[u32], class: u32, area: &mut [u32], stubs: &
     row_6(&sheet, class)?;
     row_7(&sheet, area)?;
     row_26(&sheet, &abi, class)?;
-    let linked = prepare(&sheet, &abi, class, area, missing)?;
+    let linked = prepare(&sheet, &abi, class, area, missing, rule)?;
     let grown = row_14(&sheet, class, &linked)?;
     row_15(&linked, set.len(), area, stubs, &grown)?;
     row_15_of_list(sheet.class_count(), missing)?;
@@ -93,10 +165,10 @@ pub fn row_7(sheet: &ClassSheet, area: &[u32]) -> Result<(), Refused> {
 }
 
 /// Rows 8 to 13, kind by kind.
-fn prepare(sheet: &ClassSheet, abi: &AbiSheet, class: u32, area: &[u32], missing: &[u32]) -> Result<Linked, Refused> {
+fn prepare(sheet: &ClassSheet, abi: &AbiSheet, class: u32, area: &[u32], missing: &[u32], rule: Rule) -> Result<Linked, Refused> {
     let linked = match sheet.class(class).kind {
-        BUILT | PACKAGED => prepare_built(sheet, abi, class, area, missing)?,
-        GENERATED => prepare_generated(sheet, abi, class, area, missing)?,
+        BUILT | PACKAGED => prepare_built(sheet, abi, class, area, missing, rule)?,
+        GENERATED => prepare_generated(sheet, abi, class, area, missing, rule)?,
         _ => prepare_array(sheet, abi, class, area, missing),
     };
     // "more than 1,024 slots"
@@ -104,15 +176,20 @@ fn prepare(sheet: &ClassSheet, abi: &AbiSheet, class: u32, area: &[u32], missing
     Ok(linked)
 }
 
-fn prepare_built(sheet: &ClassSheet, abi: &AbiSheet, class: u32, area: &[u32], missing: &[u32]) -> Result<Linked, Refused> {
+/// Row 10 of a built class: "built: instance words, or chain runtime words, would exceed 65,535". Answers its fields.
+fn built_words<'a>(sheet: &ClassSheet<'a>, abi: &AbiSheet<'a>, class: u32) -> Result<BuiltFields<'a>, Refused> {
     let fields = built_fields(sheet, abi, class);
-    // "built: instance words, or chain runtime words, would exceed 65,535"
     let why = || match fields.instance_words > 65535 {
         true => Why::InstanceWords { words: fields.instance_words },
         false => Why::RuntimeWords { words: fields.runtime_words },
     };
     refuse(10, fields.instance_words > 65535 || fields.runtime_words > 65535).because(why)?;
-    let table = table_of(sheet, abi, area, missing, class)?;
+    Ok(fields)
+}
+
+fn prepare_built(sheet: &ClassSheet, abi: &AbiSheet, class: u32, area: &[u32], missing: &[u32], rule: Rule) -> Result<Linked, Refused> {
+    let fields = built_words(sheet, abi, class)?;
+    let table = table_by(sheet, abi, area, missing, class, rule)?;
     // "added after the declared ones, flags 0x0002"
     let added = fields.added.iter().map(|field| NewRecord {
         name: field.name.to_vec(),
@@ -139,22 +216,33 @@ pub fn table_of<'a>(
     missing: &[u32],
     class: u32,
 ) -> Result<Vec<Entry<'a>>, Refused> {
+    table_by(sheet, abi, area, missing, class, Rule::Today)
+}
+
+fn table_by<'a>(
+    sheet: &ClassSheet<'a>,
+    abi: &AbiSheet<'a>,
+    area: &[u32],
+    missing: &[u32],
+    class: u32,
+    rule: Rule,
+) -> Result<Vec<Entry<'a>>, Refused> {
     let record = sheet.class(class);
     match (record.kind, sheet.compiler_table_of(class)) {
         (PACKAGED, _) => Ok(build_packages(sheet, abi, area, missing, class)),
         (BUILT, _) if record.flags & INTERFACE != 0 => Ok(build_interface_methods(sheet, class)),
         (GENERATED, Some(compiled)) => Ok(compiler_table(sheet, abi, area, missing, class, compiled).0),
-        (BUILT | GENERATED, _) => build_methods(sheet, abi, area, missing, class),
+        (BUILT | GENERATED, _) => build_methods(sheet, abi, area, missing, class, rule),
         _ => Ok(parent_entries(sheet, abi, area, missing, class)),
     }
 }
 
 /// "Generated without a compiler table: `build_methods`, interface or not." "a generated class
 /// brings its own" static words
-fn prepare_generated(sheet: &ClassSheet, abi: &AbiSheet, class: u32, area: &[u32], missing: &[u32]) -> Result<Linked, Refused> {
+fn prepare_generated(sheet: &ClassSheet, abi: &AbiSheet, class: u32, area: &[u32], missing: &[u32], rule: Rule) -> Result<Linked, Refused> {
     let indices = generated_fields(sheet, class)?;
     let (table, added) = match sheet.compiler_table_of(class) {
-        None => (build_methods(sheet, abi, area, missing, class)?, Vec::new()),
+        None => (build_methods(sheet, abi, area, missing, class, rule)?, Vec::new()),
         Some(compiled) => compiler_table(sheet, abi, area, missing, class, compiled),
     };
     let added = added.iter().map(|method| NewRecord {

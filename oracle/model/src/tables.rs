@@ -85,6 +85,14 @@ pub fn build_interface_methods<'a>(sheet: &ClassSheet<'a>, class: u32) -> Vec<En
     sheet.methods_of(class).filter(eligible).map(entry_of).collect()
 }
 
+/// How a class with its own ABI entry lays out what it inherits: by today's rule, or by the one before, which lost all but the last of the
+/// signatures of one fixed index.
+#[derive(Clone, Copy, PartialEq, Eq)]
+pub enum Rule {
+    Today,
+    Before,
+}
+
 /// `build_methods`, with rows 11 and 12 "method by method, 11 first".
 pub fn build_methods<'a>(
     sheet: &ClassSheet<'a>,
@@ -92,6 +100,7 @@ pub fn build_methods<'a>(
     area: &[u32],
     missing: &[u32],
     class: u32,
+    rule: Rule,
 ) -> Result<Vec<Entry<'a>>, Refused> {
     let classes = abi_classes(sheet, abi, &sheet.chain(class));
     let minimum = minimum_size(abi, &classes);
@@ -99,7 +108,10 @@ pub fn build_methods<'a>(
     // "parent entries, extended with empty ones"
     let inherited = parent_entries(sheet, abi, area, missing, class);
     let mut table = if abi.class_named(sheet.name(class)).is_some() {
-        relaid(abi, &classes, inherited, minimum)
+        match rule {
+            Rule::Today => relaid(abi, &classes, &inherited, minimum),
+            Rule::Before => relaid_before(abi, &classes, inherited, minimum),
+        }
     } else {
         let size = inherited.len().max(minimum);
         let mut table = inherited;
@@ -136,10 +148,79 @@ pub fn build_methods<'a>(
     Ok(table)
 }
 
-/// "A class with its own ABI entry first puts each known inherited entry at its fixed index,
+/// A known inherited entry, its method, and its fixed index with how many of the chain's ABI classes are nearer than the one that it comes from.
+struct Known<'a> {
+    entry: Entry<'a>,
+    method: Method<'a>,
+    fixed: Option<(u32, usize)>,
+}
+
+impl Known<'_> {
+    fn is_of(&self, method: &Method) -> bool {
+        self.method.has_signature(method.name, method.descriptor)
+    }
+
+    fn has_index(&self, index: u32) -> bool {
+        self.fixed.is_some_and(|(fixed, _)| fixed == index)
+    }
+}
+
+fn known<'a>(abi: &AbiSheet, classes: &[AbiClass], inherited: &[Entry<'a>]) -> Vec<Known<'a>> {
+    let index = |class: AbiClass, method: &Method| {
+        abi.slots_of(class).find(|slot| slot.name == method.name && slot.descriptor == method.descriptor).map(|slot| slot.index)
+    };
+    let fixed = |method: &Method| classes.iter().enumerate().find_map(|(nearer, &class)| Some((index(class, method)?, nearer)));
+    inherited.iter().filter_map(|&entry| entry.method.map(|method| Known { entry, method, fixed: fixed(&method) })).collect()
+}
+
+/// "In a class with its own ABI entry, .. later known entries of one signature still overwrite earlier ones at a fixed index. Of several
+/// signatures, the one whose index comes from the ABI class nearest on the chain stays; from the same ABI class, the one whose first entry is
+/// earlier. The last entry of each other follows after the minimum size, in inherited order with the entries without a fixed index." And of
+/// document 01 what this leaves: unknown ones go.
+pub fn relaid<'a>(abi: &AbiSheet, classes: &[AbiClass], inherited: &[Entry<'a>], minimum: usize) -> Vec<Entry<'a>> {
+    let known = known(abi, classes, inherited);
+    // (of several least ones `min_by_key` takes the first)
+    let stays = |index: u32| {
+        let there = known.iter().filter(|entry| entry.has_index(index));
+        there.min_by_key(|entry| entry.fixed.map(|(_, nearer)| nearer)).map(|entry| entry.method)
+    };
+    let last = |method: Method| known.iter().rfind(|entry| entry.is_of(&method)).map(|entry| entry.entry);
+    let mut table: Vec<Entry> = (0..minimum as u32).map(|index| stays(index).and_then(last).unwrap_or(EMPTY)).collect();
+    for (place, entry) in known.iter().enumerate() {
+        let gives_way = |index: u32| stays(index).is_none_or(|stays| !entry.is_of(&stays));
+        let is_last = !known[place + 1..].iter().any(|later| later.is_of(&entry.method));
+        if entry.fixed.is_none_or(|(index, _)| gives_way(index) && is_last) {
+            table.push(entry.entry);
+        }
+    }
+    table
+}
+
+/// The inherited signatures of the class that give way at their fixed index, where it lays out what it inherits.
+pub fn moved(sheet: &ClassSheet, abi: &AbiSheet, area: &[u32], class: u32) -> Vec<(Vec<u8>, Vec<u8>)> {
+    let classes = abi_classes(sheet, abi, &sheet.chain(class));
+    let inherited = parent_entries(sheet, abi, area, &[], class);
+    let table = relaid(abi, &classes, &inherited, minimum_size(abi, &classes));
+    let gives_way = |known: &Known| {
+        let stays = known.fixed.and_then(|(index, _)| table[index as usize].method);
+        stays.is_some_and(|stays| !known.is_of(&stays))
+    };
+    let moved = self::known(abi, &classes, &inherited).into_iter().filter(gives_way);
+    moved.map(|known| (known.method.name.to_vec(), known.method.descriptor.to_vec())).collect()
+}
+
+/// Whether two known inherited entries of the class have one fixed index and different signatures.
+pub fn clash(sheet: &ClassSheet, abi: &AbiSheet, area: &[u32], class: u32) -> bool {
+    let classes = abi_classes(sheet, abi, &sheet.chain(class));
+    let known = known(abi, &classes, &parent_entries(sheet, abi, area, &[], class));
+    let rivals = |one: &Known, other: &Known| one.fixed.is_some_and(|(index, _)| other.has_index(index)) && !one.is_of(&other.method);
+    known.iter().any(|one| known.iter().any(|other| rivals(one, other)))
+}
+
+/// The rule before: "A class with its own ABI entry first puts each known inherited entry at its fixed index,
 /// later ones overwriting; known entries without one follow after the minimum size; unknown
 /// ones go."
-fn relaid<'a>(abi: &AbiSheet, classes: &[AbiClass], inherited: Vec<Entry<'a>>, minimum: usize) -> Vec<Entry<'a>> {
+fn relaid_before<'a>(abi: &AbiSheet, classes: &[AbiClass], inherited: Vec<Entry<'a>>, minimum: usize) -> Vec<Entry<'a>> {
     let mut table = vec![EMPTY; minimum];
     for entry in inherited {
         let Some(method) = entry.method else { continue };

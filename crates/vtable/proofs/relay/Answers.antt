@@ -1,20 +1,15 @@
--- A slot's turn is a step of the fold. Assumes nothing.
-use Rattle.std.proofs.Common.{◌∙◌, ap, arith, length}
-use mathlib.Core.Path.{refl}
-use Rattle.reading.specs.Tables.{entries_left}
+-- A slot's turn is a step of the relaying. Assumes nothing.
+use Rattle.std.proofs.Common.{arith}
 use Rattle.reading.proofs.ArrayLaws.{length-entries}
-use Rattle.reading.proofs.SlotLaws.{fold_more, fold_none}
+use Rattle.vtable.proofs.RelayLaws.{fixed_small, relay_turn, relay_end}
 use Rattle.vtable.proofs.relay.Goals as goal
 
-pub loop-slot-init : goal.loop-slot-init
-loop-slot-init c =
-    let e = ap entries_left c.into_iter-slot-iterator.ensures.into_iter_gives ∙ c.slots-slot-items.ensures in
-    let n = ap length e ∙ length-entries _ _ _ in record { slots = omega arith; rest = rw e refl }
-
-pub loop-slot-preserved : goal.loop-slot-preserved
-loop-slot-preserved c =
-    let v = c.loop-slot.invariant in
-    let n = ap length c.in-Some.ensures.steps in record { slots = omega arith; rest = fold_more _ c.in-Some.ensures.steps c.relay_entry.ensures.is v.rest }
+pub loop-i-preserved : goal.loop-i-preserved
+loop-i-preserved c = record {
+  slots = omega arith;
+  rest = relay_turn _ _ _ (fixed_small _ _ _ _ _) _ _ _ c.fixed_marks.ensures c.hold_entries.ensures _ _ _ (rw (length-entries _ _ _) c.loop-i-test.true)
+      c.place_of-place.ensures c.slot.ensures c.relay_entry.ensures.is c.loop-i.invariant.rest;
+}
 
 pub returns-clause-is : goal.returns-clause-is
-returns-clause-is c = fold_none _ c.in-None.ensures.steps.0 c.loop-slot.invariant.rest
+returns-clause-is c = relay_end _ _ _ _ _ _ _ (rw (length-entries _ _ _) c.loop-i-test.false) c.loop-i.invariant.rest

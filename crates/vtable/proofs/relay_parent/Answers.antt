@@ -1,6 +1,6 @@
 -- The minimum size in empty slots, and then each of the parent's entries relayed. Assumes nothing.
 use native.Mathlib.Omega.{arith}
-use Rattle.vtable.proofs.BuildLaws.{relayed-is}
+use Rattle.vtable.proofs.RelayLaws.{relayed-is}
 use Rattle.abi.proofs.Laws.{minimum_size-room}
 use Rattle.vtable.proofs.relay_parent.Goals as goal
 

@@ -1,6 +1,8 @@
 //! The buckets that a link reaches.
 
-use crate::model::parts::{AbiClass, AbiRecord, EMPTY, Entry, eligible, entry_of, fixed_index, minimum_size, reading};
+use crate::model::parts::{
+    AbiClass, AbiRecord, AbiSheet, EMPTY, Entry, Method, eligible, entry_of, fixed_index, minimum_size, reading, relaid,
+};
 
 use super::{Bucket, Hits, View, area_clauses, compiled, fields, hit, missing, written};
 
@@ -159,6 +161,32 @@ fn is_orderly(view: &View, classes: &[AbiClass]) -> bool {
     slots.iter().all(|one| slots.iter().all(|other| agree(one, other)))
 }
 
+/// What relaying reaches.
+fn relaid_hits(abi: &AbiSheet, classes: &[AbiClass], inherited: &[Entry], table: &[Entry], hits: &mut Hits) {
+    let distance =
+        |method: &Method| (1..=classes.len()).find(|&n| fixed_index(abi, &classes[..n], method.name, method.descriptor).is_some());
+    let same = |entry: &Entry, method: &Method| entry.method.is_some_and(|known| known.has_signature(method.name, method.descriptor));
+    for (position, entry) in inherited.iter().enumerate() {
+        let Some(method) = entry.method else {
+            hits.push(Bucket::RelaidUnknownGoes);
+            continue;
+        };
+        let Some(fixed) = fixed_index(abi, classes, method.name, method.descriptor) else {
+            hits.push(Bucket::RelaidFollows);
+            continue;
+        };
+        let is_again = inherited[position + 1..].iter().any(|later| same(later, &method));
+        let stays = table[fixed as usize].method.expect("a known entry has this index");
+        if stays.has_signature(method.name, method.descriptor) {
+            hits.push(if fixed as usize == position { Bucket::RelaidFixed } else { Bucket::RelaidMoved });
+            hit(hits, Bucket::RelaidOverwritten, is_again);
+        } else {
+            hits.push(if distance(&stays) < distance(&method) { Bucket::GivesWayNearer } else { Bucket::GivesWayEarlier });
+            hits.push(if is_again { Bucket::GivesWayAgain } else { Bucket::GivesWayFollows });
+        }
+    }
+}
+
 /// Places the inherited entries and the methods; answers the refusal and the table then.
 pub fn place_methods<'a>(view: &View<'a>, class: u32, hits: &mut Hits) -> (Option<u32>, Vec<Entry<'a>>) {
     let (sheet, abi) = (&view.sheet, &view.abi);
@@ -168,25 +196,8 @@ pub fn place_methods<'a>(view: &View<'a>, class: u32, hits: &mut Hits) -> (Optio
     let inherited = if parent == 0 { Vec::new() } else { reading(sheet, abi, &view.step.before.area, parent) };
     let mut table;
     if abi.class_named(sheet.name(class)).is_some() {
-        table = vec![EMPTY; minimum];
-        for (position, entry) in inherited.into_iter().enumerate() {
-            let Some(method) = entry.method else {
-                hits.push(Bucket::RelaidUnknownGoes);
-                continue;
-            };
-            match fixed_index(abi, &classes, method.name, method.descriptor) {
-                None => {
-                    hits.push(Bucket::RelaidFollows);
-                    table.push(entry);
-                }
-                Some(fixed) => {
-                    let fixed = fixed as usize;
-                    hits.push(if fixed == position { Bucket::RelaidFixed } else { Bucket::RelaidMoved });
-                    hit(hits, Bucket::RelaidOverwritten, table[fixed].method.is_some());
-                    table[fixed] = entry;
-                }
-            }
-        }
+        table = relaid(abi, &classes, &inherited, minimum);
+        relaid_hits(abi, &classes, &inherited, &table, hits);
     } else {
         table = inherited;
         table.resize(table.len().max(minimum), EMPTY);

@@ -163,10 +163,10 @@ pub fn rows() -> Vec<Row> {
             &[link(1), link(2)],
         )
         .table(2, &[7, 902, 8, 5, 6]),
-        // later ones overwrite at one fixed index
+        // later entries of one signature overwrite at its fixed index (of two signatures: `one_slot`)
         row(
             "overwritten",
-            lent(&[built("P", 0, &[method("a", 5), method("b", 6)], &[]), plain("C", 1)], &[abi("C", &[slot("a", 0), slot("b", 0)], &[])]),
+            lent(&[compiled("P", 0, &[method("a", 5), method("a", 6)], &[5, 6]), plain("C", 1)], &[fixing("C", "a", 0)]),
             &[link(1), link(2)],
         )
         .table(2, &[6]),
