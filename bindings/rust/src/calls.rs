@@ -310,6 +310,10 @@ pub fn missing_slots(set: &[u32], abi: &[u32], missing: &[u32], class: u32) -> R
 
 /// The class's table for an interface: found in the class's list, or built and put in front of it. The set is only read.
 ///
+/// A table once answered stays at its place, and stays the one that would be built at that moment, slot for slot, whatever links and asks
+/// follow: a caller may keep the place. This is so where all calls began with an unlinked set, each gets set and area as the last one
+/// left them, and all lend the same ABI words and stubs; the nodes read are then at most as many as there are classes.
+///
 /// # Errors
 ///
 /// Refusals 3 to 7, 16 and 15; the area is then as it was.

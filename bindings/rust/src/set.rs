@@ -358,7 +358,7 @@ impl ClassSet {
         (0..slots).filter(|&slot| bits(slot).is_some_and(|word| word >> (slot % 32) & 1 == 1)).collect()
     }
 
-    /// The class's table for an interface; see [`interface_dispatch_table`].
+    /// The class's table for an interface; see [`interface_dispatch_table`], also for how long its place may be kept.
     ///
     /// # Errors
     ///

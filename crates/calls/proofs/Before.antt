@@ -10,9 +10,9 @@ use Rattle.linking.specs.Packages.{bad_packages}
 use Rattle.linking.specs.Counts.{missing_width, missing_short}
 use Rattle.linking.specs.Link.{bad_class, bad_area, Plan, Planned, planned, unplanned, plan, lists_full, set_short, no_room, Outcome, refused_call, LinkOutcome, refused_link, finish_link, on_plan, link_def}
 use Rattle.linking.proofs.MissingLaws.{count-read, bit-read}
-use Rattle.calls.specs.Calls.{Call, link, ask, State, start, outcome, step, run}
+use Rattle.calls.specs.Calls.{left, Call, link, ask, State, start, outcome, step, run}
 use Rattle.calls.specs.Unlisted.{finish_unlisted, on_planned, link_unlisted}
-use Rattle.calls.specs.Missing.{left, CountIs, LinkBefore}
+use Rattle.calls.specs.Missing.{CountIs, LinkBefore}
 use Rattle.calls.proofs.Rows.{link-cases, ask-cases}
 use Rattle.calls.proofs.Missing.{long-next}
 

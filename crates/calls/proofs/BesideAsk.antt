@@ -3,20 +3,15 @@
 use mathlib.Core.Path.{◌≡◌, refl, sym, ap, ◌∙◌}
 use mathlib.Core.Logic.{◌≢◌}
 use mathlib.Core.Bool.{true, false, cond}
-use mathlib.Core.List.{List, [], ◌∷◌}
-use Prim.Native.Nat.{ℕ, ◌+◌, ◌≤◌, ◌<◌, min}
+use mathlib.Core.List.{List}
+use Prim.Native.Nat.{ℕ, ◌+◌, ◌≤◌, ◌<◌}
 use native.Mathlib.Omega.{arith}
-use lib.ListN.{length, length-append}
+use lib.ListN.{length}
 use borrow.Author.Tests.{eq-eqb, ne_eqb}
-use Rattle.std.specs.Prelude.{Option, Some, None}
 use Rattle.words.proofs.Bools.{by}
-use Rattle.words.proofs.ListLaws.{length-list-from}
-use Rattle.class_sheet.specs.ClassSheet.{class_slot_count}
-use Rattle.linking.specs.Chain.{on_found}
-use Rattle.linking.specs.Vtable.{Entry, Built, built, refused, table_entries, read_slot}
+use Rattle.linking.specs.Vtable.{Entry, Built, built, refused}
 use Rattle.linking.specs.Link.{next_free, no_room, Outcome, refused_call}
-use Rattle.linking.specs.Ask.{Walk, hit, missed, head_place, implementation, dispatch_entry, cons_entry, dispatch_entries, asked_area, on_dispatch}
-use Rattle.linking.proofs.Plans.{built-same, not-built}
+use Rattle.linking.specs.Ask.{Walk, hit, missed, head_place, asked_area, on_dispatch}
 use Rattle.linking.proofs.Rebuilt.{Any}
 use Rattle.linking.proofs.Renumbered.{Tables, SameBuilt, both-built, both-refused}
 use Rattle.linking.proofs.Rows.{Fits, fits}
@@ -30,63 +25,6 @@ pub data SameWalk (area area' : List ℕ) (slots : ℕ) : Walk → Walk → Type
   both-hit : {n n' r r' : ℕ} → table_at area (n + 1) slots ≡ table_at area' (n' + 1) slots → n + 2 + slots ≤ next_free area → n' + 2 + slots ≤ next_free area'
       → SameWalk area area' slots (hit n r) (hit n' r')
   both-missed : {r r' : ℕ} → SameWalk area area' slots (missed r) (missed r')
-
-refused-number : {m n : ℕ} → refused m ≡ refused n → m ≡ n
-refused-number e = cc
-
--- ---- a node has as many slots as the interface's table
-
-module _ (ws text : List ℕ) where
-  one_entry : (e : Entry) (f g : Option ℕ) (T : List Entry) → dispatch_entry ws e f g ≡ built T → length T ≡ 1
-  one_entry e (Some m) (Some k) T q = sym (ap length (built-same q))
-  one_entry e (Some m) None T q = not-built q
-  one_entry e None g T q = sym (ap length (built-same q))
-
-  cons-length : (a b : Built) (n : ℕ) → ((A : List Entry) → a ≡ built A → length A ≡ 1) → ((B : List Entry) → b ≡ built B → length B ≡ n)
-      → (T : List Entry) → cons_entry a b ≡ built T → length T ≡ n + 1
-  cons-length (built A) (built B) n f g T q =
-      let e = sym (ap length (built-same q)) in
-      let h = length-append A B in
-      let i = f A refl in
-      let j = g B refl in
-      omega arith
-  cons-length (built A) (refused k) n f g T q = not-built q
-  cons-length (refused k) b n f g T q = not-built q
-
-  dispatch_length : (c : ℕ) (es T : List Entry) → dispatch_entries ws text c es ≡ built T → length T ≡ length es
-  unfolding dispatch_entries
-  dispatch_length c [] T q = sym (ap length (built-same q))
-  dispatch_length c (e ∷ es) T q =
-      let h = cons-length (dispatch_entry ws e e.method (on_found e.method (implementation ws text c) None)) (dispatch_entries ws text c es) (length es)
-      (one_entry e e.method (on_found e.method (implementation ws text c) None)) (dispatch_length c es) T q in
-      omega arith
-
-  pub node-length : (abi labels area : List ℕ) (c i : ℕ) → class_slot_count ws i ≤ 1024 → (T : List Entry)
-      → dispatch_entries ws text c (table_entries ws text abi labels area i) ≡ built T → length T ≡ class_slot_count ws i
-  unfolding table_entries
-  node-length abi labels area c i b T q =
-      let h = dispatch_length c (table_entries ws text abi labels area i) T q in
-      let k : length (table_entries ws text abi labels area i) ≡ min (class_slot_count ws i) 1024 =
-      length-list-from (read_slot ws text abi labels area i) 0 (min (class_slot_count ws i) 1024) in
-      omega arith
-
-  -- row 16 has a number
-  entry-refused : (e : Entry) (f g : Option ℕ) (n : ℕ) → dispatch_entry ws e f g ≡ refused n → n ≢ 0
-  entry-refused e (Some m) (Some k) n q = not-built (sym q)
-  entry-refused e (Some m) None n q = λ z. let h : 16 ≡ n = refused-number q in omega arith
-  entry-refused e None g n q = not-built (sym q)
-
-  cons-refused : (a b : Built) (n : ℕ) → ((k : ℕ) → a ≡ refused k → k ≢ 0) → ((k : ℕ) → b ≡ refused k → k ≢ 0) → cons_entry a b ≡ refused n → n ≢ 0
-  cons-refused (built A) (built B) n f g q = not-built (sym q)
-  cons-refused (built A) (refused k) n f g q = g n q
-  cons-refused (refused k) b n f g q = f n q
-
-  pub dispatch_refused : (c : ℕ) (es : List Entry) (n : ℕ) → dispatch_entries ws text c es ≡ refused n → n ≢ 0
-  unfolding dispatch_entries
-  dispatch_refused c [] n q = not-built (sym q)
-  dispatch_refused c (e ∷ es) n q =
-      cons-refused (dispatch_entry ws e e.method (on_found e.method (implementation ws text c) None)) (dispatch_entries ws text c es) n
-      (entry-refused e e.method (on_found e.method (implementation ws text c) None)) (dispatch_refused c es) q
 
 -- ---- what two asks answer: places and nodes read aside, the same
 

@@ -14,11 +14,11 @@ use Rattle.words.proofs.Lists.{part_ext}
 use Rattle.class_sheet.specs.ClassSheet.{class_width, member_width, method_word, method_count_word, field_count_word, first_method_word, first_field_word, slot_count_word, table_place_word, method_count, class_word, class_first_method, class_method_count, class_first_field, class_field_count, class_table_place}
 use Rattle.set_rules.specs.Valid.{IsClass, Valid}
 use Rattle.linking.specs.Chain.{chain}
-use Rattle.linking.specs.Link.{next_free}
+use Rattle.linking.specs.Link.{HasTable, next_free}
 use Rattle.linking.specs.Ask.{Walk, hit, missed, broken, walk}
 use Rattle.linking.proofs.LinkRead.{After, record_name, record_descriptor, class-name}
 use Rattle.linking.proofs.LinkedBack.{Untouched}
-use Rattle.linking.proofs.Rows.{Linked, Sound}
+use Rattle.linking.proofs.Rows.{Sound}
 use Rattle.linking.proofs.RenumberedPackages.{Held}
 use Rattle.calls.specs.Calls.{table_at}
 use Rattle.calls.proofs.BesideAsk.{SameWalk, both-hit, both-missed}
@@ -145,7 +145,7 @@ module _ (ws ws' abi : List ℕ) (E : ℕ → Type 0) (c : ℕ) (valid : Valid w
 
   -- and their tables, which lie below the next free word
   pub after-held : (area area' : List ℕ) → ((j : ℕ) → 0 < j → j < next_free area → get_or area' j 0 ≡ get_or area j 0) → Sound ws area
-      → (d : ℕ) → E d → Linked ws d → Held ws ws' area area' d
+      → (d : ℕ) → E d → HasTable ws d → Held ws ws' area area' d
   after-held area area' agree s d e l =
       let k : IsClass ws d = (l.some, l.among) in
       let p : class_table_place ws d ≡ class_table_place ws' d = same_word_lem d table_place_word k e (omega arith) in

@@ -40,7 +40,7 @@ pub own-table : {n : ℕ} {T U : List Entry} → Tables (Own n) T U → T ≡ U
 own-table none = refl
 own-table (pair {x = e} {y = e'} s h) = rw (own-entry e e' s, own-table h)
 
-own-built : {n : ℕ} {b b' : Built} → SameBuilt (Own n) b b' → b ≡ b'
+pub own-built : {n : ℕ} {b b' : Built} → SameBuilt (Own n) b b' → b ≡ b'
 own-built (both-built h) = rw (own-table h)
 own-built both-refused = refl
 

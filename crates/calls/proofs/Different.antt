@@ -12,11 +12,7 @@ use lib.Dec.{eqb}
 use borrow.Author.Tests.{eqb-true, eqb-false}
 use Rattle.words.proofs.Bools.{by}
 use Rattle.slots.proofs.ListFacts.{in_none}
-
--- no number is there twice
-abbrev pub Different : List ℕ → Type 0
-Different [] = Unit {0}
-Different (x ∷ xs) = (Memᴰ x xs → ⊥) × Different xs
+use Rattle.calls.specs.Kept.{Different}
 
 without : ℕ → List ℕ → List ℕ
 without n [] = []

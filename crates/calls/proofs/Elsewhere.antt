@@ -2,14 +2,14 @@
 -- Assumes nothing.
 use mathlib.Core.Path.{◌≡◌, refl, sym, ap, ◌∙◌}
 use mathlib.Core.Logic.{◌≢◌, inl, inr, ⊎_elim}
-use mathlib.Core.Bool.{true, false, not, ◌||◌}
+use mathlib.Core.Bool.{true, false, not}
 use mathlib.Core.List.Memᴰ
 use mathlib.Core.List.{List, [], ◌∷◌, Memᴰ}
 use Prim.Native.Nat.{ℕ, zero, suc, ◌+◌, ◌≤◌, ◌<◌}
 use native.Mathlib.Omega.{arith}
 use lib.ListN.{get_or}
 use lib.Dec.{eqb, ltb}
-use borrow.Author.Tests.{eqb-true, eqb-false, eq-eqb, ltb-false, not-true, not-false}
+use borrow.Author.Tests.{eqb-true, eqb-false, eq-eqb, ltb-false, not-true}
 use Rattle.words.proofs.Bools.{by, and_both, or-neither}
 use Rattle.class_sheet.specs.ClassSheet.{class_count, class_table_place, class_slot_count, text_of}
 use Rattle.abi_sheet.specs.AbiSheet.{abi_text_of}
@@ -19,7 +19,7 @@ use Rattle.set_rules.proofs.Valid.{valid}
 use Rattle.linking.specs.Chain.{parent_of, chain}
 use Rattle.linking.specs.Packages.{bad_packages}
 use Rattle.linking.specs.Before.{reaches_table, link_clashes}
-use Rattle.linking.specs.Link.{no_class, is_linked, bad_class, bad_area, next_free, refused_call, LinkOutcome, link_def}
+use Rattle.linking.specs.Link.{HasTable, no_class, is_linked, bad_class, bad_area, next_free, refused_call, LinkOutcome, link_def}
 use Rattle.linking.specs.Ask.{Walk, walk, head_place, dispatch_entries, build_node, on_walk, bad_ask, ask_def}
 use Rattle.linking.specs.Vtable.{table_entries}
 use Rattle.linking.proofs.Before.{link_as_before}
@@ -28,15 +28,16 @@ use Rattle.linking.proofs.Rebuilt.{Any}
 use Rattle.linking.proofs.Renumbered.{SameBuilt, built_less, entries-same}
 use Rattle.linking.proofs.RenumberedAsk.{dispatch_same}
 use Rattle.linking.proofs.RenumberedPackages.{Held}
-use Rattle.linking.proofs.Rows.{Linked, sound}
+use Rattle.linking.proofs.Rows.{sound}
 use Rattle.slots.proofs.ChainFacts.{chain-here}
 use Rattle.linking.proofs.Overriding.{chain-of-chain}
 use Rattle.calls.specs.Calls.{Call, link, ask, State, outcome, start, step, Unlinked}
 use Rattle.calls.specs.OldRun.{outcome_before, step_before, clashes}
 use Rattle.calls.specs.Elsewhere.{Comes, now, later, AllRoomy, SameAnswer, Made, Clear, IsElsewhere, Roomy}
-use Rattle.calls.proofs.Rows.{ClassOk, class-ok, ask-cases}
+use Rattle.calls.proofs.Rows.{ask-classes, ClassOk, class-ok, ask-cases}
 use Rattle.calls.proofs.Beside.{Sets, Placed, placed-keeps, same-chain}
-use Rattle.calls.proofs.BesideAsk.{SameWalk, both-hit, both-missed, SameAsk, ask-refused, dispatched, dispatch_refused, node-length, found-same}
+use Rattle.calls.proofs.Dispatch.{built-size, dispatch_refused}
+use Rattle.calls.proofs.BesideAsk.{SameWalk, both-hit, both-missed, SameAsk, ask-refused, dispatched, found-same}
 use Rattle.calls.proofs.NodeLists.{Layout}
 use Rattle.calls.proofs.BesideLink.{plan-same, bad-same, packages-same, none-same, SameLink, refused-same, planned-link}
 
@@ -49,21 +50,21 @@ walk_of s c i = walk s.area i 64 0 (get_or s.area (head_place s.set c) 0)
 -- value, its table and the nodes of elsewhere pairs word for word": E says which classes are elsewhere
 pub record Related (abi : List ℕ) (E : ℕ → Type 0) (s t : State) : Type 0 where
   pub sets : Sets s.set t.set abi E
-  pub held : (d : ℕ) → E d → Linked s.set d → Held s.set t.set s.area t.area d
-  pub nodes : (c i : ℕ) → E c → E i → Linked s.set c → Linked s.set i
+  pub held : (d : ℕ) → E d → HasTable s.set d → Held s.set t.set s.area t.area d
+  pub nodes : (c i : ℕ) → E c → E i → HasTable s.set c → HasTable s.set i
       → SameWalk s.area t.area (class_slot_count s.set i) (walk_of s c i) (walk_of t c i)
   -- each run for itself
   pub accepted : set_refusal s.set abi ≡ 0
   pub accepted' : set_refusal t.set abi ≡ 0
   pub sound : bad_area s.set s.area ≡ false
   pub sound' : bad_area t.set t.area ≡ false
-  pub parent : (d : ℕ) → Linked s.set d → parent_of s.set d ≢ 0 → Linked s.set (parent_of s.set d)
-  pub parent' : (d : ℕ) → Linked t.set d → parent_of t.set d ≢ 0 → Linked t.set (parent_of t.set d)
+  pub parent : (d : ℕ) → HasTable s.set d → parent_of s.set d ≢ 0 → HasTable s.set (parent_of s.set d)
+  pub parent' : (d : ℕ) → HasTable t.set d → parent_of t.set d ≢ 0 → HasTable t.set (parent_of t.set d)
 
 -- ---- a link elsewhere
 
 module _ (abi : List ℕ) (E : ℕ → Type 0) (s t : State) (rel : Related abi E s t) where
-  chain-linked : (bound d : ℕ) → d ≤ bound → Linked s.set d → (e : ℕ) → Memᴰ e (chain s.set d) → Linked s.set e
+  chain-linked : (bound d : ℕ) → d ≤ bound → HasTable s.set d → (e : ℕ) → Memᴰ e (chain s.set d) → HasTable s.set e
   chain-linked zero d b l e i = absurd (omega (arith, l.some))
   chain-linked (suc bound) d b l e i =
       let f = parent_below s.set d l.some in
@@ -75,7 +76,7 @@ module _ (abi : List ℕ) (E : ℕ → Type 0) (s t : State) (rel : Related abi 
       (Memᴰ.cases_cons (rw (chain_more s.set d l.some) at i))
 
   module _ (c : ℕ) (calm : E c) (ok : ClassOk s.set c) where
-    above-linked : (e : ℕ) → Memᴰ e (chain s.set (parent_of s.set c)) → Linked s.set e
+    above-linked : (e : ℕ) → Memᴰ e (chain s.set (parent_of s.set c)) → HasTable s.set e
     above-linked e i =
         let w = parent-within s.set c in
         by (eqb (parent_of s.set c) 0)
@@ -136,7 +137,7 @@ module _ (abi : List ℕ) (E : ℕ → Type 0) (s t : State) (rel : Related abi 
 -- ---- an ask elsewhere
 
 module _ (abi : List ℕ) (E : ℕ → Type 0) (s t : State) (rel : Related abi E s t) where
-  linked-there : (d : ℕ) → E d → Linked s.set d → Linked t.set d
+  linked-there : (d : ℕ) → E d → HasTable s.set d → HasTable t.set d
   linked-there d calm l = record {
     some = l.some;
     among = omega (arith, l.among, rel.sets.classes);
@@ -144,7 +145,7 @@ module _ (abi : List ℕ) (E : ℕ → Type 0) (s t : State) (rel : Related abi 
         l.has (eqb-true (class_table_place s.set d) 0 (rel.sets.linked d (l.some, l.among) calm ∙ eq-eqb (class_table_place t.set d) 0 e));
   }
 
-  module _ (c i : ℕ) (calm : E c) (calm' : E i) (l : Linked s.set c) (k : Linked s.set i) where
+  module _ (c i : ℕ) (calm : E c) (calm' : E i) (l : HasTable s.set c) (k : HasTable s.set i) where
     dispatch_both : SameBuilt Any (dispatch_entries s.set (text_of s.set) c (table_entries s.set (text_of s.set) abi (abi_text_of abi) s.area i))
         (dispatch_entries t.set (text_of t.set) c (table_entries t.set (text_of t.set) abi (abi_text_of abi) t.area i))
     dispatch_both =
@@ -193,9 +194,9 @@ module _ (abi : List ℕ) (E : ℕ → Type 0) (s t : State) (rel : Related abi 
         found-same s.set t.set abi c i s.area t.area stubs r r' (class_slot_count s.set i) head-below head_below' some-free some_free' n n' r r' h
     walked stubs (both-missed {r} {r'}) room room' =
         dispatched s.set t.set abi c i s.area t.area stubs r r' (class_slot_count s.set i) head-below head_below' some-free some_free' dispatch_both
-        (dispatch_refused s.set (text_of s.set) c (table_entries s.set (text_of s.set) abi (abi_text_of abi) s.area i))
-        (node-length s.set (text_of s.set) abi (abi_text_of abi) s.area c i few)
-        (λ U q. node-length t.set (text_of t.set) abi (abi_text_of abi) t.area c i few' U q ∙ sym (rel.held i calm' k).slots) room room'
+        (λ n q. let m = dispatch_refused s.set (text_of s.set) c (table_entries s.set (text_of s.set) abi (abi_text_of abi) s.area i) n q in λ z. omega arith)
+        (λ T q. built-size s.set (text_of s.set) abi (abi_text_of abi) s.area c i T few q)
+        (λ U q. built-size t.set (text_of t.set) abi (abi_text_of abi) t.area c i U few' q ∙ sym (rel.held i calm' k).slots) room room'
 
   linked-both : (d : ℕ) → E d → no_class s.set d ≡ false → is_linked s.set d ≡ is_linked t.set d
   linked-both d calm h = ap not (rel.sets.linked d (is-class abi E s t rel d h) calm)
@@ -208,21 +209,6 @@ module _ (abi : List ℕ) (E : ℕ → Type 0) (s t : State) (rel : Related abi 
       (λ h.
       by (no_class s.set i) (λ g. rw (h, g) refl)
       (λ g. rw (h, g, linked-both c calm h, linked-both i calm' g) refl)))
-
-  asked-linked : (c i : ℕ) → bad_ask s.set c i ≡ false → Linked s.set c × Linked s.set i
-  unfolding bad_ask
-  asked-linked c i e =
-      let p = or-neither (no_class s.set c || no_class s.set i || not (is_linked s.set c)) (not (is_linked s.set i)) e in
-      let q = or-neither (no_class s.set c || no_class s.set i) (not (is_linked s.set c)) p.0 in
-      let r = or-neither (no_class s.set c) (no_class s.set i) q.0 in
-      let a = is-class abi E s t rel c r.0 in
-      let b = is-class abi E s t rel i r.1 in (
-        record { some = a.0; among = a.1; has = has c q.1 },
-        record { some = b.0; among = b.1; has = has i p.1 },
-      )
-    where
-      has : (d : ℕ) → not (is_linked s.set d) ≡ false → class_table_place s.set d ≢ 0
-      has d h = eqb-false (class_table_place s.set d) 0 (not-true (eqb (class_table_place s.set d) 0) (not-false (is_linked s.set d) h))
 
   pub ask-same : (c i : ℕ) (stubs : List ℕ) → E c → E i → Roomy (ask_def s.set abi c i s.area stubs)
       → Roomy (ask_def t.set abi c i t.area stubs)
@@ -239,7 +225,7 @@ module _ (abi : List ℕ) (E : ℕ → Type 0) (s t : State) (rel : Related abi 
       rw (v, v', h, h') (ask-refused 6 (omega arith) s.set t.set s.area t.area (class_slot_count s.set i)))
       (λ h.
       let h' = sym (ask-bad c i calm calm') ∙ h in
-      let l = asked-linked c i h in
+      let l = ask-classes s.set c i h in
       let r = rw (v, h, a) at room in
       let r' = rw (v', h', a') at room' in
       rw (v, v', h, h', a, a') (walked c i calm calm' l.0 l.1 stubs (rel.nodes c i calm calm' l.0 l.1) r r'))
@@ -250,7 +236,7 @@ module _ (abi : List ℕ) (E : ℕ → Type 0) (s t : State) (rel : Related abi 
   unfolding ask_def
   ask-slots c i stubs calm z =
       let v = eq-eqb (set_refusal s.set abi) 0 rel.accepted in
-      by (bad_ask s.set c i) (λ h. let e = rw (v, h) at z in absurd (omega arith)) (λ h. (rel.held i calm (asked-linked c i h).1).slots)
+      by (bad_ask s.set c i) (λ h. let e = rw (v, h) at z in absurd (omega arith)) (λ h. (rel.held i calm (ask-classes s.set c i h).1).slots)
 
 pub ask-set : (ws abi : List ℕ) (c i : ℕ) (area stubs : List ℕ) → (ask_def ws abi c i area stubs).set ≡ ws
 ask-set ws abi c i area stubs = elim (ask-cases ws abi c i area stubs) [ inl u ↦ u.same_set | inr u ↦ u.same_set ]

@@ -32,7 +32,8 @@ use Rattle.calls.proofs.ElsewhereAsk.{put_in, other-ask, ask-next}
 use Rattle.calls.proofs.NodeLists.{Layout}
 use Rattle.calls.proofs.NodeLinks.{wrote_layout}
 use Rattle.calls.proofs.LinkNext.{link-next}
-use Rattle.calls.proofs.Puts.{Puts, put-cases, put_next, put-layout}
+use Rattle.calls.proofs.Rows.{Asked, ask-cases}
+use Rattle.calls.proofs.Puts.{put_next, put-layout}
 use Rattle.calls.proofs.Clear.{clear?}
 use Rattle.calls.proofs.OldRun.{step_as_before}
 
@@ -54,7 +55,7 @@ layout-moved : (s : State) → Layout s → (u : State) → u.set ≡ s.set → 
 layout-moved s lay u p q =
     subst Layout (sym (ap (λ (ws : List ℕ). record { set = ws; area = u.area; missing = u.missing }) p
     ∙ ap (λ (area : List ℕ). record { set = s.set; area = area; missing = u.missing }) q))
-    (record { heads = lay.heads; lists = λ c l. let ns = lay.lists c l in record { interfaces = ns.interfaces; nodes = ns.nodes } })
+    (record { heads = lay.heads; lists = λ c l. let ns = lay.lists c l in record { places = ns.places; nodes = ns.nodes } })
 
 module _ (abi : List ℕ) (E : ℕ → Type 0) where
   step-link : (s : State) (c : ℕ) (stubs : List ℕ)
@@ -86,7 +87,7 @@ module _ (abi : List ℕ) (E : ℕ → Type 0) where
   layout-ask : (s : State) (c i : ℕ) (stubs : List ℕ) → Layout s → Layout (put_in s (ask_def s.set abi c i s.area stubs))
   layout-ask s c i stubs lay =
       let o : Outcome = ask_def s.set abi c i s.area stubs in
-      elim (put-cases abi s c i stubs) [
+      elim (ask-cases s.set abi c i s.area stubs) [
         | inl u ↦ layout-moved s lay (put_in s o) refl u.same_area
         | inr p ↦ put-layout abi s c i stubs o p lay s.missing
       ]
@@ -108,7 +109,7 @@ module _ (abi : List ℕ) (E : ℕ → Type 0) where
       let e = linked-free s.area c w.coming.table stubs (sound s.set s.area w.lent).some w.room.free in
       rw (w.new-area, e, ne_eqb (next_free s.area + length w.coming.table + 2) (next_free s.area) (λ q. omega arith)) refl
 
-  ask-took : (s : State) (c i : ℕ) (stubs : List ℕ) (o : Outcome) → Puts abi s c i stubs o → takes s.area o ≡ true
+  ask-took : (s : State) (c i : ℕ) (stubs : List ℕ) (o : Outcome) → Asked s.set abi c i s.area stubs o → takes s.area o ≡ true
   ask-took s c i stubs o p =
       let e = put_next abi s c i stubs o p in
       rw (e, ne_eqb (next_free s.area + length p.entries + 2) (next_free s.area) (λ q. omega arith)) refl
@@ -206,7 +207,7 @@ module _ (ws abi area missing : List ℕ) (calls : List Call) (roomy : AllRoomy 
       → Related abi E s (put_in s (ask_def s.set abi c i s.area stubs))
   ask-alone c i stubs s lay self none =
       let o : Outcome = ask_def s.set abi c i s.area stubs in
-      elim (put-cases abi s c i stubs) [
+      elim (ask-cases s.set abi c i s.area stubs) [
         | inl u ↦ related-moved abi E s self (put_in s o) refl u.same_area
         | inr p ↦ other-ask abi E c i stubs s o p lay self none
       ]
@@ -237,14 +238,14 @@ module _ (ws abi area missing : List ℕ) (calls : List Call) (roomy : AllRoomy 
           let rel = r.related in
           let q = roomy (ask c i stubs) s t made both in
           let a = ask-same abi E s t rel c i stubs calm calm' q.0 q.1 in
-          elim (put-cases abi s c i stubs) [
-            | inl u ↦ elim (put-cases abi t c i stubs) [
+          elim (ask-cases s.set abi c i s.area stubs) [
+            | inl u ↦ elim (ask-cases t.set abi c i t.area stubs) [
               | inl v ↦ related-each abi E s (put_in s o) t (put_in t o')
                   (related-moved abi E s (related_self abi E s t rel) (put_in s o) refl u.same_area)
                   (related-moved abi E t (related_self abi E t s (related_turned abi E s t rel)) (put_in t o') refl v.same_area) rel
               | inr v ↦ absurd (true≢false (sym (ask-took abi E t c i stubs o' v) ∙ sym a.took ∙ none-taken abi E s.area o u.same_area))
             ]
-            | inr p ↦ elim (put-cases abi t c i stubs) [
+            | inr p ↦ elim (ask-cases t.set abi c i t.area stubs) [
               | inl v ↦ absurd (true≢false (sym (ask-took abi E s c i stubs o p) ∙ a.took ∙ none-taken abi E t.area o' v.same_area))
               | inr v ↦ ask-next abi E c i stubs s t o o' p v r.layout r.layout' rel calm calm' (a.words p.number)
             ]

@@ -9,28 +9,28 @@ use lib.Dec.{eqb}
 use borrow.Author.Tests.{eqb-true, eqb-false}
 use Rattle.words.proofs.Bools.{by}
 use Rattle.class_sheet.specs.ClassSheet.{class_slot_count}
-use Rattle.linking.specs.Link.{next_free, Outcome}
+use Rattle.linking.specs.Link.{HasTable, next_free, Outcome}
 use Rattle.linking.proofs.RenumberedPackages.{Held}
-use Rattle.linking.proofs.Rows.{Linked}
 use Rattle.calls.specs.Calls.{State, table_at}
 use Rattle.calls.proofs.BesideAsk.{SameWalk, both-hit}
 use Rattle.calls.proofs.BesideNext.{held_turned, held_then, walk_turned, walk_then}
 use Rattle.calls.proofs.Elsewhere.{walk_of, Related}
 use Rattle.calls.proofs.ElsewhereNext.{linked-there}
 use Rattle.calls.proofs.NodeLists.{Layout}
-use Rattle.calls.proofs.Puts.{Puts, put_next, put-sound, put-table, put-found, put_walks}
+use Rattle.calls.proofs.Rows.{Asked}
+use Rattle.calls.proofs.Puts.{put-size, put_next, put-sound, put-table, put-found, put_walks}
 
 -- what an ask leaves
 abbrev pub put_in : State → Outcome → State
 put_in s o = record { set = s.set; area = o.area; missing = s.missing }
 
-put-held : (abi : List ℕ) (s : State) (c i : ℕ) (stubs : List ℕ) (o : Outcome) (p : Puts abi s c i stubs o) → Layout s → (d : ℕ) → Linked s.set d
+put-held : (abi : List ℕ) (s : State) (c i : ℕ) (stubs : List ℕ) (o : Outcome) (p : Asked s.set abi c i s.area stubs o) → Layout s → (d : ℕ) → HasTable s.set d
     → Held s.set s.set s.area o.area d
 put-held abi s c i stubs o p lay d l = record { linked = refl; slots = refl; words = λ k h. sym (put-table abi s c i stubs o p lay d l k h) }
 
 module _ (abi : List ℕ) (E : ℕ → Type 0) (c i : ℕ) (stubs : List ℕ) where
   -- in one run
-  pub other-ask : (s : State) (o : Outcome) → Puts abi s c i stubs o → Layout s → Related abi E s s → (E c → E i → ⊥) → Related abi E s (put_in s o)
+  pub other-ask : (s : State) (o : Outcome) → Asked s.set abi c i s.area stubs o → Layout s → Related abi E s s → (E c → E i → ⊥) → Related abi E s (put_in s o)
   other-ask s o p lay self none = record {
     sets = self.sets;
     held = λ d x l. put-held abi s c i stubs o p lay d l;
@@ -52,20 +52,20 @@ module _ (abi : List ℕ) (E : ℕ → Type 0) (c i : ℕ) (stubs : List ℕ) wh
           (λ t. inl (eqb-false d c t))
 
   -- in both
-  module _ (s t : State) (o o' : Outcome) (p : Puts abi s c i stubs o) (p' : Puts abi t c i stubs o') (lay : Layout s) (lay' : Layout t)
+  module _ (s t : State) (o o' : Outcome) (p : Asked s.set abi c i s.area stubs o) (p' : Asked t.set abi c i t.area stubs o') (lay : Layout s) (lay' : Layout t)
       (rel : Related abi E s t) (calm : E c) (calm' : E i)
       (words : table_at o.area o.first (class_slot_count s.set i) ≡ table_at o'.area o'.first (class_slot_count s.set i)) where
     new-walk : SameWalk o.area o'.area (class_slot_count s.set i) (walk_of (put_in s o) c i) (walk_of (put_in t o') c i)
     new-walk =
         let n = put_next abi s c i stubs o p in
         let n' = put_next abi t c i stubs o' p' in
-        let z = p.size in
-        let z' = p'.size in
+        let z = put-size abi s c i stubs o p in
+        let z' = put-size abi t c i stubs o' p' in
         let h = (rel.held i calm' p.interface).slots in
         rw (put-found abi s c i stubs o p lay, put-found abi t c i stubs o' p' lay')
-        (both-hit {n = next_free s.area} {n' = next_free t.area} (rw (p.place, p'.place) at words) (omega arith) (omega arith))
+        (both-hit {n = next_free s.area} {n' = next_free t.area} (rw (p.answers-place, p'.answers-place) at words) (omega arith) (omega arith))
 
-    other-walk : (d j : ℕ) → E d → E j → Linked s.set d → Linked s.set j → (d ≢ c) ⊎ (j ≢ i)
+    other-walk : (d j : ℕ) → E d → E j → HasTable s.set d → HasTable s.set j → (d ≢ c) ⊎ (j ≢ i)
         → SameWalk o.area o'.area (class_slot_count s.set j) (walk_of (put_in s o) d j) (walk_of (put_in t o') d j)
     other-walk d j x y l k n =
         walk_then (walk_turned (put_walks abi s c i stubs o p lay d j l n))

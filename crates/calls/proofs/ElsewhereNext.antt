@@ -15,10 +15,10 @@ use Rattle.set_rules.specs.Valid.{IsClass, Valid}
 use Rattle.set_rules.proofs.Valid.{valid}
 use Rattle.linking.specs.Chain.{parent_of, chain}
 use Rattle.linking.specs.Vtable.{Entry, Built, build_methods}
-use Rattle.linking.specs.Link.{next_free, bad_area, linked_area, built_table, plan_built, generated_table, plan_generated, plan, plan_with, link_with, LinkOutcome, link_def}
+use Rattle.linking.specs.Link.{HasTable, next_free, bad_area, linked_area, built_table, plan_built, generated_table, plan_generated, plan, plan_with, link_with, LinkOutcome, link_def}
 use Rattle.linking.specs.Ask.{head_place}
 use Rattle.linking.proofs.LinkRead.{After}
-use Rattle.linking.proofs.Rows.{Linked, Sound, sound}
+use Rattle.linking.proofs.Rows.{Sound, sound}
 use Rattle.calls.specs.Calls.{State}
 use Rattle.calls.proofs.Area.{linked-length, linked-before, linked-free}
 use Rattle.calls.proofs.Beside.{SameField}
@@ -29,7 +29,7 @@ use Rattle.calls.proofs.Elsewhere.{walk_of, Related}
 
 module _ (abi : List ℕ) (E : ℕ → Type 0) where
   module _ (s t : State) (a : Related abi E s t) where
-    linked-here : (d : ℕ) → E d → Linked t.set d → Linked s.set d
+    linked-here : (d : ℕ) → E d → HasTable t.set d → HasTable s.set d
     linked-here d calm l =
         let k : IsClass s.set d = (l.some, omega (arith, l.among, a.sets.classes)) in
         record {
@@ -39,7 +39,7 @@ module _ (abi : List ℕ) (E : ℕ → Type 0) where
               l.has (eqb-true (class_table_place t.set d) 0 (sym (a.sets.linked d k calm) ∙ eq-eqb (class_table_place s.set d) 0 e));
         }
 
-    pub linked-there : (d : ℕ) → E d → Linked s.set d → Linked t.set d
+    pub linked-there : (d : ℕ) → E d → HasTable s.set d → HasTable t.set d
     linked-there d calm l = record {
       some = l.some;
       among = omega (arith, l.among, a.sets.classes);
@@ -104,9 +104,9 @@ module _ (abi : List ℕ) (E : ℕ → Type 0) where
   module _ (s s' : State) (c : ℕ) (T : List Entry) (stubs : List ℕ)
       -- what holds of the run before it
       (accepted : set_refusal s.set abi ≡ 0) (sound-now : bad_area s.set s.area ≡ false)
-      (parents : (d : ℕ) → Linked s.set d → parent_of s.set d ≢ 0 → Linked s.set (parent_of s.set d))
+      (parents : (d : ℕ) → HasTable s.set d → parent_of s.set d ≢ 0 → HasTable s.set (parent_of s.set d))
       (up : (d e : ℕ) → IsClass s.set d → E d → Memᴰ e (chain s.set d) → E e)
-      (safe : (d i : ℕ) → E d → E i → Linked s.set d → Linked s.set i → Safe s.area (class_slot_count s.set i) (walk_of s d i))
+      (safe : (d i : ℕ) → E d → E i → HasTable s.set d → HasTable s.set i → Safe s.area (class_slot_count s.set i) (walk_of s d i))
       -- what it writes
       (other : (d : ℕ) → E d → d ≢ c) (room : next_free s.area + length T + 2 ≤ length s.area) (area-is : s'.area ≡ linked_area s.area c T stubs)
       (after : After s.set s'.set c)
@@ -114,7 +114,7 @@ module _ (abi : List ℕ) (E : ℕ → Type 0) where
       → SameField s.set s'.set abi E (class_first_field s.set d + j) (class_first_field s.set d + j))
       -- what holds of the run after it
       (accepted' : set_refusal s'.set abi ≡ 0) (sound-next : bad_area s'.set s'.area ≡ false)
-      (parents' : (d : ℕ) → Linked s'.set d → parent_of s'.set d ≢ 0 → Linked s'.set (parent_of s'.set d)) where
+      (parents' : (d : ℕ) → HasTable s'.set d → parent_of s'.set d ≢ 0 → HasTable s'.set (parent_of s'.set d)) where
     now-sound : Sound s.set s.area
     now-sound = sound s.set s.area sound-now
 
@@ -133,13 +133,13 @@ module _ (abi : List ℕ) (E : ℕ → Type 0) where
     next-valid : Valid s'.set
     next-valid = (valid s'.set abi accepted').0
 
-    heads : (d : ℕ) → E d → Linked s.set d → head_place s'.set d ≡ head_place s.set d
+    heads : (d : ℕ) → E d → HasTable s.set d → head_place s'.set d ≡ head_place s.set d
     heads d e l =
         let p : class_table_place s'.set d ≡ class_table_place s.set d = after.others d table_place_word l.some l.among (omega arith) (other d e) in
         let n : class_slot_count s'.set d ≡ class_slot_count s.set d = after.others d slot_count_word l.some l.among (omega arith) (other d e) in
         rw (p, n) refl
 
-    nodes-next : (d i : ℕ) → E d → E i → Linked s.set d → Linked s.set i
+    nodes-next : (d i : ℕ) → E d → E i → HasTable s.set d → HasTable s.set i
         → SameWalk s.area s'.area (class_slot_count s.set i) (walk_of s d i) (walk_of s' d i)
     nodes-next d i e f l k =
         let b = now-sound.below d l in

@@ -27,7 +27,8 @@ use Rattle.calls.proofs.Like.{Alike, unmoved-kind}
 use Rattle.calls.proofs.View.{chain_same, chain-class}
 use Rattle.calls.proofs.Build.{built-same}
 use Rattle.calls.proofs.Packages.{inherited-kept}
-use Rattle.calls.proofs.Runs.{table_of, Plain}
+use Rattle.calls.proofs.Tables.{table_of}
+use Rattle.calls.proofs.Runs.{Plain}
 use Rattle.calls.proofs.Fits.{no_interface, no_entry}
 use Rattle.calls.proofs.Theorem.{P, final, table_is, whole_is, chain-made, chain_in, class-within, link_fits, linked-valid}
 

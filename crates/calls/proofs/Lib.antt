@@ -3,6 +3,12 @@ pub mod MovedLinks
 pub mod OldRun
 pub mod ClashRows
 pub mod Linked
+pub mod Like
+pub mod View
+pub mod Build
+pub mod Packages
+pub mod Fits
+pub mod Dispatch
 pub mod RelayedCopies
 pub mod Rows
 pub mod Sources
@@ -11,11 +17,7 @@ pub mod CompilerSlots
 pub mod Members
 pub mod Fine
 pub mod Stays
-pub mod Like
-pub mod View
-pub mod Build
-pub mod Packages
-pub mod Fits
+pub mod Tables
 pub mod Runs
 pub mod Lists
 pub mod Owners
@@ -37,6 +39,7 @@ pub mod BesideLink
 pub mod BesideAsk
 pub mod BesideNext
 pub mod Different
+pub mod Walk
 pub mod NodeLists
 pub mod Elsewhere
 pub mod Wrote
@@ -50,3 +53,7 @@ pub mod ElsewhereStuck
 pub mod Clear
 pub mod ElsewhereAll
 pub mod OneSlot
+pub mod Nodes
+pub mod Kept
+pub mod Found
+pub mod KeptExamples

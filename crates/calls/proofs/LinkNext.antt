@@ -20,13 +20,13 @@ use Rattle.linking.specs.Chain.{chain}
 use Rattle.linking.specs.Abi.{class_abi}
 use Rattle.linking.specs.Vtable.{Built}
 use Rattle.linking.specs.Compiler.{New, no_new}
-use Rattle.linking.specs.Link.{next_free, Plan, is_none, plan_with, new_words, new_statics, Outcome}
+use Rattle.linking.specs.Link.{HasTable, next_free, Plan, is_none, plan_with, new_words, new_statics, Outcome}
 use Rattle.linking.specs.Ask.{missed, head_place}
 use Rattle.linking.proofs.LinkRead.{After, class-name, field-name, field-descriptor}
 use Rattle.linking.proofs.LinkedBack.{Untouched, early}
 use Rattle.linking.proofs.Pairs.{pairs-length}
 use Rattle.linking.proofs.RenumberedPackages.{Held}
-use Rattle.linking.proofs.Rows.{Linked, sound}
+use Rattle.linking.proofs.Rows.{sound}
 use Rattle.calls.specs.Calls.{State, table_at}
 use Rattle.calls.proofs.Area.{linked-slots}
 use Rattle.calls.proofs.Linked.{Leaves}
@@ -37,7 +37,8 @@ use Rattle.calls.proofs.BesideAsk.{SameWalk, both-missed}
 use Rattle.calls.proofs.BesideNext.{method_turned, field_turned, method_then, field_then, left_word, method-left, after-sets, held_turned, held_then, walk_turned, walk_then}
 use Rattle.calls.proofs.Wrote.{Wrote, wrote_after, wrote_leaves, wrote_still, wrote_listed, wrote_brings, wrote_words, wrote_statics, wrote_added, wrote_fields-added, wrote_indices, wrote_field, wrote_index, wrote_past, wrote_fields, wrote_sound, wrote_parent}
 use Rattle.calls.proofs.Elsewhere.{walk_of, Related}
-use Rattle.calls.proofs.NodeLists.{ended_walk, missed_too, few, misses, Layout}
+use Rattle.calls.proofs.NodeLists.{missed_too, few, misses, Layout}
+use Rattle.calls.proofs.Walk.{ended}
 use Rattle.calls.proofs.NodeLinks.{linked-was, wrote_agree, new_word, wrote_walks}
 
 -- ---- one run: another class's members, and its own
@@ -472,14 +473,14 @@ module _ (abi : List ℕ) (E : ℕ → Type 0) (s t : State) (rel : Related abi 
     words = λ i h. let n = left-slots.slots in rw (left-slots.place, left_slots'.place) (table-words i (omega arith));
   }
 
-  linked-there : (d : ℕ) → E d → Linked s.set d → Linked t.set d
+  linked-there : (d : ℕ) → E d → HasTable s.set d → HasTable t.set d
   linked-there d x l = record {
     some = l.some;
     among = omega (arith, l.among, sets.classes);
     has = λ e. l.has (eqb-true (class_table_place s.set d) 0 (sets.linked d (l.some, l.among) x ∙ eq-eqb (class_table_place t.set d) 0 e));
   }
 
-  kept-held : (d : ℕ) → d ≢ c → Linked s.set d → Held s.set o.set s.area o.area d
+  kept-held : (d : ℕ) → d ≢ c → HasTable s.set d → Held s.set o.set s.area o.area d
   kept-held d n l =
       let p : class_table_place o.set d ≡ class_table_place s.set d = other_word abi E s c stubs B o w d table_place_word (l.some, l.among) n (omega arith) in
       let b = (sound s.set s.area rel.sound).below d l in
@@ -489,7 +490,7 @@ module _ (abi : List ℕ) (E : ℕ → Type 0) (s t : State) (rel : Related abi 
         words = λ i h. rw p (sym (wrote_agree abi s c stubs B o w s.missing (class_table_place s.set d + 1 + i) (omega arith) (omega arith)));
       }
 
-  kept_held' : (d : ℕ) → d ≢ c → Linked t.set d → Held t.set o'.set t.area o'.area d
+  kept_held' : (d : ℕ) → d ≢ c → HasTable t.set d → Held t.set o'.set t.area o'.area d
   kept_held' d n l =
       let p : class_table_place o'.set d ≡ class_table_place t.set d =
       other_word abi E t c stubs B' o' w' d table_place_word (l.some, l.among) n (omega arith) in
@@ -500,7 +501,7 @@ module _ (abi : List ℕ) (E : ℕ → Type 0) (s t : State) (rel : Related abi 
         words = λ i h. rw p (sym (wrote_agree abi t c stubs B' o' w' t.missing (class_table_place t.set d + 1 + i) (omega arith) (omega arith)));
       }
 
-  held_next : (d : ℕ) → E d → Linked o.set d → Held o.set o'.set o.area o'.area d
+  held_next : (d : ℕ) → E d → HasTable o.set d → Held o.set o'.set o.area o'.area d
   held_next d x l =
       by (eqb d c)
       (λ q. let e : d ≡ c = eqb-true d c q in rw e own_held)
@@ -518,13 +519,13 @@ module _ (abi : List ℕ) (E : ℕ → Type 0) (s t : State) (rel : Related abi 
     abbrev next' : State
     next' = record { set = o'.set; area = o'.area; missing = missing' }
 
-    not-linked : Linked s.set c → ⊥
+    not-linked : HasTable s.set c → ⊥
     not-linked l = l.has w.class.new
 
-    not_linked' : Linked t.set c → ⊥
+    not_linked' : HasTable t.set c → ⊥
     not_linked' l = l.has w'.class.new
 
-    new-missed : (d : ℕ) → Linked s.set d → (r : ℕ) × (walk_of next d c ≡ missed r)
+    new-missed : (d : ℕ) → HasTable s.set d → (r : ℕ) × (walk_of next d c ≡ missed r)
     new-missed d l =
         let ns = lay.lists d l in
         let f = few s.set s.area ns.nodes in
@@ -532,7 +533,7 @@ module _ (abi : List ℕ) (E : ℕ → Type 0) (s t : State) (rel : Related abi 
         let m = misses s.set s.area c 64 0 ns.nodes (omega arith) not-linked in
         missed_too (wrote_walks abi s c stubs B o w missing lay (omega arith) d c l) m.1
 
-    new_missed' : (d : ℕ) → Linked t.set d → (r : ℕ) × (walk_of next' d c ≡ missed r)
+    new_missed' : (d : ℕ) → HasTable t.set d → (r : ℕ) × (walk_of next' d c ≡ missed r)
     new_missed' d l =
         let ns = lay'.lists d l in
         let f = few t.set t.area ns.nodes in
@@ -541,7 +542,7 @@ module _ (abi : List ℕ) (E : ℕ → Type 0) (s t : State) (rel : Related abi 
         missed_too (wrote_walks abi t c stubs B' o' w' missing' lay' (omega arith) d c l) m.1
 
     -- of another class, for an interface that was linked
-    old-nodes : (d j : ℕ) → E d → E j → Linked s.set d → Linked s.set j
+    old-nodes : (d j : ℕ) → E d → E j → HasTable s.set d → HasTable s.set j
         → SameWalk o.area o'.area (class_slot_count o.set j) (walk_of next d j) (walk_of next' d j)
     old-nodes d j x y l k =
         let n : j ≢ c = λ e. not-linked (rw e at k) in
@@ -553,7 +554,7 @@ module _ (abi : List ℕ) (E : ℕ → Type 0) (s t : State) (rel : Related abi 
         (walk_then (rel.nodes d j x y l k)
         (rw (rel.held j y k).slots (wrote_walks abi t c stubs B' o' w' missing' lay' (omega arith) d j (linked-there d x l)))))
 
-    nodes-next : (d j : ℕ) → E d → E j → Linked o.set d → Linked o.set j
+    nodes-next : (d j : ℕ) → E d → E j → HasTable o.set d → HasTable o.set j
         → SameWalk o.area o'.area (class_slot_count o.set j) (walk_of next d j) (walk_of next' d j)
     nodes-next d j x y l k =
         by (eqb d c)
@@ -561,8 +562,8 @@ module _ (abi : List ℕ) (E : ℕ → Type 0) (s t : State) (rel : Related abi 
         let e : d ≡ c = eqb-true d c q in
         rw (
           e,
-          ended_walk o.area j 64 0 (get_or o.area (head_place o.set c) 0) (new_word abi s c stubs B o w missing),
-          ended_walk o'.area j 64 0 (get_or o'.area (head_place o'.set c) 0) (new_word abi t c stubs B' o' w' missing'),
+          ended o.area j 64 0 (get_or o.area (head_place o.set c) 0) (new_word abi s c stubs B o w missing),
+          ended o'.area j 64 0 (get_or o'.area (head_place o'.set c) 0) (new_word abi t c stubs B' o' w' missing'),
         )
         both-missed)
         (λ q.

@@ -13,6 +13,7 @@ use Rattle.linking.specs.Link.{Plan, is_none, linked_words}
 use Rattle.linking.specs.Grown.{linked_sections}
 use Rattle.linking.proofs.LinkedSections.{lies-of, linked-laid}
 use Rattle.linking.proofs.LinkedBack.{Left, early, linked-left, linked-still, linked-own}
+use Rattle.linking.proofs.Rebuilt.{Unmoved}
 use Rattle.calls.proofs.Like.{Like}
 
 -- all records but class c's are left, which has its place and its slots
@@ -21,6 +22,13 @@ pub record Leaves (old new : List ℕ) (c p n : ℕ) : Type 0 where
   pub others : (d k : ℕ) → 1 ≤ d → d ≤ class_count old → k < class_width → d ≢ c → class_word new d k ≡ class_word old d k
   pub place : class_table_place new c ≡ p
   pub slots : class_slot_count new c ≡ n
+
+-- every other class lists its own methods as before
+pub unmoved-other : {old new : List ℕ} {c p n : ℕ} → Leaves old new c p n → (d : ℕ) → 1 ≤ d → d ≤ class_count old → d ≢ c → Unmoved old new d
+unmoved-other l d s a n = record {
+  first = l.others d first_method_word s a (omega arith) n;
+  many = l.others d method_count_word s a (omega arith) n;
+}
 
 module _ (ws : List ℕ) (c place words statics : ℕ) (p : Plan) (some : 1 ≤ c) (among : c ≤ class_count ws) (fits : content_end ws ≤ length ws)
     (methods : class_first_method ws c + class_method_count ws c ≤ method_count ws) (fields : class_first_field ws c + class_field_count ws c ≤ field_count ws)

@@ -1,64 +1,29 @@
 -- Every list of calls, accepted or refused: what is linked stays, the invariant holds, and what was linked was linked by a call of the list.
 -- Assumes nothing.
-use Rattle.std.proofs.Common.{◌≡◌, refl, sym, ◌∙◌, subst, ◌⊎◌, inl, inr, ◌≢◌, List, [], ◌∷◌, ℕ, ◌+◌, ◌≤◌, ◌<◌, arith, eqb, eqb-true}
+use Rattle.std.proofs.Common.{◌≡◌, refl, sym, ◌∙◌, subst, ◌⊎◌, inl, inr, List, [], ◌∷◌, ℕ, eqb, eqb-true}
 use mathlib.Core.List.{Memᴰ}
 use borrow.Author.Tests.{eqb-false}
 use Rattle.words.proofs.Bools.{by}
-use Rattle.words.proofs.Lists.{part_ext}
 use Rattle.class_sheet.specs.ClassSheet.{class_table_place, class_slot_count}
 use Rattle.set_rules.specs.Valid.{Valid}
-use Rattle.linking.specs.Link.{Outcome, LinkOutcome, link_def}
-use Rattle.linking.specs.Ask.{head_place, asked_area, ask_def}
-use Rattle.linking.proofs.Rows.{Linked}
+use Rattle.linking.specs.Link.{HasTable, Outcome, LinkOutcome, link_def}
+use Rattle.linking.specs.Ask.{ask_def}
 use Rattle.calls.specs.Calls.{Call, link, ask, State, step, run, LinkedIn, now, later, Lent, lent_now, lent_later, stubs_of}
-use Rattle.calls.proofs.Area.{asked-length, asked-before}
 use Rattle.calls.proofs.Rows.{link-cases, Asked, ask-cases}
-use Rattle.calls.proofs.Runs.{table_of, Keeps, keeps_same, still, keeps-next, Inv, made-keeps, whole-keeps, link-keeps, link-inv, new-place, new-slots, new-linked, was}
-
--- a state by its words
-pub same-state : (s : State) (ws area missing : List ℕ) → ws ≡ s.set → area ≡ s.area → missing ≡ s.missing
-    → ◌≡◌ {A = State} (record { set = ws; area = area; missing = missing }) s
-same-state s ws area missing e f g = rw (e, f, g)
+use Rattle.calls.proofs.Tables.{Keeps, keeps_same, still, keeps-next, link-keeps, new-place, new-slots, new-linked, was, ask-next, ask-keeps, ask-tables, same-state}
+use Rattle.calls.proofs.Runs.{Inv, made-keeps, link-inv}
 
 module _ (ws₀ abi : List ℕ) (valid₀ : Valid ws₀) (P : ℕ → Type 0) where
-  -- ---- an ask keeps what is linked: its node lies after all tables, and the list head that it stores to is no slot
+  -- ---- an ask keeps what is linked
 
-  module _ (s : State) (inv : Inv ws₀ abi valid₀ P s) (c i : ℕ) (stubs : List ℕ) (o : Outcome) (asked : Asked s.set c i s.area stubs o) where
-    abbrev next : State
-    next = record { set = o.set; area = o.area; missing = s.missing }
-
-    off_head : (d : ℕ) → Linked s.set d → (j : ℕ) → class_table_place s.set d + 1 ≤ j
-        → j < class_table_place s.set d + 1 + class_slot_count s.set d → j ≢ head_place s.set c
-    off_head d l j h k =
-        by (eqb d c)
-        (λ t. let e : d ≡ c = eqb-true d c t in let k' = rw e at k in omega arith)
-        (λ f. elim (inv.apart d c l asked.class (eqb-false d c f)) [ inl p ↦ omega arith | inr p ↦ omega arith ])
-
-    ask-table : (d : ℕ) → Linked s.set d → table_of (record { set = s.set; area = o.area; missing = s.missing }) d ≡ table_of s d
-    ask-table d l =
-        let b = asked.lent.below d l in
-        let n = l.has in
-        let r = asked.room.free in
-        subst (λ (x : List ℕ). table_of (record { set = s.set; area = x; missing = s.missing }) d ≡ table_of s d) (sym asked.new-area)
-        (part_ext 0 (asked_area s.set s.area c i asked.entries stubs) s.area (class_table_place s.set d + 1) (class_slot_count s.set d)
-        (asked-length s.set s.area c i asked.entries stubs r)
-        (λ j h k. asked-before s.set s.area c i asked.entries stubs r j (omega arith) (omega arith) (off_head d l j h k)))
-
-    ask-next : ◌≡◌ {A = State} next (record { set = s.set; area = o.area; missing = s.missing })
-    ask-next = rw asked.same_set
-
-    ask-keeps : Keeps s (record { set = s.set; area = o.area; missing = s.missing })
-    ask-keeps = record { classes = refl; place = λ d l. refl; slots = λ d l. refl; table = ask-table }
-
-    ask-inv : Inv ws₀ abi valid₀ P (record { set = s.set; area = o.area; missing = s.missing })
-    ask-inv = record {
-      like = inv.like;
-      parent = inv.parent;
-      made = λ d l p. made-keeps ws₀ abi valid₀ P inv ask-keeps d l p;
-      fits = inv.fits;
-      whole = λ d l. whole-keeps ws₀ abi valid₀ P inv ask-keeps d l;
-      apart = inv.apart;
-    }
+  ask-inv : (s : State) → (inv : Inv ws₀ abi valid₀ P s) → (c i : ℕ) (stubs : List ℕ) (o : Outcome) → Asked s.set abi c i s.area stubs o
+      → Inv ws₀ abi valid₀ P (record { set = s.set; area = o.area; missing = s.missing })
+  ask-inv s inv c i stubs o asked = record {
+    tables = ask-tables abi s inv.tables c i stubs o asked;
+    like = inv.like;
+    made = λ d l p. made-keeps ws₀ abi valid₀ P inv (ask-keeps abi s inv.tables c i stubs o asked) d l p;
+    fits = inv.fits;
+  }
 
   -- ---- one call
 
@@ -78,7 +43,7 @@ module _ (ws₀ abi : List ℕ) (valid₀ : Valid ws₀) (P : ℕ → Type 0) wh
       elim (link-cases s.set abi c s.area stubs s.missing) [
         | inl r ↦ stays s inv o.outcome.set o.outcome.area o.missing r.same_set r.same_area r.same-missing
         | inr a ↦ record {
-          keeps = link-keeps ws₀ abi valid₀ P s inv c stubs o a lent;
+          keeps = link-keeps abi s c stubs o a;
           inv = link-inv ws₀ abi valid₀ P s inv c stubs o a lent;
         }
       ]
@@ -86,8 +51,8 @@ module _ (ws₀ abi : List ℕ) (valid₀ : Valid ws₀) (P : ℕ → Type 0) wh
       let o : Outcome = ask_def s.set abi c i s.area stubs in
       elim (ask-cases s.set abi c i s.area stubs) [
         | inl r ↦ stays s inv o.set o.area s.missing r.same_set r.same_area refl
-        | inr a ↦ subst (λ (x : State). Goes s x) (sym (ask-next s inv c i stubs o a))
-            (record { keeps = ask-keeps s inv c i stubs o a; inv = ask-inv s inv c i stubs o a })
+        | inr a ↦ subst (λ (x : State). Goes s x) (sym (ask-next abi s inv.tables c i stubs o a))
+            (record { keeps = ask-keeps abi s inv.tables c i stubs o a; inv = ask-inv s inv c i stubs o a })
       ]
 
   -- ---- all of them
@@ -103,7 +68,7 @@ module _ (ws₀ abi : List ℕ) (valid₀ : Valid ws₀) (P : ℕ → Type 0) wh
   -- ---- the table that a link answered is the class's table after the list
 
   pub record Answered (s : State) (c p n : ℕ) : Type 0 where
-    pub linked : Linked s.set c
+    pub linked : HasTable s.set c
     pub place : class_table_place s.set c ≡ p
     pub slots : class_slot_count s.set c ≡ n
 
@@ -116,13 +81,13 @@ module _ (ws₀ abi : List ℕ) (valid₀ : Valid ws₀) (P : ℕ → Type 0) wh
         | inr a ↦
             let o : LinkOutcome = link_def s.set abi c s.area stubs s.missing in
             let given : (x : ℕ) → Memᴰ x stubs → P x = λ x i. lent x (lent_now i) in
-            let l = new-linked ws₀ abi valid₀ P s inv c stubs o a given in
+            let l = new-linked abi s c stubs o a in
             let k = (run-goes ks (record { set = o.outcome.set; area = o.outcome.area; missing = o.missing })
             (link-inv ws₀ abi valid₀ P s inv c stubs o a given) (λ x i. lent x (lent_later i))).keeps in
             record {
               linked = still k c l;
-              place = k.place c l ∙ new-place ws₀ abi valid₀ P s inv c stubs o a given ∙ sym a.answers-place ∙ f;
-              slots = k.slots c l ∙ new-slots ws₀ abi valid₀ P s inv c stubs o a given ∙ sym a.answers-slots ∙ g;
+              place = k.place c l ∙ new-place abi s c stubs o a ∙ sym a.answers-place ∙ f;
+              slots = k.slots c l ∙ new-slots abi s c stubs o a ∙ sym a.answers-slots ∙ g;
             }
       ]
   answered {s = s} (later {k = k} i) inv lent =
@@ -136,11 +101,11 @@ module _ (ws₀ abi : List ℕ) (valid₀ : Valid ws₀) (P : ℕ → Type 0) wh
     pub found : LinkedIn abi c place slots s ks
 
   step-new : (s : State) → Inv ws₀ abi valid₀ P s → (k : Call) → ((x : ℕ) → Memᴰ x (stubs_of k) → P x) → (ks : List Call) (d : ℕ)
-      → Linked (step abi s k).set d → Linked s.set d ⊎ Somewhere d s (k ∷ ks)
+      → HasTable (step abi s k).set d → HasTable s.set d ⊎ Somewhere d s (k ∷ ks)
   unfolding step
   step-new s inv (link c stubs) lent ks d l =
       elim (link-cases s.set abi c s.area stubs s.missing) [
-        | inl r ↦ inl (subst (λ (x : List ℕ). Linked x d) r.same_set l)
+        | inl r ↦ inl (subst (λ (x : List ℕ). HasTable x d) r.same_set l)
         | inr a ↦
             by (eqb d c)
             (λ t.
@@ -150,16 +115,16 @@ module _ (ws₀ abi : List ℕ) (valid₀ : Valid ws₀) (P : ℕ → Type 0) wh
               slots = (link_def s.set abi c s.area stubs s.missing).outcome.second;
               found = now stubs a.number refl refl;
             })))
-            (λ f. inl (was ws₀ abi valid₀ P s inv c stubs (link_def s.set abi c s.area stubs s.missing) a lent d (eqb-false d c f) l))
+            (λ f. inl (was abi s c stubs (link_def s.set abi c s.area stubs s.missing) a d (eqb-false d c f) l))
       ]
   step-new s inv (ask c i stubs) lent ks d l =
       elim (ask-cases s.set abi c i s.area stubs) [
-        | inl r ↦ inl (subst (λ (x : List ℕ). Linked x d) r.same_set l)
-        | inr a ↦ inl (subst (λ (x : List ℕ). Linked x d) a.same_set l)
+        | inl r ↦ inl (subst (λ (x : List ℕ). HasTable x d) r.same_set l)
+        | inr a ↦ inl (subst (λ (x : List ℕ). HasTable x d) a.same_set l)
       ]
 
-  pub history : (ks : List Call) (s : State) → Inv ws₀ abi valid₀ P s → ((x : ℕ) → Lent x ks → P x) → (d : ℕ) → Linked (run abi ks s).set d
-      → Linked s.set d ⊎ Somewhere d s ks
+  pub history : (ks : List Call) (s : State) → Inv ws₀ abi valid₀ P s → ((x : ℕ) → Lent x ks → P x) → (d : ℕ) → HasTable (run abi ks s).set d
+      → HasTable s.set d ⊎ Somewhere d s ks
   unfolding run
   history [] s inv lent d l = inl l
   history (k ∷ ks) s inv lent d l =

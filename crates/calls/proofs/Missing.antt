@@ -1,7 +1,7 @@
 -- HOW MANY SLOTS ARE MISSING (specs/Missing.antt), after any list of calls. A call keeps every table that stands, and what each is built from; so a table
 -- can be built anew, and its words in the list stay the count made anew. A link's own class, whose list of methods may have grown, has the same table by
 -- the words after the link as by those before it (`linking/proofs/Rebuilt`, `RebuiltGrown`). Assumes nothing.
-use Rattle.std.proofs.Common.{◌≡◌, refl, sym, ap, ◌∙◌, subst, ◌⊎◌, inl, inr, ⊎_elim, ◌≢◌, Bool, true, false, not, ◌&&◌, true≢false, List, [], ◌∷◌, ℕ, zero, suc, ◌+◌, ◌*◌, ◌≤◌, ◌<◌, min, arith, length, get_or, take, drop, eqb, ltb, eqb-true, ne_eqb, eq-eqb, ltb-false, le-ltb}
+use Rattle.std.proofs.Common.{◌≡◌, refl, sym, ap, ◌∙◌, subst, ◌⊎◌, inl, inr, ◌≢◌, Bool, true, false, not, ◌&&◌, true≢false, List, [], ◌∷◌, ℕ, zero, suc, ◌+◌, ◌*◌, ◌≤◌, ◌<◌, min, arith, length, get_or, take, drop, eqb, ltb, eqb-true, ne_eqb, eq-eqb, ltb-false, le-ltb}
 use mathlib.Core.Path.{fun_ext}
 use mathlib.Core.List.Memᴰ
 use mathlib.Core.List.{Memᴰ}
@@ -21,13 +21,12 @@ use Rattle.linking.specs.Vtable.{Entry, empty, Built, read_entry, read_slot, tab
 use Rattle.linking.specs.Packages.{topmost, table_has, introducing, build_packages}
 use Rattle.linking.specs.Compiler.{New, native_view, added_methods, compiler_table}
 use Rattle.linking.specs.Set.{write_at, new_text, section_full}
-use Rattle.linking.specs.Link.{next_free, is_none, built_table, generated_table, generated_methods, lists_full, new_words, new_statics, no_class, Outcome, LinkOutcome, link_def}
+use Rattle.linking.specs.Link.{HasTable, next_free, is_none, built_table, generated_table, generated_methods, lists_full, new_words, new_statics, no_class, Outcome, LinkOutcome, link_def}
 use Rattle.linking.specs.Ask.{ask_def}
 use Rattle.linking.specs.Counts.{bits_of, bit_count, missing_width, pack_bits, missing_at, parent_bit, counted_after, missing_short}
 use Rattle.linking.specs.Missing.{missing_def, entries_built, table_by, recounted_along, recounted}
-use Rattle.linking.proofs.ChainLaws.{parent-within, parent_below, chain-none, chain_more}
+use Rattle.linking.proofs.ChainLaws.{parent-within, chain-none, chain_more}
 use Rattle.linking.proofs.Plans.{Plans, plans}
-use Rattle.linking.proofs.Rows.{Linked}
 use Rattle.linking.proofs.LinkRead.{After, Added, link-after, link-still, link-added}
 use Rattle.linking.proofs.Writes.{length-write}
 use Rattle.linking.proofs.Rebuilt as again
@@ -37,15 +36,12 @@ use Rattle.linking.proofs.RebuiltGrown.{table-grown}
 use Rattle.linking.proofs.Renumbered.{SameBuilt}
 use Rattle.linking.proofs.MissingLaws.{bits-built, bits-ext, word_same, length-same, length-bits, rebuilds, length_pack, own-words, other_words, count-read, parent-read, no_parent}
 use Rattle.linking.proofs.Packed.{text-bytes}
-use Rattle.calls.specs.Calls.{Call, link, ask, State, start, step, run, Unlinked}
-use Rattle.calls.specs.Missing.{HasTable, bits_now, Rebuilt, Counted, left, MissingKept, AskedCount}
-use Rattle.calls.proofs.Like.{alike}
+use Rattle.calls.specs.Calls.{left, Call, link, ask, State, start, step, run, Unlinked}
+use Rattle.calls.specs.Missing.{bits_now, Rebuilt, Counted, MissingKept, AskedCount}
 use Rattle.calls.proofs.Rows.{Accepted, link-cases, ask-cases}
-use Rattle.calls.proofs.Runs.{table_of, Keeps, Inv, link-keeps, link-inv, new-slots, new-table, was}
-use Rattle.calls.proofs.Lists.{same-state, Goes, step-goes}
-use Rattle.calls.proofs.View.{parent-same}
+use Rattle.calls.proofs.Tables.{table_of, Keeps, Tables, none-linked, tables_start, chain-linked, link-keeps, new-slots, new-table, was, link-tables, ask-next, ask-keeps, ask-tables, same-state}
 use Rattle.calls.proofs.Stays.{stays-accepted}
-use Rattle.calls.proofs.Theorem.{run-bad, none-linked, start-inv}
+use Rattle.calls.proofs.Theorem.{run-bad}
 
 -- ---- slots
 
@@ -65,7 +61,7 @@ either_same e f (inr z) = inr (sym e ∙ z ∙ f)
 slot-word : (s : State) (d i : ℕ) → i < class_slot_count s.set d → get_or (table_of s d) i 0 ≡ get_or s.area (class_table_place s.set d + 1 + i) 0
 slot-word s d i h = part_at s.area (class_table_place s.set d + 1) (class_slot_count s.set d) i 0 h
 
-held : (s s' : State) → Keeps s s' → (d : ℕ) → Linked s.set d → Held s.set s'.set s.area s'.area d
+held : (s s' : State) → Keeps s s' → (d : ℕ) → HasTable s.set d → Held s.set s'.set s.area s'.area d
 held s s' k d l = record {
   linked = ap (λ (p : ℕ). eqb p 0) (sym (k.place d l));
   slots = sym (k.slots d l);
@@ -81,36 +77,16 @@ module _ (ws text abi labels area area' : List ℕ) (d : ℕ) (same : parent_ent
   unfolding table_by built_table generated_table build_methods inherited_table build_packages compiler_table added_methods native_view
   table-area = rw (same, first)
 
--- ---- chains of linked classes, by the words that the calls left; of the stubs lent nothing is asked
+-- ---- chains of linked classes
 
-abbrev Whatever : ℕ → Type 0
-Whatever x = Unit {0}
-
-module _ (abi ws₀ : List ℕ) (valid₀ : Valid ws₀) (s : State) (inv : Inv ws₀ abi valid₀ Whatever s) where
-  parent_linked : (d : ℕ) → Linked s.set d → parent_of s.set d ≢ 0 → Linked s.set (parent_of s.set d)
-  parent_linked d l n =
-      let e : parent_of s.set d ≡ parent_of ws₀ d =
-      parent-same ws₀ s.set valid₀ (alike inv.like) d l.some (omega (arith, l.among, inv.like.classes)) in
-      rw e (inv.parent d l (rw e at n))
-
-  chain-linked : (bound d : ℕ) → d ≤ bound → Linked s.set d → (e : ℕ) → Memᴰ e (chain s.set d) → Linked s.set e
-  chain-linked zero d b l e i = absurd (omega (arith, l.some))
-  chain-linked (suc bound) d b l e i =
-      let f = parent_below s.set d l.some in
-      ⊎_elim (λ (q : e ≡ d). rw q l)
-      (λ j.
-      by (eqb (parent_of s.set d) 0)
-      (λ t. absurd (Memᴰ.not-nil (rw (chain-none s.set (parent_of s.set d) (eqb-true (parent_of s.set d) 0 t)) at j)))
-      (λ t. chain-linked bound (parent_of s.set d) (omega arith) (parent_linked d l (eqb-false (parent_of s.set d) 0 t)) e j))
-      (Memᴰ.cases_cons (rw (chain_more s.set d l.some) at i))
-
+module _ (s : State) (tables : Tables s) where
   -- above a class whose parent, if it has one, is linked
-  above-linked : (d : ℕ) → (parent_of s.set d ≢ 0 → Linked s.set (parent_of s.set d)) → (e : ℕ)
-      → Memᴰ e (chain s.set (parent_of s.set d)) → Linked s.set e
+  above-linked : (d : ℕ) → (parent_of s.set d ≢ 0 → HasTable s.set (parent_of s.set d)) → (e : ℕ)
+      → Memᴰ e (chain s.set (parent_of s.set d)) → HasTable s.set e
   above-linked d p e i =
       by (eqb (parent_of s.set d) 0)
       (λ t. absurd (Memᴰ.not-nil (rw (chain-none s.set (parent_of s.set d) (eqb-true (parent_of s.set d) 0 t)) at i)))
-      (λ t. chain-linked (parent_of s.set d) (parent_of s.set d) (omega arith) (p (eqb-false (parent_of s.set d) 0 t)) e i)
+      (λ t. chain-linked s tables (parent_of s.set d) (p (eqb-false (parent_of s.set d) 0 t)) e i)
 
 -- ---- tables and counts made anew
 
@@ -129,7 +105,7 @@ module _ (abi : List ℕ) where
       rw (along-same s s' es (λ d i. h d (Memᴰ.tail i))) (bits-built (λ j. get_or (along_now s' es) j false) (h e (Memᴰ.head refl)))
 
   -- a class whose table stands and is built alike
-  rebuilt-same : (s s' : State) → Keeps s s' → (d : ℕ) → Linked s.set d → SameBuilt Any (table_now s d) (table_now s' d) → Rebuilt abi s d → Rebuilt abi s' d
+  rebuilt-same : (s s' : State) → Keeps s s' → (d : ℕ) → HasTable s.set d → SameBuilt Any (table_now s d) (table_now s' d) → Rebuilt abi s d → Rebuilt abi s' d
   rebuilt-same s s' k d l same q =
       let r = rebuilds same q.entries q.anew in
       record {
@@ -153,7 +129,7 @@ module _ (abi : List ℕ) (s : State) (c : ℕ) (stubs : List ℕ) (o : LinkOutc
   planning : Plans s.set (text_of s.set) abi (abi_text_of abi) s.area c acc.coming
   planning = plans s.set (text_of s.set) abi (abi_text_of abi) s.area c acc.coming acc.comes
 
-  one : (d : ℕ) → Linked s.set d → d ≢ c
+  one : (d : ℕ) → HasTable s.set d → d ≢ c
   one d l e = l.has (rw e acc.class.new)
 
   inside : class_first_field s.set c + length acc.coming.indices ≤ field_count s.set
@@ -248,36 +224,33 @@ module _ (abi : List ℕ) (s : State) (c : ℕ) (stubs : List ℕ) (o : LinkOutc
 
   -- ---- and the tables after it, built anew
 
-  module _ (ws₀ : List ℕ) (valid₀ : Valid ws₀) (inv : Inv ws₀ abi valid₀ Whatever s) where
+  module _ (tables : Tables s) where
     keeps : Keeps s next
-    keeps = link-keeps ws₀ abi valid₀ Whatever s inv c stubs o acc (λ x i. tt)
+    keeps = link-keeps abi s c stubs o acc
 
-    above : (d : ℕ) → (parent_of s.set d ≢ 0 → Linked s.set (parent_of s.set d)) → (e : ℕ)
-        → Memᴰ e (chain s.set (parent_of s.set d)) → Linked s.set e
-    above = above-linked abi ws₀ valid₀ s inv
+    above : (d : ℕ) → (parent_of s.set d ≢ 0 → HasTable s.set (parent_of s.set d)) → (e : ℕ)
+        → Memᴰ e (chain s.set (parent_of s.set d)) → HasTable s.set e
+    above = above-linked s tables
 
     -- classes that were linked
 
-    parent-of : (d : ℕ) → Linked s.set d → parent_of s.set d ≢ 0 → Linked s.set (parent_of s.set d)
-    parent-of = parent_linked abi ws₀ valid₀ s inv
-
-    unmoved : (e : ℕ) → Linked s.set e → Unmoved s.set next.set e
+    unmoved : (e : ℕ) → HasTable s.set e → Unmoved s.set next.set e
     unmoved e l = unmoved-other s.set next.set abi c valid-now after moves e (l.some, l.among) (one e l)
 
-    table-other : (d : ℕ) → Linked s.set d → SameBuilt Any (table_now abi s d) (table_now abi next d)
+    table-other : (d : ℕ) → HasTable s.set d → SameBuilt Any (table_now abi s d) (table_now abi next d)
     table-other d l =
         table-held s.set next.set abi s.area next.area c valid-now after moves here.0 here.1 d (l.some, l.among)
-        (λ e i. held s next keeps e (above d (parent-of d l) e i)) (λ e i. unmoved e (above d (parent-of d l) e i)) (unmoved d l)
+        (λ e i. held s next keeps e (above d (tables.parent d l) e i)) (λ e i. unmoved e (above d (tables.parent d l) e i)) (unmoved d l)
 
-    pub bits-other : (d : ℕ) → Linked s.set d → bits_now abi s d ≡ bits_now abi next d
+    pub bits-other : (d : ℕ) → HasTable s.set d → bits_now abi s d ≡ bits_now abi next d
     unfolding recounted
     bits-other d l =
         rw (← chain_same s.set next.set abi c valid-now after moves d l.among)
-        (along-same abi s next (chain s.set d) (λ e i. table-other e (chain-linked abi ws₀ valid₀ s inv d d (omega arith) l e i)))
+        (along-same abi s next (chain s.set d) (λ e i. table-other e (chain-linked s tables d l e i)))
 
     -- the class itself
 
-    parent_c : parent_of s.set c ≢ 0 → Linked s.set (parent_of s.set c)
+    parent_c : parent_of s.set c ≢ 0 → HasTable s.set (parent_of s.set c)
     parent_c n = let w = parent-within s.set c in record { some = omega arith; among = omega (arith, here.1); has = acc.class.parent n }
 
     held_c : (e : ℕ) → Memᴰ e (chain s.set (parent_of s.set c)) → Held s.set next.set s.area next.area e
@@ -301,16 +274,16 @@ module _ (abi : List ℕ) (s : State) (c : ℕ) (stubs : List ℕ) (o : LinkOutc
         record {
           entries = r.entries;
           anew = r.shown;
-          many = sym (length-same r.same) ∙ sym (new-slots ws₀ abi valid₀ Whatever s inv c stubs o acc (λ x i. tt));
+          many = sym (length-same r.same) ∙ sym (new-slots abi s c stubs o acc);
           words = λ i h.
               either_same (word_same r.same i)
-              (ap (λ (t : List ℕ). get_or t i 0) (sym (new-table ws₀ abi valid₀ Whatever s inv c stubs o acc (λ x i. tt))))
+              (ap (λ (t : List ℕ). get_or t i 0) (sym (new-table abi s c stubs o acc)))
               (entry-word stubs 0 T i (omega (arith, length-same r.same)));
         }
 
     -- ---- the counts
 
-    module _ (counted : (d : ℕ) → Linked s.set d → Counted abi s d) where
+    module _ (counted : (d : ℕ) → HasTable s.set d → Counted abi s d) where
       -- the bits of the parent's slots, kept and made anew
       pub parent-bits : (j : ℕ) → get_or (bits_now abi next parent) j false ≡ parent_bit s.missing parent j
       unfolding recounted recounted_along
@@ -345,11 +318,11 @@ module _ (abi : List ℕ) (s : State) (c : ℕ) (stubs : List ℕ) (o : LinkOutc
         words = ap (λ (x : List ℕ). take missing_width (drop (missing_at c) x)) list-is
             ∙ own-words s.missing (pack_bits bits) c (length_pack bits) room-list ∙ ap pack_bits (sym bits_c);
         many = ap length bits_c ∙ length-bits (parent_bit s.missing parent) T
-            ∙ sym (new-slots ws₀ abi valid₀ Whatever s inv c stubs o acc (λ x i. tt));
+            ∙ sym (new-slots abi s c stubs o acc);
         long = long-next;
       }
 
-      counted-other : (d : ℕ) → Linked s.set d → Counted abi next d
+      counted-other : (d : ℕ) → HasTable s.set d → Counted abi next d
       counted-other d l =
           let k = counted d l in
           record {
@@ -362,26 +335,26 @@ module _ (abi : List ℕ) (s : State) (c : ℕ) (stubs : List ℕ) (o : LinkOutc
 
 -- ---- a call that leaves the set and every table, as an ask does
 
-module _ (abi ws₀ : List ℕ) (valid₀ : Valid ws₀) (s : State) (inv : Inv ws₀ abi valid₀ Whatever s) (area : List ℕ)
+module _ (abi : List ℕ) (s : State) (tables : Tables s) (area : List ℕ)
     (keeps : Keeps s (record { set = s.set; area = area; missing = s.missing })) where
   abbrev asked : State
   asked = record { set = s.set; area = area; missing = s.missing }
 
-  parents-kept : (d : ℕ) → Linked s.set d
+  parents-kept : (d : ℕ) → HasTable s.set d
       → parent_entries s.set (text_of s.set) abi (abi_text_of abi) s.area d ≡ parent_entries s.set (text_of s.set) abi (abi_text_of abi) area d
   unfolding parent_entries table_entries read_slot
   parents-kept d l =
       let p : ℕ = parent_of s.set d in
       by (eqb p 0) (λ t. rw t refl)
       (λ t.
-      let h = held s asked keeps p (parent_linked abi ws₀ valid₀ s inv d l (eqb-false p 0 t)) in
+      let h = held s asked keeps p (tables.parent d l (eqb-false p 0 t)) in
       rw t
       (list_ext (λ i. read_entry s.set (text_of s.set) abi (abi_text_of abi) p i (get_or s.area (class_table_place s.set p + 1 + i) 0))
       (λ i. read_entry s.set (text_of s.set) abi (abi_text_of abi) p i (get_or area (class_table_place s.set p + 1 + i) 0)) 0
       (min (class_slot_count s.set p) 1024)
       (λ i b. ap (read_entry s.set (text_of s.set) abi (abi_text_of abi) p i) (h.words i (omega arith)))))
 
-  first-kept : (d : ℕ) → Linked s.set d → (i : ℕ)
+  first-kept : (d : ℕ) → HasTable s.set d → (i : ℕ)
       → introducing s.set (text_of s.set) abi (abi_text_of abi) s.area (parent_of s.set d) i
       ≡ introducing s.set (text_of s.set) abi (abi_text_of abi) area (parent_of s.set d) i
   unfolding introducing read_slot read_entry
@@ -389,23 +362,23 @@ module _ (abi ws₀ : List ℕ) (valid₀ : Valid ws₀) (s : State) (inv : Inv 
       by-found (topmost (table_has s.set i) (chain s.set (parent_of s.set d)))
       (λ e q.
       let r = last_of (table_has s.set i) (chain s.set (parent_of s.set d)) e q in
-      let h = held s asked keeps e (above-linked abi ws₀ valid₀ s inv d (parent_linked abi ws₀ valid₀ s inv d l) e r.0) in
+      let h = held s asked keeps e (above-linked s tables d (tables.parent d l) e r.0) in
       rw (q, h.words i (has-below s.set i e r.1)))
       (λ q. rw q)
 
-  table_kept : (d : ℕ) → Linked s.set d → table_now abi s d ≡ table_now abi asked d
+  table_kept : (d : ℕ) → HasTable s.set d → table_now abi s d ≡ table_now abi asked d
   table_kept d l = table-area s.set (text_of s.set) abi (abi_text_of abi) s.area area d (parents-kept d l) (fun_ext (first-kept d l))
 
-  along-kept : (cs : List ℕ) → ((e : ℕ) → Memᴰ e cs → Linked s.set e) → along_now abi s cs ≡ along_now abi asked cs
+  along-kept : (cs : List ℕ) → ((e : ℕ) → Memᴰ e cs → HasTable s.set e) → along_now abi s cs ≡ along_now abi asked cs
   unfolding recounted_along
   along-kept [] h = refl
   along-kept (e ∷ es) h = rw (along-kept es (λ d i. h d (Memᴰ.tail i)), table_kept e (h e (Memᴰ.head refl)))
 
-  pub bits-kept : (d : ℕ) → Linked s.set d → bits_now abi s d ≡ bits_now abi asked d
+  pub bits-kept : (d : ℕ) → HasTable s.set d → bits_now abi s d ≡ bits_now abi asked d
   unfolding recounted
-  bits-kept d l = along-kept (chain s.set d) (λ e i. chain-linked abi ws₀ valid₀ s inv d d (omega arith) l e i)
+  bits-kept d l = along-kept (chain s.set d) (λ e i. chain-linked s tables d l e i)
 
-  rebuilt-kept : (d : ℕ) → Linked s.set d → Rebuilt abi s d → Rebuilt abi asked d
+  rebuilt-kept : (d : ℕ) → HasTable s.set d → Rebuilt abi s d → Rebuilt abi asked d
   rebuilt-kept d l k = record {
     entries = k.entries;
     anew = sym (table_kept d l) ∙ k.anew;
@@ -413,7 +386,7 @@ module _ (abi ws₀ : List ℕ) (valid₀ : Valid ws₀) (s : State) (inv : Inv 
     words = λ i h. either_same refl (ap (λ (t : List ℕ). get_or t i 0) (sym (keeps.table d l))) (k.words i h);
   }
 
-  counted-kept : (d : ℕ) → Linked s.set d → Counted abi s d → Counted abi asked d
+  counted-kept : (d : ℕ) → HasTable s.set d → Counted abi s d → Counted abi asked d
   counted-kept d l k = record {
     words = k.words ∙ ap pack_bits (bits-kept d l);
     many = ap length (sym (bits-kept d l)) ∙ k.many;
@@ -422,46 +395,46 @@ module _ (abi ws₀ : List ℕ) (valid₀ : Valid ws₀) (s : State) (inv : Inv 
 
 -- ---- one call, and all of them
 
-module _ (abi ws₀ : List ℕ) (valid₀ : Valid ws₀) where
+module _ (abi : List ℕ) where
   pub record Holds (s : State) : Type 0 where
-    pub inv : Inv ws₀ abi valid₀ Whatever s
-    pub rebuilt : (d : ℕ) → Linked s.set d → Rebuilt abi s d
-    pub counted : (d : ℕ) → Linked s.set d → Counted abi s d
+    pub tables : Tables s
+    pub rebuilt : (d : ℕ) → HasTable s.set d → Rebuilt abi s d
+    pub counted : (d : ℕ) → HasTable s.set d → Counted abi s d
 
   pub link-holds : (s : State) → Holds s → (c : ℕ) (stubs : List ℕ) (o : LinkOutcome) → Accepted s.set abi c s.area stubs s.missing o
       → Holds (record { set = o.outcome.set; area = o.outcome.area; missing = o.missing })
   link-holds s h c stubs o acc =
-      let old : (d : ℕ) → d ≢ c → Linked o.outcome.set d → Linked s.set d = was ws₀ abi valid₀ Whatever s h.inv c stubs o acc (λ x i. tt) in
+      let old : (d : ℕ) → d ≢ c → HasTable o.outcome.set d → HasTable s.set d = was abi s c stubs o acc in
       record {
-        inv = link-inv ws₀ abi valid₀ Whatever s h.inv c stubs o acc (λ x i. tt);
+        tables = link-tables abi s c stubs o acc h.tables;
         rebuilt = λ d l.
             by (eqb d c)
-            (λ t. let e : d ≡ c = eqb-true d c t in rw e (rebuilt_c abi s c stubs o acc ws₀ valid₀ h.inv))
+            (λ t. let e : d ≡ c = eqb-true d c t in rw e (rebuilt_c abi s c stubs o acc h.tables))
             (λ t.
             let m = old d (eqb-false d c t) l in
-            rebuilt-same abi s (next abi s c stubs o acc) (keeps abi s c stubs o acc ws₀ valid₀ h.inv) d m
-            (table-other abi s c stubs o acc ws₀ valid₀ h.inv d m) (h.rebuilt d m));
+            rebuilt-same abi s (next abi s c stubs o acc) (keeps abi s c stubs o acc h.tables) d m
+            (table-other abi s c stubs o acc h.tables d m) (h.rebuilt d m));
         counted = λ d l.
             by (eqb d c)
-            (λ t. let e : d ≡ c = eqb-true d c t in rw e (counted_c abi s c stubs o acc ws₀ valid₀ h.inv h.counted))
-            (λ t. counted-other abi s c stubs o acc ws₀ valid₀ h.inv h.counted d (old d (eqb-false d c t) l));
+            (λ t. let e : d ≡ c = eqb-true d c t in rw e (counted_c abi s c stubs o acc h.tables h.counted))
+            (λ t. counted-other abi s c stubs o acc h.tables h.counted d (old d (eqb-false d c t) l));
       }
 
   pub ask_holds : (s : State) → Holds s → (c i : ℕ) (stubs : List ℕ) → Holds (step abi s (ask c i stubs))
   unfolding step
   ask_holds s h c i stubs =
       let o : Outcome = ask_def s.set abi c i s.area stubs in
-      let e : o.set ≡ s.set = elim (ask-cases s.set abi c i s.area stubs) [ inl r ↦ r.same_set | inr a ↦ a.same_set ] in
-      let g : Goes ws₀ abi valid₀ Whatever s (record { set = o.set; area = o.area; missing = s.missing }) =
-      step-goes ws₀ abi valid₀ Whatever s h.inv (ask c i stubs) (λ x j. tt) in
-      let g' : Goes ws₀ abi valid₀ Whatever s (record { set = s.set; area = o.area; missing = s.missing }) =
-      subst (λ (x : List ℕ). Goes ws₀ abi valid₀ Whatever s (record { set = x; area = o.area; missing = s.missing })) e g in
-      subst (λ (x : List ℕ). Holds (record { set = x; area = o.area; missing = s.missing })) (sym e)
-      (record {
-        inv = g'.inv;
-        rebuilt = λ d l. rebuilt-kept abi ws₀ valid₀ s h.inv o.area g'.keeps d l (h.rebuilt d l);
-        counted = λ d l. counted-kept abi ws₀ valid₀ s h.inv o.area g'.keeps d l (h.counted d l);
-      })
+      elim (ask-cases s.set abi c i s.area stubs) [
+        | inl r ↦ subst (λ (x : State). Holds x) (sym (same-state s o.set o.area s.missing r.same_set r.same_area refl)) h
+        | inr a ↦
+            let k = ask-keeps abi s h.tables c i stubs o a in
+            subst (λ (x : State). Holds x) (sym (ask-next abi s h.tables c i stubs o a))
+            (record {
+              tables = ask-tables abi s h.tables c i stubs o a;
+              rebuilt = λ d l. rebuilt-kept abi s h.tables o.area k d l (h.rebuilt d l);
+              counted = λ d l. counted-kept abi s h.tables o.area k d l (h.counted d l);
+            })
+      ]
 
   step-holds : (s : State) → Holds s → (k : Call) → Holds (step abi s k)
   unfolding step
@@ -485,37 +458,32 @@ module _ (ws abi area missing : List ℕ) (unlinked : Unlinked ws) (calls : List
   abbrev final : State
   final = run abi calls (start ws area missing)
 
-  -- rows 3 to 5 passed the set at the start, or no class is linked
-  holds : (valid₀ : Valid ws) → Holds abi ws valid₀ final
-  holds valid₀ =
-      run_holds abi ws valid₀ calls (start ws area missing)
+  holds : Holds abi final
+  holds =
+      run_holds abi calls (start ws area missing)
       (record {
-        inv = start-inv ws abi area missing valid₀ unlinked Whatever;
+        tables = tables_start ws area missing unlinked;
         rebuilt = λ d l. absurd (none-linked unlinked l);
         counted = λ d l. absurd (none-linked unlinked l);
       })
 
-  pub start-accepted : (c : ℕ) → HasTable final c → set_refusal ws abi ≡ 0
+  -- rows 3 to 5 passed the set at the start, or no class is linked
+  pub start-accepted : (c : ℕ) → HasTable final.set c → set_refusal ws abi ≡ 0
   start-accepted c l =
       by (eqb (set_refusal ws abi) 0) (λ t. eqb-true (set_refusal ws abi) 0 t)
       (λ t.
       let e = run-bad ws abi (eqb-false (set_refusal ws abi) 0 t) calls (start ws area missing) refl in
       absurd (none-linked unlinked (record { some = l.some; among = rw e at l.among; has = rw e at l.has })))
 
-  holds-now : (c : ℕ) → HasTable final c → Rebuilt abi final c × Counted abi final c
-  holds-now c l =
-      let h = holds (valid ws abi (start-accepted c l)).0 in
-      let k : Linked final.set c = record { some = l.some; among = l.among; has = l.has } in (h.rebuilt c k, h.counted c k)
-
 pub missing-kept : MissingKept
 missing-kept = record {
-  rebuilt = λ ws abi area missing unlinked calls c l. (holds-now ws abi area missing unlinked calls c l).0;
-  counted = λ ws abi area missing unlinked calls c l. (holds-now ws abi area missing unlinked calls c l).1;
+  rebuilt = λ ws abi area missing unlinked calls c l. (holds ws abi area missing unlinked calls).rebuilt c l;
+  counted = λ ws abi area missing unlinked calls c l. (holds ws abi area missing unlinked calls).counted c l;
 }
 
 -- ---- asking: no row refuses, and the word that it reads is the first of the class's
 
-read_count : (abi : List ℕ) (s : State) (c : ℕ) → HasTable s c → set_refusal s.set abi ≡ 0 → Counted abi s c
+read_count : (abi : List ℕ) (s : State) (c : ℕ) → HasTable s.set c → set_refusal s.set abi ≡ 0 → Counted abi s c
     → missing_def s.set abi s.missing c ≡ record { refusal = 0; count = bit_count (bits_now abi s c) }
 unfolding missing_def no_class missing_short
 read_count abi s c l e k =

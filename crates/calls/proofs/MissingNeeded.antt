@@ -6,6 +6,7 @@ use borrow.Author.Tests.{eqb-false}
 use Rattle.words.specs.Lists.{list_from}
 use Rattle.class_sheet.specs.ClassSheet.{class_count, method_count, class_table_place, class_slot_count}
 use Rattle.linking.specs.Counts.{missing_at, bit_count}
+use Rattle.linking.specs.Link.{HasTable}
 use Rattle.linking.specs.Missing.{missing_def}
 use Rattle.linking.proofs.Assemble as assemble
 use Rattle.linking.proofs.Assemble.{flagged, method, built, compiled, array, linked_at, slot, abi, class_sheet, abi_sheet, lent, spare, fresh, sevens, stubs_of}
@@ -13,7 +14,7 @@ use Rattle.linking.proofs.Packaged.{packaged}
 use Rattle.linking.proofs.Opened.{opened}
 use Rattle.linking.proofs.MissingLaws.{count-read}
 use Rattle.calls.specs.Calls.{Call, State, link, start, run}
-use Rattle.calls.specs.Missing.{HasTable, bits_now, Counted}
+use Rattle.calls.specs.Missing.{bits_now, Counted}
 use Rattle.calls.proofs.Tests.{is_unlinked, unlinked-holds, shown}
 use Rattle.calls.proofs.Missing.{missing-kept, asked-count}
 
@@ -54,7 +55,7 @@ unfolding opened shown ws sheet final counts
 rows = record { each = refl; methods = refl }
 
 -- a class is linked, by tests
-linked-by : (s : State) (c : ℕ) → leb 1 c ≡ true → leb c (class_count s.set) ≡ true → eqb (class_table_place s.set c) 0 ≡ false → HasTable s c
+linked-by : (s : State) (c : ℕ) → leb 1 c ≡ true → leb c (class_count s.set) ≡ true → eqb (class_table_place s.set c) 0 ≡ false → HasTable s.set c
 linked-by s c e f g =
     record { some = leb-true 1 c e; among = leb-true c (class_count s.set) f; has = eqb-false (class_table_place s.set c) 0 g }
 
@@ -64,7 +65,7 @@ unlinked : is_unlinked ws ≡ true
 unfolding opened shown ws
 unlinked = refl
 
-grown : HasTable final 4
+grown : HasTable final.set 4
 unfolding opened shown ws sheet final
 grown = linked-by final 4 refl refl refl
 
@@ -115,7 +116,7 @@ other_sheet =
 
 -- the class is linked, as the theorem asks, and its words are not the count made anew
 abbrev pub Stale : State → ℕ → Type 0
-Stale s c = HasTable s c × (Counted (abi_sheet []) s c → ⊥)
+Stale s c = HasTable s.set c × (Counted (abi_sheet []) s c → ⊥)
 
 pub record Needed : Type 0 where
   pub unlinked : Stale linked_before 1

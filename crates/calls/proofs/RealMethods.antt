@@ -15,12 +15,11 @@ use Rattle.linking.specs.Chain.{own_methods, parent_of}
 use Rattle.linking.specs.Abi.{class_abi, chain_abi}
 use Rattle.linking.specs.Vtable.{Entry, empty, built, read_entry, method_entry, slot_word, slot_words}
 use Rattle.linking.specs.Counts.{is_counted, bits_of, missing_bit, parent_bit}
-use Rattle.linking.specs.Link.{Outcome, LinkOutcome, link_def}
+use Rattle.linking.specs.Link.{HasTable, Outcome, LinkOutcome, link_def}
 use Rattle.linking.specs.Ask.{ask_def}
 use Rattle.linking.specs.Missing.{recounted_along, recounted}
 use Rattle.linking.proofs.ChainLaws.{parent_below, chain-none}
 use Rattle.linking.proofs.Plans.{built-same}
-use Rattle.linking.proofs.Rows.{Linked}
 use Rattle.linking.proofs.MissingLaws.{bits-ext, bit-read, bits_at}
 use Rattle.slots.specs.Slots.{ChainMethod}
 use Rattle.slots.specs.Made.{read_words, start_from, table_from, inherited_from, introduced_from, packages_from, made_from}
@@ -29,16 +28,16 @@ use Rattle.slots.proofs.EntryFacts.{own-word, stub-word}
 use Rattle.slots.proofs.ReadFacts.{length-words, word_at}
 use Rattle.calls.specs.Calls.{Call, link, ask, State, start, step, run, Unlinked, LinkedIn, table_at, Lent, lent_now, lent_later, stubs_of}
 use Rattle.calls.specs.Demand.{Conditions}
-use Rattle.calls.specs.Missing.{bits_now, HasTable, NoRealMethod}
+use Rattle.calls.specs.Missing.{bits_now, NoRealMethod}
 use Rattle.calls.proofs.Rows.{Accepted, link-cases, ask-cases}
-use Rattle.calls.proofs.Runs as runs
-use Rattle.calls.proofs.Runs.{table_of, Keeps, Plain, plain-up, Inv, in_at, link-keeps, link-inv, new-table, new-from, parent_is, was}
-use Rattle.calls.proofs.Lists.{same-state, Goes, step-goes}
+use Rattle.calls.proofs.Tables.{table_of, Keeps, none-linked, tables_start, link-keeps, new-table, was, same-state}
+use Rattle.calls.proofs.Runs.{Plain, plain-up, Inv, in_at, link-inv, new-from, parent_is, parent-linked₀, parent-of}
+use Rattle.calls.proofs.Lists.{Goes, step-goes}
 use Rattle.calls.proofs.Fits.{one_rule}
 use Rattle.calls.proofs.Sources.{All, none, all-at, all-each, relayed-all, extended-all, adds-all, packages-all}
 use Rattle.calls.proofs.Missing.{Holds, link-holds, ask_holds, bits-other, bits_c, parent-bits, bits-kept, missing-kept, start-accepted}
 use Rattle.calls.proofs.Stays.{stays-accepted}
-use Rattle.calls.proofs.Theorem.{none-linked, start-inv, after, table_is, whole_is, link_fits, linked-valid}
+use Rattle.calls.proofs.Theorem.{start-inv, after, table_is, whole_is, link_fits, linked-valid}
 
 -- ---- one bit
 
@@ -131,8 +130,8 @@ module _ (ws₀ abi : List ℕ) (valid₀ : Valid ws₀) (P : ℕ → Type 0) wh
   unfolding recounted recounted_along
   no_bits s = rw (chain-none s.set 0 refl)
 
-  module _ (s s' : State) (keeps : Keeps s s') (same : (e : ℕ) → Linked s.set e → bits_now abi s e ≡ bits_now abi s' e) (d : ℕ)
-      (parent : parent_of ws₀ d ≢ 0 → Linked s.set (parent_of ws₀ d)) where
+  module _ (s s' : State) (keeps : Keeps s s') (same : (e : ℕ) → HasTable s.set e → bits_now abi s e ≡ bits_now abi s' e) (d : ℕ)
+      (parent : parent_of ws₀ d ≢ 0 → HasTable s.set (parent_of ws₀ d)) where
     same-parent : parent_table ws₀ abi (table_of s') d ≡ parent_table ws₀ abi (table_of s) d
     same-parent =
         by (eqb (parent_of ws₀ d) 0) (λ t. rw t)
@@ -144,7 +143,7 @@ module _ (ws₀ abi : List ℕ) (valid₀ : Valid ws₀) (P : ℕ → Type 0) wh
         (λ t. let e : parent_of ws₀ d ≡ 0 = eqb-true (parent_of ws₀ d) 0 t in rw e (no_bits s ∙ sym (no_bits s')))
         (λ t. same (parent_of ws₀ d) (parent (eqb-false (parent_of ws₀ d) 0 t)))
 
-    pub witness-next : Linked s.set d → Witness s d → Witness s' d
+    pub witness-next : HasTable s.set d → Witness s d → Witness s' d
     witness-next l w = record {
       entries = w.entries;
       stubs = w.stubs;
@@ -155,9 +154,9 @@ module _ (ws₀ abi : List ℕ) (valid₀ : Valid ws₀) (P : ℕ → Type 0) wh
     }
 
   pub record Stands (s : State) : Type 0 where
-    pub holds : Holds abi ws₀ valid₀ s
+    pub holds : Holds abi s
     pub inv : Inv ws₀ abi valid₀ P s
-    pub witness : (d : ℕ) → Linked s.set d → Plain ws₀ d → Witness s d
+    pub witness : (d : ℕ) → HasTable s.set d → Plain ws₀ d → Witness s d
 
   -- an accepted link
 
@@ -167,10 +166,10 @@ module _ (ws₀ abi : List ℕ) (valid₀ : Valid ws₀) (P : ℕ → Type 0) wh
     next = record { set = o.outcome.set; area = o.outcome.area; missing = o.missing }
 
     keeps : Keeps s next
-    keeps = link-keeps ws₀ abi valid₀ P s st.inv c stubs o acc lent
+    keeps = link-keeps abi s c stubs o acc
 
-    same : (e : ℕ) → Linked s.set e → bits_now abi s e ≡ bits_now abi next e
-    same = bits-other abi s c stubs o acc ws₀ valid₀ st.holds.inv
+    same : (e : ℕ) → HasTable s.set e → bits_now abi s e ≡ bits_now abi next e
+    same = bits-other abi s c stubs o acc st.holds.tables
 
     abbrev T : List Entry
     T = acc.coming.table
@@ -178,9 +177,9 @@ module _ (ws₀ abi : List ℕ) (valid₀ : Valid ws₀) (P : ℕ → Type 0) wh
     bits-here : bits_now abi next c ≡ bits_of (λ j. get_or (bits_now abi next (parent_of ws₀ c)) j false) T
     bits-here =
         let p : ℕ = parent_of s.set c in
-        bits_c abi s c stubs o acc ws₀ valid₀ st.holds.inv st.holds.counted
+        bits_c abi s c stubs o acc st.holds.tables st.holds.counted
         ∙ bits-ext (parent_bit s.missing p) (λ j. get_or (bits_now abi next p) j false)
-        (λ j. sym (parent-bits abi s c stubs o acc ws₀ valid₀ st.holds.inv st.holds.counted j)) T
+        (λ j. sym (parent-bits abi s c stubs o acc st.holds.tables st.holds.counted j)) T
         ∙ ap (λ (q : ℕ). bits_of (λ j. get_or (bits_now abi next q) j false) T) (parent_is ws₀ abi valid₀ P s st.inv c stubs o acc lent)
 
     witness-here : Plain ws₀ c → Witness next c
@@ -188,23 +187,23 @@ module _ (ws₀ abi : List ℕ) (valid₀ : Valid ws₀) (P : ℕ → Type 0) wh
       entries = T;
       stubs = stubs;
       lent = λ i h. lent (get_or stubs i 0) (in_at stubs i (omega (arith, acc.room.stubbed)));
-      words = new-table ws₀ abi valid₀ P s st.inv c stubs o acc lent;
+      words = new-table abi s c stubs o acc;
       origins = subst (λ (t : List ℕ). All (From ws₀ t c) T)
-          (sym (same-parent s next keeps same c (runs.parent_linked ws₀ abi valid₀ P s st.inv c stubs o acc lent)))
+          (sym (same-parent s next keeps same c (parent-linked₀ ws₀ abi valid₀ P s st.inv c stubs o acc lent)))
           (from-made ws₀ abi (table_of s) c T (new-from ws₀ abi valid₀ P s st.inv c stubs o acc lent p));
       bits = bits-here;
     }
 
     link-stands : Stands next
     link-stands = record {
-      holds = link-holds abi ws₀ valid₀ s st.holds c stubs o acc;
+      holds = link-holds abi s st.holds c stubs o acc;
       inv = link-inv ws₀ abi valid₀ P s st.inv c stubs o acc lent;
       witness = λ d l p.
           by (eqb d c)
           (λ t. let e : d ≡ c = eqb-true d c t in rw e (witness-here (rw e at p)))
           (λ t.
-          let m = was ws₀ abi valid₀ P s st.inv c stubs o acc lent d (eqb-false d c t) l in
-          witness-next s next keeps same d (st.inv.parent d m) m (st.witness d m p));
+          let m = was abi s c stubs o acc d (eqb-false d c t) l in
+          witness-next s next keeps same d (parent-of ws₀ abi valid₀ P st.inv d m) m (st.witness d m p));
     }
 
   -- an ask
@@ -218,15 +217,15 @@ module _ (ws₀ abi : List ℕ) (valid₀ : Valid ws₀) (P : ℕ → Type 0) wh
       unfold step in step-goes ws₀ abi valid₀ P s st.inv (ask c i stubs) lent in
       let g' : Goes ws₀ abi valid₀ P s (record { set = s.set; area = o.area; missing = s.missing }) =
       subst (λ (x : List ℕ). Goes ws₀ abi valid₀ P s (record { set = x; area = o.area; missing = s.missing })) e g in
-      let h : Holds abi ws₀ valid₀ (record { set = o.set; area = o.area; missing = s.missing }) =
-      unfold step in ask_holds abi ws₀ valid₀ s st.holds c i stubs in
+      let h : Holds abi (record { set = o.set; area = o.area; missing = s.missing }) =
+      unfold step in ask_holds abi s st.holds c i stubs in
       subst (λ (x : List ℕ). Stands (record { set = x; area = o.area; missing = s.missing })) (sym e)
       (record {
-        holds = subst (λ (x : List ℕ). Holds abi ws₀ valid₀ (record { set = x; area = o.area; missing = s.missing })) e h;
+        holds = subst (λ (x : List ℕ). Holds abi (record { set = x; area = o.area; missing = s.missing })) e h;
         inv = g'.inv;
         witness = λ d l p.
             witness-next s (record { set = s.set; area = o.area; missing = s.missing }) g'.keeps
-            (bits-kept abi ws₀ valid₀ s st.holds.inv o.area g'.keeps) d (st.inv.parent d l) l (st.witness d l p);
+            (bits-kept abi s st.holds.tables o.area g'.keeps) d (parent-of ws₀ abi valid₀ P st.inv d l) l (st.witness d l p);
       })
 
   step-stands : (s : State) → Stands s → (k : Call) → ((x : ℕ) → Memᴰ x (stubs_of k) → P x) → Stands (step abi s k)
@@ -295,7 +294,7 @@ module _ (ws₀ abi : List ℕ) (valid₀ : Valid ws₀) (P : ℕ → Type 0) wh
         let n = real-some nonzero targets here in
         rw (counted-copy (λ j. get_or (bits_now abi s (parent_of ws₀ d)) j false) e j n q, own-word e.word x n) here)
 
-    pub slots-real : (bound d : ℕ) → d ≤ bound → Linked s.set d → Plain ws₀ d → ((m : ℕ) → ChainMethod ws₀ d m → method_target ws₀ m ≢ 0) → (i : ℕ)
+    pub slots-real : (bound d : ℕ) → d ≤ bound → HasTable s.set d → Plain ws₀ d → ((m : ℕ) → ChainMethod ws₀ d m → method_target ws₀ m ≢ 0) → (i : ℕ)
         → i < length (table_of s d) → SlotReal d i
     slots-real zero d b l p targets i h = absurd (omega (arith, l.some))
     slots-real (suc bound) d b l p targets i h =
@@ -309,7 +308,7 @@ module _ (ws₀ abi : List ℕ) (valid₀ : Valid ws₀) (P : ℕ → Type 0) wh
         rw (bit, word)
         (entry-real d l.some targets
         (λ n j c.
-        slots-real bound (parent_of ws₀ d) (omega arith) (st.inv.parent d l n) (plain-up l.some p)
+        slots-real bound (parent_of ws₀ d) (omega arith) (parent-of ws₀ abi valid₀ P st.inv d l n) (plain-up l.some p)
         (λ m y. targets m (record { owner = y.owner; along = chain-up ws₀ d l.some y.along; own = y.own })) j c)
         (get_or w.entries i empty) (get_or w.stubs i 0) (w.lent i k) (all-at w.origins i k))
 
@@ -331,7 +330,7 @@ module _ (ws abi area missing : List ℕ) (unlinked : Unlinked ws) (calls : List
       run-stands ws abi valid₀ P calls (start ws area missing)
       (record {
         holds = record {
-          inv = start-inv ws abi area missing valid₀ unlinked (λ x. Unit {0});
+          tables = tables_start ws area missing unlinked;
           rebuilt = λ d l. absurd (none-linked unlinked l);
           counted = λ d l. absurd (none-linked unlinked l);
         };
@@ -340,7 +339,7 @@ module _ (ws abi area missing : List ℕ) (unlinked : Unlinked ws) (calls : List
       })
       (λ x i. i)
 
-  now : Linked final.set c
+  now : HasTable final.set c
   now = (after ws abi area missing valid₀ unlinked calls linked).linked
 
   plain : Plain ws c
@@ -357,17 +356,14 @@ module _ (ws abi area missing : List ℕ) (unlinked : Unlinked ws) (calls : List
       (slots-real ws abi valid₀ P k.nonzero_stubs final stands c c (omega arith) now plain k.nonzero_targets i
       (omega (arith, h, ap length table-now, whole_is ws abi area missing valid₀ unlinked calls linked)))
 
-  has : HasTable final c
-  has = record { some = now.some; among = now.among; has = now.has }
-
   within : (i : ℕ) → i < slots → i < 1024
   within i h =
-      let e = stays-accepted.calls_leave abi calls (start ws area missing) (start-accepted ws abi area missing unlinked calls c has) in
+      let e = stays-accepted.calls_leave abi calls (start ws area missing) (start-accepted ws abi area missing unlinked calls c now) in
       let v = ((valid final.set abi e).0.class c (now.some, now.among)).slots now.has in
       omega (arith, (after ws abi area missing valid₀ unlinked calls linked).slots)
 
   bit_is : (i : ℕ) → i < slots → missing_bit final.missing c i ≡ get_or (bits_now abi final c) i false
-  bit_is i h = bit-read final.missing c (bits_now abi final c) (missing-kept.counted ws abi area missing unlinked calls c has).words i (within i h)
+  bit_is i h = bit-read final.missing c (bits_now abi final c) (missing-kept.counted ws abi area missing unlinked calls c now).words i (within i h)
 
   no_real : (i : ℕ) → i < slots
       → (missing_bit final.missing c i ≡ true)

@@ -1,19 +1,22 @@
 -- What the rows that an accepted call has passed say, in plain words; and that a refused call leaves everything. Assumes nothing.
-use Rattle.std.proofs.Common.{◌≡◌, refl, ◌⊎◌, inl, inr, ◌≢◌, true, false, cond, not, ◌&&◌, ◌||◌, List, ℕ, ◌+◌, ◌*◌, ◌≤◌, arith, length, get_or, eqb, ltb, eqb-true, eq-eqb, ne_eqb, ltb-false}
+use Rattle.std.proofs.Common.{◌≡◌, refl, ◌⊎◌, inl, inr, ◌≢◌, true, false, cond, not, ◌&&◌, ◌||◌, List, ℕ, ◌+◌, ◌*◌, ◌≤◌, arith, length, get_or, eqb, ltb, eqb-true, eq-eqb, ne_eqb, ltb-false, le-leb, le-ltb}
 use borrow.Author.Tests.{eqb-false, not-true, not-false}
+use Rattle.words.specs.Folds.{all_of}
 use Rattle.words.proofs.Bools.{by, or-neither}
+use Rattle.words.proofs.FoldLaws.{all-if}
 use Rattle.text.specs.Text.{same_bytes}
-use Rattle.class_sheet.specs.ClassSheet.{class_count, text_of, class_kind, class_name, class_method_count, class_field_count, class_table_place}
+use Rattle.class_sheet.specs.ClassSheet.{class_count, text_of, class_kind, class_name, class_method_count, class_field_count, class_table_place, class_slot_count}
 use Rattle.abi_sheet.specs.AbiSheet.{abi_text_of}
 use Rattle.set_rules.specs.SetRules.{set_refusal}
 use Rattle.linking.specs.Chain.{parent_of}
 use Rattle.linking.specs.Vtable.{Entry, Built, built, refused, table_entries}
 use Rattle.linking.specs.Packages.{bad_packages}
 use Rattle.linking.specs.Counts.{missing_width, counted_after, missing_short}
-use Rattle.linking.specs.Link.{object_name, no_class, is_linked, bad_array, bad_class, next_free, bad_area, Plan, Planned, planned, unplanned, plan, new_words, new_statics, lists_full, set_short, no_room, linked_area, linked_words, Outcome, refused_call, LinkOutcome, refused_link, finish_link, on_plan, link_def}
+use Rattle.linking.specs.Link.{HasTable, object_name, no_class, is_linked, bad_array, bad_class, next_free, ends_below, bad_area, Plan, Planned, planned, unplanned, plan, new_words, new_statics, lists_full, set_short, no_room, linked_area, linked_words, Outcome, refused_call, LinkOutcome, refused_link, finish_link, on_plan, link_def}
 use Rattle.linking.specs.Ask.{Walk, hit, missed, broken, walk, head_place, dispatch_entries, asked_area, on_dispatch, build_node, on_walk, bad_ask, ask_def}
 use Rattle.linking.proofs.Plans.{unplanned-number}
-use Rattle.linking.proofs.Rows.{Fits, fits, Linked, Sound, sound}
+use Rattle.linking.proofs.Rows.{Fits, fits, Sound, sound}
+use Rattle.calls.proofs.Dispatch.{dispatch_refused}
 
 -- ---- row 6
 
@@ -155,59 +158,130 @@ module _ (ws abi : List ℕ) (c : ℕ) (area stubs missing : List ℕ) where
       (plan ws (text_of ws) abi (abi_text_of abi) area c) refl))))))))
       (λ v. rw v (inl (refused-link ws area missing (set_refusal ws abi) (eqb-false (set_refusal ws abi) 0 v))))
 
--- ---- an ask
-
--- it is refused, or finds its node
+-- a call leaves the set and the area
 pub record Untouched (o : Outcome) (ws area : List ℕ) : Type 0 where
   pub same_set : o.set ≡ ws
   pub same_area : o.area ≡ area
 
--- it puts a node in front
-pub record Asked (ws : List ℕ) (c i : ℕ) (area stubs : List ℕ) (o : Outcome) : Type 0 where
-  pub class : Linked ws c
+-- ---- an ask
+
+-- it finds its node, and answers the place after the link word and the nodes read
+pub record Hits (ws abi : List ℕ) (c i : ℕ) (area : List ℕ) (o : Outcome) : Type 0 where
+  pub valid : set_refusal ws abi ≡ 0
+  pub class : HasTable ws c
+  pub interface : HasTable ws i
   pub lent : Sound ws area
+  pub asks : bad_ask ws c i ≡ false
+  pub sits : bad_area ws area ≡ false
+  pub node : ℕ
+  pub nodes : ℕ
+  pub walks : walk area i 64 0 (get_or area (head_place ws c) 0) ≡ hit node nodes
+  pub answers-place : o.first ≡ node + 1
+  pub answers-nodes : o.second ≡ nodes
+
+-- it is refused, or finds its node
+pub record Idle (ws abi : List ℕ) (c i : ℕ) (area : List ℕ) (o : Outcome) : Type 0 where
+  pub same_set : o.set ≡ ws
+  pub same_area : o.area ≡ area
+  pub hits : o.refusal ≡ 0 → Hits ws abi c i area o
+
+-- it puts a node in front
+pub record Asked (ws abi : List ℕ) (c i : ℕ) (area stubs : List ℕ) (o : Outcome) : Type 0 where
+  pub valid : set_refusal ws abi ≡ 0
+  pub class : HasTable ws c
+  pub interface : HasTable ws i
+  pub lent : Sound ws area
+  pub asks : bad_ask ws c i ≡ false
+  pub sits : bad_area ws area ≡ false
+  pub nodes : ℕ
+  pub walks : walk area i 64 0 (get_or area (head_place ws c) 0) ≡ missed nodes
   pub entries : List Entry
+  pub builds : dispatch_entries ws (text_of ws) c (table_entries ws (text_of ws) abi (abi_text_of abi) area i) ≡ built entries
   pub room : Fits area stubs (length entries)
+  pub number : o.refusal ≡ 0
+  pub answers-place : o.first ≡ next_free area + 1
+  pub answers-nodes : o.second ≡ nodes
   pub same_set : o.set ≡ ws
   pub new-area : o.area ≡ asked_area ws area c i entries stubs
 
-untouched : (ws area : List ℕ) (n : ℕ) → Untouched (refused_call n ws area) ws area
-untouched ws area n = record { same_set = refl; same_area = refl }
+untouched : (ws abi : List ℕ) (c i : ℕ) (area : List ℕ) (n : ℕ) → n ≢ 0 → Idle ws abi c i area (refused_call n ws area)
+untouched ws abi c i area n h = record { same_set = refl; same_area = refl; hits = λ e. absurd (h e) }
 
-ask-class : (ws : List ℕ) (c i : ℕ) → bad_ask ws c i ≡ false → Linked ws c
+pub ask-classes : (ws : List ℕ) (c i : ℕ) → bad_ask ws c i ≡ false → HasTable ws c × HasTable ws i
 unfolding bad_ask
-ask-class ws c i e =
+ask-classes ws c i e =
     let p = or-neither (no_class ws c || no_class ws i || not (is_linked ws c)) (not (is_linked ws i)) e in
     let q = or-neither (no_class ws c || no_class ws i) (not (is_linked ws c)) p.0 in
     let r = or-neither (no_class ws c) (no_class ws i) q.0 in
     let n = no_class_lem ws c r.0 in
-    record { some = n.0; among = n.1; has = is-linked ws c (not-false (is_linked ws c) q.1) }
+    let m = no_class_lem ws i r.1 in (
+      record { some = n.0; among = n.1; has = is-linked ws c (not-false (is_linked ws c) q.1) },
+      record { some = m.0; among = m.1; has = is-linked ws i (not-false (is_linked ws i) p.1) },
+    )
 
 module _ (ws abi : List ℕ) (c i : ℕ) (area stubs : List ℕ) where
   abbrev Any : Outcome → Type 0
-  Any o = Untouched o ws area ⊎ Asked ws c i area stubs o
+  Any o = Idle ws abi c i area o ⊎ Asked ws abi c i area stubs o
 
-  module _ (k : Linked ws c) (a : Sound ws area) where
-    put-node : (nodes : ℕ) (b : Built)
+  module _ (v : set_refusal ws abi ≡ 0) (asks : bad_ask ws c i ≡ false) (sits : bad_area ws area ≡ false) where
+    put-node : (nodes : ℕ) → walk area i 64 0 (get_or area (head_place ws c) 0) ≡ missed nodes → (b : Built)
+        → dispatch_entries ws (text_of ws) c (table_entries ws (text_of ws) abi (abi_text_of abi) area i) ≡ b
         → Any (on_dispatch b
         (λ T. cond (no_room area stubs (length T))
         (refused_call 15 ws area)
         (record { refusal = 0; first = next_free area + 1; second = nodes; set = ws; area = asked_area ws area c i T stubs }))
         (λ n. refused_call n ws area))
-    put-node nodes (built T) =
-        by (no_room area stubs (length T)) (λ t. rw t (inl (untouched ws area 15)))
+    put-node nodes w (built T) e =
+        by (no_room area stubs (length T)) (λ t. rw t (inl (untouched ws abi c i area 15 (omega arith))))
         (λ t.
         rw t
-        (inr (record { class = k; lent = a; entries = T; room = fits area stubs (length T) t; same_set = refl; new-area = refl })))
-    put-node nodes (refused n) = inl (untouched ws area n)
+        (inr (record {
+          valid = v;
+          class = (ask-classes ws c i asks).0;
+          interface = (ask-classes ws c i asks).1;
+          lent = sound ws area sits;
+          asks = asks;
+          sits = sits;
+          nodes = nodes;
+          walks = w;
+          entries = T;
+          builds = e;
+          room = fits area stubs (length T) t;
+          number = refl;
+          answers-place = refl;
+          answers-nodes = refl;
+          same_set = refl;
+          new-area = refl;
+        })))
+    put-node nodes w (refused n) e =
+        let m : n ≡ 16 = dispatch_refused ws (text_of ws) c (table_entries ws (text_of ws) abi (abi_text_of abi) area i) n e in
+        inl (untouched ws abi c i area n (λ z. omega arith))
 
-    walked : (w : Walk) → Any (on_walk w (λ n nodes. record { refusal = 0; first = n + 1; second = nodes; set = ws; area = area })
+    walked : (w : Walk) → walk area i 64 0 (get_or area (head_place ws c) 0) ≡ w
+        → Any (on_walk w (λ n nodes. record { refusal = 0; first = n + 1; second = nodes; set = ws; area = area })
         (build_node ws abi c i area stubs) (refused_call 7 ws area))
     unfolding build_node
-    walked (hit n nodes) = inl (record { same_set = refl; same_area = refl })
-    walked (missed nodes) =
-        put-node nodes (dispatch_entries ws (text_of ws) c (table_entries ws (text_of ws) abi (abi_text_of abi) area i))
-    walked broken = inl (untouched ws area 7)
+    walked (hit n nodes) e =
+        inl (record {
+          same_set = refl;
+          same_area = refl;
+          hits = λ z. record {
+            valid = v;
+            class = (ask-classes ws c i asks).0;
+            interface = (ask-classes ws c i asks).1;
+            lent = sound ws area sits;
+            asks = asks;
+            sits = sits;
+            node = n;
+            nodes = nodes;
+            walks = e;
+            answers-place = refl;
+            answers-nodes = refl;
+          };
+        })
+    walked (missed nodes) e =
+        put-node nodes e (dispatch_entries ws (text_of ws) c (table_entries ws (text_of ws) abi (abi_text_of abi) area i)) refl
+    walked broken e = inl (untouched ws abi c i area 7 (omega arith))
 
   pub ask-cases : Any (ask_def ws abi c i area stubs)
   unfolding ask_def
@@ -215,9 +289,37 @@ module _ (ws abi : List ℕ) (c i : ℕ) (area stubs : List ℕ) where
       by (eqb (set_refusal ws abi) 0)
       (λ v.
       rw v
-      (by (bad_ask ws c i) (λ t. rw t (inl (untouched ws area 6)))
+      (by (bad_ask ws c i) (λ t. rw t (inl (untouched ws abi c i area 6 (omega arith))))
       (λ t.
       rw t
-      (by (bad_area ws area) (λ u. rw u (inl (untouched ws area 7)))
-      (λ u. rw u (walked (ask-class ws c i t) (sound ws area u) (walk area i 64 0 (get_or area (head_place ws c) 0))))))))
-      (λ v. rw v (inl (untouched ws area (set_refusal ws abi))))
+      (by (bad_area ws area) (λ u. rw u (inl (untouched ws abi c i area 7 (omega arith))))
+      (λ u.
+      rw u
+      (walked (eqb-true (set_refusal ws abi) 0 v) t u (walk area i 64 0 (get_or area (head_place ws c) 0)) refl))))))
+      (λ v. rw v (inl (untouched ws abi c i area (set_refusal ws abi) (eqb-false (set_refusal ws abi) 0 v))))
+
+-- ---- row 7 the other way: what it asks for is all that it asks for
+
+end_below : (ws area : List ℕ) → Sound ws area → (d : ℕ) → 1 ≤ d → d ≤ class_count ws → ends_below ws area d ≡ true
+unfolding ends_below
+end_below ws area a d h k =
+    by (eqb (class_table_place ws d) 0) (λ t. rw t refl)
+    (λ t.
+    let z = a.below d (record { some = h; among = k; has = eqb-false (class_table_place ws d) 0 t }) in
+    rw (t, le-leb (class_table_place ws d + class_slot_count ws d + 2) (next_free area) z) refl)
+
+pub silent : (ws area : List ℕ) → Sound ws area → bad_area ws area ≡ false
+unfolding bad_area
+silent ws area a =
+    let w = a.within in
+    let z = a.some in
+    let all : all_of (class_count ws) (λ j. ends_below ws area (j + 1)) ≡ true =
+    all-if (class_count ws) (λ j. ends_below ws area (j + 1)) (λ j b. end_below ws area a (j + 1) (omega arith) (omega arith)) in
+    rw (
+      ne_eqb (length area) 0 (λ e. omega arith),
+      le-ltb 4294967295 (length area) a.short,
+      ne_eqb (next_free area) 0 z,
+      le-ltb (length area) (next_free area) w,
+      all,
+    )
+    refl

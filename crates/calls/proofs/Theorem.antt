@@ -13,7 +13,7 @@ use Rattle.linking.proofs.ChainLaws.{parent_below, chain-none}
 use Rattle.linking.specs.Chain.{parent_of, chain}
 use Rattle.linking.specs.Abi.{class_abi}
 use Rattle.linking.specs.Packages.{bad_packages}
-use Rattle.linking.proofs.Rows.{Linked}
+use Rattle.linking.specs.Link.{HasTable}
 use Rattle.slots.specs.Made as tables
 use Rattle.slots.specs.Slots.{OldRule, Unique, Kept}
 use Rattle.slots.specs.Made.{Made}
@@ -25,9 +25,8 @@ use Rattle.slots.proofs.PackageTables.{packages-kept}
 use Rattle.calls.specs.Calls.{Call, link, ask, State, start, step, run, Unlinked, LinkedIn, now, later, table_at, Lent}
 use Rattle.calls.specs.Demand.{KeepsParent, Claim, Demand3}
 use Rattle.calls.proofs.Rows.{link-cases, ask-cases}
-use Rattle.calls.proofs.Like.{like-same}
-use Rattle.calls.proofs.Runs as runs
-use Rattle.calls.proofs.Runs.{table_of, Plain, plain-up, Inv}
+use Rattle.calls.proofs.Tables.{table_of, none-linked}
+use Rattle.calls.proofs.Runs.{Plain, plain-up, Inv, inv-start, parent-of, chain-linked₀}
 use Rattle.calls.proofs.Fits.{one_rule}
 use Rattle.calls.proofs.Lists.{Goes, run-goes, Answered, answered, history}
 
@@ -56,20 +55,9 @@ module _ (ws abi : List ℕ) (bad : set_refusal ws abi ≢ 0) where
 
 -- ---- the others
 
--- no class is linked
-pub none-linked : {ws : List ℕ} {c : ℕ} → Unlinked ws → Linked ws c → ⊥
-none-linked {c = c} unlinked l = l.has (unlinked c l.some l.among)
-
 module _ (ws abi area missing : List ℕ) (valid₀ : Valid ws) (unlinked : Unlinked ws) where
   pub start-inv : (P : ℕ → Type 0) → Inv ws abi valid₀ P (start ws area missing)
-  start-inv P = record {
-    like = like-same ws;
-    parent = λ c l. absurd (none-linked unlinked l);
-    made = λ c l. absurd (none-linked unlinked l);
-    fits = λ c l. absurd (none-linked unlinked l);
-    whole = λ c l. absurd (none-linked unlinked l);
-    apart = λ c d l. absurd (none-linked unlinked l);
-  }
+  start-inv P = inv-start ws abi valid₀ P area missing unlinked
 
 module _ (ws abi area missing : List ℕ) (valid₀ : Valid ws) (unlinked : Unlinked ws) (calls : List Call) where
   abbrev pub P : ℕ → Type 0
@@ -88,8 +76,8 @@ module _ (ws abi area missing : List ℕ) (valid₀ : Valid ws) (unlinked : Unli
   after i = answered ws abi valid₀ P i begins (λ x j. j)
 
   -- the chain of a linked class is linked
-  chain-linked : (bound c : ℕ) → c ≤ bound → Linked final.set c → Plain ws c → (d : ℕ) → Memᴰ d (chain ws c)
-      → Linked final.set d × Plain ws d
+  chain-linked : (bound c : ℕ) → c ≤ bound → HasTable final.set c → Plain ws c → (d : ℕ) → Memᴰ d (chain ws c)
+      → HasTable final.set d × Plain ws d
   chain-linked zero c b l p d i = absurd (omega (arith, l.some))
   chain-linked (suc bound) c b l p d i =
       let f = parent_below ws c l.some in
@@ -98,7 +86,7 @@ module _ (ws abi area missing : List ℕ) (valid₀ : Valid ws) (unlinked : Unli
         | inr j ↦
             by (eqb (parent_of ws c) 0)
             (λ t. in_none (chain-none ws (parent_of ws c) (eqb-true (parent_of ws c) 0 t)) j)
-            (λ n. chain-linked bound (parent_of ws c) (omega arith) (goes.inv.parent c l (eqb-false (parent_of ws c) 0 n)) (plain-up l.some p) d j)
+            (λ n. chain-linked bound (parent_of ws c) (omega arith) (parent-of ws abi valid₀ P goes.inv c l (eqb-false (parent_of ws c) 0 n)) (plain-up l.some p) d j)
       ]
 
   -- the table that a link answered
@@ -110,7 +98,7 @@ module _ (ws abi area missing : List ℕ) (valid₀ : Valid ws) (unlinked : Unli
 
   -- as many as the slots it answered
   pub whole_is : {d p n : ℕ} → LinkedIn abi d p n (start ws area missing) calls → length (table_at final.area p n) ≡ n
-  whole_is {d} i = sym (ap length (table_is i)) ∙ goes.inv.whole d (after i).linked ∙ (after i).slots
+  whole_is {d} i = sym (ap length (table_is i)) ∙ goes.inv.tables.whole d (after i).linked ∙ (after i).slots
 
   pub chain-made : {c p n : ℕ} → LinkedIn abi c p n (start ws area missing) calls → Plain ws c
       → (d : ℕ) → Memᴰ d (chain ws c) → Made ws (text_of ws) abi (abi_text_of abi) (table_of final) P d
@@ -124,7 +112,7 @@ module _ (ws abi area missing : List ℕ) (valid₀ : Valid ws) (unlinked : Unli
       → (place : ℕ) × (slots : ℕ) × LinkedIn abi d place slots (start ws area missing) calls
   chain_in {c} linked d i =
       elim (history ws abi valid₀ P calls (start ws area missing) begins (λ x j. j) d
-      (runs.chain-linked ws abi valid₀ P goes.inv c c (omega arith) (after linked).linked d i)) [
+      (chain-linked₀ ws abi valid₀ P goes.inv c (after linked).linked d i)) [
         | inl l ↦ absurd (none-linked unlinked l)
         | inr r ↦ (r.place, r.slots, r.found)
       ]
@@ -159,7 +147,7 @@ module _ (ws abi area missing : List ℕ) (valid₀ : Valid ws) (unlinked : Unli
 
     keeps_parent : parent_of ws c ≢ 0 → class_abi ws (text_of ws) abi (abi_text_of abi) c ≡ None → KeepsParent ws abi area missing calls c place slots
     keeps_parent n e =
-        elim (history ws abi valid₀ P calls (start ws area missing) begins (λ x i. i) (parent_of ws c) (goes.inv.parent c (after linked).linked n)) [
+        elim (history ws abi valid₀ P calls (start ws area missing) begins (λ x i. i) (parent_of ws c) (parent-of ws abi valid₀ P goes.inv c (after linked).linked n)) [
           | inl l ↦ absurd (none-linked unlinked l)
           | inr r ↦ record {
             parent_place = r.place;

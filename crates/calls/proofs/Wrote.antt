@@ -8,11 +8,9 @@ use Prim.Native.Nat.{ℕ, ◌+◌, ◌≤◌, ◌<◌}
 use native.Mathlib.Omega.{arith}
 use lib.ListN.{length, get_or}
 use lib.Dec.{eqb, ltb}
-use Rattle.words.specs.Folds.{all_of}
-use Rattle.words.proofs.FoldLaws.{all-if}
-use borrow.Author.Tests.{eqb-true, eqb-false, ne_eqb, ltb-true, ltb-false, le-leb, le-ltb}
+use borrow.Author.Tests.{eqb-true, eqb-false, ltb-true, ltb-false}
 use Rattle.words.proofs.Bools.{by, or-neither}
-use Rattle.class_sheet.specs.ClassSheet.{member_width, first_field_word, field_count_word, instance_words_word, static_words_word, index_word, field_limit, class_word, class_kind, field_index, class_count, field_count, text_length, text_words, text_of, field_word, class_first_field, class_field_count, class_table_place, class_slot_count}
+use Rattle.class_sheet.specs.ClassSheet.{member_width, first_field_word, field_count_word, instance_words_word, static_words_word, index_word, field_limit, class_word, class_kind, field_index, field_count, text_length, text_words, text_of, field_word, class_first_field, class_field_count, class_table_place, class_slot_count}
 use Rattle.abi_sheet.specs.AbiSheet.{abi_text_length, abi_text_words, abi_text_of}
 use Rattle.set_rules.specs.SetRules.{set_refusal}
 use Rattle.set_rules.specs.Valid.{IsClass, Valid}
@@ -22,15 +20,15 @@ use Rattle.words.proofs.ListLaws.{length-list-from}
 use Rattle.linking.specs.Vtable.{Built}
 use Rattle.linking.specs.Set.{new_text}
 use Rattle.linking.specs.Packages.{bad_packages}
-use Rattle.linking.specs.Link.{bad_class, next_free, ends_below, bad_area, Plan, Planned, planned, unplanned, is_none, plan_with, new_words, new_statics, lists_full, set_short, no_room, linked_area, linked_words, Outcome, refused_call, finish_link, link_with}
+use Rattle.linking.specs.Link.{HasTable, bad_class, next_free, bad_area, Plan, Planned, planned, unplanned, is_none, plan_with, new_words, new_statics, lists_full, set_short, no_room, linked_area, linked_words, Outcome, refused_call, finish_link, link_with}
 use Rattle.words.specs.Words.{AreBytes}
 use Rattle.linking.proofs.Packed.{text-bytes}
 use Rattle.linking.proofs.PlansWith.{PlansWith, plans_with}
 use Rattle.linking.proofs.LinkRead.{After, link-after, link-still, link_brings, link-words, link-statics, link-listed, Added, link-added, FieldsAdded, link-field, link-index, link-field-other, link-fields-added, field-name, field-descriptor}
 use Rattle.linking.proofs.ChainLaws.{parent-within}
 use Rattle.linking.proofs.LinkedBack.{early}
-use Rattle.linking.proofs.Rows.{Fits, fits, Linked, Sound, sound}
-use Rattle.calls.proofs.Rows.{ClassOk, class-ok, Untouched}
+use Rattle.linking.proofs.Rows.{Fits, fits, Sound, sound}
+use Rattle.calls.proofs.Rows.{ClassOk, class-ok, silent, Untouched}
 use Rattle.calls.proofs.Area.{linked-length, linked-free}
 use Rattle.calls.proofs.Linked.{Leaves, link_leaves}
 use Rattle.linking.specs.Counts.{missing_short}
@@ -275,34 +273,18 @@ module _ (ws abi : List ℕ) (c : ℕ) (area stubs : List ℕ) (B : Built) (o : 
       let g = was-sound.below d (record { some = l.0; among = l.1; has = λ z. h (a ∙ z) }) in
       omega arith)
 
-  ends : (d : ℕ) → IsClass ws d → ends_below o.set o.area d ≡ true
-  unfolding ends_below
-  ends d l =
-      by (eqb (class_table_place o.set d) 0) (λ t. rw t refl)
-      (λ t. rw (
-        t,
-        le-leb (class_table_place o.set d + class_slot_count o.set d + 2) (next_free o.area)
-            (end_below d l (eqb-false (class_table_place o.set d) 0 t)),
-      ) refl)
-
   pub wrote_sound : bad_area o.set o.area ≡ false
-  unfolding bad_area
   wrote_sound =
       let f = w.room.free in
       let s = was-sound.short in
       let n = next in
       let g = long in
-      let all : all_of (class_count o.set) (λ i. ends_below o.set o.area (i + 1)) ≡ true =
-      all-if (class_count o.set) (λ i. ends_below o.set o.area (i + 1))
-      (λ i h. let k = wrote_after.classes in ends (i + 1) (omega arith, omega arith)) in
-      rw (
-        ne_eqb (length o.area) 0 (λ e. omega arith),
-        le-ltb 4294967295 (length o.area) (omega arith),
-        ne_eqb (next_free o.area) 0 (λ e. omega arith),
-        le-ltb (length o.area) (next_free o.area) (omega arith),
-        all,
-      )
-      refl
+      silent o.set o.area (record {
+        some = λ e. omega arith;
+        within = omega arith;
+        short = omega arith;
+        below = λ d l. let k = wrote_after.classes in let a = l.among in end_below d (l.some, omega arith) l.has;
+      })
 
   -- a linked class's parent is linked
   parent-left : (d : ℕ) → IsClass ws d → parent_of o.set d ≡ parent_of ws d
@@ -312,19 +294,19 @@ module _ (ws abi : List ℕ) (c : ℕ) (area stubs : List ℕ) (B : Built) (o : 
       (λ t. let e : d ≡ c = eqb-true d c t in rw e (rw (wrote_after.own 2 (omega arith) (early 2 (omega arith))) refl))
       (λ t. rw (wrote_after.others d 2 l.0 l.1 (omega arith) (eqb-false d c t)) refl)
 
-  still-linked : (d : ℕ) → Linked ws d → Linked o.set d
+  still-linked : (d : ℕ) → HasTable ws d → HasTable o.set d
   still-linked d l =
       let n : d ≢ c = λ e. l.has (rw e w.class.new) in
       let a : class_table_place o.set d ≡ class_table_place ws d = wrote_after.others d 15 l.some l.among (omega arith) n in
       record { some = l.some; among = omega (arith, l.among, wrote_after.classes); has = λ z. l.has (sym a ∙ z) }
 
-  pub wrote_parent : ((d : ℕ) → Linked ws d → parent_of ws d ≢ 0 → Linked ws (parent_of ws d))
-      → (d : ℕ) → Linked o.set d → parent_of o.set d ≢ 0 → Linked o.set (parent_of o.set d)
+  pub wrote_parent : ((d : ℕ) → HasTable ws d → parent_of ws d ≢ 0 → HasTable ws (parent_of ws d))
+      → (d : ℕ) → HasTable o.set d → parent_of o.set d ≢ 0 → HasTable o.set (parent_of o.set d)
   wrote_parent parents d l n =
       let k : IsClass ws d = (l.some, omega (arith, l.among, wrote_after.classes)) in
       let e = parent-left d k in
       let m : parent_of ws d ≢ 0 = λ z. n (e ∙ z) in
-      let q : Linked ws (parent_of ws d) =
+      let q : HasTable ws (parent_of ws d) =
       by (eqb d c)
       (λ t.
       let f : d ≡ c = eqb-true d c t in

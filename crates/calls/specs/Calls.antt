@@ -39,6 +39,11 @@ unfoldable pub run : List ℕ → List Call → State → State
 run abi [] s = s
 run abi (k ∷ ks) s = run abi ks (step abi s k)
 
+-- what the calls left
+module _ (ws abi area missing : List ℕ) (calls : List Call) where
+  abbrev pub left : State
+  left = run abi calls (start ws area missing)
+
 -- "Unlinked: every table place is 0."
 abbrev pub Unlinked : List ℕ → Type 0
 Unlinked ws = (c : ℕ) → 1 ≤ c → c ≤ class_count ws → class_table_place ws c ≡ 0

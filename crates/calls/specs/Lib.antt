@@ -10,3 +10,4 @@ pub mod Unlisted
 pub mod Missing
 pub mod OldRun
 pub mod OneSlot
+pub mod Kept

@@ -6,18 +6,12 @@ use Rattle.class_sheet.specs.ClassSheet.{text_of, class_count, class_table_place
 use Rattle.abi_sheet.specs.AbiSheet.{abi_text_of}
 use Rattle.linking.specs.Vtable.{Entry, empty, built}
 use Rattle.linking.specs.Counts.{missing_width, missing_at, missing_bit, missing_short, bit_count, pack_bits}
-use Rattle.linking.specs.Link.{refused_call, link_def}
+use Rattle.linking.specs.Link.{HasTable, refused_call, link_def}
 use Rattle.linking.specs.Missing.{missing_def, table_by, recounted}
 use Rattle.slots.specs.Slots.{ChainMethod}
-use Rattle.calls.specs.Calls.{Call, link, State, start, outcome, run, Unlinked, table_at}
+use Rattle.calls.specs.Calls.{Call, link, State, start, outcome, run, left, Unlinked, table_at}
 use Rattle.calls.specs.Demand.{Conditions, Linked, table}
 use Rattle.calls.specs.Unlisted.{link_unlisted}
-
--- class c is linked in the set that the calls left
-pub record HasTable (s : State) (c : ℕ) : Type 0 where
-  pub some : 1 ≤ c
-  pub among : c ≤ class_count s.set
-  pub has : class_table_place s.set c ≢ 0
 
 -- "counting by the same rule over the chain", of what the calls left, set and area alone
 abbrev pub bits_now : List ℕ → State → ℕ → List Bool
@@ -38,18 +32,13 @@ pub record Counted (abi : List ℕ) (s : State) (c : ℕ) : Type 0 where
   pub many : length (bits_now abi s c) ≡ class_slot_count s.set c
   pub long : missing_width * class_count s.set ≤ length s.missing
 
--- what the calls left
-module _ (ws abi area missing : List ℕ) (calls : List Call) where
-  abbrev pub left : State
-  left = run abi calls (start ws area missing)
-
 -- "shown equal, after any links handed on as in demand 3": every list of links and asks, accepted or refused, from an unlinked sheet, with one ABI
 -- sheet and whatever the area and the list hold
 pub record MissingKept : Type 0 where
   pub rebuilt : (ws abi area missing : List ℕ) → Unlinked ws → (calls : List Call) (c : ℕ)
-      → HasTable (left ws abi area missing calls) c → Rebuilt abi (left ws abi area missing calls) c
+      → HasTable (left ws abi area missing calls).set c → Rebuilt abi (left ws abi area missing calls) c
   pub counted : (ws abi area missing : List ℕ) → Unlinked ws → (calls : List Call) (c : ℕ)
-      → HasTable (left ws abi area missing calls) c → Counted abi (left ws abi area missing calls) c
+      → HasTable (left ws abi area missing calls).set c → Counted abi (left ws abi area missing calls) c
 
 -- what the 33 words of a class say, wherever a list has them for these bits: "the count, then a bit for each slot, set if counted, lowest first, the rest 0"
 pub record CountIs : Type 0 where
@@ -86,7 +75,7 @@ pub record LinkBefore : Type 0 where
 -- "Asking reads that one number, shown equal .. to counting by the same rule over the chain."
 abbrev pub AskedCount : Type 0
 AskedCount =
-    (ws abi area missing : List ℕ) → Unlinked ws → (calls : List Call) (c : ℕ) → HasTable (left ws abi area missing calls) c
+    (ws abi area missing : List ℕ) → Unlinked ws → (calls : List Call) (c : ℕ) → HasTable (left ws abi area missing calls).set c
     → missing_def (left ws abi area missing calls).set abi (left ws abi area missing calls).missing c
     ≡ record { refusal = 0; count = bit_count (bits_now abi (left ws abi area missing calls) c) }
 

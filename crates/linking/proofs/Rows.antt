@@ -12,7 +12,7 @@ use Rattle.words.specs.Folds.{all_of}
 use Rattle.words.proofs.Bools.{or-neither}
 use Rattle.words.proofs.FoldLaws.{all-each}
 use Rattle.class_sheet.specs.ClassSheet.{class_count, class_table_place, class_slot_count}
-use Rattle.linking.specs.Link.{next_free, ends_below, bad_area, no_room}
+use Rattle.linking.specs.Link.{HasTable, next_free, ends_below, bad_area, no_room}
 
 -- there are n stubs, and room for n slots and two words
 pub record Fits (area stubs : List ℕ) (n : ℕ) : Type 0 where
@@ -27,18 +27,12 @@ fits area stubs n e =
     let b = ltb-false (length area - next_free area) (n + 2) p.1 in
     record { stubbed = omega arith; free = omega arith }
 
--- class c is linked in the words
-pub record Linked (ws : List ℕ) (c : ℕ) : Type 0 where
-  pub some : 1 ≤ c
-  pub among : c ≤ class_count ws
-  pub has : class_table_place ws c ≢ 0
-
 -- an area that row 7 does not refuse: each linked table ends below the next free word
 pub record Sound (ws area : List ℕ) : Type 0 where
   pub some : next_free area ≢ 0
   pub within : next_free area ≤ length area
   pub short : length area ≤ 4294967295
-  pub below : (c : ℕ) → Linked ws c → class_table_place ws c + class_slot_count ws c + 2 ≤ next_free area
+  pub below : (c : ℕ) → HasTable ws c → class_table_place ws c + class_slot_count ws c + 2 ≤ next_free area
 
 ends-below : (ws area : List ℕ) (c : ℕ) → ends_below ws area c ≡ true → class_table_place ws c ≢ 0
     → class_table_place ws c + class_slot_count ws c + 2 ≤ next_free area

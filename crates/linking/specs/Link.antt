@@ -1,5 +1,5 @@
 -- `link`: rows 3 to 15 and 26 in the table's order, and what an accepted link leaves. Assumes nothing.
-use Rattle.std.specs.Prelude.{ℕ, ◌+◌, ◌-◌, Bool, true, false, cond, not, ◌&&◌, ◌||◌, List, [], ◌∷◌, ◌++◌, length, get_or, set, eqb, leb, ltb, Option}
+use Rattle.std.specs.Prelude.{ℕ, ◌+◌, ◌-◌, ◌≤◌, ◌≢◌, Bool, true, false, cond, not, ◌&&◌, ◌||◌, List, [], ◌∷◌, ◌++◌, length, get_or, set, eqb, leb, ltb, Option}
 use Rattle.words.specs.Folds.{all_of}
 use Rattle.text.specs.Text.{same_bytes}
 use Rattle.class_sheet.specs.ClassSheet.{class_count, method_count, field_count, text_of, class_flags, class_kind, class_first_field, class_method_count, class_field_count, class_compiler_table, class_table_place, class_slot_count, is_built_kind, is_generated, is_array, is_packaged, class_name, fields_at, put_class_instance_words, put_class_table_place, put_class_slot_count, put_class_static_words}
@@ -26,6 +26,12 @@ no_class ws c = eqb c 0 || ltb (class_count ws) c
 
 abbrev pub is_linked : List ℕ → ℕ → Bool
 is_linked ws c = not (eqb (class_table_place ws c) 0)
+
+-- c is a linked class of the words
+pub record HasTable (ws : List ℕ) (c : ℕ) : Type 0 where
+  pub some : 1 ≤ c
+  pub among : c ≤ class_count ws
+  pub has : class_table_place ws c ≢ 0
 
 -- "an array class with members, no parent or a parent not named `java/lang/Object`"
 unfoldable pub bad_array : List ℕ → List ℕ → ℕ → Bool

@@ -20,7 +20,7 @@ use Rattle.replay.specs.Replayed.{Told, Made, Holds, Replayed}
 
 -- ---- the answer words tell who is linked
 
-over-at : (xs old : List ℕ) (j : ℕ) → j < length xs → j < length (over xs old) → get_or (over xs old) j 0 ≡ get_or xs j 0
+pub over-at : (xs old : List ℕ) (j : ℕ) → j < length xs → j < length (over xs old) → get_or (over xs old) j 0 ≡ get_or xs j 0
 unfolding over
 over-at [] old j h k = absurd (omega arith)
 over-at (x ∷ xs) [] j h k = absurd (omega arith)
@@ -40,7 +40,7 @@ call-is calls stubs i e f =
 
 module _ (abi : List ℕ) (f : ℕ → Call) where
   -- three words a call
-  length-answers : (m n : ℕ) (s : State) → length (answers_of abi (list_from f m n) s) ≡ 3 * n
+  pub length-answers : (m n : ℕ) (s : State) → length (answers_of abi (list_from f m n) s) ≡ 3 * n
   unfolding answers_of list_from
   length-answers m zero s = refl
   length-answers m (suc n) s = let e = length-answers (m + 1) n (step abi s (f m)) in omega arith

@@ -2,6 +2,7 @@
 
 mod clashing;
 mod draft;
+mod kept;
 mod members;
 mod memory;
 mod missing;
@@ -15,7 +16,7 @@ use crate::case::Case;
 use crate::random::Random;
 
 pub use draft::{AbiClassDraft, AbiMemberDraft, ClassDraft, Draft, MemberDraft, Shape};
-pub use members::of_words;
+pub use members::{FIRST_STUB, of_words};
 pub use spoil::spoil_names;
 
 /// Case `number` of the run with `seed`.
@@ -33,6 +34,11 @@ pub fn case(seed: u64, number: u64) -> Case {
 /// Case `number` of the run with `seed` of the lists in which two inherited signatures have one fixed index.
 pub fn clashing(seed: u64, number: u64) -> Case {
     clashing::case(&mut Random::for_case(seed.rotate_left(40), number))
+}
+
+/// Case `number` of the run with `seed` of the lists for kept interface tables.
+pub fn kept(seed: u64, number: u64) -> Case {
+    kept::case(&mut Random::for_case(seed.rotate_left(20), number))
 }
 
 /// Case `number` of the run with `seed` of the cases of kind 3, which the Rust does not judge.

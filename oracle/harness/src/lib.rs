@@ -11,6 +11,7 @@ pub mod demand3;
 pub mod drive;
 pub mod forms;
 pub mod generate;
+pub mod kept;
 pub mod listings;
 pub mod names;
 pub mod oracle;

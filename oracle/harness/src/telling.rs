@@ -10,6 +10,7 @@ pub mod assemble;
 mod compiled;
 mod fields;
 mod growth;
+mod kept;
 mod links;
 mod lists;
 mod lookups;
@@ -39,6 +40,7 @@ pub fn rows() -> Vec<Row> {
         compiled::rows(),
         growth::rows(),
         asks::rows(),
+        kept::rows(),
         lists::rows(),
         packages::rows(),
         missing_slots::rows(),

@@ -1,0 +1,197 @@
+-- A list to which the claims on kept interface tables speak: one class asked for three interfaces, itself among them, with a refused ask and a link
+-- that grows the method section between. And each premise is needed. Assumes nothing.
+use mathlib.Core.Path.{◌≡◌, refl, sym, ap, ◌∙◌, subst}
+use mathlib.Core.Logic.{◌≢◌}
+use mathlib.Core.Bool.{true}
+use mathlib.Core.List.Memᴰ
+use mathlib.Core.List.{List, [], ◌∷◌, map}
+use Prim.Native.Nat.{ℕ, ◌+◌}
+use native.Mathlib.Omega.{arith}
+use lib.ListN.{length, get_or, set, take, drop, replicate}
+use Rattle.class_sheet.specs.ClassSheet.{class_count, method_count, methods_at}
+use Rattle.std.specs.Prelude.{Some, None}
+use Rattle.linking.specs.Vtable.{Entry, slot_words}
+use Rattle.linking.specs.Vtable as vtable
+use Rattle.linking.specs.Link.{HasTable}
+use Rattle.linking.proofs.Plans.{built-same}
+use Rattle.linking.proofs.Assemble as assemble
+use Rattle.linking.proofs.Assemble.{AbiClass, method, flagged, built, interface, compiled, linked_at, abi, slot, sized, class_sheet, abi_sheet, lent, spare, fresh, sevens}
+use Rattle.linking.proofs.Opened.{opened}
+use Rattle.calls.specs.Calls.{left, Call, link, ask, State, start, outcome, table_at}
+use Rattle.calls.specs.Kept.{SameStubs, head_of, interface_at, Spells, OnList, Different, Once, built_afresh, Right, BuildsSame}
+use Rattle.calls.proofs.Tests.{is_unlinked, unlinked-holds, answers, shown}
+use Rattle.calls.proofs.Walk.{spells_one}
+use Rattle.calls.proofs.Kept.{kept_tables, asked-afresh}
+
+abbrev world : assemble.Lent
+world =
+    spare 60
+    (lent
+    (interface "I" (flagged 1025 "run" 5 ∷ [])
+    ∷ interface "J" (flagged 1025 "go" 6 ∷ [])
+    ∷ built "K" 0 (method "run" 0 ∷ method "go" 21 ∷ []) []
+    ∷ interface "X" (flagged 1025 "zap" 9 ∷ [])
+    ∷ compiled "G" 3 [] (0 ∷ 777 ∷ [])
+    ∷ [])
+    (sized 4 (abi "K" [] []) ∷ abi "G" (slot "run" 1 ∷ []) [] ∷ []))
+
+unfoldable pub ws : List ℕ
+ws = world.set
+
+unfoldable pub sheet : List ℕ
+sheet = world.abi
+
+abbrev area : List ℕ
+area = fresh 60
+
+abbrev missing : List ℕ
+missing = sevens 5
+
+abbrev stubs : List ℕ
+stubs = 901 ∷ 902 ∷ 903 ∷ 904 ∷ 905 ∷ 906 ∷ 907 ∷ 908 ∷ []
+
+-- three interfaces and class 3, a node, a refused ask, the method section grows, two more nodes, and the first asked again
+abbrev calls : List Call
+calls =
+    link 1 stubs ∷ link 2 stubs ∷ link 3 stubs ∷ link 4 stubs ∷ ask 3 1 stubs ∷ ask 3 4 stubs ∷ link 5 stubs ∷ ask 3 2 stubs ∷ ask 3 3 stubs
+    ∷ ask 3 1 stubs ∷ ask 5 1 stubs ∷ []
+
+abbrev final : State
+final = left ws sheet area missing calls
+
+pub record Rows : Type 0 where
+  pub answered : answers sheet (start ws area missing) calls
+      ≡ (0, 1, 1) ∷ (0, 4, 1) ∷ (0, 7, 6) ∷ (0, 15, 1) ∷ (0, 19, 0) ∷ (16, 0, 0) ∷ (0, 21, 3) ∷ (0, 27, 1) ∷ (0, 30, 2) ∷ (0, 19, 3) ∷ (0, 38, 0) ∷ []
+  pub grown : method_count ws ∷ method_count final.set ∷ [] ≡ 5 ∷ 6 ∷ []
+  -- the nodes: a stub for a method of target 0, a target, slots that are unknown and keep their words, and the target of an added method
+  pub first : take 3 (drop 18 final.area) ≡ 0 ∷ 1 ∷ 901 ∷ []
+  pub second : take 3 (drop 26 final.area) ≡ 18 ∷ 2 ∷ 21 ∷ []
+  pub third : take 8 (drop 29 final.area) ≡ 26 ∷ 3 ∷ 901 ∷ 902 ∷ 903 ∷ 904 ∷ 905 ∷ 21 ∷ []
+  pub other : take 3 (drop 37 final.area) ≡ 0 ∷ 1 ∷ 777 ∷ []
+
+pub rows : Rows
+unfolding opened shown ws sheet
+rows = record { answered = refl; grown = refl; first = refl; second = refl; third = refl; other = refl }
+
+-- ---- so the claims speak to class 3
+
+unlinked : is_unlinked ws ≡ true
+unfolding opened shown ws
+unlinked = refl
+
+third-linked : HasTable final.set 3
+unfolding opened shown ws sheet
+third-linked = record { some = omega arith; among = omega arith; has = omega arith }
+
+spelt : Spells final.area (head_of final 3) (29 ∷ 26 ∷ 18 ∷ [])
+unfolding opened shown ws sheet
+spelt = (refl, omega arith, (refl, omega arith, (refl, omega arith, refl)))
+
+same : SameStubs stubs calls
+same = (refl, (refl, (refl, (refl, (refl, (refl, (refl, (refl, (refl, (refl, (refl, tt)))))))))))
+
+first-node : OnList final 3 1 18
+unfolding opened shown ws sheet
+first-node = record { places = 29 ∷ 26 ∷ 18 ∷ []; spelt = spelt; along = Memᴰ.tail (Memᴰ.tail (Memᴰ.head refl)); of = refl }
+
+pub instance : Right sheet stubs final 3 1 18
+instance = kept_tables ws sheet area missing stubs (unlinked-holds ws unlinked) calls same 3 1 18 third-linked first-node
+
+-- the same ask where the list is empty builds the slots that it finds
+accepted : (outcome sheet final (ask 3 1 stubs)).refusal ≡ 0
+unfolding opened shown ws sheet
+accepted = refl
+
+pub again : BuildsSame sheet final 3 1 stubs
+again = asked-afresh ws sheet area missing stubs (unlinked-holds ws unlinked) calls same 3 1 accepted
+
+-- ---- each premise is needed
+
+not_right : (abi stubs : List ℕ) (s : State) (c i node : ℕ) (T : List Entry) → built_afresh abi s c i ≡ vtable.built T
+    → get_or (table_at s.area (node + 1) (length T)) 0 0 ≢ get_or (slot_words stubs 0 T) 0 0 → Right abi stubs s c i node → ⊥
+not_right abi stubs s c i node T e n r =
+    let q : r.entries ≡ T = built-same (sym r.afresh ∙ e) in
+    n (ap (λ (l : List ℕ). get_or l 0 0) (rw q at r.slots))
+
+-- a class I and a class K, linked, and K asked for I: its node is at 7
+abbrev asked_once : assemble.Class → assemble.Class → List AbiClass → State
+asked_once i k entries =
+    left (class_sheet (i ∷ k ∷ [])) (abi_sheet entries) (fresh 23) (sevens 2) (link 1 (901 ∷ []) ∷ link 2 (901 ∷ []) ∷ ask 2 1 (901 ∷ []) ∷ [])
+
+-- one stub list: a method of target 0 takes the stub of the list that the node was made with
+unfoldable pub kept901 : State
+kept901 = asked_once (interface "I" (method "k" 5 ∷ [])) (built "K" 0 (method "k" 0 ∷ []) []) []
+
+stubs-needed : Right (abi_sheet []) (903 ∷ []) kept901 2 1 7 → ⊥
+unfolding opened shown kept901
+stubs-needed = not_right (abi_sheet []) (903 ∷ []) kept901 2 1 7 (record { word = 0; method = Some 1; source = None } ∷ []) refl (omega arith)
+
+-- "the same ABI sheet": without it I's slot is unknown, and keeps its stub
+unfoldable pub kept_fixed : State
+kept_fixed = asked_once (built "I" 0 (flagged 9 "k" 5 ∷ []) []) (built "K" 0 (method "k" 6 ∷ []) []) (abi "I" (slot "k" 0 ∷ []) [] ∷ [])
+
+sheet-needed : Right (abi_sheet []) (901 ∷ []) kept_fixed 2 1 7 → ⊥
+unfolding opened shown kept_fixed
+sheet-needed = not_right (abi_sheet []) (901 ∷ []) kept_fixed 2 1 7 (record { word = 901; method = None; source = Some 0 } ∷ []) refl (omega arith)
+
+-- sheet and area as the last call left them: the node's slot, or K's target, was changed
+unfoldable pub kept6 : State
+kept6 = asked_once (interface "I" (method "k" 5 ∷ [])) (built "K" 0 (method "k" 6 ∷ []) []) []
+
+unfoldable pub other_area : State
+other_area = record { set = kept6.set; area = set kept6.area 9 77; missing = kept6.missing }
+
+area-needed : Right (abi_sheet []) (901 ∷ []) other_area 2 1 7 → ⊥
+unfolding opened shown kept6 other_area
+area-needed = not_right (abi_sheet []) (901 ∷ []) other_area 2 1 7 (record { word = 6; method = Some 1; source = None } ∷ []) refl (omega arith)
+
+unfoldable pub other_set : State
+other_set = record { set = set kept6.set (methods_at kept6.set + 11) 7; area = kept6.area; missing = kept6.missing }
+
+set-needed : Right (abi_sheet []) (901 ∷ []) other_set 2 1 7 → ⊥
+unfolding opened shown kept6 other_set
+set-needed = not_right (abi_sheet []) (901 ∷ []) other_set 2 1 7 (record { word = 7; method = Some 1; source = None } ∷ []) refl (omega arith)
+
+-- "on an unlinked sheet": a list that lay in the area before holds interface 1 twice
+unfoldable pub linked_before : State
+linked_before = record { set = class_sheet (linked_at 1 0 (built "K" 0 [] []) ∷ []); area = 9 ∷ 1 ∷ 3 ∷ 5 ∷ 1 ∷ 0 ∷ 1 ∷ replicate 10 0; missing = sevens 1 }
+
+twice : Spells linked_before.area (head_of linked_before 1) (3 ∷ 5 ∷ [])
+unfolding opened shown linked_before
+twice = (refl, omega arith, (refl, omega arith, refl))
+
+same-interface : map (interface_at linked_before.area) (3 ∷ 5 ∷ []) ≡ 1 ∷ 1 ∷ []
+unfolding opened shown linked_before
+same-interface = refl
+
+unlinked-needed : Once (abi_sheet []) 1 linked_before 1 → ⊥
+unlinked-needed o =
+    let e = spells_one linked_before.area o.places (3 ∷ 5 ∷ []) (head_of linked_before 1) o.spelt twice in
+    (subst (λ (l : List ℕ). Different l) (ap (map (interface_at linked_before.area)) e ∙ same-interface) o.different).0 (Memᴰ.head refl)
+
+-- ---- the bound is met: of two classes, one asked for both reads two nodes
+
+unfoldable pub both : State
+both = left (class_sheet (interface "I" (method "k" 5 ∷ []) ∷ built "K" 0 (method "k" 6 ∷ []) [] ∷ [])) (abi_sheet []) (fresh 23) (sevens 2)
+    (link 1 (901 ∷ []) ∷ link 2 (901 ∷ []) ∷ ask 2 1 (901 ∷ []) ∷ ask 2 2 (901 ∷ []) ∷ [])
+
+-- ---- as rows of one theorem
+
+pub record Needed : Type 0 where
+  pub stubs-same : Right (abi_sheet []) (903 ∷ []) kept901 2 1 7 → ⊥
+  pub sheet-same : Right (abi_sheet []) (901 ∷ []) kept_fixed 2 1 7 → ⊥
+  pub area-handed : Right (abi_sheet []) (901 ∷ []) other_area 2 1 7 → ⊥
+  pub set-handed : Right (abi_sheet []) (901 ∷ []) other_set 2 1 7 → ⊥
+  pub unlinked-start : Once (abi_sheet []) 1 linked_before 1 → ⊥
+  pub bound-met : (outcome (abi_sheet []) both (ask 2 1 (901 ∷ []))).second ∷ class_count both.set ∷ [] ≡ 2 ∷ 2 ∷ []
+
+pub needed : Needed
+unfolding opened shown both
+needed = record {
+  stubs-same = stubs-needed;
+  sheet-same = sheet-needed;
+  area-handed = area-needed;
+  set-handed = set-needed;
+  unlinked-start = unlinked-needed;
+  bound-met = refl;
+}

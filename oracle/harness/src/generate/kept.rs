@@ -1,0 +1,86 @@
+//! Lists for kept interface tables: few classes, a third of them interfaces; each is linked when its turn comes, and most other calls ask. One stub list a case.
+
+use crate::case::{Call, Case};
+use crate::random::Random;
+
+use super::draft::{AbiClassDraft, AbiMemberDraft, ClassDraft, Draft, MemberDraft, Shape};
+use super::members::FIRST_STUB;
+
+const NAMES: [&str; 4] = ["a", "b", "c", "d"];
+
+pub fn case(random: &mut Random) -> Case {
+    let mut classes: Vec<ClassDraft> = Vec::new();
+    for number in 1..=random.between(3, 8) {
+        let class = class(random, number, &classes);
+        classes.push(class);
+    }
+    // a compiler table adds methods by its class's entry
+    let mut has_entry = |class: &&ClassDraft| random.chance(if class.compiler.is_some() { 90 } else { 30 });
+    let named: Vec<String> = classes.iter().filter(&mut has_entry).map(|class| class.name.clone()).collect();
+    let abi = named.into_iter().map(|name| entry(random, name)).collect();
+    let shape = Shape { shares_text: random.chance(50), slack: random.pick(&[60, 200]), ..Shape::default() };
+    let count = classes.len() as u32;
+    let draft = Draft { classes, abi, shape };
+    let words = if random.chance(30) { random.between(16, 60) } else { 400 };
+    let stubs = (0..random.pick(&[40, 40, 40, 3])).map(|stub| FIRST_STUB + stub).collect();
+    Case {
+        set: draft.set_words(),
+        abi: draft.abi_words(),
+        area: [vec![1], vec![0; words as usize]].concat(),
+        missing: vec![0; 33 * count as usize],
+        stubs: vec![stubs],
+        calls: calls(random, count),
+        rebuilds: true,
+        spoiled: None,
+    }
+}
+
+/// An interface, a built class or a generated one, with or without a compiler table.
+fn class(random: &mut Random, number: u32, above: &[ClassDraft]) -> ClassDraft {
+    let parent = if number > 1 && random.chance(50) { random.between(1, number - 1) } else { 0 };
+    let is_interface = random.chance(30);
+    let methods: Vec<MemberDraft> = (0..random.below(4)).map(|place| method(random, number, place, is_interface)).collect();
+    let mut class = ClassDraft { name: format!("C{number}"), parent, flags: 1, methods, ..ClassDraft::default() };
+    if is_interface {
+        class.flags = 0x0201;
+    } else if random.chance(30) {
+        (class.kind, class.link_state) = (1, random.pick(&[3, 3, 0]));
+        if random.chance(70) {
+            let known: Vec<u32> = above.iter().flat_map(|class| &class.methods).chain(&class.methods).map(|method| method.last).collect();
+            let word = |random: &mut Random| if known.is_empty() || random.chance(40) { 70 + random.below(5) } else { random.pick(&known) };
+            class.compiler = Some((0..random.below(4)).map(|_| word(random)).collect());
+        }
+    }
+    class
+}
+
+fn method(random: &mut Random, number: u32, place: u32, is_interface: bool) -> MemberDraft {
+    let flags = match is_interface {
+        true => 0x0401,
+        false => random.pick(&[1, 1, 1, 1, 1, 1, 2, 9]),
+    };
+    let last = if random.chance(15) { 0 } else { 100 * number + place };
+    MemberDraft { name: random.pick(&NAMES).to_owned(), descriptor: "()V".to_owned(), flags, last }
+}
+
+fn entry(random: &mut Random, name: String) -> AbiClassDraft {
+    let row =
+        |random: &mut Random| AbiMemberDraft { name: random.pick(&NAMES).to_owned(), descriptor: "()V".to_owned(), index: random.below(3) };
+    AbiClassDraft { name, slots: (0..random.below(3)).map(|_| row(random)).collect(), ..AbiClassDraft::default() }
+}
+
+fn calls(random: &mut Random, classes: u32) -> Vec<Call> {
+    let mut calls = Vec::new();
+    let mut next = 1;
+    for _ in 0..random.between(8, 30) {
+        calls.push(match random.below(100) {
+            0..35 if next <= classes => {
+                next += 1;
+                Call::Link { class: next - 1, stubs: 0 }
+            }
+            0..40 => Call::Link { class: random.between(1, classes), stubs: 0 },
+            _ => Call::Ask { class: random.between(1, next.min(classes)), interface: random.between(1, next.min(classes)), stubs: 0 },
+        });
+    }
+    calls
+}
