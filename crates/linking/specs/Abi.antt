@@ -5,7 +5,8 @@ use Rattle.words.specs.Lists.{numbers, find, first_found, all_found, fold}
 use Rattle.std.specs.Option.{option_map}
 use Rattle.text.specs.Text.{same_bytes}
 use Rattle.class_sheet.specs.ClassSheet.{class_name, class_limit}
-use Rattle.abi_sheet.specs.AbiSheet.{abi_class_count, abi_class_name, abi_class_table_size_plus_one, abi_class_instance_words_plus_one, abi_class_first_slot, abi_class_slot_count, abi_class_first_field, abi_class_field_count, abi_slot_name, abi_slot_descriptor, abi_slot_index, abi_field_name, abi_field_descriptor, abi_field_index, abi_field_limit, abi_slot_limit}
+use Rattle.abi_sheet.specs.AbiSheet.{abi_class_count, abi_class_name, abi_class_table_size_plus_one, abi_class_instance_words_plus_one, abi_class_first_slot, abi_class_slot_count, abi_class_first_field, abi_class_field_count, abi_slot_index, abi_field_name, abi_field_descriptor, abi_field_index, abi_field_limit, abi_slot_limit}
+use Rattle.linking.specs.Signature.{Same, Place, of_abi_slot}
 use Rattle.linking.specs.Chain.{on_found, list_count, chain}
 
 -- the first ABI class of the name
@@ -27,12 +28,9 @@ fixed_field_index abi f = min (abi_field_index abi f) 4095
 
 -- ---- of one ABI class
 
-unfoldable pub slot_is : List ℕ → List ℕ → ℕ → List ℕ → List ℕ → Bool
-slot_is abi labels s name descriptor = same_bytes (abi_slot_name abi labels s) name && same_bytes (abi_slot_descriptor abi labels s) descriptor
-
--- the index that the class fixes for the signature
-unfoldable pub vtable_index : List ℕ → List ℕ → List ℕ → List ℕ → ℕ → Option ℕ
-vtable_index abi labels name descriptor a = option_map (slot_index abi) (find (λ s. slot_is abi labels s name descriptor) (abi_slots abi a))
+-- the index that the class fixes for the signature of place p
+unfoldable pub vtable_index : Same → List ℕ → Place → ℕ → Option ℕ
+vtable_index same abi p a = option_map (slot_index abi) (find (λ s. same (of_abi_slot s) p) (abi_slots abi a))
 
 -- the first slot record with this index
 unfoldable pub slot_at : List ℕ → ℕ → ℕ → Option ℕ
@@ -64,14 +62,13 @@ unfoldable pub chain_abi : List ℕ → List ℕ → List ℕ → List ℕ → �
 chain_abi ws text abi labels c = take class_limit (all_found (class_abi ws text abi labels) (chain ws c))
 
 -- a signature's fixed index: the first match
-unfoldable pub fixed_index : List ℕ → List ℕ → List ℕ → List ℕ → List ℕ → Option ℕ
-fixed_index abi labels abis name descriptor = first_found (vtable_index abi labels name descriptor) abis
+unfoldable pub fixed_index : Same → List ℕ → List ℕ → Place → Option ℕ
+fixed_index same abi abis p = first_found (vtable_index same abi p) abis
 
 -- how far up the chain's ABI classes the one stands that it comes from: as many as are nearer and do not fix the signature
-unfoldable pub fixer_distance : List ℕ → List ℕ → List ℕ → List ℕ → List ℕ → ℕ
-fixer_distance abi labels [] name descriptor = 0
-fixer_distance abi labels (a ∷ abis) name descriptor =
-    on_found (vtable_index abi labels name descriptor a) (λ i. 0) (suc (fixer_distance abi labels abis name descriptor))
+unfoldable pub fixer_distance : Same → List ℕ → List ℕ → Place → ℕ
+fixer_distance same abi [] p = 0
+fixer_distance same abi (a ∷ abis) p = on_found (vtable_index same abi p a) (λ i. 0) (suc (fixer_distance same abi abis p))
 
 -- "the largest fixed index + 1 or table size among the chain's ABI classes"
 unfoldable pub minimum_size : List ℕ → List ℕ → ℕ

@@ -1,10 +1,11 @@
 -- `interface_dispatch_table` (the ask): the walk over a class's interface tables, and the node built where there is none. Assumes nothing.
 use Rattle.std.specs.Prelude.{ℕ, zero, suc, ◌+◌, Bool, cond, not, ◌&&◌, ◌||◌, List, [], ◌∷◌, ◌++◌, length, get_or, set, eqb, leb, Option, Some, None}
 use Rattle.words.specs.Lists.{find, first_found}
-use Rattle.class_sheet.specs.ClassSheet.{text_of, class_table_place, class_slot_count, method_name, method_descriptor, method_flags, method_target}
+use Rattle.class_sheet.specs.ClassSheet.{text_of, class_table_place, class_slot_count, method_flags, method_target}
 use Rattle.abi_sheet.specs.AbiSheet.{abi_text_of}
 use Rattle.set_rules.specs.SetRules.{set_refusal}
-use Rattle.linking.specs.Chain.{on_found, own_methods, chain, is_virtual, method_is}
+use Rattle.linking.specs.Signature.{Same, Place, of_method, by_sheets}
+use Rattle.linking.specs.Chain.{on_found, own_methods, chain, is_virtual}
 use Rattle.linking.specs.Vtable.{Entry, Built, built, refused, table_entries, slot_words}
 use Rattle.linking.specs.Link.{no_class, is_linked, next_free, bad_area, no_room, Outcome, refused_call}
 use Rattle.linking.specs.Set.{write_at}
@@ -35,13 +36,12 @@ head_place ws c = class_table_place ws c + class_slot_count ws c + 1
 -- ---- "If absent, each known interface entry takes the first non-static, non-private method of its signature, class first, an unknown one
 -- keeps its target"
 
-module _ (ws text : List ℕ) where
-  unfoldable pub own_implementation : List ℕ → List ℕ → ℕ → Option ℕ
-  own_implementation name descriptor c =
-      find (λ m. is_virtual (method_flags ws m) && method_is ws text m name descriptor) (own_methods ws c)
+module _ (same : Same) (ws : List ℕ) where
+  unfoldable pub own_implementation : Place → ℕ → Option ℕ
+  own_implementation p c = find (λ m. is_virtual (method_flags ws m) && same (of_method m) p) (own_methods ws c)
 
   unfoldable pub implementation : ℕ → ℕ → Option ℕ
-  implementation c m = first_found (own_implementation (method_name ws text m) (method_descriptor ws text m)) (chain ws c)
+  implementation c m = first_found (own_implementation (of_method m)) (chain ws c)
 
 -- the entry of the class's table for an interface's, if it has an implementation
 abbrev pub dispatch_entry : List ℕ → Entry → Option ℕ → Option ℕ → Built
@@ -55,10 +55,10 @@ cons_entry (built T) (refused n) = refused n
 cons_entry (refused n) other = refused n
 
 -- row 16: "a known interface method has no implementation"
-unfoldable pub dispatch_entries : List ℕ → List ℕ → ℕ → List Entry → Built
-dispatch_entries ws text c [] = built []
-dispatch_entries ws text c (e ∷ es) =
-    cons_entry (dispatch_entry ws e e.method (on_found e.method (implementation ws text c) None)) (dispatch_entries ws text c es)
+unfoldable pub dispatch_entries : Same → List ℕ → ℕ → List Entry → Built
+dispatch_entries same ws c [] = built []
+dispatch_entries same ws c (e ∷ es) =
+    cons_entry (dispatch_entry ws e e.method (on_found e.method (implementation same ws c) None)) (dispatch_entries same ws c es)
 
 -- ---- "a node (old head, interface number, slots) goes in front"
 
@@ -73,9 +73,9 @@ on_dispatch (built T) f g = f T
 on_dispatch (refused n) f g = g n
 
 -- the node's table is built, or row 16 or 15 refuses; the answer is the place after the link word, and the nodes read
-unfoldable pub build_node : List ℕ → List ℕ → ℕ → ℕ → List ℕ → List ℕ → ℕ → Outcome
-build_node ws abi c i area stubs nodes =
-    on_dispatch (dispatch_entries ws (text_of ws) c (table_entries ws (text_of ws) abi (abi_text_of abi) area i))
+unfoldable pub build_node : Same → List ℕ → List ℕ → ℕ → ℕ → List ℕ → List ℕ → ℕ → Outcome
+build_node same ws abi c i area stubs nodes =
+    on_dispatch (dispatch_entries same ws c (table_entries same ws (text_of ws) abi (abi_text_of abi) area i))
     (λ T. cond (no_room area stubs (length T))
     (refused_call 15 ws area)
     (record { refusal = 0; first = next_free area + 1; second = nodes; set = ws; area = asked_area ws area c i T stubs }))
@@ -90,8 +90,9 @@ on_walk broken f g b = b
 unfoldable pub bad_ask : List ℕ → ℕ → ℕ → Bool
 bad_ask ws c i = no_class ws c || no_class ws i || not (is_linked ws c) || not (is_linked ws i)
 
-unfoldable pub ask_def : List ℕ → List ℕ → ℕ → ℕ → List ℕ → List ℕ → Outcome
-ask_def ws abi c i area stubs =
+-- the call over a comparison
+unfoldable pub ask_by : Same → List ℕ → List ℕ → ℕ → ℕ → List ℕ → List ℕ → Outcome
+ask_by same ws abi c i area stubs =
     cond (not (eqb (set_refusal ws abi) 0))
     (refused_call (set_refusal ws abi) ws area)
     (cond (bad_ask ws c i)
@@ -100,5 +101,9 @@ ask_def ws abi c i area stubs =
     (refused_call 7 ws area)
     (on_walk (walk area i 64 0 (get_or area (head_place ws c) 0))
     (λ n nodes. record { refusal = 0; first = n + 1; second = nodes; set = ws; area = area })
-    (build_node ws abi c i area stubs)
+    (build_node same ws abi c i area stubs)
     (refused_call 7 ws area))))
+
+-- and by the bytes of the signatures
+unfoldable pub ask_def : List ℕ → List ℕ → ℕ → ℕ → List ℕ → List ℕ → Outcome
+ask_def ws abi c i area stubs = ask_by (by_sheets ws abi) ws abi c i area stubs

@@ -2,9 +2,9 @@
 -- which row 4 refuses, is cut there, and a parent that is not below its child, which row 4 refuses too, counts as none. Assumes nothing.
 use Rattle.std.specs.Prelude.{ℕ, zero, suc, ◌-◌, min, ◌≡◌, Bool, cond, not, ◌&&◌, List, [], ◌∷◌, get_or, eqb, ltb, Option, Some, None}
 use Rattle.words.specs.Lists.{numbers, find, first_found}
-use Rattle.text.specs.Text.{same_bytes}
 pub use Rattle.class_sheet.specs.Flags.{is_private, is_static, is_interface, is_abstract}
 use Rattle.class_sheet.specs.ClassSheet.{class_parent, class_first_method, class_method_count, class_first_field, class_field_count, class_first_interface, class_interface_count, method_name, method_descriptor, method_flags, method_target, method_limit, field_limit, interface_limit}
+use Rattle.linking.specs.Signature.{Same, Place, of_method}
 
 -- what is made of a number that was found, or what stands for nothing
 abbrev pub on_found {ℓ} : {A : Type ℓ} → Option ℕ → (ℕ → A) → A → A
@@ -53,15 +53,7 @@ eligible ws text m = is_eligible (method_flags ws m) (method_name ws text m)
 
 -- ---- signatures: "signature (name and descriptor)"
 
--- method m has this name and descriptor
-unfoldable pub method_is : List ℕ → List ℕ → ℕ → List ℕ → List ℕ → Bool
-method_is ws text m name descriptor =
-    same_bytes (method_name ws text m) name && same_bytes (method_descriptor ws text m) descriptor
-
 -- two methods have one name and one descriptor
-unfoldable pub same_methods : List ℕ → List ℕ → ℕ → ℕ → Bool
-same_methods ws text m k = method_is ws text m (method_name ws text k) (method_descriptor ws text k)
-
 pub record SameSignature (ws text : List ℕ) (m k : ℕ) : Type 0 where
   pub name : method_name ws text m ≡ method_name ws text k
   pub descriptor : method_descriptor ws text m ≡ method_descriptor ws text k
@@ -75,6 +67,6 @@ own_target ws t c = find (λ m. eqb (method_target ws m) t) (own_methods ws c)
 unfoldable pub find_by_target : List ℕ → ℕ → ℕ → Option ℕ
 find_by_target ws c t = first_found (own_target ws t) (chain ws c)
 
--- the class's first method of this signature, of any flags
-unfoldable pub own_method : List ℕ → List ℕ → List ℕ → List ℕ → ℕ → Option ℕ
-own_method ws text name descriptor c = find (λ m. method_is ws text m name descriptor) (own_methods ws c)
+-- the class's first method of the signature of place p, of any flags
+unfoldable pub own_method : Same → List ℕ → Place → ℕ → Option ℕ
+own_method same ws p c = find (λ m. same (of_method m) p) (own_methods ws c)

@@ -3,10 +3,10 @@
 use Rattle.std.specs.Prelude.{ℕ, ◌+◌, ◌-◌, min, Bool, false, cond, not, ◌&&◌, ◌||◌, List, [], ◌∷◌, ◌++◌, length, get_or, eqb, leb, ltb, Option, Some, None}
 use Rattle.words.specs.Lists.{list_from, numbers, find, first_found, cons_found, all_found, fold, some}
 use Rattle.std.specs.Option.{option_or}
-use Rattle.text.specs.Text.{same_bytes}
 use Rattle.class_sheet.specs.ClassSheet.{class_count, class_first_method, class_method_count, class_link_state, class_compiler_table, class_compiler_slots, compiler_word, interface_word, method_name, method_descriptor, method_flags, method_target, method_limit}
 use Rattle.abi_sheet.specs.AbiSheet.{abi_slot_name, abi_slot_descriptor}
-use Rattle.linking.specs.Chain.{on_found, own_methods, own_interfaces, parent_of, is_abstract, is_eligible, method_is}
+use Rattle.linking.specs.Signature.{Same, Place, of_method, of_abi_slot}
+use Rattle.linking.specs.Chain.{on_found, own_methods, own_interfaces, parent_of, is_abstract, is_eligible}
 use Rattle.linking.specs.Abi.{slot_at, class_abi, chain_abi}
 use Rattle.linking.specs.Vtable.{Entry, empty, parent_entries, fixed_of}
 
@@ -19,6 +19,18 @@ pub record New : Type 0 where
 
 abbrev pub no_new : New
 no_new = record { name = []; descriptor = []; flags = 0; last = 0 }
+
+-- a method to be added, and the place whose signature it takes
+pub record Taken : Type 0 where
+  pub from : Place
+  pub member : New
+
+abbrev pub none_taken : Taken
+none_taken = record { from = of_method 0; member = no_new }
+
+unfoldable pub members : List Taken → List New
+members [] = []
+members (x ∷ xs) = x.member ∷ members xs
 
 abbrev pub without_abstract : ℕ → ℕ
 without_abstract flags = cond (is_abstract flags) (flags - 1024) flags
@@ -33,17 +45,18 @@ holds ws m c = leb (class_first_method ws c) m && ltb m (class_first_method ws c
 unfoldable pub owner_state : List ℕ → ℕ → ℕ
 owner_state ws m = on_found (find (holds ws m) (numbers 1 (class_count ws))) (class_link_state ws) 0
 
-module _ (ws text abi labels : List ℕ) where
+module _ (same : Same) (ws abi : List ℕ) where
   unfoldable pub is_emptied : List ℕ → ℕ → Entry → Bool
   is_emptied abis i e =
-      on_found e.method (λ m. not (eqb (owner_state ws m) 3) && not (on_found (fixed_of ws text abi labels abis m) (eqb i) false)) false
+      on_found e.method (λ m. not (eqb (owner_state ws m) 3) && not (on_found (fixed_of same abi abis m) (eqb i) false)) false
 
   unfoldable pub view_from : List ℕ → ℕ → List Entry → List Entry
   view_from abis i [] = []
   view_from abis i (e ∷ es) = cond (is_emptied abis i e) empty e ∷ view_from abis (i + 1) es
 
-  unfoldable pub native_view : List ℕ → ℕ → List Entry
-  native_view area c = view_from (chain_abi ws text abi labels (parent_of ws c)) 0 (parent_entries ws text abi labels area c)
+unfoldable pub native_view : Same → List ℕ → List ℕ → List ℕ → List ℕ → List ℕ → ℕ → List Entry
+native_view same ws text abi labels area c =
+    view_from same ws abi (chain_abi ws text abi labels (parent_of ws c)) 0 (parent_entries same ws text abi labels area c)
 
 -- ---- the compiler table: "0 none, else first word counted from 1"
 
@@ -55,61 +68,73 @@ compiler_targets ws c = list_from (λ i. compiler_word ws (class_compiler_table 
 -- unless originally declared or nameless."
 
 -- a method that takes its signature from one of the sheet, or from an ABI slot
-abbrev pub from_method : List ℕ → List ℕ → ℕ → ℕ → New
+abbrev pub from_method : List ℕ → List ℕ → ℕ → ℕ → Taken
 from_method ws text m target =
-    record { name = method_name ws text m; descriptor = method_descriptor ws text m; flags = without_abstract (method_flags ws m); last = target }
+    record {
+      from = of_method m;
+      member = record {
+        name = method_name ws text m;
+        descriptor = method_descriptor ws text m;
+        flags = without_abstract (method_flags ws m);
+        last = target;
+      };
+    }
 
-abbrev pub from_slot : List ℕ → List ℕ → ℕ → ℕ → New
-from_slot abi labels s target = record { name = abi_slot_name abi labels s; descriptor = abi_slot_descriptor abi labels s; flags = 1; last = target }
+abbrev pub from_slot : List ℕ → List ℕ → ℕ → ℕ → Taken
+from_slot abi labels s target =
+    record {
+      from = of_abi_slot s;
+      member = record { name = abi_slot_name abi labels s; descriptor = abi_slot_descriptor abi labels s; flags = 1; last = target };
+    }
 
-module _ (ws text : List ℕ) where
-  unfoldable pub is_declared : ℕ → New → Bool
-  is_declared c x = some (λ m. method_is ws text m x.name x.descriptor) (own_methods ws c)
+module _ (same : Same) (ws : List ℕ) where
+  unfoldable pub is_declared : ℕ → Taken → Bool
+  is_declared c x = some (λ m. same (of_method m) x.from) (own_methods ws c)
 
   -- the method added for a target, if any, in front of the rest
-  unfoldable pub add_named : ℕ → New → List New → List New
+  unfoldable pub add_named : ℕ → Taken → List Taken → List Taken
   add_named c x xs = cond (is_declared c x) xs (x ∷ xs)
 
-module _ (ws text abi labels : List ℕ) where
-  -- the class's own ABI entry, then its interfaces'
-  unfoldable pub signature_sources : ℕ → List ℕ
-  signature_sources c =
-      cons_found (class_abi ws text abi labels c) (all_found (λ i. class_abi ws text abi labels (interface_word ws i)) (own_interfaces ws c))
+-- the class's own ABI entry, then its interfaces'
+unfoldable pub signature_sources : List ℕ → List ℕ → List ℕ → List ℕ → ℕ → List ℕ
+signature_sources ws text abi labels c =
+    cons_found (class_abi ws text abi labels c) (all_found (λ i. class_abi ws text abi labels (interface_word ws i)) (own_interfaces ws c))
 
+module _ (same : Same) (ws text abi labels : List ℕ) where
   -- of a target at index i
-  abbrev pub add_from : ℕ → ℕ → ℕ → Option ℕ → List New → List New
+  abbrev pub add_from : ℕ → ℕ → ℕ → Option ℕ → List Taken → List Taken
   add_from c i target method xs =
-      on_found method (λ m. add_named ws text c (from_method ws text m target) xs)
-      (on_found (first_found (slot_at abi i) (signature_sources c)) (λ s. add_named ws text c (from_slot abi labels s target) xs) xs)
+      on_found method (λ m. add_named same ws c (from_method ws text m target) xs)
+      (on_found (first_found (slot_at abi i) (signature_sources ws text abi labels c)) (λ s. add_named same ws c (from_slot abi labels s target) xs) xs)
 
-  unfoldable pub added_from : ℕ → List Entry → ℕ → List ℕ → List New
+  unfoldable pub added_from : ℕ → List Entry → ℕ → List ℕ → List Taken
   added_from c view i [] = []
   added_from c view i (t ∷ ts) =
       cond (eqb t 0 || eqb t (get_or view i empty).word)
       (added_from c view (i + 1) ts)
       (add_from c i t (get_or view i empty).method (added_from c view (i + 1) ts))
 
-  unfoldable pub added_methods : List ℕ → ℕ → List New
-  added_methods area c = added_from c (native_view ws text abi labels area c) 0 (compiler_targets ws c)
+  unfoldable pub added_methods : List ℕ → ℕ → List Taken
+  added_methods area c = added_from c (native_view same ws text abi labels area c) 0 (compiler_targets ws c)
 
 -- ---- methods of the sheet, and those added to it
 
-abbrev pub new_at : List New → ℕ → New
-new_at new m = get_or new (m - method_limit) no_new
+abbrev pub new_at : List Taken → ℕ → Taken
+new_at new m = get_or new (m - method_limit) none_taken
 
-module _ (ws text : List ℕ) (new : List New) where
-  unfoldable pub name_of : ℕ → List ℕ
-  name_of m = cond (ltb m method_limit) (method_name ws text m) (new_at new m).name
+-- the place of its signature: an added method's is the one that it took
+unfoldable pub place_of : List Taken → ℕ → Place
+place_of new m = cond (ltb m method_limit) (of_method m) (new_at new m).from
 
-  unfoldable pub descriptor_of : ℕ → List ℕ
-  descriptor_of m = cond (ltb m method_limit) (method_descriptor ws text m) (new_at new m).descriptor
+unfoldable pub name_of : List ℕ → List ℕ → List Taken → ℕ → List ℕ
+name_of ws text new m = cond (ltb m method_limit) (method_name ws text m) (new_at new m).member.name
 
-module _ (ws : List ℕ) (new : List New) where
+module _ (ws : List ℕ) (new : List Taken) where
   unfoldable pub flags_of : ℕ → ℕ
-  flags_of m = cond (ltb m method_limit) (method_flags ws m) (new_at new m).flags
+  flags_of m = cond (ltb m method_limit) (method_flags ws m) (new_at new m).member.flags
 
   unfoldable pub target_of : ℕ → ℕ
-  target_of m = cond (ltb m method_limit) (method_target ws m) (new_at new m).last
+  target_of m = cond (ltb m method_limit) (method_target ws m) (new_at new m).member.last
 
   -- declared and added, in order
   unfoldable pub class_methods : ℕ → List ℕ
@@ -132,18 +157,18 @@ module _ (ws : List ℕ) (new : List New) where
 
 -- ---- (d) "Eligible declared, added and parent methods whose signature has no slot are appended with their own targets."
 
-module _ (ws text : List ℕ) (new : List New) where
+module _ (same : Same) (new : List Taken) where
   unfoldable pub same_signature : ℕ → ℕ → Bool
-  same_signature m k =
-      same_bytes (name_of ws text new m) (name_of ws text new k) && same_bytes (descriptor_of ws text new m) (descriptor_of ws text new k)
+  same_signature m k = same (place_of new m) (place_of new k)
 
   unfoldable pub has_slot : ℕ → List Entry → Bool
   has_slot m T = some (λ e. on_found e.method (same_signature m) false) T
 
+module _ (same : Same) (ws text : List ℕ) (new : List Taken) where
   -- appended as a copy of that slot of the parent's table, or as none
   unfoldable pub append_from : Option ℕ → List Entry → ℕ → List Entry
   append_from source T m =
-      cond (is_eligible (flags_of ws new m) (name_of ws text new m) && not (has_slot m T))
+      cond (is_eligible (flags_of ws new m) (name_of ws text new m) && not (has_slot same new m T))
       (T ++ (record { word = target_of ws new m; method = Some m; source = source } ∷ []))
       T
 
@@ -151,10 +176,10 @@ module _ (ws text : List ℕ) (new : List New) where
   unfoldable pub append_entry : List Entry → Entry → List Entry
   append_entry T e = on_found e.method (append_from e.source T) T
 
-unfoldable pub compiler_table : List ℕ → List ℕ → List ℕ → List ℕ → List ℕ → ℕ → List Entry
-compiler_table ws text abi labels area c =
-    let new : List New = added_methods ws text abi labels area c in
-    let view : List Entry = native_view ws text abi labels area c in
-    fold (append_entry ws text new)
-    (fold (append_from ws text new None) (compiler_entries ws new c view 0 (compiler_targets ws c)) (class_methods ws new c))
-    (parent_entries ws text abi labels area c)
+unfoldable pub compiler_table : Same → List ℕ → List ℕ → List ℕ → List ℕ → List ℕ → ℕ → List Entry
+compiler_table same ws text abi labels area c =
+    let new : List Taken = added_methods same ws text abi labels area c in
+    let view : List Entry = native_view same ws text abi labels area c in
+    fold (append_entry same ws text new)
+    (fold (append_from same ws text new None) (compiler_entries ws new c view 0 (compiler_targets ws c)) (class_methods ws new c))
+    (parent_entries same ws text abi labels area c)

@@ -5,12 +5,13 @@ use Rattle.text.specs.Text.{same_bytes}
 use Rattle.class_sheet.specs.ClassSheet.{class_count, method_count, field_count, text_of, class_flags, class_kind, class_first_field, class_method_count, class_field_count, class_compiler_table, class_table_place, class_slot_count, is_built_kind, is_generated, is_array, is_packaged, class_name, fields_at, put_class_instance_words, put_class_table_place, put_class_slot_count, put_class_static_words}
 use Rattle.abi_sheet.specs.AbiSheet.{abi_text_of, abi_field_name, abi_field_descriptor}
 use Rattle.set_rules.specs.SetRules.{set_refusal}
-use Rattle.linking.specs.Chain.{parent_of, is_interface, same_methods}
+use Rattle.linking.specs.Signature.{Same, by_sheets}
+use Rattle.linking.specs.Chain.{parent_of, is_interface}
 use Rattle.linking.specs.Abi.{class_abi, fixed_field_index}
 use Rattle.linking.specs.Vtable.{Entry, Built, built, refused, parent_entries, build_methods, build_interface_methods, slot_words}
 use Rattle.linking.specs.Packages.{build_packages, bad_packages}
 use Rattle.linking.specs.Fields.{number_fields, added_fields, built_words, too_many_words, generated_refusal, generated_indices, static_words}
-use Rattle.linking.specs.Compiler.{New, added_methods, compiler_table}
+use Rattle.linking.specs.Compiler.{New, Taken, members, added_methods, compiler_table}
 use Rattle.linking.specs.Counts.{counted_after, missing_short}
 use Rattle.linking.specs.Set.{write_at, put_indices, grown_methods, grown_fields, section_full, grown_end}
 
@@ -73,7 +74,7 @@ bad_area ws area =
 pub record Plan : Type 0 where
   pub table : List Entry
   pub indices : List ℕ
-  pub new_methods : List New
+  pub added : List Taken
   pub new_fields : List New
 
 pub data Planned : Type 0 where
@@ -100,16 +101,16 @@ new_fields_of abi labels (g ∷ gs) =
     }
     ∷ new_fields_of abi labels gs
 
-module _ (ws text abi labels area : List ℕ) where
+module _ (same : Same) (ws text abi labels area : List ℕ) where
   -- (the definitions `.._with` take the table that `build_methods` makes, so that a plan by another way of relaying is one line)
   abbrev pub built_table_with : Built → ℕ → Built
   built_table_with B c =
       cond (is_packaged ws c)
-      (built (build_packages (same_methods ws text) ws text abi labels area c))
+      (built (build_packages same ws text abi labels area c))
       (cond (is_interface (class_flags ws c)) (built (build_interface_methods ws text c)) B)
 
   unfoldable pub built_table : ℕ → Built
-  built_table c = built_table_with (build_methods ws text abi labels area c) c
+  built_table c = built_table_with (build_methods same ws text abi labels area c) c
 
   abbrev pub plan_built_with : Built → ℕ → Planned
   plan_built_with B c =
@@ -121,7 +122,7 @@ module _ (ws text abi labels area : List ℕ) where
       (record {
         table = T;
         indices = (number_fields ws text abi labels own c).indices;
-        new_methods = [];
+        added = [];
         new_fields = new_fields_of abi labels (added_fields ws text abi labels own c);
       })))
 
@@ -130,20 +131,20 @@ module _ (ws text abi labels area : List ℕ) where
 
   -- "Generated without a compiler table: `build_methods`, interface or not."
   abbrev pub generated_table_with : Built → ℕ → Built
-  generated_table_with B c = cond (eqb (class_compiler_table ws c) 0) B (built (compiler_table ws text abi labels area c))
+  generated_table_with B c = cond (eqb (class_compiler_table ws c) 0) B (built (compiler_table same ws text abi labels area c))
 
   unfoldable pub generated_table : ℕ → Built
-  generated_table c = generated_table_with (build_methods ws text abi labels area c) c
+  generated_table c = generated_table_with (build_methods same ws text abi labels area c) c
 
-  unfoldable pub generated_methods : ℕ → List New
-  generated_methods c = cond (eqb (class_compiler_table ws c) 0) [] (added_methods ws text abi labels area c)
+  unfoldable pub generated_methods : ℕ → List Taken
+  generated_methods c = cond (eqb (class_compiler_table ws c) 0) [] (added_methods same ws text abi labels area c)
 
   abbrev pub plan_generated_with : Built → ℕ → Planned
   plan_generated_with B c =
       cond (eqb (generated_refusal ws text c) 0)
       (on_table B
       (λ T. within_slots
-      (record { table = T; indices = generated_indices ws text c; new_methods = generated_methods c; new_fields = [] })))
+      (record { table = T; indices = generated_indices ws text c; added = generated_methods c; new_fields = [] })))
       (unplanned (generated_refusal ws text c))
 
   unfoldable pub plan_generated : ℕ → Planned
@@ -151,7 +152,7 @@ module _ (ws text abi labels area : List ℕ) where
 
   -- "Array: the parent's entries."
   unfoldable pub plan_array : ℕ → Planned
-  plan_array c = within_slots (record { table = parent_entries ws text abi labels area c; indices = []; new_methods = []; new_fields = [] })
+  plan_array c = within_slots (record { table = parent_entries same ws text abi labels area c; indices = []; added = []; new_fields = [] })
 
   -- by the class's kind
   abbrev pub plan_by_kind : Planned → Planned → ℕ → Planned
@@ -180,12 +181,12 @@ is_none (x ∷ xs) = false
 -- row 14, and row 15's "the set's slice too few for the grown sections"
 unfoldable pub lists_full : List ℕ → ℕ → Plan → Bool
 lists_full ws c p =
-    (not (is_none p.new_methods) && section_full ws (method_count ws) (class_method_count ws c) p.new_methods)
+    (not (is_none (members p.added)) && section_full ws (method_count ws) (class_method_count ws c) (members p.added))
     || (not (is_none p.new_fields) && section_full ws (field_count ws) (class_field_count ws c) p.new_fields)
 
 unfoldable pub set_short : List ℕ → ℕ → Plan → Bool
 set_short ws c p =
-    (not (is_none p.new_methods) && ltb (length ws) (grown_end ws (class_method_count ws c) p.new_methods))
+    (not (is_none (members p.added)) && ltb (length ws) (grown_end ws (class_method_count ws c) (members p.added)))
     || (not (is_none p.new_fields) && ltb (length ws) (grown_end ws (class_field_count ws c) p.new_fields))
 
 -- "the stub list is shorter than the table to write, the area has too few free words"
@@ -210,7 +211,7 @@ linked_words ws c place words statics p =
     let recorded : List ℕ = linked_record ws c place (length p.table) words statics in
     cond (is_none p.new_fields)
     (let numbered : List ℕ = put_indices (fields_at ws) (class_first_field ws c) p.indices recorded in
-    cond (is_none p.new_methods) numbered (grown_methods ws c p.new_methods numbered))
+    cond (is_none (members p.added)) numbered (grown_methods ws c (members p.added) numbered))
     (grown_fields ws c p.indices p.new_fields recorded)
 
 -- ---- the call
@@ -269,5 +270,10 @@ link_with P ws abi c area stubs missing =
     (refused_link 26 ws area missing)
     (on_plan P (finish_link ws abi c area stubs missing) (λ n. refused_link n ws area missing)))))
 
+-- the call over a comparison
+unfoldable pub link_by : Same → List ℕ → List ℕ → ℕ → List ℕ → List ℕ → List ℕ → LinkOutcome
+link_by same ws abi c area stubs missing = link_with (plan same ws (text_of ws) abi (abi_text_of abi) area c) ws abi c area stubs missing
+
+-- and by the bytes of the signatures
 unfoldable pub link_def : List ℕ → List ℕ → ℕ → List ℕ → List ℕ → List ℕ → LinkOutcome
-link_def ws abi c area stubs missing = link_with (plan ws (text_of ws) abi (abi_text_of abi) area c) ws abi c area stubs missing
+link_def ws abi c area stubs missing = link_by (by_sheets ws abi) ws abi c area stubs missing

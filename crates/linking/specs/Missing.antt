@@ -2,6 +2,7 @@
 use Rattle.std.specs.Prelude.{ℕ, Bool, false, cond, not, ◌||◌, List, [], ◌∷◌, get_or, eqb}
 use Rattle.class_sheet.specs.ClassSheet.{class_kind, is_built_kind, is_generated}
 use Rattle.set_rules.specs.SetRules.{set_refusal}
+use Rattle.linking.specs.Signature.{Same}
 use Rattle.linking.specs.Chain.{chain}
 use Rattle.linking.specs.Vtable.{Entry, Built, built, refused, parent_entries}
 use Rattle.linking.specs.Counts.{bits_of, missing_at, missing_short}
@@ -31,12 +32,12 @@ abbrev pub entries_built : Built → List Entry
 entries_built (built T) = T
 entries_built (refused n) = []
 
-module _ (ws text abi labels area : List ℕ) where
+module _ (same : Same) (ws text abi labels area : List ℕ) where
   -- a class's table, kind by kind: what `plan` makes of it (a law of proofs/Plans.antt)
   unfoldable pub table_by : ℕ → Built
   table_by c =
-      cond (is_built_kind (class_kind ws c)) (built_table ws text abi labels area c)
-      (cond (is_generated ws c) (generated_table ws text abi labels area c) (built (parent_entries ws text abi labels area c)))
+      cond (is_built_kind (class_kind ws c)) (built_table same ws text abi labels area c)
+      (cond (is_generated ws c) (generated_table same ws text abi labels area c) (built (parent_entries same ws text abi labels area c)))
 
   -- from the root down, each class's table built anew, its slots counted by the bits of its parent's
   unfoldable pub recounted_along : List ℕ → List Bool

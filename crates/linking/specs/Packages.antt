@@ -10,7 +10,8 @@ use Rattle.text.specs.Text.{same_bytes}
 pub use Rattle.class_sheet.specs.Flags.{is_public, is_protected}
 use Rattle.class_sheet.specs.ClassSheet.{class_limit, text_of, class_flags, is_packaged, class_table_place, class_slot_count, class_name, method_flags}
 use Rattle.set_rules.specs.Valid.{IsClass, Valid}
-use Rattle.linking.specs.Chain.{on_found, own_methods, parent_of, chain, is_private, is_static, is_interface, is_virtual, eligible, same_methods, SameSignature}
+use Rattle.linking.specs.Signature.{Same, by_bytes, methods_same}
+use Rattle.linking.specs.Chain.{on_found, own_methods, parent_of, chain, is_private, is_static, is_interface, is_virtual, eligible, SameSignature}
 use Rattle.linking.specs.Abi.{class_abi}
 use Rattle.linking.specs.Vtable.{Entry, read_slot, parent_entries, method_entry}
 
@@ -72,11 +73,11 @@ topmost p (x ∷ xs) = option_or (topmost p xs) (cond (p x) (Some x) None)
 unfoldable pub table_has : List ℕ → ℕ → ℕ → Bool
 table_has ws i c = not (eqb (class_table_place ws c) 0) && ltb i (min (class_slot_count ws c) 1024)
 
-module _ (ws text abi labels : List ℕ) where
+module _ (same : Same) (ws text abi labels : List ℕ) where
   -- of slot i in the table of class p
   unfoldable pub introducing : List ℕ → ℕ → ℕ → Option ℕ
   introducing area p i =
-      option_and_then (λ d. (read_slot ws text abi labels area d i).method) (topmost (table_has ws i) (chain ws p))
+      option_and_then (λ d. (read_slot same ws text abi labels area d i).method) (topmost (table_has ws i) (chain ws p))
 
 -- ---- the table: "An eligible method takes every inherited slot whose introducing method it overrides by that section, and a new last slot if there
 -- is none."
@@ -100,13 +101,14 @@ module _ (same : ℕ → ℕ → Bool) (ws text : List ℕ) where
   unfoldable pub packages_over : (ℕ → Option ℕ) → ℕ → List Entry → List Entry
   packages_over introduced c P = fold (take_slots introduced (length P) c) P (own_methods ws c)
 
-module _ (same : ℕ → ℕ → Bool) (ws text abi labels : List ℕ) where
+module _ (same : Same) (ws text abi labels : List ℕ) where
   -- (rows 3 and 6 refuse a class number above `class_limit`: it has no table)
   unfoldable pub build_packages : List ℕ → ℕ → List Entry
   build_packages area c =
       cond (ltb class_limit c)
       []
-      (packages_over same ws text (introducing ws text abi labels area (parent_of ws c)) c (parent_entries ws text abi labels area c))
+      (packages_over (methods_same same) ws text (introducing same ws text abi labels area (parent_of ws c)) c
+      (parent_entries same ws text abi labels area c))
 
 -- ---- row 26: "if a kind 3 class's chain has an ABI entry, an interface or another kind, or another class's chain has kind 3"
 
@@ -148,8 +150,8 @@ module _ (ws text : List ℕ) where
     open_method : {c m a k : ℕ} → Above ws a c → Virtual ws c m → Instance ws a k → SameSignature ws text m k → Open k a c → Overrides c m a k
     through : {c m a k : ℕ} (b n : ℕ) → Overrides c m b n → Overrides b n a k → Overrides c m a k
 
--- the walk finds what the section says: on a valid set, for m in c's list, a above c and k in a's list
+-- the walk finds what the section says, where signatures are compared by their bytes: on a valid set, for m in c's list, a above c and k in a's list
 abbrev pub OverridesMeaning : Type 0
 OverridesMeaning =
-    (ws : List ℕ) → Valid ws → (c m a k : ℕ) → IsClass ws c → Memᴰ m (own_methods ws c) → Above ws a c → Memᴰ k (own_methods ws a)
-    → Memᴰ k (overridden (same_methods ws (text_of ws)) ws (text_of ws) c m) ↔ Overrides ws (text_of ws) c m a k
+    (ws abi labels : List ℕ) → Valid ws → (c m a k : ℕ) → IsClass ws c → Memᴰ m (own_methods ws c) → Above ws a c → Memᴰ k (own_methods ws a)
+    → Memᴰ k (overridden (methods_same (by_bytes ws (text_of ws) abi labels)) ws (text_of ws) c m) ↔ Overrides ws (text_of ws) c m a k

@@ -3,9 +3,9 @@
 use Rattle.std.specs.Prelude.{ℕ, ◌+◌, ◌-◌, min, Bool, false, cond, not, List, [], ◌∷◌, ◌++◌, length, get_or, set, replicate, eqb, Option, Some, None, true, ◌&&◌}
 use Rattle.words.specs.Lists.{list_from, first_found, position, fold, keep, numbers, some}
 use Rattle.std.specs.Option.{option_or, option_and_then}
-use Rattle.class_sheet.specs.ClassSheet.{class_table_place, class_slot_count, method_name, method_descriptor, method_target}
-use Rattle.abi_sheet.specs.AbiSheet.{abi_slot_name, abi_slot_descriptor}
-use Rattle.linking.specs.Chain.{on_found, own_methods, parent_of, chain, eligible, method_is, same_methods, own_method, find_by_target}
+use Rattle.class_sheet.specs.ClassSheet.{class_table_place, class_slot_count, method_target}
+use Rattle.linking.specs.Signature.{Same, Place, of_method, of_abi_slot, methods_same}
+use Rattle.linking.specs.Chain.{on_found, own_methods, parent_of, chain, eligible, own_method, find_by_target}
 use Rattle.linking.specs.Abi.{slot_at, class_abi, chain_abi, fixed_index, fixer_distance, minimum_size}
 
 -- a slot: its word, 0 where it is empty, and its method where it is known
@@ -27,15 +27,14 @@ abbrev pub on_built : Built → (List Entry → Built) → Built
 on_built (built T) f = f T
 on_built (refused n) f = refused n
 
-module _ (ws text abi labels : List ℕ) where
+module _ (same : Same) (ws text abi labels : List ℕ) where
   -- ---- "Reading: a slot's method is the first with that target, class first, then ancestors. Failing that, the first chain class whose
   -- ABI entry fixes that index and which itself has a method of that signature, of any flags. Else unknown. In each case the entry's
   -- target is the slot's word."
 
   unfoldable pub own_fixed : ℕ → ℕ → Option ℕ
   own_fixed i c =
-      option_and_then (λ s. own_method ws text (abi_slot_name abi labels s) (abi_slot_descriptor abi labels s) c)
-      (option_and_then (slot_at abi i) (class_abi ws text abi labels c))
+      option_and_then (λ s. own_method same ws (of_abi_slot s) c) (option_and_then (slot_at abi i) (class_abi ws text abi labels c))
 
   unfoldable pub find_by_index : ℕ → ℕ → Option ℕ
   find_by_index c i = first_found (own_fixed i) (chain ws c)
@@ -56,17 +55,18 @@ module _ (ws text abi labels : List ℕ) where
 
 -- ---- signatures in a table
 
-module _ (ws text : List ℕ) where
-  unfoldable pub entry_is : List ℕ → List ℕ → Entry → Bool
-  entry_is name descriptor e = on_found e.method (λ m. method_is ws text m name descriptor) false
+module _ (same : Same) where
+  -- a known entry of the signature of place p
+  unfoldable pub entry_is : Place → Entry → Bool
+  entry_is p e = on_found e.method (λ m. same (of_method m) p) false
 
   -- the first slot of the signature
-  unfoldable pub slot_of : List ℕ → List ℕ → List Entry → Option ℕ
-  slot_of name descriptor T = position (entry_is name descriptor) 0 T
+  unfoldable pub slot_of : Place → List Entry → Option ℕ
+  slot_of p T = position (entry_is p) 0 T
 
   -- a known entry of another signature
-  unfoldable pub entry_is_other : List ℕ → List ℕ → Entry → Bool
-  entry_is_other name descriptor e = on_found e.method (λ m. not (method_is ws text m name descriptor)) false
+  unfoldable pub entry_is_other : Place → Entry → Bool
+  entry_is_other p e = on_found e.method (λ m. not (same (of_method m) p)) false
 
 abbrev pub method_entry : List ℕ → ℕ → Entry
 method_entry ws m = record { word = method_target ws m; method = Some m; source = None }
@@ -131,54 +131,51 @@ module _ (same : ℕ → ℕ → Bool) (fixed : ℕ → Option ℕ) (staying : �
   unfoldable pub laid_out : List Entry → ℕ → List Entry
   laid_out E n = list_from (standing same staying E) 0 n ++ following E
 
-module _ (ws text abi labels : List ℕ) where
+module _ (same : Same) (abi : List ℕ) where
   unfoldable pub fixed_of : List ℕ → ℕ → Option ℕ
-  fixed_of abis m = fixed_index abi labels abis (method_name ws text m) (method_descriptor ws text m)
+  fixed_of abis m = fixed_index same abi abis (of_method m)
 
   unfoldable pub distance_of : List ℕ → ℕ → ℕ
-  distance_of abis m = fixer_distance abi labels abis (method_name ws text m) (method_descriptor ws text m)
+  distance_of abis m = fixer_distance same abi abis (of_method m)
 
   -- the signatures that stay, of what a class inherits whose chain's ABI classes are abis
   unfoldable pub staying_of : List ℕ → List Entry → ℕ → Option ℕ
   staying_of abis E i = nearest_first (fixed_of abis) (distance_of abis) (length abis) E i
 
   unfoldable pub relayed : List ℕ → List Entry → List Entry
-  relayed abis E = laid_out (same_methods ws text) (fixed_of abis) (staying_of abis E) E (minimum_size abi abis)
+  relayed abis E = laid_out (methods_same same) (fixed_of abis) (staying_of abis E) E (minimum_size abi abis)
 
+module _ (same : Same) (ws text abi labels : List ℕ) where
   -- the table before the class's own methods, by a way of relaying
   abbrev pub inherited_by : (List ℕ → List Entry → List Entry) → List ℕ → ℕ → List Entry
   inherited_by relaying area c =
-      on_found (class_abi ws text abi labels c) (λ a. relaying (chain_abi ws text abi labels c) (parent_entries ws text abi labels area c))
-      (extended abi (chain_abi ws text abi labels c) (parent_entries ws text abi labels area c))
+      on_found (class_abi ws text abi labels c) (λ a. relaying (chain_abi ws text abi labels c) (parent_entries same ws text abi labels area c))
+      (extended abi (chain_abi ws text abi labels c) (parent_entries same ws text abi labels area c))
 
   unfoldable pub inherited_table : List ℕ → ℕ → List Entry
-  inherited_table area c = inherited_by relayed area c
+  inherited_table area c = inherited_by (relayed same abi) area c
 
 -- "Rows 11 and 12 go method by method, 11 first": "a fixed index differs from the inherited one", "the fixed slot holds another
 -- signature"
-unfoldable pub put_method : List ℕ → List ℕ → Option ℕ → Option ℕ → ℕ → List Entry → Built
-put_method ws text (Some i) slot m T =
+unfoldable pub put_method : Same → List ℕ → Option ℕ → Option ℕ → ℕ → List Entry → Built
+put_method same ws (Some i) slot m T =
     cond (on_found slot (λ j. not (eqb j i)) false)
     (refused 11)
-    (cond (entry_is_other ws text (method_name ws text m) (method_descriptor ws text m) (get_or T i empty))
-    (refused 12)
-    (built (set T i (method_entry ws m))))
-put_method ws text None (Some j) m T = built (set T j (method_entry ws m))
-put_method ws text None None m T = built (T ++ (method_entry ws m ∷ []))
+    (cond (entry_is_other same (of_method m) (get_or T i empty)) (refused 12) (built (set T i (method_entry ws m))))
+put_method same ws None (Some j) m T = built (set T j (method_entry ws m))
+put_method same ws None None m T = built (T ++ (method_entry ws m ∷ []))
 
-module _ (ws text abi labels : List ℕ) where
+module _ (same : Same) (ws text abi : List ℕ) where
   unfoldable pub add_method : List ℕ → ℕ → List Entry → Built
-  add_method abis m T =
-      cond (eligible ws text m)
-      (put_method ws text (fixed_of ws text abi labels abis m) (slot_of ws text (method_name ws text m) (method_descriptor ws text m) T) m T)
-      (built T)
+  add_method abis m T = cond (eligible ws text m) (put_method same ws (fixed_of same abi abis m) (slot_of same (of_method m) T) m T) (built T)
 
   unfoldable pub add_methods : List ℕ → List ℕ → List Entry → Built
   add_methods abis [] T = built T
   add_methods abis (m ∷ ms) T = on_built (add_method abis m T) (add_methods abis ms)
 
-  unfoldable pub build_methods : List ℕ → ℕ → Built
-  build_methods area c = add_methods (chain_abi ws text abi labels c) (own_methods ws c) (inherited_table ws text abi labels area c)
+unfoldable pub build_methods : Same → List ℕ → List ℕ → List ℕ → List ℕ → List ℕ → ℕ → Built
+build_methods same ws text abi labels area c =
+    add_methods same ws text abi (chain_abi ws text abi labels c) (own_methods ws c) (inherited_table same ws text abi labels area c)
 
 -- ---- "Interface flag (0x0200), built class: the eligible methods in order."
 
