@@ -8,6 +8,7 @@ use Rattle.words.specs.Lists.{list_from}
 use Rattle.descriptor.specs.Bytes.{text}
 use Rattle.class_sheet.specs.ClassSheet.{class_instance_words, class_table_place, class_slot_count, class_static_words, text_of, method_name, method_flags, method_target, field_index}
 use Rattle.abi_sheet.specs.AbiSheet.{abi_text_of}
+use Rattle.linking.specs.Signature.{by_sheets}
 use Rattle.linking.specs.Chain.{own_methods, own_fields}
 use Rattle.linking.specs.Set.{packed}
 use Rattle.linking.specs.Link.{Outcome, LinkOutcome, link_def}
@@ -433,4 +434,4 @@ table_of c d = take (class_slot_count d.set c) (drop (class_table_place d.set c 
 -- the classes of its slots, 0 for an unknown one
 unfoldable pub classes_of : ℕ → Lent → List ℕ
 classes_of c d =
-    list_from (slot_class d.set (text_of d.set) d.abi (abi_text_of d.abi) d.area c) 0 (class_slot_count d.set c)
+    list_from (slot_class (by_sheets d.set d.abi) d.set (text_of d.set) d.abi (abi_text_of d.abi) d.area c) 0 (class_slot_count d.set c)

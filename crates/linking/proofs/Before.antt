@@ -15,54 +15,56 @@ use Rattle.words.proofs.ListLaws.{by-found}
 use Rattle.class_sheet.specs.ClassSheet.{text_of, class_flags, class_kind, class_compiler_table, is_packaged, is_built_kind}
 use Rattle.abi_sheet.specs.AbiSheet.{abi_text_of}
 use Rattle.set_rules.specs.SetRules.{set_refusal}
-use Rattle.linking.specs.Chain.{is_interface, same_methods}
+use Rattle.linking.specs.Signature.{Same, methods_same, by_sheets}
+use Rattle.linking.specs.Chain.{is_interface}
 use Rattle.linking.specs.Abi.{class_abi, chain_abi, minimum_size}
 use Rattle.linking.specs.Vtable.{Entry, empty, Built, parent_entries, fixed_of, distance_of, relayed, inherited_table, build_methods}
 use Rattle.linking.specs.Packages.{bad_packages}
 use Rattle.linking.specs.Fields.{too_many_words, generated_refusal}
-use Rattle.linking.specs.Link.{bad_class, bad_area, built_table, plan_built, generated_table, plan_generated, plan, plan_with, link_def}
+use Rattle.linking.specs.Link.{bad_class, bad_area, built_table, plan_built, generated_table, plan_generated, plan, plan_with, link_by, link_def}
 use Rattle.linking.specs.Before.{relay_step, relayed_before, clash, build_before, builds_methods, relays_class, entries_clash, field_row, reaches_table, link_clashes, link_before}
 use Rattle.linking.proofs.Plans.{kind-built}
+use Rattle.linking.proofs.Comparing.{Compares, bytes_compare}
 use Rattle.linking.proofs.Relaying.{step_before, relays_as_before}
 use Rattle.linking.proofs.RelayLoop.{relayed_loop}
 
-module _ (ws text abi labels : List ℕ) (abis : List ℕ) where
+module _ (same : Same) (abi abis : List ℕ) where
   step_is : (T : List Entry) (e : Entry)
-      → step_before (same_methods ws text) (fixed_of ws text abi labels abis) (distance_of ws text abi labels abis) T e
-      ≡ relay_step ws text abi labels abis T e
+      → step_before (methods_same same) (fixed_of same abi abis) (distance_of same abi abis) T e
+      ≡ relay_step same abi abis T e
   unfolding step_before relay_step
-  step_is T e = by-found e.method (λ m q. by-found (fixed_of ws text abi labels abis m) (λ i r. rw (q, r) refl) (λ r. rw (q, r) refl)) (λ q. rw q refl)
+  step_is T e = by-found e.method (λ m q. by-found (fixed_of same abi abis m) (λ i r. rw (q, r) refl) (λ r. rw (q, r) refl)) (λ q. rw q refl)
 
   pub steps_are : (es T : List Entry)
-      → fold (step_before (same_methods ws text) (fixed_of ws text abi labels abis) (distance_of ws text abi labels abis)) T es
-      ≡ fold (relay_step ws text abi labels abis) T es
+      → fold (step_before (methods_same same) (fixed_of same abi abis) (distance_of same abi abis)) T es
+      ≡ fold (relay_step same abi abis) T es
   unfolding fold
   steps_are [] T = refl
-  steps_are (e ∷ es) T = rw (step_is T e) (steps_are es (relay_step ws text abi labels abis T e))
+  steps_are (e ∷ es) T = rw (step_is T e) (steps_are es (relay_step same abi abis T e))
 
   -- where no two signatures have one index, the relaying is what it was
-  pub relayed_as_before : (E : List Entry) → clash (same_methods ws text) (fixed_of ws text abi labels abis) E ≡ false
-      → relayed ws text abi labels abis E ≡ relayed_before ws text abi labels abis E
+  pub relayed_as_before : Compares same → (E : List Entry) → clash (methods_same same) (fixed_of same abi abis) E ≡ false
+      → relayed same abi abis E ≡ relayed_before same abi abis E
   unfolding relayed_before
-  relayed_as_before E c =
-      relayed_loop ws text abi labels abis E
-      ∙ relays_as_before (same_methods ws text) (fixed_of ws text abi labels abis) (distance_of ws text abi labels abis) E
+  relayed_as_before compares E c =
+      relayed_loop same abi compares abis E
+      ∙ relays_as_before (methods_same same) (fixed_of same abi abis) (distance_of same abi abis) E
       (replicate (minimum_size abi abis) empty) c
       ∙ steps_are E (replicate (minimum_size abi abis) empty)
 
-module _ (ws text abi labels area : List ℕ) (c : ℕ) where
+module _ (same : Same) (compares : Compares same) (ws text abi labels area : List ℕ) (c : ℕ) where
   build_as_before : ((a : ℕ) → class_abi ws text abi labels c ≡ Some a
-      → clash (same_methods ws text) (fixed_of ws text abi labels (chain_abi ws text abi labels c)) (parent_entries ws text abi labels area c) ≡ false)
-      → build_methods ws text abi labels area c ≡ build_before ws text abi labels area c
+      → clash (methods_same same) (fixed_of same abi (chain_abi ws text abi labels c)) (parent_entries same ws text abi labels area c) ≡ false)
+      → build_methods same ws text abi labels area c ≡ build_before same ws text abi labels area c
   unfolding build_methods build_before inherited_table
   build_as_before h =
       by-found (class_abi ws text abi labels c)
-      (λ a q. rw (q, relayed_as_before ws text abi labels (chain_abi ws text abi labels c) (parent_entries ws text abi labels area c) (h a q)) refl)
+      (λ a q. rw (q, relayed_as_before same abi (chain_abi ws text abi labels c) compares (parent_entries same ws text abi labels area c) (h a q)) refl)
       (λ q. rw q refl)
 
   -- a class that does not build its table does not look at what it would build
-  pub plan_as_before : entries_clash ws text abi labels area c ≡ false
-      → plan ws text abi labels area c ≡ plan_with ws text abi labels area (build_before ws text abi labels area c) c
+  pub plan_as_before : entries_clash same ws text abi labels area c ≡ false
+      → plan same ws text abi labels area c ≡ plan_with same ws text abi labels area (build_before same ws text abi labels area c) c
   unfolding plan plan_with plan_built built_table plan_generated generated_table entries_clash relays_class builds_methods is_built_kind
   plan_as_before h =
       by (eqb (class_kind ws c) 0)
@@ -85,7 +87,7 @@ module _ (ws text abi labels area : List ℕ) (c : ℕ) where
 module _ (ws abi area : List ℕ) (c : ℕ) where
   -- rows 8 to 10 come before the table
   row_as_before : (B : Built) → field_row ws abi c ≡ true
-      → plan ws (text_of ws) abi (abi_text_of abi) area c ≡ plan_with ws (text_of ws) abi (abi_text_of abi) area B c
+      → plan (by_sheets ws abi) ws (text_of ws) abi (abi_text_of abi) area c ≡ plan_with (by_sheets ws abi) ws (text_of ws) abi (abi_text_of abi) area B c
   unfolding plan plan_with plan_built built_table plan_generated generated_table field_row
   row_as_before B h =
       by (is_built_kind (class_kind ws c))
@@ -107,7 +109,7 @@ module _ (ws abi area : List ℕ) (c : ℕ) where
 
   pub link_as_before : (stubs missing : List ℕ) → link_clashes ws abi area c ≡ false
       → link_def ws abi c area stubs missing ≡ link_before ws abi c area stubs missing
-  unfolding link_def link_before link_clashes reaches_table
+  unfolding link_def link_by link_before link_clashes reaches_table
   link_as_before stubs missing h =
       by (eqb (set_refusal ws abi) 0)
       (λ s.
@@ -121,6 +123,6 @@ module _ (ws abi area : List ℕ) (c : ℕ) where
       (λ p. rw (s, k, l, p) refl)
       (λ p.
       by (field_row ws abi c)
-      (λ f. rw (row_as_before (build_before ws (text_of ws) abi (abi_text_of abi) area c) f) refl)
-      (λ f. rw (plan_as_before ws (text_of ws) abi (abi_text_of abi) area c (rw (s, k, l, p, f) at h)) refl)))))
+      (λ f. rw (row_as_before (build_before (by_sheets ws abi) ws (text_of ws) abi (abi_text_of abi) area c) f) refl)
+      (λ f. rw (plan_as_before (by_sheets ws abi) (bytes_compare ws (text_of ws) abi (abi_text_of abi)) ws (text_of ws) abi (abi_text_of abi) area c (rw (s, k, l, p, f) at h)) refl)))))
       (λ s. rw s refl)

@@ -15,11 +15,11 @@ use Rattle.std.specs.Prelude.{Option, Some, None}
 use Rattle.std.specs.Option.{option_and_then}
 use Rattle.words.proofs.Bools.{by}
 use Rattle.class_sheet.specs.ClassSheet.{method_limit, field_limit, interface_limit, class_parent, class_first_field, class_field_count, class_first_interface, class_interface_count, method_target}
-use Rattle.linking.specs.Chain.{list_count, own_methods, own_fields, own_interfaces, parent_of, chain_of, chain, method_is, own_target, find_by_target, own_method}
+use Rattle.linking.specs.Signature.{Same, Place, of_method, of_abi_slot}
+use Rattle.linking.specs.Chain.{list_count, own_methods, own_fields, own_interfaces, parent_of, chain_of, chain, own_target, find_by_target, own_method}
 use Rattle.linking.specs.Abi.{slot_at, class_abi}
 use Rattle.linking.specs.Vtable.{own_fixed, find_by_index, read_entry}
 use Rattle.words.proofs.ListLaws.{length-list-from, get_d_list_from, numbers-within, find-member, find-passes, found-by, by-found, not_found}
-use Rattle.abi_sheet.specs.AbiSheet.{abi_slot_name, abi_slot_descriptor}
 
 -- ---- parents
 
@@ -171,31 +171,31 @@ pub target_room : (ws : List ℕ) (c t m : ℕ) → find_by_target ws c t ≡ So
 unfolding find_by_target
 target_room ws c t m e = found-by (own_target ws t) (chain ws c) m (λ d k q. own-target-room ws t d m q) e
 
-module _ (ws text name descriptor : List ℕ) (c m : ℕ) where
-  pub own-method-member : own_method ws text name descriptor c ≡ Some m → Memᴰ m (own_methods ws c)
+module _ (same : Same) (ws : List ℕ) (p : Place) (c m : ℕ) where
+  pub own-method-member : own_method same ws p c ≡ Some m → Memᴰ m (own_methods ws c)
   unfolding own_method
-  own-method-member e = find-member (λ k. method_is ws text k name descriptor) (own_methods ws c) m e
+  own-method-member e = find-member (λ k. same (of_method k) p) (own_methods ws c) m e
 
   -- it has the signature
-  pub own-method-is : own_method ws text name descriptor c ≡ Some m → method_is ws text m name descriptor ≡ true
+  pub own-method-is : own_method same ws p c ≡ Some m → same (of_method m) p ≡ true
   unfolding own_method
-  own-method-is e = find-passes (λ k. method_is ws text k name descriptor) (own_methods ws c) m e
+  own-method-is e = find-passes (λ k. same (of_method k) p) (own_methods ws c) m e
 
-  pub found-method-room : own_method ws text name descriptor c ≡ Some m → m < method_limit
+  pub found-method-room : own_method same ws p c ≡ Some m → m < method_limit
   found-method-room e = own-method-room ws c m (own-method-member e)
 
 -- ---- what Reading finds is one of the sheet's methods
 
-module _ (ws text abi labels : List ℕ) where
-  pub own-fixed-room : (i c m : ℕ) → own_fixed ws text abi labels i c ≡ Some m → m < method_limit
+module _ (same : Same) (ws text abi labels : List ℕ) where
+  pub own-fixed-room : (i c m : ℕ) → own_fixed same ws text abi labels i c ≡ Some m → m < method_limit
   unfolding own_fixed
   own-fixed-room i c m e =
       by-found (option_and_then (slot_at abi i) (class_abi ws text abi labels c))
-      (λ s q. found-method-room ws text (abi_slot_name abi labels s) (abi_slot_descriptor abi labels s) c m (rw q at e))
+      (λ s q. found-method-room same ws (of_abi_slot s) c m (rw q at e))
       (λ q. not_found (rw q at e))
 
-  pub entry-room : (c i w m : ℕ) → (read_entry ws text abi labels c i w).method ≡ Some m → m < method_limit
+  pub entry-room : (c i w m : ℕ) → (read_entry same ws text abi labels c i w).method ≡ Some m → m < method_limit
   unfolding read_entry find_by_index
   entry-room c i w m e =
       by-found (find_by_target ws c w) (λ k q. target_room ws c w m (q ∙ (rw q at e)))
-      (λ q. found-by (own_fixed ws text abi labels i) (chain ws c) m (λ d t r. own-fixed-room i d m r) (rw q at e))
+      (λ q. found-by (own_fixed same ws text abi labels i) (chain ws c) m (λ d t r. own-fixed-room i d m r) (rw q at e))

@@ -17,7 +17,7 @@ use Rattle.words.specs.Words.{AreBytes}
 use Rattle.class_sheet.specs.Sections.{Sections, Formed, laid_out, sections_of, with_classes, with_fields}
 use Rattle.class_sheet.proofs.Sections.{number_of_classes, number_of_methods, number_of_interfaces, number_of_compilers, class-word, method-word, field-word, interface-word, compiler-word, text-of, formed-of, class_of, method-of, field_of, interface-of, compiler-of, text-of-words}
 use Rattle.set_rules.specs.Valid.{Valid}
-use Rattle.linking.specs.Compiler.{New, no_new}
+use Rattle.linking.specs.Compiler.{New, no_new, members}
 use Rattle.linking.specs.Set.{new_text}
 use Rattle.linking.specs.Link.{Plan, is_none, linked_words}
 use Rattle.linking.specs.Grown.{member_row, row_indices, record_rows, methods_growing, fields_growing, linked_sections}
@@ -79,7 +79,7 @@ pub record FieldsAdded (ws ws' : List ℕ) (c : ℕ) (indices : List ℕ) (new :
 module _ (ws : List ℕ) (c place words statics : ℕ) (p : Plan) (some : 1 ≤ c) (among : c ≤ class_count ws) (fits : content_end ws ≤ length ws)
     (methods : class_first_method ws c + class_method_count ws c ≤ method_count ws) (fields : class_first_field ws c + class_field_count ws c ≤ field_count ws)
     (inside : class_first_field ws c + length p.indices ≤ field_count ws)
-    (method-bytes : AreBytes (new_text p.new_methods)) (field-bytes : AreBytes (new_text p.new_fields)) where
+    (method-bytes : AreBytes (new_text (members p.added))) (field-bytes : AreBytes (new_text p.new_fields)) where
   abbrev s : Sections
   s = sections_of ws
 
@@ -139,7 +139,7 @@ module _ (ws : List ℕ) (c place words statics : ℕ) (p : Plan) (some : 1 ≤ 
   link-after = rw laid after
 
   -- where no method is added, the class's method list stays
-  pub link-still : is_none p.new_methods ≡ true → (k : ℕ) → k < first_field_word → class_word (linked_words ws c place words statics p) c k ≡ class_word ws c k
+  pub link-still : is_none (members p.added) ≡ true → (k : ℕ) → k < first_field_word → class_word (linked_words ws c place words statics p) c k ≡ class_word ws c k
   link-still t k h =
       rw laid (class-here c k some among (omega arith) (linked-still s (formed-of ws fits) c place words statics p some within t k h))
 
@@ -154,11 +154,11 @@ module _ (ws : List ℕ) (c place words statics : ℕ) (p : Plan) (some : 1 ≤ 
   own_row k n₀ n₁ n₂ n₃ =
       by (is_none p.new_fields)
       (λ t.
-      by (is_none p.new_methods) (λ u. rw (t, u))
+      by (is_none (members p.added)) (λ u. rw (t, u))
       (λ u.
       rw (t, u)
       (word_kept recorded c first_method_word method_count_word (length s.methods)
-      (row_word recorded (c - 1) method_count_word + length p.new_methods) k n₀ n₁)))
+      (row_word recorded (c - 1) method_count_word + length (members p.added)) k n₀ n₁)))
       (λ t.
       rw t
       (word_kept recorded c first_field_word field_count_word (length s.fields) (row_word recorded (c - 1) field_count_word + length p.new_fields) k n₂ n₃))
@@ -197,11 +197,11 @@ module _ (ws : List ℕ) (c place words statics : ℕ) (p : Plan) (some : 1 ≤ 
       → row_word g.classes (c - 1) k ≡ row_word recorded (c - 1) k
   unfolding linked_sections methods_growing fields_growing
   list-row t k n₀ n₁ =
-      by (is_none p.new_methods) (λ u. rw (t, u))
+      by (is_none (members p.added)) (λ u. rw (t, u))
       (λ u.
       rw (t, u)
       (word_kept recorded c first_method_word method_count_word (length s.methods)
-      (row_word recorded (c - 1) method_count_word + length p.new_methods) k n₀ n₁))
+      (row_word recorded (c - 1) method_count_word + length (members p.added)) k n₀ n₁))
 
   list-word : is_none p.new_fields ≡ true → (k : ℕ) → k < class_width → k ≢ first_method_word → k ≢ method_count_word → k ≢ instance_words_word
       → k ≢ table_place_word → k ≢ slot_count_word → k ≢ static_words_word → class_word (linked_words ws c place words statics p) c k ≡ class_word ws c k
@@ -220,7 +220,7 @@ module _ (ws : List ℕ) (c place words statics : ℕ) (p : Plan) (some : 1 ≤ 
   module _ (none-added : is_none p.new_fields ≡ true) where
     fields-of : g.fields ≡ row_indices (row_word s.classes (c - 1) first_field_word) p.indices s.fields
     unfolding linked_sections methods_growing
-    fields-of = by (is_none p.new_methods) (λ u. rw (none-added, u)) (λ u. rw (none-added, u))
+    fields-of = by (is_none (members p.added)) (λ u. rw (none-added, u)) (λ u. rw (none-added, u))
 
     field-left : (m k : ℕ) → m < field_count ws → k < member_width → k ≢ index_word → field_word (laid_out g) m k ≡ field_word ws m k
     field-left m k h b n =
@@ -262,7 +262,7 @@ module _ (ws : List ℕ) (c place words statics : ℕ) (p : Plan) (some : 1 ≤ 
 
   -- where methods are added
 
-  module _ (no_fields : is_none p.new_fields ≡ true) (adds : is_none p.new_methods ≡ false) where
+  module _ (no_fields : is_none p.new_fields ≡ true) (adds : is_none (members p.added) ≡ false) where
     abbrev num : Sections
     num =
         with_fields (with_classes s (record_rows s.classes c place (length p.table) words statics))
@@ -292,7 +292,7 @@ module _ (ws : List ℕ) (c place words statics : ℕ) (p : Plan) (some : 1 ≤ 
     among-num = omega (arith, within, is-num.classes)
 
     abbrev new : List New
-    new = p.new_methods
+    new = members p.added
 
     abbrev grown : List ℕ
     grown = laid_out (methods_growing num c new)

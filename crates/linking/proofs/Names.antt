@@ -14,9 +14,10 @@ use Rattle.words.proofs.Lists.{part_at}
 use Rattle.words.specs.Words.{AreBytes}
 use Rattle.text.specs.Text.{name_at}
 use Rattle.class_sheet.specs.ClassSheet.{class_compiler_table}
+use Rattle.linking.specs.Signature.{Same}
 use Rattle.linking.specs.Abi.{slot_at}
 use Rattle.linking.specs.Vtable.{Entry, empty}
-use Rattle.linking.specs.Compiler.{New, from_method, from_slot, signature_sources, is_declared, add_named, add_from, added_from, added_methods}
+use Rattle.linking.specs.Compiler.{New, Taken, members, from_method, from_slot, signature_sources, is_declared, add_named, add_from, added_from, added_methods}
 use Rattle.linking.specs.Set.{new_text}
 use Rattle.linking.specs.Link.{new_fields_of, generated_methods}
 
@@ -39,32 +40,32 @@ unfolding new_fields_of
 field-bytes abi labels [] l = no_bytes
 field-bytes abi labels (g ∷ gs) l = more_bytes _ _ (part_bytes labels _ _ l) (part_bytes labels _ _ l) (field-bytes abi labels gs l)
 
-named-bytes : (ws text : List ℕ) (c : ℕ) (x : New) (xs : List New) → AreBytes x.name → AreBytes x.descriptor → AreBytes (new_text xs)
-    → AreBytes (new_text (add_named ws text c x xs))
-unfolding add_named
-named-bytes ws text c x xs n d h = by (is_declared ws text c x) (λ e. rw e h) (λ e. rw e (more_bytes x xs n d h))
+named-bytes : (same : Same) (ws : List ℕ) (c : ℕ) (x : Taken) (xs : List Taken) → AreBytes x.member.name → AreBytes x.member.descriptor
+    → AreBytes (new_text (members xs)) → AreBytes (new_text (members (add_named same ws c x xs)))
+unfolding add_named members
+named-bytes same ws c x xs n d h = by (is_declared same ws c x) (λ e. rw e h) (λ e. rw e (more_bytes x.member (members xs) n d h))
 
-module _ (ws text abi labels : List ℕ) (t : AreBytes text) (l : AreBytes labels) where
-  from_bytes : (c i target : ℕ) (method : Option ℕ) (xs : List New) → AreBytes (new_text xs)
-      → AreBytes (new_text (add_from ws text abi labels c i target method xs))
+module _ (same : Same) (ws text abi labels : List ℕ) (t : AreBytes text) (l : AreBytes labels) where
+  from_bytes : (c i target : ℕ) (method : Option ℕ) (xs : List Taken) → AreBytes (new_text (members xs))
+      → AreBytes (new_text (members (add_from same ws text abi labels c i target method xs)))
   from_bytes c i target method xs h =
       by-found method
-      (λ m e. rw e (named-bytes ws text c (from_method ws text m target) xs (part_bytes text _ _ t) (part_bytes text _ _ t) h))
+      (λ m e. rw e (named-bytes same ws c (from_method ws text m target) xs (part_bytes text _ _ t) (part_bytes text _ _ t) h))
       (λ e.
       rw e
       (by-found (first_found (slot_at abi i) (signature_sources ws text abi labels c))
-      (λ s q. rw q (named-bytes ws text c (from_slot abi labels s target) xs (part_bytes labels _ _ l) (part_bytes labels _ _ l) h))
+      (λ s q. rw q (named-bytes same ws c (from_slot abi labels s target) xs (part_bytes labels _ _ l) (part_bytes labels _ _ l) h))
       (λ q. rw q h)))
 
-  added-bytes : (c : ℕ) (view : List Entry) (i : ℕ) (ts : List ℕ) → AreBytes (new_text (added_from ws text abi labels c view i ts))
-  unfolding added_from
+  added-bytes : (c : ℕ) (view : List Entry) (i : ℕ) (ts : List ℕ) → AreBytes (new_text (members (added_from same ws text abi labels c view i ts)))
+  unfolding added_from members
   added-bytes c view i [] = no_bytes
   added-bytes c view i (x ∷ ts) =
       let h = added-bytes c view (i + 1) ts in
       by (eqb x 0 || eqb x (get_or view i empty).word)
       (λ e. rw e h)
-      (λ e. rw e (from_bytes c i x (get_or view i empty).method (added_from ws text abi labels c view (i + 1) ts) h))
+      (λ e. rw e (from_bytes c i x (get_or view i empty).method (added_from same ws text abi labels c view (i + 1) ts) h))
 
-  pub method-bytes : (area : List ℕ) (c : ℕ) → AreBytes (new_text (generated_methods ws text abi labels area c))
-  unfolding generated_methods added_methods
+  pub method-bytes : (area : List ℕ) (c : ℕ) → AreBytes (new_text (members (generated_methods same ws text abi labels area c)))
+  unfolding generated_methods added_methods members
   method-bytes area c = by (eqb (class_compiler_table ws c) 0) (λ e. rw e no_bytes) (λ e. rw e (added-bytes c _ 0 _))

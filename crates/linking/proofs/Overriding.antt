@@ -15,7 +15,8 @@ use Rattle.text.specs.Text.{same_bytes}
 use Rattle.text.proofs.Laws.{same-is, same_refl}
 use Rattle.class_sheet.specs.ClassSheet.{text_of, class_first_method, class_method_count, method_name, method_descriptor, method_flags, method_limit}
 use Rattle.set_rules.specs.Valid.{IsClass}
-use Rattle.linking.specs.Chain.{list_count, own_methods, parent_of, chain, is_private, is_static, is_virtual, method_is, same_methods, SameSignature}
+use Rattle.linking.specs.Signature.{methods_same, place_name, place_descriptor, by_bytes}
+use Rattle.linking.specs.Chain.{list_count, own_methods, parent_of, chain, is_private, is_static, is_virtual, SameSignature}
 use Rattle.linking.specs.Packages.{is_public, is_protected, package_at, open_to, is_overridden, overridden_in, reached_with, overridden_along, overridden, Above, Instance, Virtual, Open, public, protected, in_package, Overrides, open_method, through, OverridesMeaning}
 use Rattle.linking.proofs.ChainLaws.{parent_below, parent-within, chain-none, chain_more, chain-within}
 
@@ -161,256 +162,259 @@ module _ (ws text : List ℕ) where
       by (is_private (method_flags ws k)) (λ v. absurd (false≢true (rw v at r)))
       (λ v. in_package v (same-is (package_at ws text a) (package_at ws text c) (rw v at r)))))
 
-  pub same_true : {m k : ℕ} → SameSignature ws text m k → same_methods ws text k m ≡ true
-  unfolding same_methods method_is
-  same_true {k = k} s = rw (s.name, s.descriptor, same_refl (method_name ws text k)) (same_refl (method_descriptor ws text k))
+  -- ---- where signatures are compared by their bytes
 
-  pub same_of : (m k : ℕ) → same_methods ws text k m ≡ true → SameSignature ws text m k
-  unfolding same_methods method_is
-  same_of m k h =
-      let p = and_both (same_bytes (method_name ws text k) (method_name ws text m))
-      (same_bytes (method_descriptor ws text k) (method_descriptor ws text m)) h in
-      record { name = sym (same-is _ _ p.0); descriptor = sym (same-is _ _ p.1) }
+  module _ (abi labels : List ℕ) where
+    pub same_true : {m k : ℕ} → SameSignature ws text m k → methods_same (by_bytes ws text abi labels) k m ≡ true
+    unfolding methods_same by_bytes place_name place_descriptor
+    same_true {k = k} s = rw (s.name, s.descriptor, same_refl (method_name ws text k)) (same_refl (method_descriptor ws text k))
 
-  abbrev same : ℕ → ℕ → Bool
-  same = same_methods ws text
+    pub same_of : (m k : ℕ) → methods_same (by_bytes ws text abi labels) k m ≡ true → SameSignature ws text m k
+    unfolding methods_same by_bytes place_name place_descriptor
+    same_of m k h =
+        let p = and_both (same_bytes (method_name ws text k) (method_name ws text m))
+        (same_bytes (method_descriptor ws text k) (method_descriptor ws text m)) h in
+        record { name = sym (same-is _ _ p.0); descriptor = sym (same-is _ _ p.1) }
 
-  passes : {m k a e : ℕ} (R : List ℕ) → Instance ws a k → SameSignature ws text m k → Memᴰ e R → Open ws text k a e
-      → is_overridden same ws text m R a k ≡ true
-  unfolding is_overridden
-  passes {k = k} {a = a} R i s h o = rw (i.not_static, same_true s) (some_in (open_to ws text k a) R h (open_true o))
+    abbrev same : ℕ → ℕ → Bool
+    same = methods_same (by_bytes ws text abi labels)
 
-  pub in_here : {m k a e : ℕ} (R : List ℕ) → Instance ws a k → SameSignature ws text m k → Memᴰ e R → Open ws text k a e
-      → Memᴰ k (overridden_in same ws text m R a)
-  unfolding overridden_in
-  in_here {m} {a = a} R i s h o = keep_in (is_overridden same ws text m R a) (own_methods ws a) i.own (passes R i s h o)
+    passes : {m k a e : ℕ} (R : List ℕ) → Instance ws a k → SameSignature ws text m k → Memᴰ e R → Open ws text k a e
+        → is_overridden same ws text m R a k ≡ true
+    unfolding is_overridden
+    passes {k = k} {a = a} R i s h o = rw (i.not_static, same_true s) (some_in (open_to ws text k a) R h (open_true o))
 
-  -- what a method found in class a is
-  record Here (m a k : ℕ) (R : List ℕ) : Type 0 where
-    declared : Instance ws a k
-    signature : SameSignature ws text m k
-    class : ℕ
-    reached : Memᴰ class R
-    opens : Open ws text k a class
+    pub in_here : {m k a e : ℕ} (R : List ℕ) → Instance ws a k → SameSignature ws text m k → Memᴰ e R → Open ws text k a e
+        → Memᴰ k (overridden_in same ws text m R a)
+    unfolding overridden_in
+    in_here {m} {a = a} R i s h o = keep_in (is_overridden same ws text m R a) (own_methods ws a) i.own (passes R i s h o)
 
-  here_of : (m a k : ℕ) (R : List ℕ) → Memᴰ k (overridden_in same ws text m R a) → Here m a k R
-  unfolding overridden_in is_overridden
-  here_of m a k R h =
-      let r = keep-of (is_overridden same ws text m R a) (own_methods ws a) h in
-      let t = and_3 (not (is_static (method_flags ws k))) (same k m) (some (open_to ws text k a) R) r.1 in
-      let o = some_of (open_to ws text k a) R t.2 in
-      record {
-        declared = record { own = r.0; not_static = by (is_static (method_flags ws k)) (λ u. absurd (false≢true (rw u at t.0))) (λ u. u) };
-        signature = same_of m k t.1;
-        class = o.0;
-        reached = o.1;
-        opens = open_of k a o.0 o.2;
-      }
+    -- what a method found in class a is
+    record Here (m a k : ℕ) (R : List ℕ) : Type 0 where
+      declared : Instance ws a k
+      signature : SameSignature ws text m k
+      class : ℕ
+      reached : Memᴰ class R
+      opens : Open ws text k a class
 
-  -- ---- one walk
-
-  module _ (c m : ℕ) where
-    -- the classes held are reached, and below what is left of the chain; and those reached are held, or are still to come
-
-    abbrev Sound : List ℕ → ℕ → Type 0
-    Sound R p = (e : ℕ) → Memᴰ e R → Reach c m e × ((a : ℕ) → Memᴰ a (chain ws p) → Above ws a e)
-
-    abbrev Full : List ℕ → ℕ → Type 0
-    Full R p = (e : ℕ) → Reach c m e → Memᴰ e R ⊎ Memᴰ e (chain ws p)
-
-    chain_next : (p : ℕ) → 0 < p → {a : ℕ} → Memᴰ a (chain ws (parent_of ws p)) → Memᴰ a (chain ws p)
-    chain_next p h i = rw (chain_more ws p h) (mathlib.Core.List.Memᴰ.tail i)
-
-    reached-cases : (R : List ℕ) (p e : ℕ) → Memᴰ e (reached_with same ws text m R p)
-        → Memᴰ e R ⊎ ((e ≡ p) × ((k : ℕ) × Virtual ws p k × Here m p k R))
-    unfolding reached_with
-    reached-cases R p e h =
-        by (some (λ k. not (is_private (method_flags ws k))) (overridden_in same ws text m R p))
-        (λ t.
-        ⊎_elim (λ i. inl i)
-        (λ j.
-        let q : e ≡ p = mathlib.Core.List.Memᴰ.eq_of_singleton j in
-        let s = some_of (λ k. not (is_private (method_flags ws k))) (overridden_in same ws text m R p) t in
-        let r = here_of m p s.0 R s.1 in
-        inr (
-          q,
-          (
-            s.0,
-            record {
-              declared = r.declared;
-              not_private = by (is_private (method_flags ws s.0)) (λ u. absurd (false≢true (rw u at s.2))) (λ u. u);
-            },
-            r,
-          ),
-        ))
-        (mathlib.Core.List.Memᴰ.append_cases R (rw t at h)))
-        (λ t. inl (rw t at h))
-
-    reached-stays : (R : List ℕ) (p e : ℕ) → Memᴰ e R → Memᴰ e (reached_with same ws text m R p)
-    unfolding reached_with
-    reached-stays R p e h =
-        by (some (λ k. not (is_private (method_flags ws k))) (overridden_in same ws text m R p))
-        (λ t. rw t (mathlib.Core.List.Memᴰ.append_left (p ∷ []) h)) (λ t. rw t h)
-
-    reached-new : (R : List ℕ) (p k : ℕ) → Memᴰ k (overridden_in same ws text m R p) → is_private (method_flags ws k) ≡ false
-        → Memᴰ p (reached_with same ws text m R p)
-    unfolding reached_with
-    reached-new R p k h n =
-        rw (some_in (λ k. not (is_private (method_flags ws k))) (overridden_in same ws text m R p) h (rw n))
-        (mathlib.Core.List.Memᴰ.append_right R (mathlib.Core.List.Memᴰ.head refl))
-
-    sound-next : (R : List ℕ) (p : ℕ) → 0 < p → Sound R p → Sound (reached_with same ws text m R p) (parent_of ws p)
-    sound-next R p h s e i =
-        elim (reached-cases R p e i) [
-          | inl j ↦ ((s e j).0, λ a k. (s e j).1 a (chain_next p h k))
-          | inr r ↦ (let f = r.1.2 in
-              let t = s f.class f.reached in
-              let o : Above ws p f.class = t.1 p (rw (chain_more ws p h) (mathlib.Core.List.Memᴰ.head refl)) in
-              (rw r.0 (next p r.1.0 t.0 o r.1.1 f.signature f.opens), λ a k. rw r.0 k))
-        ]
-
-    -- what the walk finds is met
-    walk_met : (bound p k : ℕ) (R : List ℕ) → p ≤ bound → Sound R p → Memᴰ k (overridden_along same ws text m R (chain ws p))
-        → (a : ℕ) × Memᴰ a (chain ws p) × Met c m a k
-    unfolding overridden_along
-    walk_met zero p k R b s h =
-        let e : p ≡ 0 = omega arith in absurd (mathlib.Core.List.Memᴰ.not-nil (rw (e, chain-none ws 0 refl) at h))
-    walk_met (suc bound) p k R b s h =
-        by (eqb p 0)
-        (λ t. absurd (mathlib.Core.List.Memᴰ.not-nil (rw (eqb-true p 0 t, chain-none ws 0 refl) at h)))
-        (λ t.
-        let n = eqb-false p 0 t in
-        let f = parent_below ws p (omega arith) in
-        elim (mathlib.Core.List.Memᴰ.append_cases (overridden_in same ws text m R p) (rw (chain_more ws p (omega arith)) at h)) [
-          | inl i ↦ (let r = here_of m p k R i in
-              let t = s r.class r.reached in
-              let q : Memᴰ p (chain ws p) = rw (chain_more ws p (omega arith)) (mathlib.Core.List.Memᴰ.head refl) in (
-                p,
-                q,
-                record {
-                  from = r.class;
-                  reach = t.0;
-                  above = t.1 p q;
-                  declared = r.declared;
-                  signature = r.signature;
-                  opens = r.opens;
-                },
-              ))
-          | inr i ↦ (let r =
-              walk_met bound (parent_of ws p) k (reached_with same ws text m R p) (omega arith) (sound-next R p (omega arith) s) i in
-              (r.0, chain_next p (omega arith) r.1, r.2))
-        ])
-
-    -- a class reached, other than c, by a method of its own
-    reach-cases : (b : ℕ) → Reach c m b → (b ≡ c) ⊎ ((k : ℕ) × Virtual ws b k × Met c m b k)
-    reach-cases b first = inl refl
-    reach-cases b (next {b = e} a k r u v s o) =
-        inr (k, v, record { from = e; reach = r; above = u; declared = v.declared; signature = s; opens = o })
-
-    -- the class that a method of p is met from is held
-    held : (R : List ℕ) (p k : ℕ) → 0 < p → Full R p → (r : Met c m p k) → Memᴰ r.from R
-    held R p k h full r =
-        elim (full r.from r.reach) [
-          | inl i ↦ i
-          | inr i ↦ (let w = chain-within ws p r.from i in
-              let v = chain-within ws (parent_of ws r.from) p r.above in
-              let u = parent_below ws r.from w.0 in absurd (omega arith))
-        ]
-
-    full-next : (R : List ℕ) (p : ℕ) → 0 < p → p < c → Full R p → Full (reached_with same ws text m R p) (parent_of ws p)
-    full-next R p h l full e r =
-        elim (full e r) [
-          | inl i ↦ inl (reached-stays R p e i)
-          | inr i ↦ ⊎_elim
-              (λ (q : e ≡ p).
-              elim (reach-cases e r) [
-                | inl z ↦ absurd (omega arith)
-                | inr t ↦ (let met : Met c m p t.0 = rw q at t.2 in
-                    let v : Virtual ws p t.0 = rw q at t.1 in
-                    inl (rw q
-                    (reached-new R p t.0 (in_here R met.declared met.signature (held R p t.0 h full met) met.opens)
-                    v.not_private)))
-              ])
-              (λ j. inr j) (mathlib.Core.List.Memᴰ.cases_cons (rw (chain_more ws p h) at i))
-        ]
-
-    -- what is met is found
-    met_walk : (bound p k a : ℕ) (R : List ℕ) → p ≤ bound → p < c → Full R p → Memᴰ a (chain ws p) → Met c m a k
-        → Memᴰ k (overridden_along same ws text m R (chain ws p))
-    unfolding overridden_along
-    met_walk zero p k a R b l full i r = absurd (let w = chain-within ws p a i in omega arith)
-    met_walk (suc bound) p k a R b l full i r =
-        let w = chain-within ws p a i in
-        let f = parent_below ws p (omega arith) in
-        rw (chain_more ws p (omega arith))
-        (⊎_elim
-        (λ (q : a ≡ p).
-        let met : Met c m p k = rw q at r in
-        mathlib.Core.List.Memᴰ.append_left _ (in_here R met.declared met.signature (held R p k (omega arith) full met) met.opens))
-        (λ j.
-        mathlib.Core.List.Memᴰ.append_right (overridden_in same ws text m R p)
-        (met_walk bound (parent_of ws p) k a (reached_with same ws text m R p) (omega arith) (omega arith) (full-next R p (omega arith) l full) j r))
-        (mathlib.Core.List.Memᴰ.cases_cons (rw (chain_more ws p (omega arith)) at i)))
-
-    -- at its start the walk holds c
-    sound-start : Sound (c ∷ []) (parent_of ws c)
-    sound-start e i = let q = mathlib.Core.List.Memᴰ.eq_of_singleton i in (rw q first, λ a k. rw q k)
-
-    reach-along : (e : ℕ) → Reach c m e → (e ≡ c) ⊎ Memᴰ e (chain ws (parent_of ws c))
-    reach-along e first = inl refl
-    reach-along e (next {b = b} a k r u v s o) =
-        elim (reach-along b r) [
-          | inl q ↦ inr (rw q at u)
-          | inr j ↦ (let w = chain-within ws (parent_of ws c) b j in
-              inr (chain_next (parent_of ws c) (omega arith) (chain-above ws (parent_of ws c) (parent_of ws c) (omega arith) j u)))
-        ]
-
-    full_start : Full (c ∷ []) (parent_of ws c)
-    full_start e r = elim (reach-along e r) [ inl q ↦ inl (mathlib.Core.List.Memᴰ.head q) | inr j ↦ inr j ]
-
-    -- ---- the methods that m overrides
-
-    pub virtual_of : Memᴰ m (own_methods ws c) → is_virtual (method_flags ws m) ≡ true → Virtual ws c m
-    unfolding is_virtual
-    virtual_of i h =
-        let p = and_both (not (is_static (method_flags ws m))) (not (is_private (method_flags ws m))) h in
+    here_of : (m a k : ℕ) (R : List ℕ) → Memᴰ k (overridden_in same ws text m R a) → Here m a k R
+    unfolding overridden_in is_overridden
+    here_of m a k R h =
+        let r = keep-of (is_overridden same ws text m R a) (own_methods ws a) h in
+        let t = and_3 (not (is_static (method_flags ws k))) (same k m) (some (open_to ws text k a) R) r.1 in
+        let o = some_of (open_to ws text k a) R t.2 in
         record {
-          declared = record { own = i; not_static = by (is_static (method_flags ws m)) (λ u. absurd (false≢true (rw u at p.0))) (λ u. u) };
-          not_private = by (is_private (method_flags ws m)) (λ u. absurd (false≢true (rw u at p.1))) (λ u. u);
+          declared = record { own = r.0; not_static = by (is_static (method_flags ws k)) (λ u. absurd (false≢true (rw u at t.0))) (λ u. u) };
+          signature = same_of m k t.1;
+          class = o.0;
+          reached = o.1;
+          opens = open_of k a o.0 o.2;
         }
 
-    virtual_true : Virtual ws c m → is_virtual (method_flags ws m) ≡ true
-    unfolding is_virtual
-    virtual_true v = rw (v.declared.not_static, v.not_private)
+    -- ---- one walk
 
-    pub overridden-overrides : (k : ℕ) → Memᴰ m (own_methods ws c) → Memᴰ k (overridden same ws text c m)
-        → (a : ℕ) × Memᴰ a (chain ws (parent_of ws c)) × Overrides ws text c m a k
-    unfolding overridden
-    overridden-overrides k i h =
-        by (is_virtual (method_flags ws m))
-        (λ t.
-        let r = walk_met (parent_of ws c) (parent_of ws c) k (c ∷ []) (omega arith) sound-start (rw t at h) in
-        (r.0, r.1, met_overrides (virtual_of i t) r.2))
-        (λ t. absurd (mathlib.Core.List.Memᴰ.not-nil (rw t at h)))
+    module _ (c m : ℕ) where
+      -- the classes held are reached, and below what is left of the chain; and those reached are held, or are still to come
 
-    met_above : {a k : ℕ} → Met c m a k → Memᴰ a (chain ws (parent_of ws c))
-    met_above r =
-        elim (reach-along r.from r.reach) [
-          | inl q ↦ rw q at r.above
-          | inr j ↦ (let w = chain-within ws (parent_of ws c) r.from j in
-              chain_next (parent_of ws c) (omega arith) (chain-above ws (parent_of ws c) (parent_of ws c) (omega arith) j r.above))
-        ]
+      abbrev Sound : List ℕ → ℕ → Type 0
+      Sound R p = (e : ℕ) → Memᴰ e R → Reach c m e × ((a : ℕ) → Memᴰ a (chain ws p) → Above ws a e)
 
-    pub overrides-overridden : {a k : ℕ} → 0 < c → Overrides ws text c m a k → Memᴰ k (overridden same ws text c m)
-    unfolding overridden
-    overrides-overridden {a} {k} h o =
-        let r = overrides_met o in
-        rw (virtual_true r.0)
-        (met_walk (parent_of ws c) (parent_of ws c) k a (c ∷ []) (omega arith) (parent_below ws c h) full_start (met_above r.1) r.1)
+      abbrev Full : List ℕ → ℕ → Type 0
+      Full R p = (e : ℕ) → Reach c m e → Memᴰ e R ⊎ Memᴰ e (chain ws p)
 
-    -- what is overridden has m's signature
-    pub overridden-same : (k : ℕ) → Memᴰ m (own_methods ws c) → Memᴰ k (overridden same ws text c m) → SameSignature ws text m k
-    overridden-same k i h = let r = overridden-overrides k i h in (overrides_met r.2).1.signature
+      chain_next : (p : ℕ) → 0 < p → {a : ℕ} → Memᴰ a (chain ws (parent_of ws p)) → Memᴰ a (chain ws p)
+      chain_next p h i = rw (chain_more ws p h) (mathlib.Core.List.Memᴰ.tail i)
+
+      reached-cases : (R : List ℕ) (p e : ℕ) → Memᴰ e (reached_with same ws text m R p)
+          → Memᴰ e R ⊎ ((e ≡ p) × ((k : ℕ) × Virtual ws p k × Here m p k R))
+      unfolding reached_with
+      reached-cases R p e h =
+          by (some (λ k. not (is_private (method_flags ws k))) (overridden_in same ws text m R p))
+          (λ t.
+          ⊎_elim (λ i. inl i)
+          (λ j.
+          let q : e ≡ p = mathlib.Core.List.Memᴰ.eq_of_singleton j in
+          let s = some_of (λ k. not (is_private (method_flags ws k))) (overridden_in same ws text m R p) t in
+          let r = here_of m p s.0 R s.1 in
+          inr (
+            q,
+            (
+              s.0,
+              record {
+                declared = r.declared;
+                not_private = by (is_private (method_flags ws s.0)) (λ u. absurd (false≢true (rw u at s.2))) (λ u. u);
+              },
+              r,
+            ),
+          ))
+          (mathlib.Core.List.Memᴰ.append_cases R (rw t at h)))
+          (λ t. inl (rw t at h))
+
+      reached-stays : (R : List ℕ) (p e : ℕ) → Memᴰ e R → Memᴰ e (reached_with same ws text m R p)
+      unfolding reached_with
+      reached-stays R p e h =
+          by (some (λ k. not (is_private (method_flags ws k))) (overridden_in same ws text m R p))
+          (λ t. rw t (mathlib.Core.List.Memᴰ.append_left (p ∷ []) h)) (λ t. rw t h)
+
+      reached-new : (R : List ℕ) (p k : ℕ) → Memᴰ k (overridden_in same ws text m R p) → is_private (method_flags ws k) ≡ false
+          → Memᴰ p (reached_with same ws text m R p)
+      unfolding reached_with
+      reached-new R p k h n =
+          rw (some_in (λ k. not (is_private (method_flags ws k))) (overridden_in same ws text m R p) h (rw n))
+          (mathlib.Core.List.Memᴰ.append_right R (mathlib.Core.List.Memᴰ.head refl))
+
+      sound-next : (R : List ℕ) (p : ℕ) → 0 < p → Sound R p → Sound (reached_with same ws text m R p) (parent_of ws p)
+      sound-next R p h s e i =
+          elim (reached-cases R p e i) [
+            | inl j ↦ ((s e j).0, λ a k. (s e j).1 a (chain_next p h k))
+            | inr r ↦ (let f = r.1.2 in
+                let t = s f.class f.reached in
+                let o : Above ws p f.class = t.1 p (rw (chain_more ws p h) (mathlib.Core.List.Memᴰ.head refl)) in
+                (rw r.0 (next p r.1.0 t.0 o r.1.1 f.signature f.opens), λ a k. rw r.0 k))
+          ]
+
+      -- what the walk finds is met
+      walk_met : (bound p k : ℕ) (R : List ℕ) → p ≤ bound → Sound R p → Memᴰ k (overridden_along same ws text m R (chain ws p))
+          → (a : ℕ) × Memᴰ a (chain ws p) × Met c m a k
+      unfolding overridden_along
+      walk_met zero p k R b s h =
+          let e : p ≡ 0 = omega arith in absurd (mathlib.Core.List.Memᴰ.not-nil (rw (e, chain-none ws 0 refl) at h))
+      walk_met (suc bound) p k R b s h =
+          by (eqb p 0)
+          (λ t. absurd (mathlib.Core.List.Memᴰ.not-nil (rw (eqb-true p 0 t, chain-none ws 0 refl) at h)))
+          (λ t.
+          let n = eqb-false p 0 t in
+          let f = parent_below ws p (omega arith) in
+          elim (mathlib.Core.List.Memᴰ.append_cases (overridden_in same ws text m R p) (rw (chain_more ws p (omega arith)) at h)) [
+            | inl i ↦ (let r = here_of m p k R i in
+                let t = s r.class r.reached in
+                let q : Memᴰ p (chain ws p) = rw (chain_more ws p (omega arith)) (mathlib.Core.List.Memᴰ.head refl) in (
+                  p,
+                  q,
+                  record {
+                    from = r.class;
+                    reach = t.0;
+                    above = t.1 p q;
+                    declared = r.declared;
+                    signature = r.signature;
+                    opens = r.opens;
+                  },
+                ))
+            | inr i ↦ (let r =
+                walk_met bound (parent_of ws p) k (reached_with same ws text m R p) (omega arith) (sound-next R p (omega arith) s) i in
+                (r.0, chain_next p (omega arith) r.1, r.2))
+          ])
+
+      -- a class reached, other than c, by a method of its own
+      reach-cases : (b : ℕ) → Reach c m b → (b ≡ c) ⊎ ((k : ℕ) × Virtual ws b k × Met c m b k)
+      reach-cases b first = inl refl
+      reach-cases b (next {b = e} a k r u v s o) =
+          inr (k, v, record { from = e; reach = r; above = u; declared = v.declared; signature = s; opens = o })
+
+      -- the class that a method of p is met from is held
+      held : (R : List ℕ) (p k : ℕ) → 0 < p → Full R p → (r : Met c m p k) → Memᴰ r.from R
+      held R p k h full r =
+          elim (full r.from r.reach) [
+            | inl i ↦ i
+            | inr i ↦ (let w = chain-within ws p r.from i in
+                let v = chain-within ws (parent_of ws r.from) p r.above in
+                let u = parent_below ws r.from w.0 in absurd (omega arith))
+          ]
+
+      full-next : (R : List ℕ) (p : ℕ) → 0 < p → p < c → Full R p → Full (reached_with same ws text m R p) (parent_of ws p)
+      full-next R p h l full e r =
+          elim (full e r) [
+            | inl i ↦ inl (reached-stays R p e i)
+            | inr i ↦ ⊎_elim
+                (λ (q : e ≡ p).
+                elim (reach-cases e r) [
+                  | inl z ↦ absurd (omega arith)
+                  | inr t ↦ (let met : Met c m p t.0 = rw q at t.2 in
+                      let v : Virtual ws p t.0 = rw q at t.1 in
+                      inl (rw q
+                      (reached-new R p t.0 (in_here R met.declared met.signature (held R p t.0 h full met) met.opens)
+                      v.not_private)))
+                ])
+                (λ j. inr j) (mathlib.Core.List.Memᴰ.cases_cons (rw (chain_more ws p h) at i))
+          ]
+
+      -- what is met is found
+      met_walk : (bound p k a : ℕ) (R : List ℕ) → p ≤ bound → p < c → Full R p → Memᴰ a (chain ws p) → Met c m a k
+          → Memᴰ k (overridden_along same ws text m R (chain ws p))
+      unfolding overridden_along
+      met_walk zero p k a R b l full i r = absurd (let w = chain-within ws p a i in omega arith)
+      met_walk (suc bound) p k a R b l full i r =
+          let w = chain-within ws p a i in
+          let f = parent_below ws p (omega arith) in
+          rw (chain_more ws p (omega arith))
+          (⊎_elim
+          (λ (q : a ≡ p).
+          let met : Met c m p k = rw q at r in
+          mathlib.Core.List.Memᴰ.append_left _ (in_here R met.declared met.signature (held R p k (omega arith) full met) met.opens))
+          (λ j.
+          mathlib.Core.List.Memᴰ.append_right (overridden_in same ws text m R p)
+          (met_walk bound (parent_of ws p) k a (reached_with same ws text m R p) (omega arith) (omega arith) (full-next R p (omega arith) l full) j r))
+          (mathlib.Core.List.Memᴰ.cases_cons (rw (chain_more ws p (omega arith)) at i)))
+
+      -- at its start the walk holds c
+      sound-start : Sound (c ∷ []) (parent_of ws c)
+      sound-start e i = let q = mathlib.Core.List.Memᴰ.eq_of_singleton i in (rw q first, λ a k. rw q k)
+
+      reach-along : (e : ℕ) → Reach c m e → (e ≡ c) ⊎ Memᴰ e (chain ws (parent_of ws c))
+      reach-along e first = inl refl
+      reach-along e (next {b = b} a k r u v s o) =
+          elim (reach-along b r) [
+            | inl q ↦ inr (rw q at u)
+            | inr j ↦ (let w = chain-within ws (parent_of ws c) b j in
+                inr (chain_next (parent_of ws c) (omega arith) (chain-above ws (parent_of ws c) (parent_of ws c) (omega arith) j u)))
+          ]
+
+      full_start : Full (c ∷ []) (parent_of ws c)
+      full_start e r = elim (reach-along e r) [ inl q ↦ inl (mathlib.Core.List.Memᴰ.head q) | inr j ↦ inr j ]
+
+      -- ---- the methods that m overrides
+
+      pub virtual_of : Memᴰ m (own_methods ws c) → is_virtual (method_flags ws m) ≡ true → Virtual ws c m
+      unfolding is_virtual
+      virtual_of i h =
+          let p = and_both (not (is_static (method_flags ws m))) (not (is_private (method_flags ws m))) h in
+          record {
+            declared = record { own = i; not_static = by (is_static (method_flags ws m)) (λ u. absurd (false≢true (rw u at p.0))) (λ u. u) };
+            not_private = by (is_private (method_flags ws m)) (λ u. absurd (false≢true (rw u at p.1))) (λ u. u);
+          }
+
+      virtual_true : Virtual ws c m → is_virtual (method_flags ws m) ≡ true
+      unfolding is_virtual
+      virtual_true v = rw (v.declared.not_static, v.not_private)
+
+      pub overridden-overrides : (k : ℕ) → Memᴰ m (own_methods ws c) → Memᴰ k (overridden same ws text c m)
+          → (a : ℕ) × Memᴰ a (chain ws (parent_of ws c)) × Overrides ws text c m a k
+      unfolding overridden
+      overridden-overrides k i h =
+          by (is_virtual (method_flags ws m))
+          (λ t.
+          let r = walk_met (parent_of ws c) (parent_of ws c) k (c ∷ []) (omega arith) sound-start (rw t at h) in
+          (r.0, r.1, met_overrides (virtual_of i t) r.2))
+          (λ t. absurd (mathlib.Core.List.Memᴰ.not-nil (rw t at h)))
+
+      met_above : {a k : ℕ} → Met c m a k → Memᴰ a (chain ws (parent_of ws c))
+      met_above r =
+          elim (reach-along r.from r.reach) [
+            | inl q ↦ rw q at r.above
+            | inr j ↦ (let w = chain-within ws (parent_of ws c) r.from j in
+                chain_next (parent_of ws c) (omega arith) (chain-above ws (parent_of ws c) (parent_of ws c) (omega arith) j r.above))
+          ]
+
+      pub overrides-overridden : {a k : ℕ} → 0 < c → Overrides ws text c m a k → Memᴰ k (overridden same ws text c m)
+      unfolding overridden
+      overrides-overridden {a} {k} h o =
+          let r = overrides_met o in
+          rw (virtual_true r.0)
+          (met_walk (parent_of ws c) (parent_of ws c) k a (c ∷ []) (omega arith) (parent_below ws c h) full_start (met_above r.1) r.1)
+
+      -- what is overridden has m's signature
+      pub overridden-same : (k : ℕ) → Memᴰ m (own_methods ws c) → Memᴰ k (overridden same ws text c m) → SameSignature ws text m k
+      overridden-same k i h = let r = overridden-overrides k i h in (overrides_met r.2).1.signature
 
 -- ---- THE THEOREM
 
@@ -422,7 +426,7 @@ own-within ws c m h =
     (omega arith, omega arith)
 
 pub overrides-meaning : OverridesMeaning
-overrides-meaning ws valid c m a k class own above mine = (there, back)
+overrides-meaning ws abi labels valid c m a k class own above mine = (there, back)
   where
     text : List ℕ
     text = text_of ws
@@ -438,11 +442,11 @@ overrides-meaning ws valid c m a k class own above mine = (there, back)
         let q = own-within ws a k mine in
         valid.methods d a k (among i) (among above) p.0 p.1 q.0 q.1
 
-    there : Memᴰ k (overridden (same_methods ws (text_of ws)) ws (text_of ws) c m) → Overrides ws (text_of ws) c m a k
+    there : Memᴰ k (overridden (methods_same (by_bytes ws (text_of ws) abi labels)) ws (text_of ws) c m) → Overrides ws (text_of ws) c m a k
     there h =
-        let r = overridden-overrides ws (text_of ws) c m k own h in
+        let r = overridden-overrides ws (text_of ws) abi labels c m k own h in
         let o = r.2 in
         rw (owner r.1 (overrides_met ws (text_of ws) o).1.declared.own) at o
 
-    back : Overrides ws (text_of ws) c m a k → Memᴰ k (overridden (same_methods ws (text_of ws)) ws (text_of ws) c m)
-    back o = overrides-overridden ws (text_of ws) c m class.0 o
+    back : Overrides ws (text_of ws) c m a k → Memᴰ k (overridden (methods_same (by_bytes ws (text_of ws) abi labels)) ws (text_of ws) c m)
+    back o = overrides-overridden ws (text_of ws) abi labels c m class.0 o

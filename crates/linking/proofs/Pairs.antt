@@ -51,6 +51,11 @@ module _ {A B : Type 0} {R : A → B → Type 0} where
   pairs-at (pair q h) r zero = q
   pairs-at (pair q h) r (suc i) = pairs-at h r i
 
+  pub pairs-inside : {xs : List A} {ys : List B} (d : A) (e : B) → Pairs R xs ys → (i : ℕ) → i < length xs → R (get_or xs i d) (get_or ys i e)
+  pairs-inside d e none i h = absurd (omega arith)
+  pairs-inside d e (pair q h) zero l = q
+  pairs-inside d e (pair q h) (suc i) l = pairs-inside d e h i (omega arith)
+
   pub pairs_set : {xs : List A} {ys : List B} {d : A} {e : B} → Pairs R xs ys → (i : ℕ) → R d e → Pairs R (set xs i d) (set ys i e)
   pairs_set none i r = none
   pairs_set (pair q h) zero r = pair r h

@@ -17,11 +17,13 @@ use Rattle.words.proofs.ListLaws.{by-found}
 use Rattle.words.specs.Words.{AreBytes}
 use Rattle.class_sheet.specs.ClassSheet.{class_limit, class_kind, is_built_kind, is_packaged, class_flags, class_field_count, class_compiler_table, field_flags, field_name, field_descriptor, method_name, method_descriptor}
 use Rattle.linking.proofs.ChainLaws.{own-fields-length}
-use Rattle.linking.specs.Chain.{on_found, own_methods, own_fields, parent_of, is_static, is_interface, eligible, same_methods}
+use Rattle.linking.specs.Signature.{Same, of_method, methods_same}
+use Rattle.linking.specs.Chain.{on_found, own_methods, own_fields, parent_of, is_static, is_interface, eligible}
 use Rattle.linking.specs.Abi.{class_abi, chain_abi, fixed_field}
 use Rattle.linking.specs.Vtable.{Entry, empty, Built, built, refused, on_built, parent_entries, inherited_table, build_methods, entry_is_other, fixed_of, slot_of, put_method, add_method, add_methods}
 use Rattle.linking.specs.Packages.{introducing, packages_over, build_packages}
 use Rattle.linking.specs.Fields.{Numbering, number_field, number_fields, added_fields, built_words, too_many_words, generated_refusal, indices_plus, generated_indices, generated_base, stand_from, own_given, runtime_words, instance_words}
+use Rattle.linking.specs.Compiler.{members}
 use Rattle.linking.specs.Link.{Plan, planned, unplanned, is_none, on_table, within_slots, built_table, plan_built, generated_table, plan_generated, plan_array, plan, new_fields_of, generated_methods, new_words}
 use Rattle.linking.specs.Missing.{table_by}
 use Rattle.linking.specs.Set.{new_text}
@@ -47,9 +49,9 @@ no_kind j e f t = true≢false (sym t ∙ ap is_built_kind e ∙ f)
 
 -- ---- kind 3: the number of a class of a set is within the limit
 
-module _ (same : ℕ → ℕ → Bool) (ws text abi labels area : List ℕ) (c : ℕ) where
+module _ (same : Same) (ws text abi labels area : List ℕ) (c : ℕ) where
   pub packages-within : c ≤ class_limit → build_packages same ws text abi labels area c
-      ≡ packages_over same ws text (introducing ws text abi labels area (parent_of ws c)) c (parent_entries ws text abi labels area c)
+      ≡ packages_over (methods_same same) ws text (introducing same ws text abi labels area (parent_of ws c)) c (parent_entries same ws text abi labels area c)
   unfolding build_packages
   packages-within h = rw (le-ltb class_limit c h)
 
@@ -131,50 +133,49 @@ on_refused : (b : Built) (f : List Entry → Built) (n : ℕ) → on_built b f �
 on_refused (built U) f n e = inr (U, e)
 on_refused (refused m) f n e = inl e
 
-module _ (ws text : List ℕ) where
-  put_refused : (fixed slot : Option ℕ) (m : ℕ) (T : List Entry) (n : ℕ) → put_method ws text fixed slot m T ≡ refused n → n ≢ 0
+module _ (same : Same) (ws : List ℕ) where
+  put_refused : (fixed slot : Option ℕ) (m : ℕ) (T : List Entry) (n : ℕ) → put_method same ws fixed slot m T ≡ refused n → n ≢ 0
   unfolding put_method
   put_refused (Some i) slot m T n e =
       by (on_found slot (λ j. not (eqb j i)) false) (λ t. refused-some {m = 11} (omega arith) (rw t at e))
       (λ t.
       let r = rw t at e in
-      by (entry_is_other ws text (method_name ws text m) (method_descriptor ws text m) (get_or T i empty))
+      by (entry_is_other same (of_method m) (get_or T i empty))
       (λ u. refused-some {m = 12} (omega arith) (rw u at r))
       (λ u. not-built (sym (rw u at r))))
   put_refused None (Some j) m T n e = not-built (sym e)
   put_refused None None m T n e = not-built (sym e)
 
-module _ (ws text abi labels : List ℕ) where
-  add-refused : (abis : List ℕ) (m : ℕ) (T : List Entry) (n : ℕ) → add_method ws text abi labels abis m T ≡ refused n → n ≢ 0
+module _ (same : Same) (ws text abi : List ℕ) where
+  add-refused : (abis : List ℕ) (m : ℕ) (T : List Entry) (n : ℕ) → add_method same ws text abi abis m T ≡ refused n → n ≢ 0
   unfolding add_method
   add-refused abis m T n e =
       by (eligible ws text m)
-      (λ t.
-      put_refused ws text (fixed_of ws text abi labels abis m) (slot_of ws text (method_name ws text m) (method_descriptor ws text m) T) m T n (rw t at e))
+      (λ t. put_refused same ws (fixed_of same abi abis m) (slot_of same (of_method m) T) m T n (rw t at e))
       (λ t. not-built (sym (rw t at e)))
 
-  adds-refused : (abis ms : List ℕ) (T : List Entry) (n : ℕ) → add_methods ws text abi labels abis ms T ≡ refused n → n ≢ 0
+  adds-refused : (abis ms : List ℕ) (T : List Entry) (n : ℕ) → add_methods same ws text abi abis ms T ≡ refused n → n ≢ 0
   unfolding add_methods
   adds-refused abis [] T n e = not-built (sym e)
   adds-refused abis (m ∷ ms) T n e =
-      elim (on_refused (add_method ws text abi labels abis m T) (add_methods ws text abi labels abis ms) n e)
+      elim (on_refused (add_method same ws text abi abis m T) (add_methods same ws text abi abis ms) n e)
       [ inl r ↦ add-refused abis m T n r | inr r ↦ adds-refused abis ms r.0 n r.1 ]
 
-  module _ (area : List ℕ) (c : ℕ) where
-    build-refused : (n : ℕ) → build_methods ws text abi labels area c ≡ refused n → n ≢ 0
-    unfolding build_methods
-    build-refused n e = adds-refused (chain_abi ws text abi labels c) (own_methods ws c) (inherited_table ws text abi labels area c) n e
+module _ (same : Same) (ws text abi labels area : List ℕ) (c : ℕ) where
+  build-refused : (n : ℕ) → build_methods same ws text abi labels area c ≡ refused n → n ≢ 0
+  unfolding build_methods
+  build-refused n e = adds-refused same ws text abi (chain_abi ws text abi labels c) (own_methods ws c) (inherited_table same ws text abi labels area c) n e
 
-    built-refused : (n : ℕ) → built_table ws text abi labels area c ≡ refused n → n ≢ 0
-    unfolding built_table
-    built-refused n e =
-        by (is_packaged ws c) (λ t. not-built (sym (rw t at e)))
-        (λ t.
-        let r = rw t at e in by (is_interface (class_flags ws c)) (λ u. not-built (sym (rw u at r))) (λ u. build-refused n (rw u at r)))
+  built-refused : (n : ℕ) → built_table same ws text abi labels area c ≡ refused n → n ≢ 0
+  unfolding built_table
+  built-refused n e =
+      by (is_packaged ws c) (λ t. not-built (sym (rw t at e)))
+      (λ t.
+      let r = rw t at e in by (is_interface (class_flags ws c)) (λ u. not-built (sym (rw u at r))) (λ u. build-refused n (rw u at r)))
 
-    generated-refused : (n : ℕ) → generated_table ws text abi labels area c ≡ refused n → n ≢ 0
-    unfolding generated_table
-    generated-refused n e = by (eqb (class_compiler_table ws c) 0) (λ t. build-refused n (rw t at e)) (λ t. not-built (sym (rw t at e)))
+  generated-refused : (n : ℕ) → generated_table same ws text abi labels area c ≡ refused n → n ≢ 0
+  unfolding generated_table
+  generated-refused n e = by (eqb (class_compiler_table ws c) 0) (λ t. build-refused n (rw t at e)) (λ t. not-built (sym (rw t at e)))
 
 -- ---- plans
 
@@ -217,37 +218,37 @@ table-unplanned : (b : Built) (f : List Entry → Plan) (n : ℕ) → ((k : ℕ)
 table-unplanned (built T) f n h e = within-unplanned (f T) n e
 table-unplanned (refused m) f n h e = unplanned-some (h m refl) e
 
-module _ (ws text abi labels area : List ℕ) (c : ℕ) where
+module _ (same : Same) (ws text abi labels area : List ℕ) (c : ℕ) where
   -- what a plan of class c has
   pub record Plans (p : Plan) : Type 0 where
     pub indices : length p.indices ≤ class_field_count ws c
-    pub generated : is_none p.new_methods ≡ false → class_kind ws c ≡ 1
-    pub method-bytes : AreBytes text → AreBytes labels → AreBytes (new_text p.new_methods)
+    pub generated : is_none (members p.added) ≡ false → class_kind ws c ≡ 1
+    pub method-bytes : AreBytes text → AreBytes labels → AreBytes (new_text (members p.added))
     pub field-bytes : AreBytes text → AreBytes labels → AreBytes (new_text p.new_fields)
-    pub table : table_by ws text abi labels area c ≡ built p.table
-    pub built : class_kind ws c ≡ 0 → is_interface (class_flags ws c) ≡ false → build_methods ws text abi labels area c ≡ built p.table
-    pub packaged : class_kind ws c ≡ 3 → build_packages (same_methods ws text) ws text abi labels area c ≡ p.table
-    pub array : class_kind ws c ≡ 2 → parent_entries ws text abi labels area c ≡ p.table
+    pub table : table_by same ws text abi labels area c ≡ built p.table
+    pub built : class_kind ws c ≡ 0 → is_interface (class_flags ws c) ≡ false → build_methods same ws text abi labels area c ≡ built p.table
+    pub packaged : class_kind ws c ≡ 3 → build_packages same ws text abi labels area c ≡ p.table
+    pub array : class_kind ws c ≡ 2 → parent_entries same ws text abi labels area c ≡ p.table
     -- rows 10 and 13
     pub words : new_words ws text abi labels c ≤ 65535
     pub slots : length p.table ≤ 1024
     -- what it adds
-    pub methods : (p.new_methods ≡ []) ⊎ (p.new_methods ≡ generated_methods ws text abi labels area c)
+    pub methods : (p.added ≡ []) ⊎ (p.added ≡ generated_methods same ws text abi labels area c)
     pub fields : (p.new_fields ≡ []) ⊎ (p.new_fields ≡ new_fields_of abi labels (added_fields ws text abi labels (class_abi ws text abi labels c) c))
-    pub grows : class_kind ws c ≡ 1 → (p.new_methods ≡ generated_methods ws text abi labels area c) × (p.new_fields ≡ [])
+    pub grows : class_kind ws c ≡ 1 → (p.added ≡ generated_methods same ws text abi labels area c) × (p.new_fields ≡ [])
 
   -- the table, kind by kind
-  pub table-built : is_built_kind (class_kind ws c) ≡ true → table_by ws text abi labels area c ≡ built_table ws text abi labels area c
+  pub table-built : is_built_kind (class_kind ws c) ≡ true → table_by same ws text abi labels area c ≡ built_table same ws text abi labels area c
   unfolding table_by
   table-built k = rw k
 
-  pub table-generated : class_kind ws c ≡ 1 → table_by ws text abi labels area c ≡ generated_table ws text abi labels area c
+  pub table-generated : class_kind ws c ≡ 1 → table_by same ws text abi labels area c ≡ generated_table same ws text abi labels area c
   unfolding table_by
   table-generated k =
       let n : is_built_kind (class_kind ws c) ≡ false = ap is_built_kind k ∙ kind-other 1 (omega arith) (omega arith) in rw (n, eq-eqb (class_kind ws c) 1 k)
 
   pub table-array : is_built_kind (class_kind ws c) ≡ false → class_kind ws c ≢ 1
-      → table_by ws text abi labels area c ≡ built (parent_entries ws text abi labels area c)
+      → table_by same ws text abi labels area c ≡ built (parent_entries same ws text abi labels area c)
   unfolding table_by
   table-array n m = rw (n, ne_eqb (class_kind ws c) 1 m)
 
@@ -256,21 +257,21 @@ module _ (ws text abi labels area : List ℕ) (c : ℕ) where
       record {
         table = T;
         indices = (number_fields ws text abi labels (class_abi ws text abi labels c) c).indices;
-        new_methods = [];
+        added = [];
         new_fields = new_fields_of abi labels (added_fields ws text abi labels (class_abi ws text abi labels c) c);
       }
 
   abbrev pub generated_plan : List Entry → Plan
   generated_plan T =
-      record { table = T; indices = generated_indices ws text c; new_methods = generated_methods ws text abi labels area c; new_fields = [] }
+      record { table = T; indices = generated_indices ws text c; added = generated_methods same ws text abi labels area c; new_fields = [] }
 
-  plain-table : class_kind ws c ≡ 0 → is_interface (class_flags ws c) ≡ false → (T : List Entry) → built_table ws text abi labels area c ≡ built T
-      → build_methods ws text abi labels area c ≡ built T
+  plain-table : class_kind ws c ≡ 0 → is_interface (class_flags ws c) ≡ false → (T : List Entry) → built_table same ws text abi labels area c ≡ built T
+      → build_methods same ws text abi labels area c ≡ built T
   unfolding built_table
   plain-table k f T e = rw (k, f) at e
 
-  packaged-table : class_kind ws c ≡ 3 → (T : List Entry) → built_table ws text abi labels area c ≡ built T
-      → build_packages (same_methods ws text) ws text abi labels area c ≡ T
+  packaged-table : class_kind ws c ≡ 3 → (T : List Entry) → built_table same ws text abi labels area c ≡ built T
+      → build_packages same ws text abi labels area c ≡ T
   unfolding built_table
   packaged-table k T e = built-same (rw k at e)
 
@@ -286,12 +287,12 @@ module _ (ws text abi labels area : List ℕ) (c : ℕ) where
   unfolding new_words
   other_words n = rw n (omega arith)
 
-  plans-built : is_built_kind (class_kind ws c) ≡ true → (p : Plan) → plan_built ws text abi labels area c ≡ planned p → Plans p
-  unfolding plan_built
+  plans-built : is_built_kind (class_kind ws c) ≡ true → (p : Plan) → plan_built same ws text abi labels area c ≡ planned p → Plans p
+  unfolding plan_built members
   plans-built kind p e =
       by (too_many_words ws text abi labels (class_abi ws text abi labels c) c) (λ t. not-planned (rw t at e))
       (λ t.
-      let r = table-planned (built_table ws text abi labels area c) built_plan p (rw t at e) in
+      let r = table-planned (built_table same ws text abi labels area c) built_plan p (rw t at e) in
       rw (← r.2)
       (record {
         indices = number-fields ws text abi labels (class_abi ws text abi labels c) c;
@@ -309,17 +310,17 @@ module _ (ws text abi labels area : List ℕ) (c : ℕ) where
         grows = λ k. absurd (no_kind 1 k (kind-other 1 (omega arith) (omega arith)) kind);
       }))
 
-  plans-generated : class_kind ws c ≡ 1 → (p : Plan) → plan_generated ws text abi labels area c ≡ planned p → Plans p
+  plans-generated : class_kind ws c ≡ 1 → (p : Plan) → plan_generated same ws text abi labels area c ≡ planned p → Plans p
   unfolding plan_generated
   plans-generated kind p e =
       by (eqb (generated_refusal ws text c) 0)
       (λ t.
-      let r = table-planned (generated_table ws text abi labels area c) generated_plan p (rw t at e) in
+      let r = table-planned (generated_table same ws text abi labels area c) generated_plan p (rw t at e) in
       rw (← r.2)
       (record {
         indices = generated-length ws text c;
         generated = λ n. kind;
-        method-bytes = λ t l. method-bytes ws text abi labels t l area c;
+        method-bytes = λ t l. method-bytes same ws text abi labels t l area c;
         field-bytes = λ t l. no_bytes;
         built = λ k f. absurd (omega arith);
         packaged = λ k. absurd (omega arith);
@@ -333,10 +334,10 @@ module _ (ws text abi labels area : List ℕ) (c : ℕ) where
       }))
       (λ t. not-planned (rw t at e))
 
-  plans-array : is_built_kind (class_kind ws c) ≡ false → class_kind ws c ≢ 1 → (p : Plan) → plan_array ws text abi labels area c ≡ planned p → Plans p
-  unfolding plan_array
+  plans-array : is_built_kind (class_kind ws c) ≡ false → class_kind ws c ≢ 1 → (p : Plan) → plan_array same ws text abi labels area c ≡ planned p → Plans p
+  unfolding plan_array members
   plans-array kind other p e =
-      let r = within-planned (record { table = parent_entries ws text abi labels area c; indices = []; new_methods = []; new_fields = [] }) p e in
+      let r = within-planned (record { table = parent_entries same ws text abi labels area c; indices = []; added = []; new_fields = [] }) p e in
       rw (← r)
       (record {
         indices = omega arith;
@@ -348,13 +349,13 @@ module _ (ws text abi labels area : List ℕ) (c : ℕ) where
         array = λ k. refl;
         table = table-array kind other;
         words = other_words kind;
-        slots = within-small (record { table = parent_entries ws text abi labels area c; indices = []; new_methods = []; new_fields = [] }) p e;
+        slots = within-small (record { table = parent_entries same ws text abi labels area c; indices = []; added = []; new_fields = [] }) p e;
         methods = inl refl;
         fields = inl refl;
         grows = λ k. absurd (other k);
       })
 
-  pub plans : (p : Plan) → plan ws text abi labels area c ≡ planned p → Plans p
+  pub plans : (p : Plan) → plan same ws text abi labels area c ≡ planned p → Plans p
   unfolding plan
   plans p e =
       by (is_built_kind (class_kind ws c)) (λ t. plans-built t p (rw t at e))
@@ -365,20 +366,20 @@ module _ (ws text abi labels area : List ℕ) (c : ℕ) where
 
   -- ---- a plan that is refused has the number of its row
 
-  unplanned-built : (n : ℕ) → plan_built ws text abi labels area c ≡ unplanned n → n ≢ 0
+  unplanned-built : (n : ℕ) → plan_built same ws text abi labels area c ≡ unplanned n → n ≢ 0
   unfolding plan_built
   unplanned-built n e =
       by (too_many_words ws text abi labels (class_abi ws text abi labels c) c) (λ t. unplanned-some {m = 10} (omega arith) (rw t at e))
-      (λ t. table-unplanned (built_table ws text abi labels area c) built_plan n (built-refused ws text abi labels area c) (rw t at e))
+      (λ t. table-unplanned (built_table same ws text abi labels area c) built_plan n (built-refused same ws text abi labels area c) (rw t at e))
 
-  unplanned-generated : (n : ℕ) → plan_generated ws text abi labels area c ≡ unplanned n → n ≢ 0
+  unplanned-generated : (n : ℕ) → plan_generated same ws text abi labels area c ≡ unplanned n → n ≢ 0
   unfolding plan_generated
   unplanned-generated n e =
       by (eqb (generated_refusal ws text c) 0)
-      (λ t. table-unplanned (generated_table ws text abi labels area c) generated_plan n (generated-refused ws text abi labels area c) (rw t at e))
+      (λ t. table-unplanned (generated_table same ws text abi labels area c) generated_plan n (generated-refused same ws text abi labels area c) (rw t at e))
       (λ t. unplanned-some (eqb-false (generated_refusal ws text c) 0 t) (rw t at e))
 
-  pub unplanned-number : (n : ℕ) → plan ws text abi labels area c ≡ unplanned n → n ≢ 0
+  pub unplanned-number : (n : ℕ) → plan same ws text abi labels area c ≡ unplanned n → n ≢ 0
   unfolding plan plan_array
   unplanned-number n e =
       by (is_built_kind (class_kind ws c)) (λ t. unplanned-built n (rw t at e))
@@ -386,4 +387,4 @@ module _ (ws text abi labels area : List ℕ) (c : ℕ) where
       let r = rw t at e in
       by (eqb (class_kind ws c) 1) (λ u. unplanned-generated n (rw u at r))
       (λ u.
-      within-unplanned (record { table = parent_entries ws text abi labels area c; indices = []; new_methods = []; new_fields = [] }) n (rw u at r)))
+      within-unplanned (record { table = parent_entries same ws text abi labels area c; indices = []; added = []; new_fields = [] }) n (rw u at r)))

@@ -17,21 +17,22 @@ use Rattle.words.proofs.Ext.{list_ext, find-ext, founds_ext}
 use Rattle.class_sheet.specs.ClassSheet.{class_width, parent_word, flags_word, kind_word, first_method_word, method_count_word, first_interface_word, interface_count_word, link_state_word, compiler_table_word, compiler_slots_word, class_count, method_count, text_of, class_word, class_flags, class_kind, class_first_method, class_method_count, class_first_interface, class_interface_count, class_compiler_table, class_compiler_slots, interface_word, compiler_word, method_limit, interface_limit, is_packaged, is_built_kind}
 use Rattle.abi_sheet.specs.AbiSheet.{abi_text_of}
 use Rattle.set_rules.specs.Valid.{IsClass, Valid}
-use Rattle.linking.specs.Chain.{list_count, own_methods, own_interfaces, parent_of, chain_of, chain, is_interface, same_methods}
+use Rattle.linking.specs.Signature.{Same, Place, by_bytes, by_sheets}
+use Rattle.linking.specs.Chain.{list_count, own_methods, own_interfaces, parent_of, chain_of, chain, is_interface}
 use Rattle.linking.specs.Abi.{class_abi}
 use Rattle.linking.specs.Vtable.{parent_entries, build_methods}
-use Rattle.linking.specs.Compiler.{New, holds, owner_state, native_view, compiler_targets, signature_sources, added_methods, name_of, descriptor_of, flags_of, target_of, class_methods, compiler_table}
+use Rattle.linking.specs.Compiler.{Taken, none_taken, place_of, holds, owner_state, native_view, compiler_targets, signature_sources, added_methods, name_of, flags_of, target_of, class_methods, compiler_table}
 use Rattle.linking.specs.Packages.{build_packages}
 use Rattle.linking.specs.Link.{built_table, generated_table}
 use Rattle.linking.specs.Missing.{table_by}
 use Rattle.linking.proofs.ChainLaws.{parent-within, chain-within, chain_more}
 use Rattle.linking.proofs.LinkedBack.{Untouched, early}
 use Rattle.linking.proofs.LinkRead.{After, record_name, record_descriptor, class-name}
-use Rattle.linking.proofs.Pairs.{Pairs, pairs-append, pairs-from, pairs_less, pairs-same}
-use Rattle.linking.proofs.Renumbered.{Tables, tables_less, SameBuilt, both-built, built_less, SameParent, Keeps, SameClass, SameChain, parents-same, interface-same, build-same}
+use Rattle.linking.proofs.Pairs.{Pairs, pairs-length, pairs-append, pairs-inside, pairs-from, pairs_less, pairs-same}
+use Rattle.linking.proofs.Renumbered.{Tables, tables_less, SameBuilt, both-built, built_less, SameParent, Alike, Keeps, SameParts, bytes_keep, SameClass, SameChain, parents-same, interface-same, build-same}
 use Rattle.linking.proofs.Overriding.{chain-of-chain}
 use Rattle.linking.proofs.RenumberedPackages.{Held, packages-same}
-use Rattle.linking.proofs.RenumberedCompiler.{native_same, added-from, Signed, of-sheet, tables-same}
+use Rattle.linking.proofs.RenumberedCompiler.{native_same, SameTaken, added-from, Signed, of-sheet, tables-same}
 
 -- the class's method list lies where it did
 pub record Unmoved (ws ws' : List ℕ) (d : ℕ) : Type 0 where
@@ -135,13 +136,16 @@ module _ (ws ws' abi : List ℕ) (c : ℕ) (valid : Valid ws) (after : After ws 
 
   -- ---- methods, classes and chains
 
-  pub stays-keeps : Keeps ws text ws' text' R
-  stays-keeps = record {
+  stays-alike : Alike ws text ws' text' R
+  stays-alike = record {
     name = λ m k r. rw r.same (sym (record_name ws ws' c valid after m m r.below (λ w b. after.method m w r.below b)));
     descriptor = λ m k r. rw r.same (sym (record_descriptor ws ws' c valid after m m r.below (λ w b. after.method m w r.below b)));
     flags = λ m k r. rw r.same (sym (after.method m 4 r.below (omega arith)));
     target = λ m k r. rw r.same (sym (after.method m 5 r.below (omega arith)));
   }
+
+  pub stays-keeps : Keeps (by_bytes ws text abi labels) (by_bytes ws' text' abi labels) (SameParts ws text ws' text' abi labels) ws text ws' text' abi labels R
+  stays-keeps = bytes_keep ws text ws' text' abi labels R stays-alike
 
   pub abi-same : (d : ℕ) → IsClass ws d → class_abi ws text abi labels d ≡ class_abi ws' text' abi labels d
   unfolding class_abi
@@ -164,7 +168,7 @@ module _ (ws ws' abi : List ℕ) (c : ℕ) (valid : Valid ws) (after : After ws 
   chain_same d a = chain-of-same d d a
 
   module _ (some : 1 ≤ c) (among : c ≤ class_count ws) where
-    pub class_same : (d : ℕ) → IsClass ws d → Unmoved ws ws' d → SameClass ws text ws' text' abi labels R stays-keeps d
+    pub class_same : (d : ℕ) → IsClass ws d → Unmoved ws ws' d → SameClass stays-keeps d
     unfolding own_methods
     class_same d l u = record {
       own = rw (u.first, u.many)
@@ -177,7 +181,7 @@ module _ (ws ws' abi : List ℕ) (c : ℕ) (valid : Valid ws) (after : After ws 
     }
 
     pub same-chain : (d : ℕ) → d ≤ class_count ws → ((e : ℕ) → Memᴰ e (chain ws d) → Unmoved ws ws' e)
-        → SameChain ws text ws' text' abi labels R stays-keeps d
+        → SameChain stays-keeps d
     same-chain d a us = record {
       along = chain_same d a;
       class = λ e i. let b = chain-within ws d e i in class_same e (omega arith, omega arith) (us e i);
@@ -219,22 +223,29 @@ module _ (ws ws' abi : List ℕ) (c : ℕ) (valid : Valid ws) (after : After ws 
       let h = valid.interface i (omega arith) in
       rw (after.interface i (omega arith)) (abi-same (interface_word ws i) h))))
 
--- ---- added methods are themselves in both sets
+-- ---- added methods of one number are alike in both sets
 
-module _ (ws text ws' text' abi labels : List ℕ) (new : List New) where
-  pub added-signed : (j : ℕ) → Signed ws text ws' text' abi labels new new (method_limit + j) (method_limit + j)
-  unfolding name_of descriptor_of flags_of target_of
-  added-signed j =
-      let e = le-ltb (method_limit + j) method_limit (omega arith) in record { name = rw e; descriptor = rw e; flags = rw e; target = rw e }
+module _ {same same' : Same} {P : Place → Place → Type 0} {ws text ws' text' abi labels : List ℕ} {R : ℕ → ℕ → Type 0}
+    (keeps : Keeps same same' P ws text ws' text' abi labels R) {new new' : List Taken} (h : Pairs (SameTaken P) new new') where
+  pub added-signed : (j : ℕ) → j < length new → Signed P ws text ws' text' new new' (method_limit + j) (method_limit + j)
+  unfolding name_of place_of flags_of target_of
+  added-signed j l =
+      let e = le-ltb (method_limit + j) method_limit (omega arith) in
+      let f : method_limit + j - method_limit ≡ j = omega arith in
+      let t = pairs-inside none_taken none_taken h j l in
+      record {
+        place = rw (e, f) t.place;
+        name = rw (e, f) (ap (λ x. x.name) t.member);
+        flags = rw (e, f) (ap (λ x. x.flags) t.member);
+        target = rw (e, f) (ap (λ x. x.last) t.member);
+      }
 
-  pub methods-signed : (R : ℕ → ℕ → Type 0) → Keeps ws text ws' text' R → ((m k : ℕ) → R m k → (m < method_limit) × (k < method_limit)) → (c : ℕ)
-      → Pairs R (own_methods ws c) (own_methods ws' c)
-      → Pairs (Signed ws text ws' text' abi labels new new) (class_methods ws new c) (class_methods ws' new c)
+  pub methods-signed : ((m k : ℕ) → R m k → (m < method_limit) × (k < method_limit)) → (c : ℕ) → Pairs R (own_methods ws c) (own_methods ws' c)
+      → Pairs (Signed P ws text ws' text' new new') (class_methods ws new c) (class_methods ws' new' c)
   unfolding class_methods
-  methods-signed R keeps small c own =
-      pairs-append
-      (pairs_less (λ m k r. of-sheet ws text ws' text' abi labels new new R keeps m k (small m k r).0 (small m k r).1 r) own)
-      (pairs-from (λ k. k) (λ k. k) method_limit method_limit (length new) (λ j h. added-signed j))
+  methods-signed small c own =
+      pairs-append (pairs_less (λ m k r. of-sheet keeps new new' m k (small m k r).0 (small m k r).1 r) own)
+      (rw (← pairs-length h) (pairs-from (λ k. k) (λ k. k) method_limit method_limit (length new) added-signed))
 
 -- ---- whole tables
 
@@ -245,7 +256,8 @@ module _ (ws ws' abi area area' : List ℕ) (c : ℕ) (valid : Valid ws) (after 
   abbrev Q : ℕ → ℕ → Type 0
   Q = Stays ws ws' abi
 
-  abbrev kept : Keeps ws (text_of ws) ws' (text_of ws') Q
+  abbrev kept : Keeps (by_sheets ws abi) (by_sheets ws' abi) (SameParts ws (text_of ws) ws' (text_of ws') abi (abi_text_of abi))
+      ws (text_of ws) ws' (text_of ws') abi (abi_text_of abi) Q
   kept = stays-keeps ws ws' abi c valid after moves
 
   first_above : parent_of ws d ≢ 0 → Memᴰ (parent_of ws d) (chain ws (parent_of ws d))
@@ -258,55 +270,56 @@ module _ (ws ws' abi area area' : List ℕ) (c : ℕ) (valid : Valid ws) (after 
     words = λ n. (held (parent_of ws d) (first_above n)).words;
   }
 
-  pub chain-above : SameChain ws (text_of ws) ws' (text_of ws') abi (abi_text_of abi) Q kept (parent_of ws d)
+  pub chain-above : SameChain kept (parent_of ws d)
   chain-above = let w = parent-within ws d in same-chain ws ws' abi c valid after moves some among (parent_of ws d) (omega (arith, l.1)) above
 
-  pub parents-held : Tables Q (parent_entries ws (text_of ws) abi (abi_text_of abi) area d) (parent_entries ws' (text_of ws') abi (abi_text_of abi) area' d)
-  parents-held = parents-same ws (text_of ws) ws' (text_of ws') abi (abi_text_of abi) Q kept area area' d parent-held chain-above
+  pub parents-held : Tables Q (parent_entries (by_sheets ws abi) ws (text_of ws) abi (abi_text_of abi) area d) (parent_entries (by_sheets ws' abi) ws' (text_of ws') abi (abi_text_of abi) area' d)
+  parents-held = parents-same kept area area' d parent-held chain-above
 
   stays-owner : (m k : ℕ) → Q m k → owner_state ws m ≡ owner_state ws' k
   stays-owner m k r = r.owner
 
-  pub view-held : Tables Q (native_view ws (text_of ws) abi (abi_text_of abi) area d) (native_view ws' (text_of ws') abi (abi_text_of abi) area' d)
-  view-held = native_same ws (text_of ws) ws' (text_of ws') abi (abi_text_of abi) Q kept stays-owner area area' d parent-held chain-above
+  pub view-held : Tables Q (native_view (by_sheets ws abi) ws (text_of ws) abi (abi_text_of abi) area d) (native_view (by_sheets ws' abi) ws' (text_of ws') abi (abi_text_of abi) area' d)
+  view-held = native_same kept stays-owner area area' d parent-held chain-above
 
   pub small : (m k : ℕ) → Q m k → (m < method_limit) × (k < method_limit)
   small m k r = let v = valid.number_of_methods in let b = r.below in let e = r.same in (omega arith, omega arith)
 
   -- methods of the sheet, numbered on
-  pub signed : (new new' : List New) (m k : ℕ) → Q m k → Signed ws (text_of ws) ws' (text_of ws') abi (abi_text_of abi) new new' m k
+  pub signed : (new new' : List Taken) (m k : ℕ) → Q m k
+      → Signed (SameParts ws (text_of ws) ws' (text_of ws') abi (abi_text_of abi)) ws (text_of ws) ws' (text_of ws') new new' m k
   signed new new' m k r =
-      of-sheet ws (text_of ws) ws' (text_of ws') abi (abi_text_of abi) new new' Q kept m k (small m k r).0 (small m k r).1 r
+      of-sheet kept new new' m k (small m k r).0 (small m k r).1 r
 
   module _ (u : Unmoved ws ws' d) where
-    here : SameClass ws (text_of ws) ws' (text_of ws') abi (abi_text_of abi) Q kept d
+    here : SameClass kept d
     here = class_same ws ws' abi c valid after moves some among d l u
 
     all-unmoved : (e : ℕ) → Memᴰ e (chain ws d) → Unmoved ws ws' e
     all-unmoved e i =
         ⊎_elim (λ (q : e ≡ d). rw q u) (λ t. above e t) (Memᴰ.cases_cons (rw (chain_more ws d l.0) at i))
 
-    whole : SameChain ws (text_of ws) ws' (text_of ws') abi (abi_text_of abi) Q kept d
+    whole : SameChain kept d
     whole = same-chain ws ws' abi c valid after moves some among d l.1 all-unmoved
 
-    build-held : SameBuilt Q (build_methods ws (text_of ws) abi (abi_text_of abi) area d) (build_methods ws' (text_of ws') abi (abi_text_of abi) area' d)
-    build-held = build-same ws (text_of ws) ws' (text_of ws') abi (abi_text_of abi) Q kept area area' d parent-held chain-above whole here
+    build-held : SameBuilt Q (build_methods (by_sheets ws abi) ws (text_of ws) abi (abi_text_of abi) area d) (build_methods (by_sheets ws' abi) ws' (text_of ws') abi (abi_text_of abi) area' d)
+    build-held = build-same kept area area' d parent-held chain-above whole here
 
     -- along the chain above
-    chains : (e : ℕ) → Memᴰ e (chain ws (parent_of ws d)) → SameChain ws (text_of ws) ws' (text_of ws') abi (abi_text_of abi) Q kept e
+    chains : (e : ℕ) → Memᴰ e (chain ws (parent_of ws d)) → SameChain kept e
     chains e i =
         let w = parent-within ws d in
         let b = chain-within ws (parent_of ws d) e i in
         same-chain ws ws' abi c valid after moves some among e (omega (arith, l.1))
         (λ x j. above x (chain-of-chain ws (parent_of ws d) (parent_of ws d) (omega arith) i j))
 
-    packages-held : Tables Q (build_packages (same_methods ws (text_of ws)) ws (text_of ws) abi (abi_text_of abi) area d)
-        (build_packages (same_methods ws' (text_of ws')) ws' (text_of ws') abi (abi_text_of abi) area' d)
+    packages-held : Tables Q (build_packages (by_sheets ws abi) ws (text_of ws) abi (abi_text_of abi) area d)
+        (build_packages (by_sheets ws' abi) ws' (text_of ws') abi (abi_text_of abi) area' d)
     packages-held =
-        packages-same ws (text_of ws) ws' (text_of ws') abi (abi_text_of abi) Q kept (λ m k n j r q. rw (r.same, q.same)) area area' d here parent-held
+        packages-same kept (λ m k n j r q. rw (r.same, q.same)) area area' d here parent-held
         chain-above chains held
 
-    built-held : SameBuilt Q (built_table ws (text_of ws) abi (abi_text_of abi) area d) (built_table ws' (text_of ws') abi (abi_text_of abi) area' d)
+    built-held : SameBuilt Q (built_table (by_sheets ws abi) ws (text_of ws) abi (abi_text_of abi) area d) (built_table (by_sheets ws' abi) ws' (text_of ws') abi (abi_text_of abi) area' d)
     unfolding built_table
     built-held =
         rw (
@@ -317,40 +330,44 @@ module _ (ws ws' abi area area' : List ℕ) (c : ℕ) (valid : Valid ws) (after 
         (λ v.
         rw v
         (by (is_interface (class_flags ws d))
-        (λ t. rw t (both-built (interface-same ws (text_of ws) ws' (text_of ws') abi (abi_text_of abi) Q kept d here)))
+        (λ t. rw t (both-built (interface-same kept d here)))
         (λ t. rw t build-held))))
 
-    -- the same methods are added
-    added-held : added_methods ws (text_of ws) abi (abi_text_of abi) area d ≡ added_methods ws' (text_of ws') abi (abi_text_of abi) area' d
+    -- alike methods are added
+    added-held : Pairs (SameTaken (SameParts ws (text_of ws) ws' (text_of ws') abi (abi_text_of abi)))
+        (added_methods (by_sheets ws abi) ws (text_of ws) abi (abi_text_of abi) area d)
+        (added_methods (by_sheets ws' abi) ws' (text_of ws') abi (abi_text_of abi) area' d)
     unfolding added_methods
     added-held =
-        added-from ws (text_of ws) ws' (text_of ws') abi (abi_text_of abi) Q kept d here.own (sources-same ws ws' abi c valid after moves d l)
-        (native_view ws (text_of ws) abi (abi_text_of abi) area d) (native_view ws' (text_of ws') abi (abi_text_of abi) area' d) view-held 0
-        (compiler_targets ws d)
-        ∙ rw (targets-same ws ws' abi c valid after moves d l)
+        rw (← targets-same ws ws' abi c valid after moves d l)
+        (added-from kept d here.own (sources-same ws ws' abi c valid after moves d l)
+        (native_view (by_sheets ws abi) ws (text_of ws) abi (abi_text_of abi) area d)
+        (native_view (by_sheets ws' abi) ws' (text_of ws') abi (abi_text_of abi) area' d) view-held 0 (compiler_targets ws d))
 
-    compiler-held : Tables Any (compiler_table ws (text_of ws) abi (abi_text_of abi) area d) (compiler_table ws' (text_of ws') abi (abi_text_of abi) area' d)
+    compiler-held : Tables Any (compiler_table (by_sheets ws abi) ws (text_of ws) abi (abi_text_of abi) area d)
+        (compiler_table (by_sheets ws' abi) ws' (text_of ws') abi (abi_text_of abi) area' d)
     unfolding compiler_table
     compiler-held =
-        let new : List New = added_methods ws (text_of ws) abi (abi_text_of abi) area d in
-        rw (← added-held, ← targets-same ws ws' abi c valid after moves d l)
+        let new : List Taken = added_methods (by_sheets ws abi) ws (text_of ws) abi (abi_text_of abi) area d in
+        let new' : List Taken = added_methods (by_sheets ws' abi) ws' (text_of ws') abi (abi_text_of abi) area' d in
+        rw (← targets-same ws ws' abi c valid after moves d l)
         (tables_less (λ m k r. tt)
-        (tables-same ws (text_of ws) ws' (text_of ws') abi (abi_text_of abi) new new d
-        (methods-signed ws (text_of ws) ws' (text_of ws') abi (abi_text_of abi) new Q kept small d here.own)
-        (native_view ws (text_of ws) abi (abi_text_of abi) area d) (native_view ws' (text_of ws') abi (abi_text_of abi) area' d)
-        (parent_entries ws (text_of ws) abi (abi_text_of abi) area d) (parent_entries ws' (text_of ws') abi (abi_text_of abi) area' d)
-        (tables_less (signed new new) view-held) (tables_less (signed new new) parents-held)
-        (compiler_targets ws d)))
+        (tables-same kept new new' d (methods-signed kept added-held small d here.own)
+        (native_view (by_sheets ws abi) ws (text_of ws) abi (abi_text_of abi) area d)
+        (native_view (by_sheets ws' abi) ws' (text_of ws') abi (abi_text_of abi) area' d)
+        (parent_entries (by_sheets ws abi) ws (text_of ws) abi (abi_text_of abi) area d)
+        (parent_entries (by_sheets ws' abi) ws' (text_of ws') abi (abi_text_of abi) area' d)
+        (tables_less (signed new new') view-held) (tables_less (signed new new') parents-held) (compiler_targets ws d)))
 
-    generated-held : SameBuilt Any (generated_table ws (text_of ws) abi (abi_text_of abi) area d)
-        (generated_table ws' (text_of ws') abi (abi_text_of abi) area' d)
+    generated-held : SameBuilt Any (generated_table (by_sheets ws abi) ws (text_of ws) abi (abi_text_of abi) area d)
+        (generated_table (by_sheets ws' abi) ws' (text_of ws') abi (abi_text_of abi) area' d)
     unfolding generated_table
     generated-held =
         rw (word_same ws ws' abi c valid after moves d compiler_table_word l (omega arith) (untouched-compiler compiler_table_word (omega arith) (omega arith)))
         (by (eqb (class_compiler_table ws d) 0) (λ t. rw t (built_less (λ m k r. tt) build-held)) (λ t. rw t (both-built compiler-held)))
 
     -- the same words from the same slots
-    pub table-held : SameBuilt Any (table_by ws (text_of ws) abi (abi_text_of abi) area d) (table_by ws' (text_of ws') abi (abi_text_of abi) area' d)
+    pub table-held : SameBuilt Any (table_by (by_sheets ws abi) ws (text_of ws) abi (abi_text_of abi) area d) (table_by (by_sheets ws' abi) ws' (text_of ws') abi (abi_text_of abi) area' d)
     unfolding table_by
     table-held =
         rw (word_same ws ws' abi c valid after moves d kind_word l (omega arith) (early kind_word (omega arith)))

@@ -1,24 +1,21 @@
--- `relayed` is what the loop makes that goes entry by entry (`relays`): signatures are compared by their bytes, the minimum size has room for every fixed
--- index, and each index comes from one of the chain's ABI classes. Assumes nothing.
+-- `relayed` is what the loop makes that goes entry by entry (`relays`), where the comparison of signatures is an equivalence: the minimum size has room for
+-- every fixed index, and each index comes from one of the chain's ABI classes. Assumes nothing.
 use mathlib.Core.Path.{◌≡◌, refl, sym, ap, ◌∙◌, fun_ext}
-use mathlib.Core.Bool.{Bool, true}
+use mathlib.Core.Bool.{Bool}
 use mathlib.Core.List.{List, [], ◌∷◌, Memᴰ}
 use Prim.Native.Nat.{ℕ, ◌+◌, ◌-◌, ◌≤◌, ◌<◌, min}
 use native.Mathlib.Omega.{arith}
 use lib.ListN.{length, replicate, length-replicate}
 use Rattle.words.specs.Lists.{find, first_found}
 use Rattle.std.specs.Prelude.{Option, Some}
-use Rattle.words.proofs.Bools.{and_both}
 use Rattle.words.proofs.ListLaws.{by-found, find-member, largest_member}
-use Rattle.text.specs.Text.{same_bytes}
-use Rattle.text.proofs.Laws.{same-is, same_refl}
-use Rattle.class_sheet.specs.ClassSheet.{method_name, method_descriptor}
 use Rattle.abi_sheet.specs.AbiSheet.{abi_class_table_size_plus_one}
-use Rattle.linking.specs.Chain.{method_is, same_methods}
-use Rattle.linking.specs.Abi.{abi_slots, slot_index, slot_is, vtable_index, class_size, fixed_index, fixer_distance, minimum_size}
+use Rattle.linking.specs.Signature.{Same, of_method, of_abi_slot, methods_same}
+use Rattle.linking.specs.Abi.{abi_slots, slot_index, vtable_index, class_size, fixed_index, fixer_distance, minimum_size}
 use Rattle.linking.specs.Vtable.{Entry, empty, last_of, laid_out, fixed_of, distance_of, staying_of, relayed}
 use Rattle.linking.specs.Relays.{Signatures, holder, relays}
 use Rattle.linking.proofs.AbiLaws.{minimum_size-member}
+use Rattle.linking.proofs.Comparing.{Compares, fixed-alike, distance-alike}
 use Rattle.linking.proofs.Relaying.{Among, found-same, not_found}
 use Rattle.linking.proofs.Relayed.{relays-laid_out, nothing_lost, relays-length}
 use Rattle.linking.proofs.Nearest.{holder-nearest}
@@ -31,39 +28,14 @@ found_in f (x ∷ xs) n e =
     by-found (f x) (λ k q. (x, (Memᴰ.head refl, q ∙ (rw q at e))))
     (λ q. let r = found_in f xs n (rw q at e) in (r.0, (Memᴰ.tail r.1.0, r.1.1)))
 
-module _ (ws text abi labels : List ℕ) where
-  -- ---- signatures are compared by their bytes
-
-  parts : (m k : ℕ) → same_methods ws text m k ≡ true
-      → (method_name ws text m ≡ method_name ws text k) × (method_descriptor ws text m ≡ method_descriptor ws text k)
-  unfolding same_methods method_is
-  parts m k t =
-      let b =
-      and_both (same_bytes (method_name ws text m) (method_name ws text k)) (same_bytes (method_descriptor ws text m) (method_descriptor ws text k)) t in
-      (same-is (method_name ws text m) (method_name ws text k) b.0, same-is (method_descriptor ws text m) (method_descriptor ws text k) b.1)
-
-  parts_same : (m k : ℕ) → method_name ws text m ≡ method_name ws text k → method_descriptor ws text m ≡ method_descriptor ws text k
-      → same_methods ws text m k ≡ true
-  unfolding same_methods method_is
-  parts_same m k n d = rw (n, d, same_refl (method_name ws text k)) (same_refl (method_descriptor ws text k))
-
-  pub signatures : (abis : List ℕ) → Signatures (same_methods ws text) (fixed_of ws text abi labels abis) (distance_of ws text abi labels abis)
-  unfolding fixed_of distance_of
-  signatures abis = record {
-    same_self = λ m. parts_same m m refl refl;
-    same_sym = λ m k t. let p = parts m k t in parts_same k m (sym p.0) (sym p.1);
-    same_trans = λ m k l t u. let p = parts m k t in let q = parts k l u in parts_same m l (p.0 ∙ q.0) (p.1 ∙ q.1);
-    same_index = λ m k t. let p = parts m k t in rw (p.0, p.1) refl;
-    same_distance = λ m k t. let p = parts m k t in rw (p.0, p.1) refl;
-  }
-
+module _ (same : Same) (abi : List ℕ) where
   -- ---- indices: the minimum size has room for each, and it comes from one of the ABI classes
 
-  pub fixed-below : (abis : List ℕ) (m i : ℕ) → fixed_of ws text abi labels abis m ≡ Some i → i < minimum_size abi abis
+  pub fixed-below : (abis : List ℕ) (m i : ℕ) → fixed_of same abi abis m ≡ Some i → i < minimum_size abi abis
   unfolding fixed_of fixed_index vtable_index class_size
   fixed-below abis m i q =
-      let r = found_in (vtable_index abi labels (method_name ws text m) (method_descriptor ws text m)) abis i q in
-      let test : ℕ → Bool = λ z. slot_is abi labels z (method_name ws text m) (method_descriptor ws text m) in
+      let r = found_in (vtable_index same abi (of_method m)) abis i q in
+      let test : ℕ → Bool = λ z. same (of_abi_slot z) (of_method m) in
       by-found (find test (abi_slots abi r.0))
       (λ z e.
       let x : slot_index abi z ≡ i = found-same (rw e at r.1.1) in
@@ -74,42 +46,53 @@ module _ (ws text abi labels : List ℕ) where
       omega arith)
       (λ e. not_found (rw e at r.1.1))
 
-  near : (abis : List ℕ) (m i : ℕ) → fixed_of ws text abi labels abis m ≡ Some i → distance_of ws text abi labels abis m < length abis
+  near : (abis : List ℕ) (m i : ℕ) → fixed_of same abi abis m ≡ Some i → distance_of same abi abis m < length abis
   unfolding fixed_of fixed_index first_found distance_of fixer_distance
   near [] m i q = not_found q
   near (b ∷ abis) m i q =
-      by-found (vtable_index abi labels (method_name ws text m) (method_descriptor ws text m) b)
+      by-found (vtable_index same abi (of_method m) b)
       (λ k r. rw r (omega arith))
       (λ r. let l = near abis m i (rw r at q) in rw r (omega arith))
 
-  -- ---- the loop
+  -- the method that holds an index is of the signature that stays
+  pub holder-stays : (abis : List ℕ) (E : List Entry) → holder (fixed_of same abi abis) (distance_of same abi abis) E ≡ staying_of same abi abis E
+  unfolding staying_of
+  holder-stays abis E =
+      fun_ext (λ i. holder-nearest (fixed_of same abi abis) (distance_of same abi abis) (length abis) (near abis) i E)
+
+-- ---- the loop
+
+module _ (same : Same) (abi : List ℕ) (compares : Compares same) where
+  pub signatures : (abis : List ℕ) → Signatures (methods_same same) (fixed_of same abi abis) (distance_of same abi abis)
+  unfolding methods_same fixed_of distance_of
+  signatures abis = record {
+    same_self = λ m. compares.self (of_method m);
+    same_sym = λ m k t. compares.sym (of_method m) (of_method k) t;
+    same_trans = λ m k l t u. compares.trans (of_method m) (of_method k) (of_method l) t u;
+    same_index = λ m k t. fixed-alike same compares (of_method m) (of_method k) t abi abis;
+    same_distance = λ m k t. distance-alike same compares (of_method m) (of_method k) t abi abis;
+  }
 
   module _ (abis : List ℕ) (E : List Entry) where
-    -- the method that holds an index is of the signature that stays
-    pub holder-stays : holder (fixed_of ws text abi labels abis) (distance_of ws text abi labels abis) E ≡ staying_of ws text abi labels abis E
-    unfolding staying_of
-    holder-stays =
-        fun_ext (λ i. holder-nearest (fixed_of ws text abi labels abis) (distance_of ws text abi labels abis) (length abis) (near abis) i E)
-
-    pub relayed_loop : relayed ws text abi labels abis E
-        ≡ relays (same_methods ws text) (fixed_of ws text abi labels abis) (distance_of ws text abi labels abis) E (replicate (minimum_size abi abis) empty) E
+    pub relayed_loop : relayed same abi abis E
+        ≡ relays (methods_same same) (fixed_of same abi abis) (distance_of same abi abis) E (replicate (minimum_size abi abis) empty) E
     unfolding relayed
     relayed_loop =
-        ap (λ (staying : ℕ → Option ℕ). laid_out (same_methods ws text) (fixed_of ws text abi labels abis) staying E (minimum_size abi abis)) (sym holder-stays)
-        ∙ sym (relays-laid_out (same_methods ws text) (fixed_of ws text abi labels abis) (distance_of ws text abi labels abis) E (signatures abis)
-        (minimum_size abi abis) (fixed-below abis))
+        ap (λ (staying : ℕ → Option ℕ). laid_out (methods_same same) (fixed_of same abi abis) staying E (minimum_size abi abis)) (sym (holder-stays same abi abis E))
+        ∙ sym (relays-laid_out (methods_same same) (fixed_of same abi abis) (distance_of same abi abis) E (signatures abis)
+        (minimum_size abi abis) (fixed-below same abi abis))
 
     -- of each known inherited entry's signature the last entry is in the table
     pub relayed-keeps : {e : Entry} (m : ℕ) → Among e E → e.method ≡ Some m
-        → Among (last_of (same_methods ws text) m empty E) (relayed ws text abi labels abis E)
+        → Among (last_of (methods_same same) m empty E) (relayed same abi abis E)
     relayed-keeps m a q =
         rw relayed_loop
-        (nothing_lost (same_methods ws text) (fixed_of ws text abi labels abis) (distance_of ws text abi labels abis) E (signatures abis)
-        (minimum_size abi abis) (fixed-below abis) m a q)
+        (nothing_lost (methods_same same) (fixed_of same abi abis) (distance_of same abi abis) E (signatures abis)
+        (minimum_size abi abis) (fixed-below same abi abis) m a q)
 
-    pub relayed-length : length (relayed ws text abi labels abis E) ≤ minimum_size abi abis + length E
+    pub relayed-length : length (relayed same abi abis E) ≤ minimum_size abi abis + length E
     relayed-length =
         let a =
-        relays-length (same_methods ws text) (fixed_of ws text abi labels abis) (distance_of ws text abi labels abis) E E
+        relays-length (methods_same same) (fixed_of same abi abis) (distance_of same abi abis) E E
         (replicate (minimum_size abi abis) empty) in
         rw (relayed_loop) (rw (length-replicate (minimum_size abi abis) empty) at a)

@@ -15,12 +15,13 @@ use Rattle.std.specs.Prelude.{Option, Some, None}
 use Rattle.words.proofs.Bools.{by, and_both}
 use Rattle.words.proofs.ListLaws.{by-found}
 use Rattle.class_sheet.specs.ClassSheet.{class_limit, class_table_place, class_slot_count, method_flags}
-use Rattle.linking.specs.Chain.{on_found, parent_of, chain, is_private, is_virtual, eligible, method_is, same_methods}
+use Rattle.linking.specs.Signature.{Same, Place, methods_same}
+use Rattle.linking.specs.Chain.{on_found, parent_of, chain, is_private, is_virtual, eligible}
 use Rattle.linking.specs.Vtable.{Entry, read_slot}
 use Rattle.linking.specs.Packages.{open_to, is_overridden, overridden_in, reached_with, overridden_along, overridden, topmost, table_has, introducing, taken_slots, put_taken, take_slots, packages_over, build_packages}
 use Rattle.linking.proofs.Pairs.{Both, neither, by_both, Pairs, none, pair, pairs-length, pairs-append, pairs_set, pairs-some, pairs-keep, pairs-fold}
 use Rattle.linking.proofs.Plans.{packages-within, packages-beyond}
-use Rattle.linking.proofs.Renumbered.{SameEntry, Tables, SameParent, Keeps, SameClass, SameChain, eligible-same, method-entry, read_same, parents-same}
+use Rattle.linking.proofs.Renumbered.{SameEntry, Tables, SameParent, Keeps, SameClass, SameChain, methods-same, eligible-same, method-entry, read_same, parents-same}
 
 -- ---- tests that agree on the elements of a list
 
@@ -71,12 +72,13 @@ pub record Held (ws ws' area area' : List ℕ) (d : ℕ) : Type 0 where
   pub slots : class_slot_count ws d ≡ class_slot_count ws' d
   pub words : (i : ℕ) → i < class_slot_count ws d → get_or area (class_table_place ws d + 1 + i) 0 ≡ get_or area' (class_table_place ws' d + 1 + i) 0
 
-module _ (ws text ws' text' abi labels : List ℕ) (R : ℕ → ℕ → Type 0) (keeps : Keeps ws text ws' text' R) where
+module _ {same same' : Same} {P : Place → Place → Type 0} {ws text ws' text' abi labels : List ℕ} {R : ℕ → ℕ → Type 0}
+    (keeps : Keeps same same' P ws text ws' text' abi labels R) where
   abbrev Class : ℕ → Type 0
-  Class d = SameClass ws text ws' text' abi labels R keeps d
+  Class d = SameClass keeps d
 
   abbrev Chain : ℕ → Type 0
-  Chain d = SameChain ws text ws' text' abi labels R keeps d
+  Chain d = SameChain keeps d
 
   abbrev Classes : List ℕ → Type 0
   Classes ds = (d : ℕ) → Memᴰ d ds → Class d
@@ -85,41 +87,37 @@ module _ (ws text ws' text' abi labels : List ℕ) (R : ℕ → ℕ → Type 0) 
 
   open_same : (m k : ℕ) → R m k → (a c : ℕ) → Class a → Class c → open_to ws text m a c ≡ open_to ws' text' k a c
   unfolding open_to
-  open_same m k r a c s t = rw (keeps.flags m k r, s.name, t.name)
-
-  same-methods : (m k n l : ℕ) → R m k → R n l → same_methods ws text m n ≡ same_methods ws' text' k l
-  unfolding same_methods method_is
-  same-methods m k n l r q = rw (keeps.name m k r, keeps.descriptor m k r, keeps.name n l q, keeps.descriptor n l q)
+  open_same m k r a c s t = rw (keeps.alike.flags m k r, s.name, t.name)
 
   module _ (m k : ℕ) (r : R m k) where
     abbrev in_old : List ℕ → ℕ → List ℕ
-    in_old reached a = overridden_in (same_methods ws text) ws text m reached a
+    in_old reached a = overridden_in (methods_same same) ws text m reached a
 
     abbrev with_old : List ℕ → ℕ → List ℕ
-    with_old reached a = reached_with (same_methods ws text) ws text m reached a
+    with_old reached a = reached_with (methods_same same) ws text m reached a
 
     is_same : (reached : List ℕ) → Classes reached → (a : ℕ) → Class a → (x y : ℕ) → R x y
-        → is_overridden (same_methods ws text) ws text m reached a x ≡ is_overridden (same_methods ws' text') ws' text' k reached a y
+        → is_overridden (methods_same same) ws text m reached a x ≡ is_overridden (methods_same same') ws' text' k reached a y
     unfolding is_overridden
     is_same reached ok a s x y q =
         rw (
-          keeps.flags x y q,
-          same-methods x y m k q r,
+          keeps.alike.flags x y q,
+          methods-same keeps x y m k q r,
           some-ext (open_to ws text x a) (open_to ws' text' y a) reached (λ e j. open_same x y q a e s (ok e j)),
         )
 
     in_same : (reached : List ℕ) → Classes reached → (a : ℕ) → Class a
-        → Pairs R (in_old reached a) (overridden_in (same_methods ws' text') ws' text' k reached a)
+        → Pairs R (in_old reached a) (overridden_in (methods_same same') ws' text' k reached a)
     unfolding overridden_in
     in_same reached ok a s =
-        pairs-keep (is_overridden (same_methods ws text) ws text m reached a) (is_overridden (same_methods ws' text') ws' text' k reached a)
+        pairs-keep (is_overridden (methods_same same) ws text m reached a) (is_overridden (methods_same same') ws' text' k reached a)
         (is_same reached ok a s) s.own
 
-    with_same : (reached : List ℕ) → Classes reached → (a : ℕ) → Class a → with_old reached a ≡ reached_with (same_methods ws' text') ws' text' k reached a
+    with_same : (reached : List ℕ) → Classes reached → (a : ℕ) → Class a → with_old reached a ≡ reached_with (methods_same same') ws' text' k reached a
     unfolding reached_with
     with_same reached ok a s =
         rw
-        (pairs-some (λ x. not (is_private (method_flags ws x))) (λ x. not (is_private (method_flags ws' x))) (λ x y q. rw (keeps.flags x y q))
+        (pairs-some (λ x. not (is_private (method_flags ws x))) (λ x. not (is_private (method_flags ws' x))) (λ x y q. rw (keeps.alike.flags x y q))
         (in_same reached ok a s))
 
     with_classes_lem : (reached : List ℕ) → Classes reached → (a : ℕ) → Class a → Classes (with_old reached a)
@@ -130,7 +128,7 @@ module _ (ws text ws' text' abi labels : List ℕ) (R : ℕ → ℕ → Type 0) 
         (λ t. ok e (rw t at i))
 
     along-same : (ds reached : List ℕ) → Classes reached → Classes ds
-        → Pairs R (overridden_along (same_methods ws text) ws text m reached ds) (overridden_along (same_methods ws' text') ws' text' k reached ds)
+        → Pairs R (overridden_along (methods_same same) ws text m reached ds) (overridden_along (methods_same same') ws' text' k reached ds)
     unfolding overridden_along
     along-same [] reached ok all = none
     along-same (a ∷ ds) reached ok all =
@@ -140,10 +138,10 @@ module _ (ws text ws' text' abi labels : List ℕ) (R : ℕ → ℕ → Type 0) 
         (along-same ds (with_old reached a) (with_classes_lem reached ok a s) (λ d i. all d (Memᴰ.tail i))))
 
     overridden-same : (c : ℕ) → Class c → parent_of ws c ≡ parent_of ws' c → Chain (parent_of ws c)
-        → Pairs R (overridden (same_methods ws text) ws text c m) (overridden (same_methods ws' text') ws' text' c k)
+        → Pairs R (overridden (methods_same same) ws text c m) (overridden (methods_same same') ws' text' c k)
     unfolding overridden
     overridden-same c s p above =
-        rw (← keeps.flags m k r, ← p, ← above.along)
+        rw (← keeps.alike.flags m k r, ← p, ← above.along)
         (by (is_virtual (method_flags ws m))
         (λ t.
         rw t
@@ -173,23 +171,23 @@ module _ (ws text ws' text' abi labels : List ℕ) (R : ℕ → ℕ → Type 0) 
 
     module _ (c : ℕ) (here : Class c) (parent : parent_of ws c ≡ parent_of ws' c) (above : Chain (parent_of ws c)) where
       take_same : (n : ℕ) (T U : List Entry) (m k : ℕ) → Tables R T U → R m k
-          → Tables R (take_slots (same_methods ws text) ws text first n c T m) (take_slots (same_methods ws' text') ws' text' first' n c U k)
+          → Tables R (take_slots (methods_same same) ws text first n c T m) (take_slots (methods_same same') ws' text' first' n c U k)
       unfolding take_slots
       take_same n T U m k h r =
-          rw (eligible-same ws text ws' text' abi labels R keeps m k r, taken-same (overridden-same m k r c here parent above) n)
+          rw (eligible-same keeps m k r, taken-same (overridden-same m k r c here parent above) n)
           (by (eligible ws' text' k)
           (λ t.
           rw t
-          (put_same (method-entry ws text ws' text' abi labels R keeps m k r) h (taken_slots first' (overridden (same_methods ws' text') ws' text' c k) n)))
+          (put_same (method-entry keeps m k r) h (taken_slots first' (overridden (methods_same same') ws' text' c k) n)))
           (λ t. rw t h))
 
-      pub over-same : {P Q : List Entry} → Tables R P Q
-          → Tables R (packages_over (same_methods ws text) ws text first c P) (packages_over (same_methods ws' text') ws' text' first' c Q)
+      pub over-same : {T U : List Entry} → Tables R T U
+          → Tables R (packages_over (methods_same same) ws text first c T) (packages_over (methods_same same') ws' text' first' c U)
       unfolding packages_over
-      over-same {P} {Q} h =
+      over-same {T} {U} h =
           rw (pairs-length h)
-          (pairs-fold (Tables R) (take_slots (same_methods ws text) ws text first (length Q) c)
-          (take_slots (same_methods ws' text') ws' text' first' (length Q) c) (take_same (length Q)) here.own h)
+          (pairs-fold (Tables R) (take_slots (methods_same same) ws text first (length U) c)
+          (take_slots (methods_same same') ws' text' first' (length U) c) (take_same (length U)) here.own h)
 
   -- ---- what the area holds
 
@@ -200,11 +198,11 @@ module _ (ws text ws' text' abi labels : List ℕ) (R : ℕ → ℕ → Type 0) 
   module _ (area area' : List ℕ) (p : ℕ) (along : Chain p) (chains : (d : ℕ) → Memᴰ d (chain ws p) → Chain d)
       (held : (d : ℕ) → Memᴰ d (chain ws p) → Held ws ws' area area' d) where
     slot_same : (d i : ℕ) → Memᴰ d (chain ws p) → i < class_slot_count ws d
-        → SameEntry R (read_slot ws text abi labels area d i) (read_slot ws' text' abi labels area' d i)
+        → SameEntry R (read_slot same ws text abi labels area d i) (read_slot same' ws' text' abi labels area' d i)
     unfolding read_slot
-    slot_same d i j l = rw ((held d j).words i l) (read_same ws text ws' text' abi labels R keeps d (chains d j) i _)
+    slot_same d i j l = rw ((held d j).words i l) (read_same keeps d (chains d j) i _)
 
-    pub introducing-same : (i : ℕ) → Both R (introducing ws text abi labels area p i) (introducing ws' text' abi labels area' p i)
+    pub introducing-same : (i : ℕ) → Both R (introducing same ws text abi labels area p i) (introducing same' ws' text' abi labels area' p i)
     unfolding introducing
     introducing-same i =
         rw (← along.along, ← last-ext (table_has ws i) (table_has ws' i) (chain ws p) (λ d j. has_same area area' i d (held d j)))
@@ -216,18 +214,18 @@ module _ (ws text ws' text' abi labels : List ℕ) (R : ℕ → ℕ → Type 0) 
       (parent : SameParent ws ws' area area' c) (above : Chain (parent_of ws c))
       (chains : (d : ℕ) → Memᴰ d (chain ws (parent_of ws c)) → Chain d)
       (held : (d : ℕ) → Memᴰ d (chain ws (parent_of ws c)) → Held ws ws' area area' d) where
-    pub packages-same : Tables R (build_packages (same_methods ws text) ws text abi labels area c)
-        (build_packages (same_methods ws' text') ws' text' abi labels area' c)
+    pub packages-same : Tables R (build_packages same ws text abi labels area c)
+        (build_packages same' ws' text' abi labels area' c)
     packages-same =
         by (ltb class_limit c)
         (λ t. let l = ltb-true class_limit c t in
-        rw (packages-beyond (same_methods ws text) ws text abi labels area c l, packages-beyond (same_methods ws' text') ws' text' abi labels area' c l) none)
+        rw (packages-beyond same ws text abi labels area c l, packages-beyond same' ws' text' abi labels area' c l) none)
         (λ t. let l = ltb-false class_limit c t in
         rw (
-          packages-within (same_methods ws text) ws text abi labels area c l,
-          packages-within (same_methods ws' text') ws' text' abi labels area' c l,
+          packages-within same ws text abi labels area c l,
+          packages-within same' ws' text' abi labels area' c l,
           ← parent.parent,
         )
-        (over-same one (introducing ws text abi labels area (parent_of ws c)) (introducing ws' text' abi labels area' (parent_of ws c))
+        (over-same one (introducing same ws text abi labels area (parent_of ws c)) (introducing same' ws' text' abi labels area' (parent_of ws c))
         (introducing-same area area' (parent_of ws c) above chains held) c here parent.parent above
-        (parents-same ws text ws' text' abi labels R keeps area area' c parent above)))
+        (parents-same keeps area area' c parent above)))

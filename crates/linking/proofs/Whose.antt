@@ -19,8 +19,9 @@ use Rattle.class_sheet.specs.ClassSheet.{class_count, class_first_method, class_
 use Rattle.abi_sheet.specs.AbiSheet.{abi_slot_name, abi_slot_descriptor}
 use Rattle.set_rules.specs.Valid.{IsClass}
 use Rattle.linking.specs.declared.Declared.{Declared}
+use Rattle.linking.specs.Signature.{Same, of_method, of_abi_slot}
 use Rattle.linking.specs.Whose.{declared, method_of, declaring_class, first_declared, declared_by_target, declared_implementation, declared_by_index, read_declared, slot_class, Nearest, Declares, MethodsApart, FixedThere, Column, unknown_slot, known_slot, Whose}
-use Rattle.linking.specs.Chain.{list_count, own_methods, chain, is_virtual, method_is, own_target, own_method, find_by_target}
+use Rattle.linking.specs.Chain.{list_count, own_methods, chain, is_virtual, own_target, own_method, find_by_target}
 use Rattle.linking.specs.Abi.{class_abi, slot_at}
 use Rattle.linking.specs.Vtable.{own_fixed, find_by_index, read_entry, read_slot}
 use Rattle.linking.specs.Compiler.{holds, owner_state}
@@ -42,20 +43,20 @@ pub target_found : (ws : List ℕ) (c t : ℕ) → method_of (declared_by_target
 unfolding declared_by_target find_by_target
 target_found ws c t = declared-found (own_target ws t) (chain ws c)
 
-pub implementation-found : (ws text : List ℕ) (c m : ℕ) → method_of (declared_implementation ws text c m) ≡ implementation ws text c m
+pub implementation-found : (same : Same) (ws : List ℕ) (c m : ℕ) → method_of (declared_implementation same ws c m) ≡ implementation same ws c m
 unfolding declared_implementation implementation
-implementation-found ws text c m =
-    declared-found (own_implementation ws text (method_name ws text m) (method_descriptor ws text m)) (chain ws c)
+implementation-found same ws c m =
+    declared-found (own_implementation same ws (of_method m)) (chain ws c)
 
-module _ (ws text abi labels : List ℕ) where
-  pub index-found : (c i : ℕ) → method_of (declared_by_index ws text abi labels c i) ≡ find_by_index ws text abi labels c i
+module _ (same : Same) (ws text abi labels : List ℕ) where
+  pub index-found : (c i : ℕ) → method_of (declared_by_index same ws text abi labels c i) ≡ find_by_index same ws text abi labels c i
   unfolding declared_by_index find_by_index
-  index-found c i = declared-found (own_fixed ws text abi labels i) (chain ws c)
+  index-found c i = declared-found (own_fixed same ws text abi labels i) (chain ws c)
 
-  pub reading-found : (c i w : ℕ) → method_of (read_declared ws text abi labels c i w) ≡ (read_entry ws text abi labels c i w).method
+  pub reading-found : (c i w : ℕ) → method_of (read_declared same ws text abi labels c i w) ≡ (read_entry same ws text abi labels c i w).method
   unfolding read_declared read_entry
   reading-found c i w =
-      or-method (declared_by_target ws c w) (declared_by_index ws text abi labels c i) ∙ rw (target_found ws c w, index-found c i)
+      or-method (declared_by_target ws c w) (declared_by_index same ws text abi labels c i) ∙ rw (target_found ws c w, index-found c i)
 
 -- ---- the nearest counts
 
@@ -95,20 +96,20 @@ target_declares ws c t d m e =
     )
 
 -- what an own search by index finds
-fixed-there : (ws text abi labels : List ℕ) (i d m : ℕ) → own_fixed ws text abi labels i d ≡ Some m
-    → Memᴰ m (own_methods ws d) × FixedThere ws text abi labels d i m
+fixed-there : (same : Same) (ws text abi labels : List ℕ) (i d m : ℕ) → own_fixed same ws text abi labels i d ≡ Some m
+    → Memᴰ m (own_methods ws d) × FixedThere same ws text abi labels d i m
 unfolding own_fixed
-fixed-there ws text abi labels i d m e =
+fixed-there same ws text abi labels i d m e =
     by-found (class_abi ws text abi labels d)
     (λ a p. by-found (slot_at abi i a)
-    (λ s q. let h : own_method ws text (abi_slot_name abi labels s) (abi_slot_descriptor abi labels s) d ≡ Some m = rw q at (rw p at e) in (
-      own-method-member ws text (abi_slot_name abi labels s) (abi_slot_descriptor abi labels s) d m h,
+    (λ s q. let h : own_method same ws (of_abi_slot s) d ≡ Some m = rw q at (rw p at e) in (
+      own-method-member same ws (of_abi_slot s) d m h,
       record {
         entry = a;
         row = s;
         entry_found = p;
         row_is = q;
-        signature = own-method-is ws text (abi_slot_name abi labels s) (abi_slot_descriptor abi labels s) d m h;
+        signature = own-method-is same ws (of_abi_slot s) d m h;
       },
     ))
     (λ q. none (rw q at (rw p at e))))
@@ -117,21 +118,21 @@ fixed-there ws text abi labels i d m e =
     none : {X : Type 0} → None ≡ Some m → X
     none z = absurd (let o : ◌≡◌ {A = ℕ} 0 1 = cc in omega arith)
 
-index_declares : (ws text abi labels : List ℕ) (c i d m : ℕ) → declared_by_index ws text abi labels c i ≡ declared d m
-    → Declares ws c d m × FixedThere ws text abi labels d i m
+index_declares : (same : Same) (ws text abi labels : List ℕ) (c i d m : ℕ) → declared_by_index same ws text abi labels c i ≡ declared d m
+    → Declares ws c d m × FixedThere same ws text abi labels d i m
 unfolding declared_by_index
-index_declares ws text abi labels c i d m e =
-    let n = nearest-counts (own_fixed ws text abi labels i) (chain ws c) d m e in
-    let f = fixed-there ws text abi labels i d m n.finds in
+index_declares same ws text abi labels c i d m e =
+    let n = nearest-counts (own_fixed same ws text abi labels i) (chain ws c) d m e in
+    let f = fixed-there same ws text abi labels i d m n.finds in
     (record { along = on_list n; member = f.0 }, f.1)
 
-implementation_declares : (ws text : List ℕ) (c k d m : ℕ) → declared_implementation ws text c k ≡ declared d m
-    → Declares ws c d m × (is_virtual (method_flags ws m) ≡ true) × (method_is ws text m (method_name ws text k) (method_descriptor ws text k) ≡ true)
+implementation_declares : (same : Same) (ws : List ℕ) (c k d m : ℕ) → declared_implementation same ws c k ≡ declared d m
+    → Declares ws c d m × (is_virtual (method_flags ws m) ≡ true) × (same (of_method m) (of_method k) ≡ true)
 unfolding declared_implementation own_implementation
-implementation_declares ws text c k d m e =
-    let p : ℕ → Bool = λ j. is_virtual (method_flags ws j) && method_is ws text j (method_name ws text k) (method_descriptor ws text k) in
+implementation_declares same ws c k d m e =
+    let p : ℕ → Bool = λ j. is_virtual (method_flags ws j) && same (of_method j) (of_method k) in
     let n = nearest-counts (λ x. find p (own_methods ws x)) (chain ws c) d m e in
-    let b = and_both (is_virtual (method_flags ws m)) (method_is ws text m (method_name ws text k) (method_descriptor ws text k))
+    let b = and_both (is_virtual (method_flags ws m)) (same (of_method m) (of_method k))
     (find-passes p (own_methods ws d) m n.finds) in
     (record { along = on_list n; member = find-member p (own_methods ws d) m n.finds }, b.0, b.1)
 
@@ -186,39 +187,39 @@ by-declared None f g = g refl
 pub declared-class : (f : ℕ → Option ℕ) (ws : List ℕ) (c d m : ℕ) → first_declared f (chain ws c) ≡ declared d m → (0 < d) × (d ≤ c)
 declared-class f ws c d m e = chain-within ws c d (on_list (nearest-counts f (chain ws c) d m e))
 
-module _ (ws text abi labels : List ℕ) where
-  pub read-class : (c i w d m : ℕ) → read_declared ws text abi labels c i w ≡ declared d m → (0 < d) × (d ≤ c)
+module _ (same : Same) (ws text abi labels : List ℕ) where
+  pub read-class : (c i w d m : ℕ) → read_declared same ws text abi labels c i w ≡ declared d m → (0 < d) × (d ≤ c)
   unfolding read_declared declared_by_target declared_by_index
   read-class c i w d m e =
       by-declared (first_declared (own_target ws w) (chain ws c)) (λ a b q. declared-class (own_target ws w) ws c d m (q ∙ (rw q at e)))
-      (λ q. declared-class (own_fixed ws text abi labels i) ws c d m (rw q at e))
+      (λ q. declared-class (own_fixed same ws text abi labels i) ws c d m (rw q at e))
 
-  read_declares : (c i w d m : ℕ) → read_declared ws text abi labels c i w ≡ declared d m → Declares ws c d m
+  read_declares : (c i w d m : ℕ) → read_declared same ws text abi labels c i w ≡ declared d m → Declares ws c d m
   unfolding read_declared
   read_declares c i w d m e =
       by-declared (declared_by_target ws c w)
       (λ a b q. (target_declares ws c w d m (q ∙ (rw q at e))).0)
-      (λ q. (index_declares ws text abi labels c i d m (rw q at e)).0)
+      (λ q. (index_declares same ws text abi labels c i d m (rw q at e)).0)
 
-  column-is : (c i w : ℕ) → Column ws c (read_entry ws text abi labels c i w).method (declaring_class (read_declared ws text abi labels c i w))
+  column-is : (c i w : ℕ) → Column ws c (read_entry same ws text abi labels c i w).method (declaring_class (read_declared same ws text abi labels c i w))
   column-is c i w =
-      by-declared (read_declared ws text abi labels c i w)
-      (λ d m e. rw (← reading-found ws text abi labels c i w, e) (known_slot (read_declares c i w d m e)))
-      (λ e. rw (← reading-found ws text abi labels c i w, e) unknown_slot)
+      by-declared (read_declared same ws text abi labels c i w)
+      (λ d m e. rw (← reading-found same ws text abi labels c i w, e) (known_slot (read_declares c i w d m e)))
+      (λ e. rw (← reading-found same ws text abi labels c i w, e) unknown_slot)
 
-  unknown-is : (area : List ℕ) (c i : ℕ) → (slot_class ws text abi labels area c i ≡ 0) ↔ ((read_slot ws text abi labels area c i).method ≡ None)
+  unknown-is : (area : List ℕ) (c i : ℕ) → (slot_class same ws text abi labels area c i ≡ 0) ↔ ((read_slot same ws text abi labels area c i).method ≡ None)
   unfolding slot_class read_slot
   unknown-is area c i =
       let w : ℕ = get_or area (class_table_place ws c + 1 + i) 0 in
-      by-declared (read_declared ws text abi labels c i w)
+      by-declared (read_declared same ws text abi labels c i w)
       (λ d m e.
       let l = read-class c i w d m e in
-      let f : Some m ≡ (read_entry ws text abi labels c i w).method = rw e at (reading-found ws text abi labels c i w) in (
+      let f : Some m ≡ (read_entry same ws text abi labels c i w).method = rw e at (reading-found same ws text abi labels c i w) in (
         λ z. absurd (let y : d ≡ 0 = rw e at z in omega arith),
         λ z. absurd (let o : ◌≡◌ {A = ℕ} 0 1 = cc in omega arith),
       ))
       (λ e.
-      let f : None ≡ (read_entry ws text abi labels c i w).method = rw e at (reading-found ws text abi labels c i w) in
+      let f : None ≡ (read_entry same ws text abi labels c i w).method = rw e at (reading-found same ws text abi labels c i w) in
       (λ z. sym f, λ z. rw e))
 
 pub whose : Whose
