@@ -1,7 +1,7 @@
 -- A method that a link adds takes its signature from a method that the native view knows or from a slot of the ABI sheet: what holds of all
 -- those, with the flags that it gets, holds of it (`added-known`). Of a class of the set these methods are records of the sheet
--- (`generated-each`). Of any number, where
--- signatures are compared by their bytes, they are held by a class of the set, as the view is emptied of others, or have the signature of an ABI slot: so each added method is within the limit of argument words (`added-within`). Assumes nothing.
+-- (`generated-each`). Of any number, where signatures are compared by their bytes, they are held by a class of the set, as the view is emptied of
+-- others, or have the signature of an ABI slot: so each added method is within the limit of argument words (`added-within`). Assumes nothing.
 use mathlib.Core.Path.{◌≡◌, refl, sym, ◌∙◌}
 use mathlib.Core.Bool.{true, false, not, ◌&&◌, ◌||◌, false≢true, true≢false}
 use mathlib.Core.List.{List, [], ◌∷◌, Memᴰ}
@@ -19,12 +19,12 @@ use Rattle.text.specs.Text.{same_bytes}
 use Rattle.text.proofs.Laws.{same-is}
 use Rattle.descriptor.specs.Words.{receiver_words, is_method}
 use Rattle.descriptor.proofs.Meaning.{meaning}
-use Rattle.class_sheet.specs.ClassSheet.{class_count, method_count, class_first_method, class_method_count, class_compiler_table, class_name, interface_word, method_flags, method_descriptor, method_name, text_of, class_limit, method_limit}
-use Rattle.abi_sheet.specs.AbiSheet.{abi_class_count, abi_slot_count, abi_class_name, abi_slot_name, abi_class_first_slot, abi_class_slot_count, abi_slot_descriptor, abi_text_of, abi_slot_limit}
+use Rattle.class_sheet.specs.ClassSheet.{class_count, method_count, class_first_method, class_method_count, class_compiler_table, interface_word, method_flags, method_descriptor, method_name, text_of, class_limit, method_limit}
+use Rattle.abi_sheet.specs.AbiSheet.{abi_class_count, abi_slot_count, abi_slot_name, abi_class_first_slot, abi_class_slot_count, abi_slot_descriptor, abi_text_of, abi_slot_limit}
 use Rattle.set_rules.specs.Valid.{IsClass, Valid, ValidAbi}
 use Rattle.linking.specs.Signature.{Same, of_method, of_abi_slot, place_name, place_descriptor, by_bytes, by_sheets}
 use Rattle.linking.specs.Chain.{on_found, list_count, own_methods, own_interfaces, is_abstract, parent_of, chain, own_target, find_by_target}
-use Rattle.linking.specs.Abi.{abi_named, abi_slots, slot_index, slot_at, vtable_index, fixed_index, class_abi, chain_abi}
+use Rattle.linking.specs.Abi.{abi_slots, slot_index, slot_at, vtable_index, fixed_index, class_abi, chain_abi}
 use Rattle.linking.specs.Vtable.{Entry, empty, own_fixed, fixed_of, find_by_index, read_entry, read_slot, table_entries, parent_entries}
 use Rattle.linking.specs.Compiler.{New, no_new, Taken, none_taken, members, without_abstract, holds, owner_state, is_emptied, view_from, native_view, from_method, from_slot, signature_sources, is_declared, add_named, add_from, added_from, added_methods, compiler_targets}
 use Rattle.linking.specs.Link.{generated_methods}
@@ -72,7 +72,8 @@ found_all f g (x ∷ xs) s h e = found-cons (f x) g (all_found f xs) s (h x) (fo
 
 -- ---- what Reading finds, and what an ABI entry fixes, is a record of the sheet, where each list lies in its section
 
-module _ (same : Same) (ws text abi labels : List ℕ) (lists : (d : ℕ) → IsClass ws d → class_first_method ws d + class_method_count ws d ≤ method_count ws) where
+module _ (same : Same) (ws text abi labels : List ℕ)
+    (lists : (d : ℕ) → IsClass ws d → class_first_method ws d + class_method_count ws d ≤ method_count ws) where
   own_room : (d m : ℕ) → IsClass ws d → Memᴰ m (own_methods ws d) → m < method_count ws
   unfolding own_methods
   own_room d m k h =
@@ -181,7 +182,8 @@ added-signs same ws text abi labels area c =
 
 -- ---- of a class of the set: what its native view knows is a record of the sheet
 
-module _ (same : Same) (ws text abi labels : List ℕ) (lists : (d : ℕ) → IsClass ws d → class_first_method ws d + class_method_count ws d ≤ method_count ws) where
+module _ (same : Same) (ws text abi labels : List ℕ)
+    (lists : (d : ℕ) → IsClass ws d → class_first_method ws d + class_method_count ws d ≤ method_count ws) where
   abbrev Room : List Entry → Type 0
   Room = EachKnown (λ m. m < method_count ws)
 

@@ -124,5 +124,7 @@ module _ (ws abi area : List ℕ) (c : ℕ) where
       (λ p.
       by (field_row ws abi c)
       (λ f. rw (row_as_before (build_before (by_sheets ws abi) ws (text_of ws) abi (abi_text_of abi) area c) f) refl)
-      (λ f. rw (plan_as_before (by_sheets ws abi) (bytes_compare ws (text_of ws) abi (abi_text_of abi)) ws (text_of ws) abi (abi_text_of abi) area c (rw (s, k, l, p, f) at h)) refl)))))
+      (λ f.
+      rw (plan_as_before (by_sheets ws abi) (bytes_compare ws (text_of ws) abi (abi_text_of abi)) ws (text_of ws) abi (abi_text_of abi) area c
+      (rw (s, k, l, p, f) at h)) refl)))))
       (λ s. rw s refl)

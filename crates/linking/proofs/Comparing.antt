@@ -1,12 +1,12 @@
 -- A comparison of signatures that is an equivalence, as that by bytes and that by numbers are: which index a signature has then does not depend on the
 -- place that it is taken from. Assumes nothing.
 use mathlib.Core.Path.{◌≡◌, refl, sym, ◌∙◌}
-use mathlib.Core.Bool.{true, false, true≢false}
+use mathlib.Core.Bool.{true, true≢false}
 use mathlib.Core.List.{List, [], ◌∷◌}
 use Prim.Native.Nat.{ℕ}
 use lib.ListN.{get_or}
 use borrow.Author.Tests.{eqb-true, eq-eqb}
-use Rattle.words.specs.Lists.{find, first_found}
+use Rattle.words.specs.Lists.{first_found}
 use Rattle.words.proofs.Bools.{by, and_both}
 use Rattle.words.proofs.Ext.{find-ext}
 use Rattle.text.specs.Text.{same_bytes}
@@ -30,8 +30,7 @@ module _ (ws text abi labels : List ℕ) where
   parts p q t =
       let b =
       and_both (same_bytes (place_name ws text abi labels p) (place_name ws text abi labels q))
-      (same_bytes (place_descriptor ws text abi labels p) (place_descriptor ws text abi labels q)) t in
-      (
+      (same_bytes (place_descriptor ws text abi labels p) (place_descriptor ws text abi labels q)) t in (
         same-is (place_name ws text abi labels p) (place_name ws text abi labels q) b.0,
         same-is (place_descriptor ws text abi labels p) (place_descriptor ws text abi labels q) b.1,
       )

@@ -139,7 +139,8 @@ module _ (ws : List ℕ) (c place words statics : ℕ) (p : Plan) (some : 1 ≤ 
   link-after = rw laid after
 
   -- where no method is added, the class's method list stays
-  pub link-still : is_none (members p.added) ≡ true → (k : ℕ) → k < first_field_word → class_word (linked_words ws c place words statics p) c k ≡ class_word ws c k
+  pub link-still : is_none (members p.added) ≡ true → (k : ℕ) → k < first_field_word
+      → class_word (linked_words ws c place words statics p) c k ≡ class_word ws c k
   link-still t k h =
       rw laid (class-here c k some among (omega arith) (linked-still s (formed-of ws fits) c place words statics p some within t k h))
 

@@ -2,7 +2,7 @@
 -- a number. Assumes nothing.
 use mathlib.Core.Path.{◌≡◌, refl, sym, ap, ◌∙◌}
 use mathlib.Core.Logic.{◌≢◌, ◌⊎◌, inl, inr}
-use mathlib.Core.Bool.{Bool, true, false, cond, not, true≢false}
+use mathlib.Core.Bool.{true, false, cond, not, true≢false}
 use mathlib.Core.List.{List, [], ◌∷◌}
 use Prim.Native.Nat.{ℕ, suc, ◌+◌, ◌≤◌, ◌<◌}
 use native.Mathlib.Omega.{arith}
@@ -15,7 +15,7 @@ use Rattle.std.specs.Prelude.{Option, Some, None}
 use Rattle.words.proofs.Bools.{by, or-neither}
 use Rattle.words.proofs.ListLaws.{by-found}
 use Rattle.words.specs.Words.{AreBytes}
-use Rattle.class_sheet.specs.ClassSheet.{class_limit, class_kind, is_built_kind, is_packaged, class_flags, class_field_count, class_compiler_table, field_flags, field_name, field_descriptor, method_name, method_descriptor}
+use Rattle.class_sheet.specs.ClassSheet.{class_limit, class_kind, is_built_kind, is_packaged, class_flags, class_field_count, class_compiler_table, field_flags, field_name, field_descriptor}
 use Rattle.linking.proofs.ChainLaws.{own-fields-length}
 use Rattle.linking.specs.Signature.{Same, of_method, methods_same}
 use Rattle.linking.specs.Chain.{on_found, own_methods, own_fields, parent_of, is_static, is_interface, eligible}

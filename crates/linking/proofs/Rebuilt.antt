@@ -273,13 +273,15 @@ module _ (ws ws' abi area area' : List ℕ) (c : ℕ) (valid : Valid ws) (after 
   pub chain-above : SameChain kept (parent_of ws d)
   chain-above = let w = parent-within ws d in same-chain ws ws' abi c valid after moves some among (parent_of ws d) (omega (arith, l.1)) above
 
-  pub parents-held : Tables Q (parent_entries (by_sheets ws abi) ws (text_of ws) abi (abi_text_of abi) area d) (parent_entries (by_sheets ws' abi) ws' (text_of ws') abi (abi_text_of abi) area' d)
+  pub parents-held : Tables Q (parent_entries (by_sheets ws abi) ws (text_of ws) abi (abi_text_of abi) area d)
+      (parent_entries (by_sheets ws' abi) ws' (text_of ws') abi (abi_text_of abi) area' d)
   parents-held = parents-same kept area area' d parent-held chain-above
 
   stays-owner : (m k : ℕ) → Q m k → owner_state ws m ≡ owner_state ws' k
   stays-owner m k r = r.owner
 
-  pub view-held : Tables Q (native_view (by_sheets ws abi) ws (text_of ws) abi (abi_text_of abi) area d) (native_view (by_sheets ws' abi) ws' (text_of ws') abi (abi_text_of abi) area' d)
+  pub view-held : Tables Q (native_view (by_sheets ws abi) ws (text_of ws) abi (abi_text_of abi) area d)
+      (native_view (by_sheets ws' abi) ws' (text_of ws') abi (abi_text_of abi) area' d)
   view-held = native_same kept stays-owner area area' d parent-held chain-above
 
   pub small : (m k : ℕ) → Q m k → (m < method_limit) × (k < method_limit)
@@ -302,7 +304,8 @@ module _ (ws ws' abi area area' : List ℕ) (c : ℕ) (valid : Valid ws) (after 
     whole : SameChain kept d
     whole = same-chain ws ws' abi c valid after moves some among d l.1 all-unmoved
 
-    build-held : SameBuilt Q (build_methods (by_sheets ws abi) ws (text_of ws) abi (abi_text_of abi) area d) (build_methods (by_sheets ws' abi) ws' (text_of ws') abi (abi_text_of abi) area' d)
+    build-held : SameBuilt Q (build_methods (by_sheets ws abi) ws (text_of ws) abi (abi_text_of abi) area d)
+        (build_methods (by_sheets ws' abi) ws' (text_of ws') abi (abi_text_of abi) area' d)
     build-held = build-same kept area area' d parent-held chain-above whole here
 
     -- along the chain above
@@ -319,7 +322,8 @@ module _ (ws ws' abi area area' : List ℕ) (c : ℕ) (valid : Valid ws) (after 
         packages-same kept (λ m k n j r q. rw (r.same, q.same)) area area' d here parent-held
         chain-above chains held
 
-    built-held : SameBuilt Q (built_table (by_sheets ws abi) ws (text_of ws) abi (abi_text_of abi) area d) (built_table (by_sheets ws' abi) ws' (text_of ws') abi (abi_text_of abi) area' d)
+    built-held : SameBuilt Q (built_table (by_sheets ws abi) ws (text_of ws) abi (abi_text_of abi) area d)
+        (built_table (by_sheets ws' abi) ws' (text_of ws') abi (abi_text_of abi) area' d)
     unfolding built_table
     built-held =
         rw (
@@ -367,7 +371,8 @@ module _ (ws ws' abi area area' : List ℕ) (c : ℕ) (valid : Valid ws) (after 
         (by (eqb (class_compiler_table ws d) 0) (λ t. rw t (built_less (λ m k r. tt) build-held)) (λ t. rw t (both-built compiler-held)))
 
     -- the same words from the same slots
-    pub table-held : SameBuilt Any (table_by (by_sheets ws abi) ws (text_of ws) abi (abi_text_of abi) area d) (table_by (by_sheets ws' abi) ws' (text_of ws') abi (abi_text_of abi) area' d)
+    pub table-held : SameBuilt Any (table_by (by_sheets ws abi) ws (text_of ws) abi (abi_text_of abi) area d)
+        (table_by (by_sheets ws' abi) ws' (text_of ws') abi (abi_text_of abi) area' d)
     unfolding table_by
     table-held =
         rw (word_same ws ws' abi c valid after moves d kind_word l (omega arith) (early kind_word (omega arith)))

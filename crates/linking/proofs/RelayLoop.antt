@@ -78,7 +78,8 @@ module _ (same : Same) (abi : List ℕ) (compares : Compares same) where
         ≡ relays (methods_same same) (fixed_of same abi abis) (distance_of same abi abis) E (replicate (minimum_size abi abis) empty) E
     unfolding relayed
     relayed_loop =
-        ap (λ (staying : ℕ → Option ℕ). laid_out (methods_same same) (fixed_of same abi abis) staying E (minimum_size abi abis)) (sym (holder-stays same abi abis E))
+        ap (λ (staying : ℕ → Option ℕ). laid_out (methods_same same) (fixed_of same abi abis) staying E (minimum_size abi abis))
+        (sym (holder-stays same abi abis E))
         ∙ sym (relays-laid_out (methods_same same) (fixed_of same abi abis) (distance_of same abi abis) E (signatures abis)
         (minimum_size abi abis) (fixed-below same abi abis))
 

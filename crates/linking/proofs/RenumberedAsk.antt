@@ -26,7 +26,8 @@ module _ {same same' : Same} {P : Place → Place → Type 0} {ws text ws' text'
         rw (← s.along)
         (both_first R (own_implementation same ws (of_method m)) (own_implementation same' ws' (of_method k)) (chain ws c)
         (λ d i.
-        pairs-find (λ n. is_virtual (method_flags ws n) && same (of_method n) (of_method m)) (λ n. is_virtual (method_flags ws' n) && same' (of_method n) (of_method k))
+        pairs-find (λ n. is_virtual (method_flags ws n) && same (of_method n) (of_method m))
+        (λ n. is_virtual (method_flags ws' n) && same' (of_method n) (of_method k))
         (λ n l t. rw (keeps.alike.flags n l t, same-method keeps n l m k t r)) (s.class d i).own))
 
     found-same : {f f' g g' : Option ℕ} (e e' : Entry) → SameEntry R e e' → Both R f f' → Both R g g'

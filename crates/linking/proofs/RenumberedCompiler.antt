@@ -61,7 +61,8 @@ module _ {same same' : Same} {P : Place → Place → Type 0} {ws text ws' text'
       unfolding native_view
       native_same =
           rw (← p.parent, chain-abi-same keeps (parent_of ws c) s)
-          (view-same (chain_abi ws' text' abi labels (parent_of ws c)) (chain-abi-in ws' text' abi labels (parent_of ws c)) 0 (parents-same keeps area area' c p s))
+          (view-same (chain_abi ws' text' abi labels (parent_of ws c)) (chain-abi-in ws' text' abi labels (parent_of ws c)) 0
+          (parents-same keeps area area' c p s))
 
   -- ---- (b) methods to be added
 

@@ -1,9 +1,9 @@
 -- The members of methods to be added: how many they are, and each of them. Assumes nothing.
 use mathlib.Core.Path.{◌≡◌, refl, ap}
-use mathlib.Core.List.{List, [], ◌∷◌, ◌++◌}
+use mathlib.Core.List.{List, [], ◌∷◌}
 use Prim.Native.Nat.{ℕ, zero, suc}
 use lib.ListN.{length, get_or}
-use Rattle.linking.specs.Compiler.{New, no_new, Taken, none_taken, members}
+use Rattle.linking.specs.Compiler.{no_new, Taken, none_taken, members}
 
 pub length-members : (xs : List Taken) → length (members xs) ≡ length xs
 unfolding members

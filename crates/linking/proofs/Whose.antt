@@ -15,8 +15,7 @@ use Rattle.std.specs.Option.{option_or}
 use Rattle.std.specs.Prelude.{Option, Some, None}
 use Rattle.words.proofs.Bools.{by, and_both}
 use Rattle.words.proofs.ListLaws.{by-found, find-member, find-passes, numbers-within}
-use Rattle.class_sheet.specs.ClassSheet.{class_count, class_first_method, class_method_count, class_link_state, class_table_place, method_name, method_descriptor, method_flags, method_target, method_limit}
-use Rattle.abi_sheet.specs.AbiSheet.{abi_slot_name, abi_slot_descriptor}
+use Rattle.class_sheet.specs.ClassSheet.{class_count, class_first_method, class_method_count, class_link_state, class_table_place, method_flags, method_target, method_limit}
 use Rattle.set_rules.specs.Valid.{IsClass}
 use Rattle.linking.specs.declared.Declared.{Declared}
 use Rattle.linking.specs.Signature.{Same, of_method, of_abi_slot}
