@@ -12,10 +12,10 @@ use Rattle.std.proofs.lemmas.List.{take_all}
 use Rattle.text.specs.Text.{name_at}
 use Rattle.class_sheet.specs.ClassSheet.{member_width, member_words}
 use Rattle.class_sheet.specs.declared.MemberRecord.{MemberRecord}
-use Rattle.linking.specs.Compiler.{New}
+use Rattle.linking.specs.Compiler.{New, Taken, members}
 use Rattle.linking.specs.Set.{write_at, new_text, new_record, new_records}
 use Rattle.growth.specs.declared.news.Member.{Member}
-use Rattle.growth.specs.News.{ref_name, ref_descriptor, new_of, news_of}
+use Rattle.growth.specs.News.{ref_name, ref_descriptor, new_of, news_of, taken_of, added_of}
 use Rattle.linking.proofs.Writes.{write-none, write-more}
 use Rattle.words.proofs.ListLaws.{push_room}
 
@@ -63,38 +63,56 @@ module _ (ws text abi labels : List ℕ) where
   length-news [] = refl
   length-news (x ∷ xs) = ap suc (length-news xs)
 
-  pub news_none : news_of ws text abi labels [] ≡ []
-  unfolding news_of
-  news_none = refl
+-- ---- methods to be added, one by one
+
+module _ (ws text abi labels : List ℕ) where
+  added-append : (xs ys : List Member) → added_of ws text abi labels (xs ++ ys) ≡ added_of ws text abi labels xs ++ added_of ws text abi labels ys
+  unfolding added_of
+  added-append [] ys = refl
+  added-append (x ∷ xs) ys = rw (added-append xs ys)
+
+  pub length-added : (xs : List Member) → length (added_of ws text abi labels xs) ≡ length xs
+  unfolding added_of
+  length-added [] = refl
+  length-added (x ∷ xs) = ap suc (length-added xs)
+
+  pub members-added : (xs : List Member) → members (added_of ws text abi labels xs) ≡ news_of ws text abi labels xs
+  unfolding members added_of news_of taken_of
+  members-added [] = refl
+  members-added (x ∷ xs) = rw (members-added xs)
+
+  pub added_none : added_of ws text abi labels [] ≡ []
+  unfolding added_of
+  added_none = refl
 
   -- one is added, where there is room
-  pub news_push : (xs : List Member) (m : Member) {ys : List Member} → length xs < 1024 → ys ≡ take 1024 (xs ++ m ∷ [])
-      → news_of ws text abi labels ys ≡ news_of ws text abi labels xs ++ (new_of ws text abi labels m ∷ [])
-  unfolding news_of
-  news_push xs m h e = rw (e, push_room 1024 xs m h) (news-append xs (m ∷ []))
+  pub added_push : (xs : List Member) (m : Member) {ys : List Member} → length xs < 1024 → ys ≡ take 1024 (xs ++ m ∷ [])
+      → added_of ws text abi labels ys ≡ added_of ws text abi labels xs ++ (taken_of ws text abi labels m ∷ [])
+  unfolding added_of
+  added_push xs m h e = rw (e, push_room 1024 xs m h) (added-append xs (m ∷ []))
 
   -- the i-th, and past the end
-  news_at : (xs : List Member) (i : ℕ) (d : New) {m : Member} → slice_get xs i ≡ Some m
-      → get_or (news_of ws text abi labels xs) i d ≡ new_of ws text abi labels m
-  unfolding news_of
-  news_at [] i d e = cc
-  news_at (x ∷ xs) zero d e = ap (new_of ws text abi labels) (cc)
-  news_at (x ∷ xs) (suc i) d e = news_at xs i d e
+  added_at : (xs : List Member) (i : ℕ) (d : Taken) {m : Member} → slice_get xs i ≡ Some m
+      → get_or (added_of ws text abi labels xs) i d ≡ taken_of ws text abi labels m
+  unfolding added_of
+  added_at [] i d e = cc
+  added_at (x ∷ xs) zero d e = ap (taken_of ws text abi labels) (cc)
+  added_at (x ∷ xs) (suc i) d e = added_at xs i d e
 
-  news_past : (xs : List Member) (i : ℕ) (d : New) → slice_get xs i ≡ None → get_or (news_of ws text abi labels xs) i d ≡ d
-  unfolding news_of
-  news_past [] i d e = refl
-  news_past (x ∷ xs) zero d e = cc
-  news_past (x ∷ xs) (suc i) d e = news_past xs i d e
+  added_past : (xs : List Member) (i : ℕ) (d : Taken) → slice_get xs i ≡ None → get_or (added_of ws text abi labels xs) i d ≡ d
+  unfolding added_of
+  added_past [] i d e = refl
+  added_past (x ∷ xs) zero d e = cc
+  added_past (x ∷ xs) (suc i) d e = added_past xs i d e
 
   -- as the code reads them
-  pub news_got : (xs : List Member) (i : ℕ) (d : New) {o : Option Member} {m : Member} → o ≡ slice_get xs i → o ≡ Some m
-      → get_or (news_of ws text abi labels xs) i d ≡ new_of ws text abi labels m
-  news_got xs i d e h = news_at xs i d (sym e ∙ h)
+  pub added_got : (xs : List Member) (i : ℕ) (d : Taken) {o : Option Member} {m : Member} → o ≡ slice_get xs i → o ≡ Some m
+      → get_or (added_of ws text abi labels xs) i d ≡ taken_of ws text abi labels m
+  added_got xs i d e h = added_at xs i d (sym e ∙ h)
 
-  pub news_out : (xs : List Member) (i : ℕ) (d : New) {o : Option Member} → o ≡ slice_get xs i → o ≡ None
-      → get_or (news_of ws text abi labels xs) i d ≡ d
-  news_out xs i d e h = news_past xs i d (sym e ∙ h)
+  pub added_out : (xs : List Member) (i : ℕ) (d : Taken) {o : Option Member} → o ≡ slice_get xs i → o ≡ None
+      → get_or (added_of ws text abi labels xs) i d ≡ d
+  added_out xs i d e h = added_past xs i d (sym e ∙ h)
 
 -- the text of the first n, and their records: names of their own, so that antt finds their arguments
 unfoldable pub text_to : List ℕ → List ℕ → List ℕ → List ℕ → List Member → ℕ → List ℕ

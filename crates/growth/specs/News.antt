@@ -1,11 +1,19 @@
--- New members as the code has them. What names a member is a method of the class sheet, or a slot or a field of the ABI sheet. Assumes nothing.
+-- New members as the code has them. What names a member is a method of the class sheet, or a slot or a field of the ABI sheet; a new method takes
+-- its signature from a method or a slot. Assumes nothing.
 use Rattle.std.specs.Prelude.{ℕ, List, [], ◌∷◌}
 use Rattle.class_sheet.specs.ClassSheet.{method_name, method_descriptor}
 use Rattle.abi_sheet.specs.AbiSheet.{abi_slot_name, abi_slot_descriptor, abi_field_name, abi_field_descriptor}
-use Rattle.linking.specs.Compiler.{New}
+use Rattle.linking.specs.Signature.{Place, of_method, of_abi_slot}
+use Rattle.linking.specs.Compiler.{New, Taken}
 use Rattle.growth.specs.declared.news.Member.{Member}
 use Rattle.growth.specs.declared.news.Named.{Named}
 use Rattle.growth.specs.declared.news.Named.TheVariants.{Method, Slot, Field}
+
+-- the place whose signature names it; there is none of a field, for which method 0 stands
+unfoldable pub ref_place : Named → Place
+ref_place (Method m) = of_method m
+ref_place (Slot s) = of_abi_slot s
+ref_place (Field f) = of_method 0
 
 module _ (ws text abi labels : List ℕ) where
   -- a part of the class text, or of the ABI text, whichever names it
@@ -26,3 +34,11 @@ module _ (ws text abi labels : List ℕ) where
   unfoldable pub news_of : List Member → List New
   news_of [] = []
   news_of (m ∷ ms) = new_of m ∷ news_of ms
+
+  -- the same of methods, each with the place that it takes its signature from
+  unfoldable pub taken_of : Member → Taken
+  taken_of m = record { from = ref_place m.names; member = new_of m }
+
+  unfoldable pub added_of : List Member → List Taken
+  added_of [] = []
+  added_of (m ∷ ms) = taken_of m ∷ added_of ms

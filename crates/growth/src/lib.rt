@@ -6,7 +6,8 @@ ghost use Rattle.std.specs.Prelude.{◌≡◌, ◌+◌, ◌*◌, ◌<◌, ◌≤
 ghost use Rattle.words.specs.Words.{words_for};
 ghost use Rattle.class_sheet.specs.ClassSheet.{member_width, text_limit, sheet_words, text_length, text_of, member_words};
 ghost use Rattle.linking.specs.Set.{write_at, put_indices, new_records, new_text, packed, section_full, grown_end};
-ghost use Rattle.growth.specs.News.{ref_name, ref_descriptor, news_of};
+ghost use Rattle.linking.specs.Signature.{place_name, place_descriptor};
+ghost use Rattle.growth.specs.News.{ref_name, ref_descriptor, ref_place, news_of};
 ghost use Rattle.growth.specs.Growth.{laid, laid_end, can_grow, methods_grown, fields_grown, tail_of, methods_of, fields_of, growing, methods_counted, fields_counted, appended, Placed, Room};
 ghost use Rattle.linking.specs.Sheets.{of_sheets, of_lent};
 
@@ -47,6 +48,19 @@ pub fn ref_signature<'a>(sheets: Sheets<'a>, r: Named) -> Signature<'a>
     ensures small { (length result.name.now < 2 ^ 32) × (length result.descriptor.now < 2 ^ 32) }
 {
     signature_of(sheets.set, sheets.text, sheets.abi, sheets.labels, r)
+}
+
+// The signature that a new method takes, of the place that names it: method 0's where that is a field, which has none.
+#[tactic(auto, unfolding(crate::specs::News::ref_place, linking::specs::Signature::place_name, linking::specs::Signature::place_descriptor))]
+pub fn taken_signature<'a>(sheets: Sheets<'a>, r: Named) -> Signature<'a>
+    ensures name { result.name.now ≡ of_sheets place_name sheets.entry (ref_place r) }
+    ensures descriptor { result.descriptor.now ≡ of_sheets place_descriptor sheets.entry (ref_place r) }
+{
+    match r {
+        Named::Method(m) => class_sheet::method_signature(sheets.set, sheets.text, m),
+        Named::Slot(s) => abi_sheet::slot_signature(sheets.abi, sheets.labels, s),
+        Named::Field(_) => class_sheet::method_signature(sheets.set, sheets.text, 0),
+    }
 }
 
 // How many bytes the names and descriptors of the new members have.
