@@ -1,0 +1,4 @@
+pub mod Examples
+pub mod Filled
+pub mod Parts
+pub mod Theorem

@@ -1,0 +1,212 @@
+// The call that fills the list of numbers by which signatures are matched: each place of it holds the first place with the same name and descriptor.
+#![tactic(auto)]
+
+ghost use Rattle.std.specs.Prelude.{◌≡◌, ◌&&◌, ◌<◌, ◌≤◌, false};
+ghost use Rattle.words.specs.Folds.{stores};
+ghost use Rattle.text.specs.Text.{same_bytes};
+ghost use Rattle.text.specs.Signatures.{of_signature};
+ghost use Rattle.class_sheet.specs.ClassSheet.{text_limit, text_length, text_of};
+ghost use Rattle.abi_sheet.specs.AbiSheet.{abi_text_limit, abi_text_length, abi_text_of};
+ghost use Rattle.set_rules.specs.SetRules.{set_refusal};
+ghost use Rattle.linking.specs.Signature.{place_at, place_name, place_descriptor};
+ghost use Rattle.linking.specs.Numbers.{number_limit, is_used, number_at, numbers_short, fill_def};
+ghost use Rattle.signatures.specs.Keys.{of_signatures, used_in, mix, mix_part, key_of, bucket_of, key_at, Keyed, Least, outcome};
+
+use refusal::Refusal;
+use text::Signature;
+
+// How many places the list has: 512 of methods, and behind them 512 of ABI slots.
+const METHODS: u32 = class_sheet::METHOD_LIMIT;
+
+const PLACES: usize = (METHODS + abi_sheet::SLOT_LIMIT) as usize;
+
+// How many buckets the keys fall into, and the factor that scatters them.
+const BUCKETS: usize = 4096;
+
+const FACTOR: u32 = 2654435761;
+
+// ---- keys: numbers that equal signatures share, and most others do not
+
+// The key with one word more.
+#[tactic(auto, unfolding(crate::specs::Keys::mix))]
+fn mix(key: u32, w: u32) -> u32
+    ensures { result ≡ mix key w }
+{
+    key.wrapping_mul(FACTOR).wrapping_add(w)
+}
+
+// The key with a part more: its length and its bytes at both ends.
+#[tactic(auto, unfolding(crate::specs::Keys::mix_part))]
+fn mix_part(key: u32, s: &[u8]) -> u32
+    ensures { result ≡ mix_part key s.now }
+{
+    let n = s.len();
+    let key = mix(key, (n % 256) as u32);
+    let key = mix(key, words::le_word(s, 0));
+    mix(key, words::le_word(s, n.saturating_sub(4)))
+}
+
+// A signature's key.
+#[tactic(auto, unfolding(crate::specs::Keys::key_of))]
+fn key_of(signature: Signature) -> u32
+    ensures { result ≡ of_signature key_of signature.entry }
+{
+    mix_part(mix_part(0, signature.name), signature.descriptor)
+}
+
+// The bucket that a key falls into.
+#[tactic(auto, unfolding(crate::specs::Keys::bucket_of))]
+fn bucket_of(key: u32) -> usize
+    ensures is { result ≡ bucket_of key }
+    ensures small { result < 4096 }
+{
+    (key.wrapping_mul(FACTOR) >> 20) as usize
+}
+
+// ---- places
+
+// The two sheets, of whose signatures the list is: the class words and their text, the ABI words and theirs.
+#[derive(Clone, Copy)]
+struct Signatures<'a> {
+    set: &'a [u32],
+    text: &'a [u8],
+    abi: &'a [u32],
+    labels: &'a [u8],
+}
+
+impl<'a> Signatures<'a> {
+    // Whether place p has a record.
+    #[tactic(auto, unfolding(linking::specs::Numbers::is_used, linking::specs::Signature::place_at))]
+    fn is_used(self, p: u32) -> bool
+        ensures { result ≡ used_in self.entry p }
+    {
+        if p < METHODS {
+            return p < class_sheet::method_count(self.set);
+        }
+        let s = p - METHODS;
+        (s < abi_sheet::slot_count(self.abi)) & (s < abi_sheet::SLOT_LIMIT)
+    }
+
+    // The signature at place p.
+    #[tactic(auto, unfolding(linking::specs::Signature::place_name, linking::specs::Signature::place_descriptor, linking::specs::Signature::place_at))]
+    fn signature_at(self, p: u32) -> Signature<'a>
+        ensures name { result.name.now ≡ of_signatures place_name self.entry (place_at p) }
+        ensures descriptor { result.descriptor.now ≡ of_signatures place_descriptor self.entry (place_at p) }
+    {
+        if p < METHODS {
+            return class_sheet::method_signature(self.set, self.text, p);
+        }
+        abi_sheet::slot_signature(self.abi, self.labels, p - METHODS)
+    }
+
+    // The key of its signature; of a place without a record, 0.
+    #[tactic(auto, unfolding(crate::specs::Keys::key_at))]
+    fn key_at(self, p: u32) -> u32
+        ensures { result ≡ of_signatures key_at self.entry p }
+    {
+        if !self.is_used(p) {
+            return 0;
+        }
+        key_of(self.signature_at(p))
+    }
+
+    // Whether place p has a record, of this signature.
+    fn has_signature(self, p: u32, signature: Signature) -> bool
+        ensures { result
+            ≡ (used_in self.entry p && (same_bytes (of_signatures place_name self.entry (place_at p)) signature.entry.name.now
+            && same_bytes (of_signatures place_descriptor self.entry (place_at p)) signature.entry.descriptor.now)) }
+    {
+        if !self.is_used(p) {
+            return false;
+        }
+        let own = self.signature_at(p);
+        text::same(own.name, signature.name) && text::same(own.descriptor, signature.descriptor)
+    }
+
+    // Stores the keys of all places.
+    fn put_keys(self, keys: &mut [u32; PLACES])
+        ensures { Keyed self.entry keys.new }
+    {
+        for p in 0..PLACES {
+            keys[p] = self.key_at(p as u32);
+        }
+    }
+
+    // The number of place p: the search goes from the place kept for its key's bucket on, as no place before that has its signature.
+    fn number_at(self, keys: &[u32; PLACES], firsts: &[u32; BUCKETS], p: u32) -> u32
+        requires { Keyed self keys.now × Least keys.now firsts.now × (p < number_limit) }
+        ensures { result ≡ of_signatures number_at self.entry p }
+    {
+        if !self.is_used(p) {
+            return 0;
+        }
+        let key = keys[p as usize];
+        let first = firsts[bucket_of(key)];
+        let signature = self.signature_at(p);
+        words::find_in(first, p, |q| {
+            words::get_or(keys, q as usize, 0) == key && self.has_signature(q, signature)
+        })
+        .unwrap_or(p)
+    }
+
+    // Stores the numbers of all places.
+    fn put_numbers(self, numbers: &mut [u32])
+        ensures { numbers.new ≡ stores number_limit (of_signatures number_at self.entry) numbers.old }
+    {
+        let mut keys = [0u32; PLACES];
+        self.put_keys(&mut keys);
+        let mut firsts = [0u32; BUCKETS];
+        put_firsts(&keys, &mut firsts);
+        for p in 0..PLACES {
+            words::put(numbers, p, self.number_at(&keys, &firsts, p as u32));
+        }
+    }
+}
+
+// Stores for each bucket the first place whose key falls into it.
+fn put_firsts(keys: &[u32; PLACES], firsts: &mut [u32; BUCKETS])
+    ensures { Least keys.now firsts.new }
+{
+    for p in (0..PLACES).rev() {
+        firsts[bucket_of(keys[p])] = p as u32;
+    }
+}
+
+// Stores the numbers of two sheets that rows 3 to 5 accept.
+fn fill(set: &[u32], abi: &[u32], numbers: &mut [u32])
+    requires { (text_length set.now ≤ text_limit) × (abi_text_length abi.now ≤ abi_text_limit) }
+    ensures { numbers.new ≡ stores number_limit (number_at set.now (text_of set.now) abi.now (abi_text_of abi.now)) numbers.old }
+{
+    let mut room = [0u8; class_sheet::TEXT_LIMIT as usize];
+    let mut label_room = [0u8; abi_sheet::TEXT_LIMIT as usize];
+    let signatures = Signatures {
+        set,
+        text: class_sheet::text_bytes(set, &mut room),
+        abi,
+        labels: abi_sheet::text_bytes(abi, &mut label_room),
+    };
+    signatures.put_numbers(numbers);
+}
+
+// Whether the list is shorter than 1,024 words.
+#[tactic(auto, unfolding(linking::specs::Numbers::numbers_short))]
+pub fn is_short(numbers: &[u32]) -> bool
+    ensures { result ≡ numbers_short numbers.now }
+{
+    numbers.len() < PLACES
+}
+
+// Fills the list's first 1,024 words with the numbers of the signatures of both sheets: place m is of method m, place 512 + s of ABI slot s, and each
+// holds the first place whose name and whose descriptor are the same; a place without a record holds 0. What the list has behind them stays. A
+// list that is shorter is refused by row 3; rows 3 to 5 of the sheets are judged as a link does. A refused filling writes nothing.
+#[tactic(auto, using(crate::proofs::FillLaws::fill_short, crate::proofs::FillLaws::fill_refused, crate::proofs::FillLaws::fill_done, crate::proofs::FillLaws::texts_fit))]
+pub fn number_signatures(set: &[u32], abi: &[u32], numbers: &mut [u32]) -> Result<(), Refusal>
+    ensures { outcome result numbers.new ≡ fill_def set.now abi.now numbers.old }
+{
+    if is_short(numbers) {
+        return Err(Refusal::Form);
+    }
+    set_rules::set_refusal(set, abi)?;
+    fill(set, abi, numbers);
+    Ok(())
+}
