@@ -162,6 +162,20 @@ module _ (ws text : List ℕ) where
       by (is_private (method_flags ws k)) (λ v. absurd (false≢true (rw v at r)))
       (λ v. in_package v (same-is (package_at ws text a) (package_at ws text c) (rw v at r)))))
 
+  module _ (c m : ℕ) where
+    pub virtual_of : Memᴰ m (own_methods ws c) → is_virtual (method_flags ws m) ≡ true → Virtual ws c m
+    unfolding is_virtual
+    virtual_of i h =
+        let p = and_both (not (is_static (method_flags ws m))) (not (is_private (method_flags ws m))) h in
+        record {
+          declared = record { own = i; not_static = by (is_static (method_flags ws m)) (λ u. absurd (false≢true (rw u at p.0))) (λ u. u) };
+          not_private = by (is_private (method_flags ws m)) (λ u. absurd (false≢true (rw u at p.1))) (λ u. u);
+        }
+
+    virtual_true : Virtual ws c m → is_virtual (method_flags ws m) ≡ true
+    unfolding is_virtual
+    virtual_true v = rw (v.declared.not_static, v.not_private)
+
   -- ---- where signatures are compared by their bytes
 
   module _ (abi labels : List ℕ) where
@@ -374,19 +388,6 @@ module _ (ws text : List ℕ) where
 
       -- ---- the methods that m overrides
 
-      pub virtual_of : Memᴰ m (own_methods ws c) → is_virtual (method_flags ws m) ≡ true → Virtual ws c m
-      unfolding is_virtual
-      virtual_of i h =
-          let p = and_both (not (is_static (method_flags ws m))) (not (is_private (method_flags ws m))) h in
-          record {
-            declared = record { own = i; not_static = by (is_static (method_flags ws m)) (λ u. absurd (false≢true (rw u at p.0))) (λ u. u) };
-            not_private = by (is_private (method_flags ws m)) (λ u. absurd (false≢true (rw u at p.1))) (λ u. u);
-          }
-
-      virtual_true : Virtual ws c m → is_virtual (method_flags ws m) ≡ true
-      unfolding is_virtual
-      virtual_true v = rw (v.declared.not_static, v.not_private)
-
       pub overridden-overrides : (k : ℕ) → Memᴰ m (own_methods ws c) → Memᴰ k (overridden same ws text c m)
           → (a : ℕ) × Memᴰ a (chain ws (parent_of ws c)) × Overrides ws text c m a k
       unfolding overridden
@@ -394,7 +395,7 @@ module _ (ws text : List ℕ) where
           by (is_virtual (method_flags ws m))
           (λ t.
           let r = walk_met (parent_of ws c) (parent_of ws c) k (c ∷ []) (omega arith) sound-start (rw t at h) in
-          (r.0, r.1, met_overrides (virtual_of i t) r.2))
+          (r.0, r.1, met_overrides (virtual_of c m i t) r.2))
           (λ t. absurd (mathlib.Core.List.Memᴰ.not-nil (rw t at h)))
 
       met_above : {a k : ℕ} → Met c m a k → Memᴰ a (chain ws (parent_of ws c))
@@ -409,7 +410,7 @@ module _ (ws text : List ℕ) where
       unfolding overridden
       overrides-overridden {a} {k} h o =
           let r = overrides_met o in
-          rw (virtual_true r.0)
+          rw (virtual_true c m r.0)
           (met_walk (parent_of ws c) (parent_of ws c) k a (c ∷ []) (omega arith) (parent_below ws c h) full_start (met_above r.1) r.1)
 
       -- what is overridden has m's signature

@@ -7,6 +7,7 @@ use borrow.Author.Tests.{not-false}
 use Rattle.words.proofs.Bools.{by}
 use Rattle.words.proofs.ListLaws.{by-found}
 use Rattle.class_sheet.specs.ClassSheet.{method_name, method_descriptor, method_target}
+use Rattle.linking.specs.Signature.{of_method, by_bytes}
 use Rattle.linking.specs.Chain.{on_found, eligible}
 use Rattle.linking.specs.Abi.{chain_abi, minimum_size}
 use Rattle.linking.specs.Vtable.{Entry, empty, Built, built, refused, on_built, fixed_of, entry_is_other, method_entry, put_method, add_method, add_methods}
@@ -40,50 +41,50 @@ module _ (ws text abi labels : List ℕ) where
   module _ (c : ℕ) (within : c ≤ 64) (one : OneIndex (Fixes ws text abi labels c)) (m : ℕ) (T : List Entry)
       (room : minimum_size abi (chain_abi ws text abi labels c) ≤ length T) where
     fixed_seat : (i : ℕ) → Fixes ws text abi labels c (method_signature ws text m) i
-        → on_found (slot_for ws text m T) (λ j. not (eqb j i)) false ≡ false
-        → entry_is_other ws text (method_name ws text m) (method_descriptor ws text m) (at T i) ≡ false → Seat c m T i
+        → on_found (slot_for ws text abi labels m T) (λ j. not (eqb j i)) false ≡ false
+        → entry_is_other (by_bytes ws text abi labels) (of_method m) (at T i) ≡ false → Seat c m T i
     fixed_seat i f slot other = record {
       below = let r = fixed-room ws text abi labels c within (method_signature ws text m) i f in omega arith;
-      alone = λ unique j k. by-found (slot_for ws text m T)
+      alone = λ unique j k. by-found (slot_for ws text abi labels m T)
           (λ n q.
           let e : n ≡ i = eqb-true n i (not-false (eqb n i) (rw q at slot)) in
-          unique j n (method_signature ws text m) k (slot-shows ws text m T n q) ∙ e)
-          (λ q. absurd (slot-none ws text m T q j k));
-      same = not-other ws text m T i other;
+          unique j n (method_signature ws text m) k (slot-shows ws text abi labels m T n q) ∙ e)
+          (λ q. absurd (slot-none ws text abi labels m T q j k));
+      same = not-other ws text abi labels m T i other;
       placed = λ g j l. one (method_signature ws text m) j i l.fixes f;
     }
 
-    own_seat : (i : ℕ) → slot_for ws text m T ≡ Some i → Seat c m T i
+    own_seat : (i : ℕ) → slot_for ws text abi labels m T ≡ Some i → Seat c m T i
     own_seat i e =
-        let k = slot-shows ws text m T i e in
+        let k = slot-shows ws text abi labels m T i e in
         record {
-          below = slot-below ws text m T i e;
+          below = slot-below ws text abi labels m T i e;
           alone = λ unique j l. unique j i (method_signature ws text m) l k;
           same = λ s l. sym l.is ∙ ap (method_signature ws text) (found-same (sym l.holds ∙ k.holds)) ∙ k.is;
           placed = λ g. g.placed i (method_signature ws text m) k;
         }
 
-    last-placed : fixed_of ws text abi labels (chain_abi ws text abi labels c) m ≡ None
+    last-placed : fixed_of (by_bytes ws text abi labels) abi (chain_abi ws text abi labels c) m ≡ None
         → Placed (Live ws text abi labels c) (method_signature ws text m) (length T)
     last-placed e j f = absurd (fixed-none ws text abi labels c within m j e f.fixes)
 
     did : (U : List Entry)
-        → put_method ws text (fixed_of ws text abi labels (chain_abi ws text abi labels c) m) (slot_for ws text m T) m T ≡ built U
+        → put_method (by_bytes ws text abi labels) ws (fixed_of (by_bytes ws text abi labels) abi (chain_abi ws text abi labels c) m) (slot_for ws text abi labels m T) m T ≡ built U
         → Did c m T U
     unfolding put_method
     did U e =
-        by-found (fixed_of ws text abi labels (chain_abi ws text abi labels c) m)
+        by-found (fixed_of (by_bytes ws text abi labels) abi (chain_abi ws text abi labels c) m)
         (λ i q.
-        by (on_found (slot_for ws text m T) (λ j. not (eqb j i)) false)
+        by (on_found (slot_for ws text abi labels m T) (λ j. not (eqb j i)) false)
         (λ t. not-built (rw (q, t) at e))
         (λ t.
-        by (entry_is_other ws text (method_name ws text m) (method_descriptor ws text m) (at T i))
+        by (entry_is_other (by_bytes ws text abi labels) (of_method m) (at T i))
         (λ u. not-built (rw (q, t, u) at e))
         (λ u. stored i (fixed_seat i (fixed-some ws text abi labels c within m i q) t u) (built-same (rw (q, t, u) at e)))))
         (λ q.
-        by-found (slot_for ws text m T)
+        by-found (slot_for ws text abi labels m T)
         (λ i r. stored i (own_seat i r) (built-same (rw (q, r) at e)))
-        (λ r. added (last-placed q) (slot-none ws text m T r) (built-same (rw (q, r) at e))))
+        (λ r. added (last-placed q) (slot-none ws text abi labels m T r) (built-same (rw (q, r) at e))))
 
   did-longer : {c m : ℕ} {T U : List Entry} → Did c m T U → length T ≤ length U
   did-longer {m = m} {T = T} (stored i s e) = search rules
@@ -104,15 +105,15 @@ module _ (ws text abi labels : List ℕ) where
 
   pub adds : (c : ℕ) → c ≤ 64 → OneIndex (Fixes ws text abi labels c) → (ms : List ℕ) (T U : List Entry)
       → minimum_size abi (chain_abi ws text abi labels c) ≤ length T
-      → add_methods ws text abi labels (chain_abi ws text abi labels c) ms T ≡ built U → Adds c ms T U
+      → add_methods (by_bytes ws text abi labels) ws text abi (chain_abi ws text abi labels c) ms T ≡ built U → Adds c ms T U
   unfolding add_methods add_method
   adds c within one [] T U room e = rw (built-same e) done
   adds c within one (m ∷ ms) T U room e =
       by (eligible ws text m)
       (λ q.
       let b =
-      built_on (put_method ws text (fixed_of ws text abi labels (chain_abi ws text abi labels c) m) (slot_for ws text m T) m T)
-      (add_methods ws text abi labels (chain_abi ws text abi labels c) ms) U (rw q at e) in
+      built_on (put_method (by_bytes ws text abi labels) ws (fixed_of (by_bytes ws text abi labels) abi (chain_abi ws text abi labels c) m) (slot_for ws text abi labels m T) m T)
+      (add_methods (by_bytes ws text abi labels) ws text abi (chain_abi ws text abi labels c) ms) U (rw q at e) in
       let d = did c within one m T room b.0 b.1 in
       add q d (adds c within one ms b.0 U (omega (arith, did-longer d)) b.2))
       (λ q. skip (adds c within one ms T U room (rw q at e)))

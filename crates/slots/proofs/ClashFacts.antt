@@ -13,7 +13,8 @@ use Rattle.words.proofs.Bools.{by}
 use Rattle.words.proofs.ListLaws.{by-found}
 use Rattle.text.proofs.Laws.{same_refl}
 use Rattle.class_sheet.specs.ClassSheet.{method_name, method_descriptor}
-use Rattle.linking.specs.Chain.{method_is, parent_of, chain, same_methods}
+use Rattle.linking.specs.Signature.{methods_same, place_name, place_descriptor, by_bytes}
+use Rattle.linking.specs.Chain.{parent_of, chain}
 use Rattle.linking.specs.Abi.{chain_abi}
 use Rattle.linking.specs.Vtable.{Entry, fixed_of}
 use Rattle.linking.specs.Before.{rivals, clash}
@@ -31,8 +32,8 @@ no_pair p [] h = refl
 no_pair p (e ∷ es) h = rw (h e) (no_pair p es h)
 
 module _ (ws text abi labels : List ℕ) where
-  pub signature-method : (m k : ℕ) → method_signature ws text m ≡ method_signature ws text k → same_methods ws text m k ≡ true
-  unfolding method_signature same_methods method_is
+  pub signature-method : (m k : ℕ) → method_signature ws text m ≡ method_signature ws text k → methods_same (by_bytes ws text abi labels) m k ≡ true
+  unfolding method_signature methods_same by_bytes place_name place_descriptor
   signature-method m k e =
       let n : method_name ws text m ≡ method_name ws text k = ap (λ (s : Signature). s.name) e in
       let d : method_descriptor ws text m ≡ method_descriptor ws text k = ap (λ (s : Signature). s.descriptor) e in
@@ -47,23 +48,23 @@ module _ (ws text abi labels : List ℕ) where
         ∙ same_parts (o.one_name f.slot g.slot f.along g.along e) (o.one_descriptor f.slot g.slot f.along g.along e)
         ∙ g.is
 
-    index_same : (m k i : ℕ) → fixed_of ws text abi labels (chain_abi ws text abi labels c) m ≡ Some i
-        → fixed_of ws text abi labels (chain_abi ws text abi labels c) k ≡ Some i → same_methods ws text m k ≡ true
+    index_same : (m k i : ℕ) → fixed_of (by_bytes ws text abi labels) abi (chain_abi ws text abi labels c) m ≡ Some i
+        → fixed_of (by_bytes ws text abi labels) abi (chain_abi ws text abi labels c) k ≡ Some i → methods_same (by_bytes ws text abi labels) m k ≡ true
     index_same m k i q r =
         signature-method m k
         (one_signature_lem (method_signature ws text m) (method_signature ws text k) i (fixed-some ws text abi labels c within m i q)
         (fixed-some ws text abi labels c within k i r))
 
-    no_rivals : (e f : Entry) → rivals (same_methods ws text) (fixed_of ws text abi labels (chain_abi ws text abi labels c)) e f ≡ false
+    no_rivals : (e f : Entry) → rivals (methods_same (by_bytes ws text abi labels)) (fixed_of (by_bytes ws text abi labels) abi (chain_abi ws text abi labels c)) e f ≡ false
     unfolding rivals
     no_rivals e f =
         by-found e.method
         (λ m q.
         by-found f.method
         (λ k r.
-        by-found (fixed_of ws text abi labels (chain_abi ws text abi labels c) m)
+        by-found (fixed_of (by_bytes ws text abi labels) abi (chain_abi ws text abi labels c) m)
         (λ i s.
-        by-found (fixed_of ws text abi labels (chain_abi ws text abi labels c) k)
+        by-found (fixed_of (by_bytes ws text abi labels) abi (chain_abi ws text abi labels c) k)
         (λ j t.
         by (eqb i j)
         (λ b. let z = eqb-true i j b in rw (q, r, s, t, b, index_same m k j (s ∙ ap Some z) t) refl)
@@ -74,12 +75,12 @@ module _ (ws text abi labels : List ℕ) where
         (λ q. rw q refl)
 
     pub orderly_no_clash : (E : List Entry)
-        → clash (same_methods ws text) (fixed_of ws text abi labels (chain_abi ws text abi labels c)) E ≡ false
+        → clash (methods_same (by_bytes ws text abi labels)) (fixed_of (by_bytes ws text abi labels) abi (chain_abi ws text abi labels c)) E ≡ false
     unfolding clash
     orderly_no_clash E =
         no_pair
-        (λ e. some (rivals (same_methods ws text) (fixed_of ws text abi labels (chain_abi ws text abi labels c)) e) E) E
-        (λ e. no_pair (rivals (same_methods ws text) (fixed_of ws text abi labels (chain_abi ws text abi labels c)) e) E (no_rivals e))
+        (λ e. some (rivals (methods_same (by_bytes ws text abi labels)) (fixed_of (by_bytes ws text abi labels) abi (chain_abi ws text abi labels c)) e) E) E
+        (λ e. no_pair (rivals (methods_same (by_bytes ws text abi labels)) (fixed_of (by_bytes ws text abi labels) abi (chain_abi ws text abi labels c)) e) E (no_rivals e))
 
   -- ---- so of each class of the chain
 

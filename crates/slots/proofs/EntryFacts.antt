@@ -4,6 +4,7 @@ use Rattle.std.proofs.lemmas.Grind.{common_steps}
 use Rattle.std.proofs.Common.{rules, arith, ◌≡◌, refl, sym, ap, ◌∙◌, ◌⊎◌, inl, inr, ◌≢◌, true, false, List, [], ◌∷◌, ◌++◌, ℕ, ◌<◌, length, get_or, set, Option, Some, None}
 use mathlib.Core.Bool.{false≢true}
 use Rattle.class_sheet.specs.ClassSheet.{method_name, method_descriptor}
+use Rattle.linking.specs.Signature.{of_method, by_bytes}
 use Rattle.linking.specs.Vtable.{slot_word, Entry, empty, entry_is, slot_of, entry_is_other}
 use Rattle.slots.proofs.ListFacts.{position-below, position-passes, position-misses, set_at, snoc_at}
 use Rattle.slots.proofs.PlaceFacts.{Signature, Placed, Good, good_more}
@@ -58,9 +59,9 @@ module _ (ws text : List ℕ) where
 
 -- ---- the slot of a method's signature
 
-module _ (ws text : List ℕ) (m : ℕ) (T : List Entry) where
+module _ (ws text abi labels : List ℕ) (m : ℕ) (T : List Entry) where
   abbrev pub slot_for : Option ℕ
-  slot_for = slot_of ws text (method_name ws text m) (method_descriptor ws text m) T
+  slot_for = slot_of (by_bytes ws text abi labels) (of_method m) T
 
   pub slot-below : (i : ℕ) → slot_for ≡ Some i → i < length T
   unfolding slot_of
@@ -69,11 +70,11 @@ module _ (ws text : List ℕ) (m : ℕ) (T : List Entry) where
   pub slot-shows : (i : ℕ) → slot_for ≡ Some i → Shows ws text T i (method_signature ws text m)
   unfolding slot_of entry_is
   slot-shows i e =
-      go (at T i).method refl (position-passes (entry_is ws text (method_name ws text m) (method_descriptor ws text m)) T empty i e)
+      go (at T i).method refl (position-passes (entry_is (by_bytes ws text abi labels) (of_method m)) T empty i e)
     where
-      go : (f : Option ℕ) → (at T i).method ≡ f → entry_is ws text (method_name ws text m) (method_descriptor ws text m) (at T i) ≡ true
+      go : (f : Option ℕ) → (at T i).method ≡ f → entry_is (by_bytes ws text abi labels) (of_method m) (at T i) ≡ true
           → Shows ws text T i (method_signature ws text m)
-      go (Some k) q p = record { method = k; holds = q; is = method-same ws text k m (rw q at p) }
+      go (Some k) q p = record { method = k; holds = q; is = method-same ws text abi labels k m (rw q at p) }
       go None q p = absurd (false≢true (rw q at p))
 
   pub slot-none : slot_for ≡ None → (i : ℕ) → Shows ws text T i (method_signature ws text m) → ⊥
@@ -81,7 +82,7 @@ module _ (ws text : List ℕ) (m : ℕ) (T : List Entry) where
   slot-none e i k = search (rules, known-below, position-misses, method-other)
 
   -- the entry at index i is of no other signature
-  pub not-other : (i : ℕ) → entry_is_other ws text (method_name ws text m) (method_descriptor ws text m) (at T i) ≡ false
+  pub not-other : (i : ℕ) → entry_is_other (by_bytes ws text abi labels) (of_method m) (at T i) ≡ false
       → (s : Signature) → Shows ws text T i s → s ≡ method_signature ws text m
   unfolding entry_is_other
   not-other i e s k = search (rules, method-same)

@@ -3,15 +3,15 @@
 use Rattle.std.proofs.Common.{rules, ◌≡◌, refl, sym, ap, ◌∙◌, ◌⊎◌, inl, inr, ◌≢◌, Bool, true, false, List, [], ℕ, ◌+◌, ◌-◌, ◌≤◌, ◌<◌, min, arith, eqb, Some, None}
 use mathlib.Core.List.{Memᴰ}
 use Rattle.words.specs.Lists.{find}
-use Rattle.words.proofs.Bools.{and_both}
 use Rattle.words.proofs.ListLaws.{by-found, find-member, find-passes, largest_member, not_found}
-use Rattle.text.specs.Text.{same_bytes}
-use Rattle.text.proofs.Laws.{same-is, same_refl}
+use Rattle.text.proofs.Laws.{same_refl}
 use Rattle.class_sheet.specs.ClassSheet.{class_kind, method_name, method_descriptor}
 use Rattle.abi_sheet.specs.AbiSheet.{abi_slot_name, abi_slot_descriptor, abi_class_table_size_plus_one}
-use Rattle.linking.specs.Chain.{own_methods, parent_of, chain, method_is, SameSignature, own_method}
-use Rattle.linking.specs.Abi.{abi_slots, slot_index, slot_is, vtable_index, slot_at, class_size, class_abi, chain_abi, fixed_index, minimum_size}
+use Rattle.linking.specs.Signature.{of_method, of_abi_slot, place_name, place_descriptor, by_bytes}
+use Rattle.linking.specs.Chain.{own_methods, parent_of, chain, SameSignature, own_method}
+use Rattle.linking.specs.Abi.{abi_slots, slot_index, vtable_index, slot_at, class_size, class_abi, chain_abi, fixed_index, minimum_size}
 use Rattle.linking.specs.Vtable.{own_fixed, find_by_index, fixed_of}
+use Rattle.linking.proofs.Comparing.{parts}
 use Rattle.linking.proofs.ChainLaws.{along-up, own-method-member, own-method-is}
 use Rattle.linking.proofs.AbiLaws.{chain-abi-whole, slot-at-is, minimum_size-member}
 use Rattle.slots.specs.Slots.{ChainSlot}
@@ -29,23 +29,6 @@ unfoldable pub slot_signature : List ℕ → List ℕ → ℕ → Signature
 slot_signature abi labels s = record { name = abi_slot_name abi labels s; descriptor = abi_slot_descriptor abi labels s }
 
 module _ (ws text : List ℕ) where
-  -- by its parts
-  pub method-parts : (m : ℕ) (name descriptor : List ℕ) → method_is ws text m name descriptor ≡ true
-      → method_signature ws text m ≡ record { name = name; descriptor = descriptor }
-  unfolding method_is method_signature
-  method-parts m name descriptor h =
-      let p = and_both (same_bytes (method_name ws text m) name) (same_bytes (method_descriptor ws text m) descriptor) h in
-      same_parts (same-is (method_name ws text m) name p.0) (same-is (method_descriptor ws text m) descriptor p.1)
-
-  pub method-same : (m k : ℕ) → method_is ws text m (method_name ws text k) (method_descriptor ws text k) ≡ true
-      → method_signature ws text m ≡ method_signature ws text k
-  method-same m k h = method-parts m (method_name ws text k) (method_descriptor ws text k) h ∙ unfold method_signature in refl
-
-  pub method-other : (m k : ℕ) → method_is ws text m (method_name ws text k) (method_descriptor ws text k) ≡ false
-      → method_signature ws text m ≡ method_signature ws text k → ⊥
-  unfolding method_is method_signature
-  method-other m k h e = search (rules, same_refl)
-
   pub same_signature_lem : {m k : ℕ} → SameSignature ws text m k → method_signature ws text m ≡ method_signature ws text k
   unfolding method_signature
   same_signature_lem h = cc
@@ -55,19 +38,30 @@ module _ (ws text : List ℕ) where
   signature-same e = record { name = ap (λ (s : Signature). s.name) e; descriptor = ap (λ (s : Signature). s.descriptor) e }
 
 module _ (ws text abi labels : List ℕ) where
-  slot_same : (s k : ℕ) → slot_is abi labels s (method_name ws text k) (method_descriptor ws text k) ≡ true
-      → slot_signature abi labels s ≡ method_signature ws text k
-  unfolding slot_is slot_signature method_signature
-  slot_same s k h =
-      let p =
-      and_both (same_bytes (abi_slot_name abi labels s) (method_name ws text k))
-      (same_bytes (abi_slot_descriptor abi labels s) (method_descriptor ws text k)) h in
-      same_parts (same-is (abi_slot_name abi labels s) (method_name ws text k) p.0)
-      (same-is (abi_slot_descriptor abi labels s) (method_descriptor ws text k) p.1)
+  -- by the bytes of their parts
+  pub method-same : (m k : ℕ) → by_bytes ws text abi labels (of_method m) (of_method k) ≡ true
+      → method_signature ws text m ≡ method_signature ws text k
+  unfolding place_name place_descriptor method_signature
+  method-same m k h = let p = parts ws text abi labels (of_method m) (of_method k) h in same_parts p.0 p.1
 
-  slot-other : (s k : ℕ) → slot_is abi labels s (method_name ws text k) (method_descriptor ws text k) ≡ false
+  pub method-other : (m k : ℕ) → by_bytes ws text abi labels (of_method m) (of_method k) ≡ false
+      → method_signature ws text m ≡ method_signature ws text k → ⊥
+  unfolding by_bytes place_name place_descriptor method_signature
+  method-other m k h e = search (rules, same_refl)
+
+  method-slot : (m s : ℕ) → by_bytes ws text abi labels (of_method m) (of_abi_slot s) ≡ true
+      → method_signature ws text m ≡ slot_signature abi labels s
+  unfolding place_name place_descriptor slot_signature method_signature
+  method-slot m s h = let p = parts ws text abi labels (of_method m) (of_abi_slot s) h in same_parts p.0 p.1
+
+  slot_same : (s k : ℕ) → by_bytes ws text abi labels (of_abi_slot s) (of_method k) ≡ true
+      → slot_signature abi labels s ≡ method_signature ws text k
+  unfolding place_name place_descriptor slot_signature method_signature
+  slot_same s k h = let p = parts ws text abi labels (of_abi_slot s) (of_method k) h in same_parts p.0 p.1
+
+  slot-other : (s k : ℕ) → by_bytes ws text abi labels (of_abi_slot s) (of_method k) ≡ false
       → slot_signature abi labels s ≡ method_signature ws text k → ⊥
-  unfolding slot_is slot_signature method_signature
+  unfolding by_bytes place_name place_descriptor slot_signature method_signature
   slot-other s k h e = search (rules, same_refl)
 
   -- ---- what the chain of class c fixes, and what its classes with methods fix
@@ -129,12 +123,12 @@ module _ (ws text abi labels : List ℕ) where
     along-entry : {d a : ℕ} → Memᴰ d (chain ws c) → class_abi ws text abi labels d ≡ Some a → Memᴰ a (chain_abi ws text abi labels c)
     along-entry i e = rw (chain-abi-whole ws text abi labels c h) (all_found_lem (class_abi ws text abi labels) i e)
 
-    pub fixed-some : (m i : ℕ) → fixed_of ws text abi labels (chain_abi ws text abi labels c) m ≡ Some i → Fixes c (method_signature ws text m) i
+    pub fixed-some : (m i : ℕ) → fixed_of (by_bytes ws text abi labels) abi (chain_abi ws text abi labels c) m ≡ Some i → Fixes c (method_signature ws text m) i
     unfolding fixed_of fixed_index vtable_index
     fixed-some m i e =
-        let r = found_in (vtable_index abi labels (method_name ws text m) (method_descriptor ws text m)) (chain_abi ws text abi labels c) i e in
+        let r = found_in (vtable_index (by_bytes ws text abi labels) abi (of_method m)) (chain_abi ws text abi labels c) i e in
         let k = entry-along r.along in
-        let test : ℕ → Bool = λ s. slot_is abi labels s (method_name ws text m) (method_descriptor ws text m) in
+        let test : ℕ → Bool = λ s. by_bytes ws text abi labels (of_abi_slot s) (of_method m) in
         by-found (find test (abi_slots abi r.element))
         (λ s q. record {
           slot = s;
@@ -150,13 +144,13 @@ module _ (ws text abi labels : List ℕ) where
         })
         (λ q. not_found (rw q at r.finds))
 
-    pub fixed-none : (m i : ℕ) → fixed_of ws text abi labels (chain_abi ws text abi labels c) m ≡ None → Fixes c (method_signature ws text m) i → ⊥
+    pub fixed-none : (m i : ℕ) → fixed_of (by_bytes ws text abi labels) abi (chain_abi ws text abi labels c) m ≡ None → Fixes c (method_signature ws text m) i → ⊥
     unfolding fixed_of fixed_index vtable_index
     fixed-none m i e f =
         let a = f.along.entry in
-        let test : ℕ → Bool = λ s. slot_is abi labels s (method_name ws text m) (method_descriptor ws text m) in
+        let test : ℕ → Bool = λ s. by_bytes ws text abi labels (of_abi_slot s) (of_method m) in
         let q =
-        found-misses (vtable_index abi labels (method_name ws text m) (method_descriptor ws text m)) (along-entry f.along.along f.along.named) e in
+        found-misses (vtable_index (by_bytes ws text abi labels) abi (of_method m)) (along-entry f.along.along f.along.named) e in
         by-found (find test (abi_slots abi a))
         (λ s r. not_found {m = slot_index abi s} (sym q ∙ rw r refl))
         (λ r. slot-other f.slot m (find-misses test f.along.own r) f.is)
@@ -176,7 +170,7 @@ module _ (ws text abi labels : List ℕ) where
 
   -- ---- Reading's second rule: "the first chain class whose ABI entry fixes that index and which itself has a method of that signature"
 
-  own_fixed_live : {c d i m : ℕ} → Memᴰ d (chain ws c) → (class_kind ws d ≡ 2 → own_methods ws d ≡ []) → own_fixed ws text abi labels i d ≡ Some m
+  own_fixed_live : {c d i m : ℕ} → Memᴰ d (chain ws c) → (class_kind ws d ≡ 2 → own_methods ws d ≡ []) → own_fixed (by_bytes ws text abi labels) ws text abi labels i d ≡ Some m
       → Live c (method_signature ws text m) i
   unfolding own_fixed
   own_fixed_live {c} {d} {i} {m} along bare e =
@@ -188,7 +182,7 @@ module _ (ws text abi labels : List ℕ) where
       (λ q. not_found (rw q at e))
     where
       fixed : (a s : ℕ) → class_abi ws text abi labels d ≡ Some a → slot_at abi i a ≡ Some s
-          → own_method ws text (abi_slot_name abi labels s) (abi_slot_descriptor abi labels s) d ≡ Some m → Live c (method_signature ws text m) i
+          → own_method (by_bytes ws text abi labels) ws (of_abi_slot s) d ≡ Some m → Live c (method_signature ws text m) i
       fixed a s q r f = record {
         fixes = record {
           slot = s;
@@ -199,22 +193,20 @@ module _ (ws text abi labels : List ℕ) where
             named = q;
             own = find-member (λ k. eqb (slot_index abi k) i) (abi_slots abi a) s (unfold slot_at in r);
           };
-          is = sym (method-parts ws text m (abi_slot_name abi labels s) (abi_slot_descriptor abi labels s)
-              (own-method-is ws text (abi_slot_name abi labels s) (abi_slot_descriptor abi labels s) d m f) ∙ unfold slot_signature in refl);
+          is = sym (method-slot m s (own-method-is (by_bytes ws text abi labels) ws (of_abi_slot s) d m f));
           index = slot-at-is abi a i s r;
         };
-        methods = λ k.
-            in_none (bare k) (own-method-member ws text (abi_slot_name abi labels s) (abi_slot_descriptor abi labels s) d m f);
+        methods = λ k. in_none (bare k) (own-method-member (by_bytes ws text abi labels) ws (of_abi_slot s) d m f);
       }
 
-  pub index_live : (c i m : ℕ) → ((d : ℕ) → Memᴰ d (chain ws c) → class_kind ws d ≡ 2 → own_methods ws d ≡ []) → find_by_index ws text abi labels c i ≡ Some m
+  pub index_live : (c i m : ℕ) → ((d : ℕ) → Memᴰ d (chain ws c) → class_kind ws d ≡ 2 → own_methods ws d ≡ []) → find_by_index (by_bytes ws text abi labels) ws text abi labels c i ≡ Some m
       → Live c (method_signature ws text m) i
   unfolding find_by_index
   index_live c i m bare e =
-      let r = found_in (own_fixed ws text abi labels i) (chain ws c) m e in own_fixed_live r.along (bare r.element r.along) r.finds
+      let r = found_in (own_fixed (by_bytes ws text abi labels) ws text abi labels i) (chain ws c) m e in own_fixed_live r.along (bare r.element r.along) r.finds
 
   -- a class without an ABI entry reads what its parent does
   pub index-parent : (c i : ℕ) → 0 < c → class_abi ws text abi labels c ≡ None
-      → find_by_index ws text abi labels c i ≡ find_by_index ws text abi labels (parent_of ws c) i
+      → find_by_index (by_bytes ws text abi labels) ws text abi labels c i ≡ find_by_index (by_bytes ws text abi labels) ws text abi labels (parent_of ws c) i
   unfolding find_by_index own_fixed
   index-parent c i h e = search (rules, along-up)

@@ -6,7 +6,8 @@ use mathlib.Core.List.{Memᴰ}
 use borrow.Author.Tests.{eqb-false}
 use Rattle.words.proofs.Bools.{by}
 use Rattle.class_sheet.specs.ClassSheet.{class_limit, class_table_place, class_slot_count}
-use Rattle.linking.specs.Chain.{parent_of, chain, same_methods}
+use Rattle.linking.specs.Signature.{by_bytes}
+use Rattle.linking.specs.Chain.{parent_of, chain}
 use Rattle.linking.specs.Vtable.{read_entry, read_slot, parent_entries}
 use Rattle.linking.specs.Packages.{table_has, introducing, build_packages}
 use Rattle.linking.proofs.ChainLaws.{chain_more}
@@ -27,18 +28,18 @@ module _ (ws text abi labels area : List ℕ) (tables : ℕ → List ℕ) where
   unfolding table_has
   has-index i d l = grind (arith, common_steps)
 
-  read_table : (i d : ℕ) → Lies d → i < length (tables d) → read_slot ws text abi labels area d i ≡ read_entry ws text abi labels d i (get_or (tables d) i 0)
+  read_table : (i d : ℕ) → Lies d → i < length (tables d) → read_slot (by_bytes ws text abi labels) ws text abi labels area d i ≡ read_entry (by_bytes ws text abi labels) ws text abi labels d i (get_or (tables d) i 0)
   unfolding read_slot
   read_table i d l h = grind (arith, common_steps)
 
   -- the introducing methods
   introducing-is : (p : ℕ) → ((d : ℕ) → Memᴰ d (chain ws p) → Lies d) → (i : ℕ)
-      → introducing ws text abi labels area p i ≡ introduced_from ws text abi labels tables p i
+      → introducing (by_bytes ws text abi labels) ws text abi labels area p i ≡ introduced_from ws text abi labels tables p i
   unfolding introducing introduced_from
   introducing-is p lies i = search (rules, last-ext, has-index, last_of, read_table)
 
   parent_is : (c : ℕ) → ((d : ℕ) → Memᴰ d (chain ws (parent_of ws c)) → Lies d)
-      → parent_entries ws text abi labels area c ≡ inherited_from ws text abi labels tables c
+      → parent_entries (by_bytes ws text abi labels) ws text abi labels area c ≡ inherited_from ws text abi labels tables c
   unfolding parent_entries inherited_from
   parent_is c lies =
       by (eqb (parent_of ws c) 0) (λ q. rw q refl)
@@ -51,6 +52,6 @@ module _ (ws text abi labels area : List ℕ) (tables : ℕ → List ℕ) where
       (read-area ws text abi labels area (parent_of ws c) (class_slot_count ws (parent_of ws c)) (omega (arith, l.slots)) l.inside)))
 
   pub packages-from : (c : ℕ) → c ≤ class_limit → ((d : ℕ) → Memᴰ d (chain ws (parent_of ws c)) → Lies d)
-      → build_packages (same_methods ws text) ws text abi labels area c ≡ packages_from ws text abi labels tables c
+      → build_packages (by_bytes ws text abi labels) ws text abi labels area c ≡ packages_from ws text abi labels tables c
   unfolding packages_from
   packages-from c room lies = search (rules, introducing-is, packages-within, parent_is)

@@ -7,6 +7,7 @@ use borrow.Author.Tests.{eqb-false}
 use Rattle.words.proofs.Bools.{by}
 use Rattle.words.proofs.ListLaws.{by-found, not_found}
 use Rattle.class_sheet.specs.ClassSheet.{class_kind, method_target}
+use Rattle.linking.specs.Signature.{by_bytes}
 use Rattle.linking.specs.Chain.{own_methods, parent_of, chain}
 use Rattle.linking.specs.Vtable.{Entry, read_entry, slot_words}
 use Rattle.linking.specs.Packages.{topmost}
@@ -60,7 +61,7 @@ module _ (ws text abi labels : List ℕ) where
 
   -- a word that is a chain method's target reads as that method
   pub reads : (c i w m : ℕ) → Targets c → ChainMethod ws c m → w ≡ method_target ws m
-      → (read_entry ws text abi labels c i w).method ≡ Some m
+      → (read_entry (by_bytes ws text abi labels) ws text abi labels c i w).method ≡ Some m
   unfolding read_entry
   reads c i w m t k e = search (rules, target-own)
 
@@ -103,7 +104,7 @@ module _ (ws text abi labels : List ℕ) where
       -- an inherited slot has the introducing method that it has in the parent, a new one its own
       pub introduced-above : (i : ℕ) → i < length (inherited_from ws text abi labels tables c) → first c i ≡ first (parent_of ws c) i
       pub introduced-below : (i : ℕ) → length (inherited_from ws text abi labels tables c) ≤ i → i < length (tables c)
-          → first c i ≡ (read_entry ws text abi labels c i (get_or (tables c) i 0)).method
+          → first c i ≡ (read_entry (by_bytes ws text abi labels) ws text abi labels c i (get_or (tables c) i 0)).method
 
     -- ---- one class over its parent
 
@@ -131,7 +132,7 @@ module _ (ws text abi labels : List ℕ) where
       inherited-length n = search (rules, some-parent, length-read)
 
       inherited-at : (n : parent_of ws c ≢ 0) (x : ℕ) → x < length inherited
-          → at inherited x ≡ read_entry ws text abi labels (parent_of ws c) x (get_or (tables (parent_of ws c)) x 0)
+          → at inherited x ≡ read_entry (by_bytes ws text abi labels) ws text abi labels (parent_of ws c) x (get_or (tables (parent_of ws c)) x 0)
       inherited-at n x l = grind (arith, some-parent n, read_at ws text abi labels (parent_of ws c) (tables (parent_of ws c)) x, inherited-length n)
 
       inherited-ours : (x : ℕ) → x < length inherited → Ours ws text abi labels c (at inherited x)
@@ -256,7 +257,7 @@ module _ (ws text abi labels : List ℕ) where
       introduced-up i k e = search (rules, chain_more, last_up)
 
       introduced-here : (i : ℕ) → topmost (λ d. ltb i (length (tables d))) (chain ws (parent_of ws c)) ≡ None → i < length (tables c)
-          → first c i ≡ (read_entry ws text abi labels c i (get_or (tables c) i 0)).method
+          → first c i ≡ (read_entry (by_bytes ws text abi labels) ws text abi labels c i (get_or (tables c) i 0)).method
       unfolding introduced_from
       introduced-here i e l = search (rules, chain_more, last-here)
 
@@ -295,7 +296,7 @@ module _ (ws text abi labels : List ℕ) where
           absurd (omega (arith, (parent n).longest d j, inherited-length n))))
           (λ u. u)
 
-      introduced-below : (i : ℕ) → length inherited ≤ i → i < length (tables c) → first c i ≡ (read_entry ws text abi labels c i (get_or (tables c) i 0)).method
+      introduced-below : (i : ℕ) → length inherited ≤ i → i < length (tables c) → first c i ≡ (read_entry (by_bytes ws text abi labels) ws text abi labels c i (get_or (tables c) i 0)).method
       introduced-below i l b = search (rules, introduced-here, last_none, short)
 
       introduced-new : (i m : ℕ) → Known ws text abi labels c (tables c) i m → length inherited ≤ i → Introduced c i m

@@ -8,7 +8,8 @@ use Rattle.words.specs.Lists.{list_from, numbers, first_found, fold}
 use Rattle.words.proofs.Bools.{by, and_both}
 use Rattle.words.proofs.ListLaws.{by-found, not_found}
 use Rattle.class_sheet.specs.ClassSheet.{class_first_method, class_method_count, method_name, method_flags, method_limit}
-use Rattle.linking.specs.Chain.{list_count, own_methods, parent_of, chain, is_virtual, is_eligible, eligible, same_methods}
+use Rattle.linking.specs.Signature.{methods_same, by_bytes}
+use Rattle.linking.specs.Chain.{list_count, own_methods, parent_of, chain, is_virtual, is_eligible, eligible}
 use Rattle.linking.specs.Abi.{fixed_index}
 use Rattle.linking.specs.Vtable.{Entry, built, fixed_of, method_entry, put_method, add_method, add_methods, slot_words}
 use Rattle.linking.specs.Packages.{is_public, is_protected, Virtual, Open, public, protected, open_method, overridden, put_taken, take_slots, packages_over}
@@ -76,7 +77,7 @@ module _ (ws text abi labels : List ℕ) where
       pub record MadeZero (c : ℕ) : Type 0 where
         pub entries : List Entry
         pub stubs : List ℕ
-        pub from : add_methods ws text abi labels [] (own_methods ws c) (inherited_from ws text abi labels zeros c) ≡ built entries
+        pub from : add_methods (by_bytes ws text abi labels) ws text abi [] (own_methods ws c) (inherited_from ws text abi labels zeros c) ≡ built entries
         pub words : zeros c ≡ slot_words stubs 0 entries
 
       -- the same table; its signatures are pairwise different, and each slot was introduced by an eligible method
@@ -103,7 +104,7 @@ module _ (ws text abi labels : List ℕ) where
       Inherits U = Over ws text abi labels c h first inherited step.introduces step.ours U
 
       abbrev take-one : List Entry → ℕ → List Entry
-      take-one U m = take_slots (same_methods ws text) ws text first (length inherited) c U m
+      take-one U m = take_slots (methods_same (by_bytes ws text abi labels)) ws text first (length inherited) c U m
 
       -- the table once the methods below a have been added: what stands past the inherited slots are eligible ones of these
       record Between (a : ℕ) (U : List Entry) : Type 0 where
@@ -131,7 +132,7 @@ module _ (ws text abi labels : List ℕ) where
         -- the signature at a slot that a takes
         taken-shows : (x : ℕ) → Memᴰ x js → Shows ws text U x (method_signature ws text a)
         taken-shows x i =
-            let t = taken_of first (overridden (same_methods ws text) ws text c a) (length inherited) x i in
+            let t = taken_of first (overridden (methods_same (by_bytes ws text abi labels)) ws text c a) (length inherited) x i in
             let o = step.ours x t.below in
             let s = z.inherits.stays x o.method t.below o.holds in
             record {
@@ -163,30 +164,30 @@ module _ (ws text abi labels : List ℕ) where
             let m : y.method ≡ s.method = found-same (sym y.holds ∙ s.holds) in
             let q : method_signature ws text a ≡ method_signature ws text g.0 =
             sym s.is ∙ ap (method_signature ws text) (sym m) ∙ y.is ∙ sym r.2 ∙ ap (method_signature ws text) (sym k) in
-            taken_in_lem first (overridden (same_methods ws text) ws text c a) (length inherited) j (record {
+            taken_in_lem first (overridden (methods_same (by_bytes ws text abi labels)) ws text c a) (length inherited) j (record {
               below = l;
               method = g.0;
               introduces = g.1;
-              among = overrides-overridden ws text c a h
+              among = overrides-overridden ws text abi labels c a h
                   (open_method g.2.along (eligible_virtual ws text c a own el)
                   (eligible_virtual ws text g.2.owner g.0 g.2.own g.3).declared (signature-same ws text q)
                   (open_marked ws text g.0 g.2.owner c
                   (opens g.0 (record { owner = g.2.owner; along = chain-up ws c h g.2.along; own = g.2.own }) g.3)));
             })
 
-        stored_same : eligible ws text a ≡ true → (j : ℕ) → slot_for ws text a U ≡ Some j → put_taken e U js ≡ set U j e
+        stored_same : eligible ws text a ≡ true → (j : ℕ) → slot_for ws text abi labels a U ≡ Some j → put_taken e U js ≡ set U j e
         stored_same el j q = search (rules, slot-shows, not_new, slot-below, put_same, takes, taken-shows)
 
-        added-same : slot_for ws text a U ≡ None → js ≡ []
-        added-same q = no_members js (λ x i. slot-none ws text a U q x (taken-shows x i))
+        added-same : slot_for ws text abi labels a U ≡ None → js ≡ []
+        added-same q = no_members js (λ x i. slot-none ws text abi labels a U q x (taken-shows x i))
 
-        add_same : add_method ws text abi labels [] a U ≡ built (take-one U a)
+        add_same : add_method (by_bytes ws text abi labels) ws text abi [] a U ≡ built (take-one U a)
         unfolding add_method take_slots put_method fixed_of fixed_index first_found
         add_same =
             by (eligible ws text a)
             (λ t.
             rw t
-            (by-found (slot_for ws text a U)
+            (by-found (slot_for ws text abi labels a U)
             (λ j q. rw (q, stored_same t j q))
             (λ q. let d : put_taken e U js ≡ U ++ (e ∷ []) = ap (put_taken e U) (added-same q) ∙ unfold put_taken in refl in rw (q, d))))
             (λ t. rw t)
@@ -197,15 +198,15 @@ module _ (ws text abi labels : List ℕ) where
             by (eligible ws text a)
             (λ t.
             rw t
-            (by-found (slot_for ws text a U)
+            (by-found (slot_for ws text abi labels a U)
             (λ j q.
-            let s = slot-shows ws text a U j q in
+            let s = slot-shows ws text abi labels a U j q in
             rw (stored_same t j q)
-            (set-good ws text U e a refl j (slot-below ws text a U j q) (λ i x. absurd x)
+            (set-good ws text U e a refl j (slot-below ws text abi labels a U j q) (λ i x. absurd x)
             (λ i k. z.good.unique i j (method_signature ws text a) k s) z.good))
             (λ q.
             let d : put_taken e U js ≡ U ++ (e ∷ []) = ap (put_taken e U) (added-same q) ∙ unfold put_taken in refl in
-            rw d (append-good ws text U e a refl (λ i x. absurd x) (slot-none ws text a U q) z.good))))
+            rw d (append-good ws text U e a refl (λ i x. absurd x) (slot-none ws text abi labels a U q) z.good))))
             (λ t. rw t z.good)
 
         new-next : (x : ℕ) → length inherited ≤ x → x < length (take-one U a)
@@ -222,13 +223,13 @@ module _ (ws text abi labels : List ℕ) where
 
             below : (j : ℕ) → Memᴰ j js → j < length U
             below j k =
-                let t = taken_of first (overridden (same_methods ws text) ws text c a) (length inherited) j k in
+                let t = taken_of first (overridden (methods_same (by_bytes ws text abi labels)) ws text c a) (length inherited) j k in
                 omega (arith, t.below, z.inherits.longer)
 
             placed : eligible ws text a ≡ true → {f : Entry} → PutAt e U js x f
                 → (p : ℕ) × (f.method ≡ Some p) × Memᴰ p (own_methods ws c) × (eligible ws text p ≡ true) × (p < a + 1)
             placed el {f} (stored i k q) =
-                let t = taken_of first (overridden (same_methods ws text) ws text c a) (length inherited) x k in
+                let t = taken_of first (overridden (methods_same (by_bytes ws text abi labels)) ws text c a) (length inherited) x k in
                 absurd (omega (arith, t.below))
             placed el {f} (left i n q) = rw q (older (z.new x l i))
             placed el {f} (added i k q) = (a, ap (λ (y : Entry). y.method) q, own, el, omega arith)
@@ -241,7 +242,7 @@ module _ (ws text abi labels : List ℕ) where
         }
 
       adds_same : (n a : ℕ) → ((m : ℕ) → Memᴰ m (numbers a n) → Memᴰ m (own_methods ws c)) → (U : List Entry) → Between a U
-          → (add_methods ws text abi labels [] (numbers a n) U ≡ built (fold take-one U (numbers a n))) × Between (a + n) (fold take-one U (numbers a n))
+          → (add_methods (by_bytes ws text abi labels) ws text abi [] (numbers a n) U ≡ built (fold take-one U (numbers a n))) × Between (a + n) (fold take-one U (numbers a n))
       unfolding add_methods fold list_from
       adds_same zero a sub U z = let q : a + 0 ≡ a = omega arith in (refl, rw q z)
       adds_same (suc n) a sub U z =
@@ -250,7 +251,7 @@ module _ (ws text abi labels : List ℕ) where
           let q : a + 1 + n ≡ a + suc n = omega arith in
           (rw (add_same a own U z) r.0, rw q at r.1)
 
-      both : (add_methods ws text abi labels [] (own_methods ws c) inherited ≡ built T) × (top : ℕ) × Between top T
+      both : (add_methods (by_bytes ws text abi labels) ws text abi [] (own_methods ws c) inherited ≡ built T) × (top : ℕ) × Between top T
       unfolding own_methods packages_from packages_over
       both =
           let k = list_count (class_first_method ws c) (class_method_count ws c) method_limit in

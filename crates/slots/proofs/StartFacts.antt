@@ -6,6 +6,7 @@ use Rattle.std.proofs.Common.{◌≡◌, refl, ap, ◌∙◌, inl, inr, List, []
 use lib.ListN.{length-replicate}
 use Rattle.words.specs.Lists.{fold}
 use Rattle.words.proofs.ListLaws.{by-found}
+use Rattle.linking.specs.Signature.{by_bytes}
 use Rattle.linking.specs.Abi.{chain_abi, minimum_size}
 use Rattle.linking.specs.Vtable.{Entry, empty, fixed_of, extended}
 use Rattle.linking.specs.Before.{relay_step, relayed_before}
@@ -35,15 +36,15 @@ module _ (ws text abi labels : List ℕ) where
   -- one follow after the minimum size; unknown ones go."
 
   module _ (abis : List ℕ) (T : List Entry) (e : Entry) where
-    step-none : e.method ≡ None → relay_step ws text abi labels abis T e ≡ T
+    step-none : e.method ≡ None → relay_step (by_bytes ws text abi labels) abi abis T e ≡ T
     unfolding relay_step
     step-none q = cc
 
-    step-fixed : (m i : ℕ) → e.method ≡ Some m → fixed_of ws text abi labels abis m ≡ Some i → relay_step ws text abi labels abis T e ≡ set T i e
+    step-fixed : (m i : ℕ) → e.method ≡ Some m → fixed_of (by_bytes ws text abi labels) abi abis m ≡ Some i → relay_step (by_bytes ws text abi labels) abi abis T e ≡ set T i e
     unfolding relay_step
     step-fixed m i q r = cc
 
-    step-last : (m : ℕ) → e.method ≡ Some m → fixed_of ws text abi labels abis m ≡ None → relay_step ws text abi labels abis T e ≡ T ++ (e ∷ [])
+    step-last : (m : ℕ) → e.method ≡ Some m → fixed_of (by_bytes ws text abi labels) abi abis m ≡ None → relay_step (by_bytes ws text abi labels) abi abis T e ≡ T ++ (e ∷ [])
     unfolding relay_step
     step-last m q r = cc
 
@@ -79,7 +80,7 @@ module _ (ws text abi labels : List ℕ) where
         once : (j : ℕ) (s : Signature) → s ≡ method_signature ws text m → Shows ws text E j s → ⊥
         once j s q k = let z = l.rest 0 (suc j) (method_signature ws text m) first (rw q at (next k)) in absurd (omega arith)
 
-        lay-fixed : (i : ℕ) → fixed_of ws text abi labels (chain_abi ws text abi labels c) m ≡ Some i → Laying (set T i e) E
+        lay-fixed : (i : ℕ) → fixed_of (by_bytes ws text abi labels) abi (chain_abi ws text abi labels c) m ≡ Some i → Laying (set T i e) E
         lay-fixed i q =
             let f = fixed-some ws text abi labels c within m i q in
             let r = fixed-room ws text abi labels c within (method_signature ws text m) i f in
@@ -95,7 +96,7 @@ module _ (ws text abi labels : List ℕ) where
               ];
             }
 
-        lay-last : fixed_of ws text abi labels (chain_abi ws text abi labels c) m ≡ None → Laying (T ++ (e ∷ [])) E
+        lay-last : fixed_of (by_bytes ws text abi labels) abi (chain_abi ws text abi labels c) m ≡ None → Laying (T ++ (e ∷ [])) E
         lay-last q =
             let n = l.room in
             record {
@@ -108,22 +109,22 @@ module _ (ws text abi labels : List ℕ) where
               ];
             }
 
-      lay : Laying (relay_step ws text abi labels (chain_abi ws text abi labels c) T e) E
+      lay : Laying (relay_step (by_bytes ws text abi labels) abi (chain_abi ws text abi labels c) T e) E
       lay =
           by-found e.method
           (λ m q.
-          by-found (fixed_of ws text abi labels (chain_abi ws text abi labels c) m)
+          by-found (fixed_of (by_bytes ws text abi labels) abi (chain_abi ws text abi labels c) m)
           (λ i r. rw (step-fixed (chain_abi ws text abi labels c) T e m i q r) (lay-fixed m q i r))
           (λ r. rw (step-last (chain_abi ws text abi labels c) T e m q r) (lay-last m q r)))
           (λ q. rw (step-none (chain_abi ws text abi labels c) T e q) lay-none)
 
       -- each entry is an old one or this one
       lay-each : (R : ℕ → Entry → Type 0) → ((i : ℕ) → R i e) → ((i : ℕ) → R i (at T i))
-          → (i : ℕ) → R i (at (relay_step ws text abi labels (chain_abi ws text abi labels c) T e) i)
+          → (i : ℕ) → R i (at (relay_step (by_bytes ws text abi labels) abi (chain_abi ws text abi labels c) T e) i)
       lay-each R own h i =
           by-found e.method
           (λ m q.
-          by-found (fixed_of ws text abi labels (chain_abi ws text abi labels c) m)
+          by-found (fixed_of (by_bytes ws text abi labels) abi (chain_abi ws text abi labels c) m)
           (λ j r.
           let f = fixed-room ws text abi labels c within (method_signature ws text m) j (fixed-some ws text abi labels c within m j r) in
           let n = l.room in
@@ -133,17 +134,17 @@ module _ (ws text abi labels : List ℕ) where
           rw (step-last (chain_abi ws text abi labels c) T e m q r) (elim (snoc_at T e i empty) [ inl p ↦ rw p.1 (own i) | inr p ↦ rw p (h i) ])))
           (λ q. rw (step-none (chain_abi ws text abi labels c) T e q) (h i))
 
-    lay-all : (T E : List Entry) → Laying T E → Laying (fold (relay_step ws text abi labels (chain_abi ws text abi labels c)) T E) []
+    lay-all : (T E : List Entry) → Laying T E → Laying (fold (relay_step (by_bytes ws text abi labels) abi (chain_abi ws text abi labels c)) T E) []
     unfolding fold
     lay-all T [] l = l
-    lay-all T (e ∷ E) l = lay-all (relay_step ws text abi labels (chain_abi ws text abi labels c) T e) E (lay T E e l)
+    lay-all T (e ∷ E) l = lay-all (relay_step (by_bytes ws text abi labels) abi (chain_abi ws text abi labels c) T e) E (lay T E e l)
 
     lay-all-each : (R : ℕ → Entry → Type 0) → ((i j : ℕ) (e : Entry) → R i e → R j e) → (T E : List Entry) → Laying T E
-        → ((i : ℕ) → R i (at T i)) → ((i : ℕ) → R i (at E i)) → (i : ℕ) → R i (at (fold (relay_step ws text abi labels (chain_abi ws text abi labels c)) T E) i)
+        → ((i : ℕ) → R i (at T i)) → ((i : ℕ) → R i (at E i)) → (i : ℕ) → R i (at (fold (relay_step (by_bytes ws text abi labels) abi (chain_abi ws text abi labels c)) T E) i)
     unfolding fold
     lay-all-each R any T [] l h k = h
     lay-all-each R any T (e ∷ E) l h k =
-        lay-all-each R any (relay_step ws text abi labels (chain_abi ws text abi labels c) T e) E (lay T E e l)
+        lay-all-each R any (relay_step (by_bytes ws text abi labels) abi (chain_abi ws text abi labels c) T e) E (lay T E e l)
         (lay-each T E e l R (λ i. any 0 i e (k 0)) h) (λ i. any (suc i) i (at E i) (k (suc i)))
 
     module _ (E : List Entry) (unique : (i j : ℕ) (s : Signature) → Shows ws text E i s → Shows ws text E j s → i ≡ j) where
@@ -155,16 +156,16 @@ module _ (ws text abi labels : List ℕ) where
         apart = λ i j s k n. blank_none (minimum_size abi (chain_abi ws text abi labels c)) i s k;
       }
 
-      pub relayed-good : Good (Fixes ws text abi labels c) (Shows ws text (relayed_before ws text abi labels (chain_abi ws text abi labels c) E))
+      pub relayed-good : Good (Fixes ws text abi labels c) (Shows ws text (relayed_before (by_bytes ws text abi labels) abi (chain_abi ws text abi labels c) E))
       unfolding relayed_before
       relayed-good = (lay-all (replicate (minimum_size abi (chain_abi ws text abi labels c)) empty) E lay-start).good
 
-      pub relayed-room : minimum_size abi (chain_abi ws text abi labels c) ≤ length (relayed_before ws text abi labels (chain_abi ws text abi labels c) E)
+      pub relayed-room : minimum_size abi (chain_abi ws text abi labels c) ≤ length (relayed_before (by_bytes ws text abi labels) abi (chain_abi ws text abi labels c) E)
       unfolding relayed_before
       relayed-room = (lay-all (replicate (minimum_size abi (chain_abi ws text abi labels c)) empty) E lay-start).room
 
       pub relayed-each : (R : ℕ → Entry → Type 0) → ((i j : ℕ) (e : Entry) → R i e → R j e) → ((i : ℕ) → R i empty) → ((i : ℕ) → R i (at E i))
-          → (i : ℕ) → R i (at (relayed_before ws text abi labels (chain_abi ws text abi labels c) E) i)
+          → (i : ℕ) → R i (at (relayed_before (by_bytes ws text abi labels) abi (chain_abi ws text abi labels c) E) i)
       unfolding relayed_before
       relayed-each R any blank h =
           lay-all-each R any (replicate (minimum_size abi (chain_abi ws text abi labels c)) empty) E lay-start

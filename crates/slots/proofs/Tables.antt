@@ -6,10 +6,12 @@ use borrow.Author.Tests.{eqb-false}
 use Rattle.words.proofs.Bools.{by}
 use Rattle.words.proofs.ListLaws.{by-found, not_found}
 use Rattle.class_sheet.specs.ClassSheet.{class_kind}
+use Rattle.linking.specs.Signature.{by_bytes}
 use Rattle.linking.specs.Chain.{own_methods, parent_of, chain}
 use Rattle.linking.specs.Abi.{class_abi, chain_abi, minimum_size}
 use Rattle.linking.specs.Vtable.{Entry, built, read_entry, relayed, extended, add_methods, slot_words}
 use Rattle.linking.specs.Before.{relayed_before}
+use Rattle.linking.proofs.Comparing.{bytes_compare}
 use Rattle.linking.proofs.ChainLaws.{parent_below, parent-within}
 use Rattle.linking.proofs.Plans.{built-same}
 use Rattle.linking.proofs.Before.{relayed_as_before}
@@ -89,7 +91,7 @@ module _ (ws text abi labels : List ℕ) (tables : ℕ → List ℕ) (P : ℕ �
       firm : (i : ℕ) → Firm ws text abi labels P c i (at T i)
       same : class_abi ws text abi labels c ≡ None → (i : ℕ) → at T i ≡ at inherited i
 
-    before-starts : (a : ℕ) → class_abi ws text abi labels c ≡ Some a → Starts (relayed_before ws text abi labels (chain_abi ws text abi labels c) inherited)
+    before-starts : (a : ℕ) → class_abi ws text abi labels c ≡ Some a → Starts (relayed_before (by_bytes ws text abi labels) abi (chain_abi ws text abi labels c) inherited)
     before-starts a e = record {
       good = good-sub (live_fixes ws text abi labels c) (relayed-good ws text abi labels c within one inherited inherited-good.unique);
       room = relayed-room ws text abi labels c within one inherited inherited-good.unique;
@@ -98,8 +100,8 @@ module _ (ws text abi labels : List ℕ) (tables : ℕ → List ℕ) (P : ℕ �
       same = λ n. not_found (sym n ∙ e);
     }
 
-    relayed-starts : (a : ℕ) → class_abi ws text abi labels c ≡ Some a → Starts (relayed ws text abi labels (chain_abi ws text abi labels c) inherited)
-    relayed-starts a e = rw (relayed_as_before ws text abi labels (chain_abi ws text abi labels c) inherited calm) (before-starts a e)
+    relayed-starts : (a : ℕ) → class_abi ws text abi labels c ≡ Some a → Starts (relayed (by_bytes ws text abi labels) abi (chain_abi ws text abi labels c) inherited)
+    relayed-starts a e = rw (relayed_as_before (by_bytes ws text abi labels) abi (chain_abi ws text abi labels c) (bytes_compare ws text abi labels) inherited calm) (before-starts a e)
 
     extended-starts : class_abi ws text abi labels c ≡ None → Starts (extended abi (chain_abi ws text abi labels c) inherited)
     extended-starts e = record {
@@ -114,7 +116,7 @@ module _ (ws text abi labels : List ℕ) (tables : ℕ → List ℕ) (P : ℕ �
     starts = by-found (class_abi ws text abi labels c) (λ a q. rw q (relayed-starts a q)) (λ q. rw q (extended-starts q))
 
     built-makes : (T : List Entry)
-        → add_methods ws text abi labels (chain_abi ws text abi labels c) (own_methods ws c) (start_from ws text abi labels c inherited) ≡ built T → Makes T
+        → add_methods (by_bytes ws text abi labels) ws text abi (chain_abi ws text abi labels c) (own_methods ws c) (start_from ws text abi labels c inherited) ≡ built T → Makes T
     built-makes T e =
         let a =
         adds ws text abi labels c within one (own_methods ws c) (start_from ws text abi labels c inherited) T starts.room e in
@@ -149,7 +151,7 @@ module _ (ws text abi labels : List ℕ) (tables : ℕ → List ℕ) (P : ℕ �
         → Kept ws text abi labels c (slot_words stubs 0 T) (tables (parent_of ws c))
     kept-one stubs T enough given makes n none i m known = keep (makes.stays none i m holds)
       where
-        read : at inherited i ≡ read_entry ws text abi labels (parent_of ws c) i (get_or (tables (parent_of ws c)) i 0)
+        read : at inherited i ≡ read_entry (by_bytes ws text abi labels) ws text abi labels (parent_of ws c) i (get_or (tables (parent_of ws c)) i 0)
         read = rw (some-parent n) (read_at ws text abi labels (parent_of ws c) (tables (parent_of ws c)) i known.slot)
 
         holds : (at inherited i).method ≡ Some m

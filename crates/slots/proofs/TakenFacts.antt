@@ -10,7 +10,8 @@ use Rattle.words.specs.Lists.{list_from, numbers, fold, some}
 use Rattle.words.proofs.Bools.{by}
 use Rattle.words.proofs.ListLaws.{by-found, numbers-within}
 use Rattle.class_sheet.specs.ClassSheet.{method_target}
-use Rattle.linking.specs.Chain.{on_found, own_methods, eligible, same_methods}
+use Rattle.linking.specs.Signature.{methods_same, by_bytes}
+use Rattle.linking.specs.Chain.{on_found, own_methods, eligible}
 use Rattle.linking.specs.Vtable.{Entry, empty, method_entry}
 use Rattle.linking.specs.Packages.{overridden, taken_slots, put_taken, take_slots, packages_over}
 use Rattle.linking.proofs.Overriding.{keep-of, keep_in, some_of, some_in, overridden-same}
@@ -135,15 +136,15 @@ module _ (ws text abi labels : List ℕ) where
         rw q (record { method = m; along = method-here ws c h i; holds = refl; word = refl })
 
     abbrev pub slots : ℕ → List ℕ
-    slots m = taken_slots first (overridden (same_methods ws text) ws text c m) (length P)
+    slots m = taken_slots first (overridden (methods_same (by_bytes ws text abi labels)) ws text c m) (length P)
 
     pub taken-signature : (m x p : ℕ) → Memᴰ m (own_methods ws c) → Memᴰ x (slots m) → (at P x).method ≡ Some p
         → method_signature ws text m ≡ method_signature ws text p
     taken-signature m x p i j e =
-        let t = taken_of first (overridden (same_methods ws text) ws text c m) (length P) x j in
+        let t = taken_of first (overridden (methods_same (by_bytes ws text abi labels)) ws text c m) (length P) x j in
         let r = introduces x p t.below e in
         let q : t.method ≡ r.0 = found-same (sym t.introduces ∙ r.1) in
-        let s = overridden-same ws text c m t.method i t.among in
+        let s = overridden-same ws text abi labels c m t.method i t.among in
         same_signature_lem ws text s ∙ ap (method_signature ws text) q ∙ r.2
 
     over-put : (T : List Entry) (m : ℕ) → Memᴰ m (own_methods ws c) → eligible ws text m ≡ true → Over T
@@ -159,7 +160,7 @@ module _ (ws text abi labels : List ℕ) where
 
         below : (j : ℕ) → Memᴰ j (slots m) → j < length T
         below j k =
-            let t = taken_of first (overridden (same_methods ws text) ws text c m) (length P) j k in omega (arith, t.below, o.longer)
+            let t = taken_of first (overridden (methods_same (by_bytes ws text abi labels)) ws text c m) (length P) j k in omega (arith, t.below, o.longer)
 
         each : (x : ℕ) {f : Entry} → PutAt e T (slots m) x f → Ours c f
         each x {f} (stored l k q) = mine m i f q
@@ -174,18 +175,18 @@ module _ (ws text abi labels : List ℕ) where
         kept x p l q {f} (added b k r) = absurd (omega (arith, o.longer))
 
     pub over-take : (T : List Entry) (m : ℕ) → Memᴰ m (own_methods ws c) → Over T
-        → Over (take_slots (same_methods ws text) ws text first (length P) c T m)
+        → Over (take_slots (methods_same (by_bytes ws text abi labels)) ws text first (length P) c T m)
     unfolding take_slots
     over-take T m i o = by (eligible ws text m) (λ t. rw t (over-put T m i t o)) (λ t. rw t o)
 
     over-all : (ms : List ℕ) → ((m : ℕ) → Memᴰ m ms → Memᴰ m (own_methods ws c)) → (T : List Entry) → Over T
-        → Over (fold (take_slots (same_methods ws text) ws text first (length P) c) T ms)
+        → Over (fold (take_slots (methods_same (by_bytes ws text abi labels)) ws text first (length P) c) T ms)
     unfolding fold
     over-all [] sub T o = o
     over-all (m ∷ ms) sub T o =
-        over-all ms (λ k i. sub k (Memᴰ.tail i)) (take_slots (same_methods ws text) ws text first (length P) c T m)
+        over-all ms (λ k i. sub k (Memᴰ.tail i)) (take_slots (methods_same (by_bytes ws text abi labels)) ws text first (length P) c T m)
         (over-take T m (sub m (Memᴰ.head refl)) o)
 
-    pub packages-over : Over (packages_over (same_methods ws text) ws text first c P)
+    pub packages-over : Over (packages_over (methods_same (by_bytes ws text abi labels)) ws text first c P)
     unfolding packages_over
     packages-over = over-all (own_methods ws c) (λ m i. i) P over-start

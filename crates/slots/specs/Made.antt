@@ -1,11 +1,12 @@
 -- What a table that the linker made is made of: the local equation that the runs keep, and the conditions under which tables so made have
--- demand 3's properties. Tables are lists of slot words, one for each class number. Assumes nothing.
+-- demand 3's properties. Signatures are compared by their bytes. Tables are lists of slot words, one for each class number. Assumes nothing.
 use Rattle.std.specs.Prelude.{ℕ, ◌<◌, ◌≤◌, ◌≡◌, ◌≢◌, false, cond, List, [], length, get_or, eqb, ltb, Option}
 use Rattle.words.specs.Lists.{list_from}
 use Rattle.std.specs.Option.{option_and_then}
 use Rattle.class_sheet.specs.ClassSheet.{class_kind, is_array, is_packaged, method_target}
 use Rattle.abi_sheet.specs.AbiSheet.{abi_slot_name, abi_slot_descriptor}
-use Rattle.linking.specs.Chain.{on_found, own_methods, parent_of, chain, same_methods}
+use Rattle.linking.specs.Signature.{methods_same, by_bytes}
+use Rattle.linking.specs.Chain.{on_found, own_methods, parent_of, chain}
 use Rattle.linking.specs.Abi.{slot_index, class_abi, chain_abi}
 use Rattle.linking.specs.Vtable.{Entry, Built, built, read_entry, fixed_of, relayed, extended, add_methods, slot_words}
 use Rattle.linking.specs.Before.{clash}
@@ -15,20 +16,20 @@ use Rattle.slots.specs.Slots.{ChainMethod, ChainSlot}
 module _ (ws text abi labels : List ℕ) where
   -- the entries of a table of these words, read along class c's chain
   unfoldable pub read_words : ℕ → List ℕ → List Entry
-  read_words c t = list_from (λ i. read_entry ws text abi labels c i (get_or t i 0)) 0 (length t)
+  read_words c t = list_from (λ i. read_entry (by_bytes ws text abi labels) ws text abi labels c i (get_or t i 0)) 0 (length t)
 
   -- ---- what the linker made: the table of a class of kind 0 or 2 from its parent's entries
 
   unfoldable pub start_from : ℕ → List Entry → List Entry
   start_from c P =
-      on_found (class_abi ws text abi labels c) (λ a. relayed ws text abi labels (chain_abi ws text abi labels c) P)
+      on_found (class_abi ws text abi labels c) (λ a. relayed (by_bytes ws text abi labels) abi (chain_abi ws text abi labels c) P)
       (extended abi (chain_abi ws text abi labels c) P)
 
   -- "Array: the parent's entries."
   unfoldable pub table_from : ℕ → List Entry → Built
   table_from c P =
       cond (is_array ws c) (built P)
-      (add_methods ws text abi labels (chain_abi ws text abi labels c) (own_methods ws c) (start_from c P))
+      (add_methods (by_bytes ws text abi labels) ws text abi (chain_abi ws text abi labels c) (own_methods ws c) (start_from c P))
 
   -- the parent's entries, where each class d has the table `tables d`
   unfoldable pub inherited_from : (ℕ → List ℕ) → ℕ → List Entry
@@ -37,18 +38,20 @@ module _ (ws text abi labels : List ℕ) where
   -- no two known inherited signatures of class c have one fixed index
   abbrev pub Calm : (ℕ → List ℕ) → ℕ → Type 0
   Calm tables c =
-      clash (same_methods ws text) (fixed_of ws text abi labels (chain_abi ws text abi labels c)) (inherited_from tables c) ≡ false
+      clash (methods_same (by_bytes ws text abi labels)) (fixed_of (by_bytes ws text abi labels) abi (chain_abi ws text abi labels c))
+      (inherited_from tables c) ≡ false
 
   -- ---- and of a class of kind 3, from the tables of its parent's chain
 
   -- "what Reading finds there in the topmost chain class whose table has it", of slot i in the table of class p
   unfoldable pub introduced_from : (ℕ → List ℕ) → ℕ → ℕ → Option ℕ
   introduced_from tables p i =
-      option_and_then (λ d. (read_entry ws text abi labels d i (get_or (tables d) i 0)).method) (topmost (λ d. ltb i (length (tables d))) (chain ws p))
+      option_and_then (λ d. (read_entry (by_bytes ws text abi labels) ws text abi labels d i (get_or (tables d) i 0)).method)
+      (topmost (λ d. ltb i (length (tables d))) (chain ws p))
 
   unfoldable pub packages_from : (ℕ → List ℕ) → ℕ → List Entry
   packages_from tables c =
-      packages_over (same_methods ws text) ws text (introduced_from tables (parent_of ws c)) c (inherited_from tables c)
+      packages_over (methods_same (by_bytes ws text abi labels)) ws text (introduced_from tables (parent_of ws c)) c (inherited_from tables c)
 
   unfoldable pub made_from : (ℕ → List ℕ) → ℕ → Built
   made_from tables c = cond (is_packaged ws c) (built (packages_from tables c)) (table_from c (inherited_from tables c))

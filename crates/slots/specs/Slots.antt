@@ -4,6 +4,7 @@ use Rattle.std.specs.Prelude.{ℕ, ◌<◌, ◌≡◌, ◌⊎◌, true, length, 
 use mathlib.Core.List.{Memᴰ}
 use Rattle.class_sheet.specs.ClassSheet.{class_kind, method_target}
 use Rattle.abi_sheet.specs.AbiSheet.{abi_slot_name, abi_slot_descriptor}
+use Rattle.linking.specs.Signature.{by_bytes}
 use Rattle.linking.specs.Chain.{own_methods, parent_of, chain, eligible, SameSignature}
 use Rattle.linking.specs.Abi.{abi_slots, slot_index, class_abi}
 use Rattle.linking.specs.Vtable.{read_entry}
@@ -38,7 +39,7 @@ module _ (ws text abi labels : List ℕ) where
   -- "a slot is known where Reading finds a method": slot i of class c's table holds method m
   pub record Known (c : ℕ) (t : List ℕ) (i m : ℕ) : Type 0 where
     pub slot : i < length t
-    pub reads : (read_entry ws text abi labels c i (get_or t i 0)).method ≡ Some m
+    pub reads : (read_entry (by_bytes ws text abi labels) ws text abi labels c i (get_or t i 0)).method ≡ Some m
 
   -- "and has its signature": "no two known slots in a class's table have one signature"
   abbrev pub Unique : ℕ → List ℕ → Type 0
