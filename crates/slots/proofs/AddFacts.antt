@@ -6,7 +6,7 @@ use mathlib.Core.List.{Memᴰ}
 use borrow.Author.Tests.{not-false}
 use Rattle.words.proofs.Bools.{by}
 use Rattle.words.proofs.ListLaws.{by-found}
-use Rattle.class_sheet.specs.ClassSheet.{method_name, method_descriptor, method_target}
+use Rattle.class_sheet.specs.ClassSheet.{method_target}
 use Rattle.linking.specs.Signature.{of_method, by_bytes}
 use Rattle.linking.specs.Chain.{on_found, eligible}
 use Rattle.linking.specs.Abi.{chain_abi, minimum_size}
@@ -69,7 +69,8 @@ module _ (ws text abi labels : List ℕ) where
     last-placed e j f = absurd (fixed-none ws text abi labels c within m j e f.fixes)
 
     did : (U : List Entry)
-        → put_method (by_bytes ws text abi labels) ws (fixed_of (by_bytes ws text abi labels) abi (chain_abi ws text abi labels c) m) (slot_for ws text abi labels m T) m T ≡ built U
+        → put_method (by_bytes ws text abi labels) ws (fixed_of (by_bytes ws text abi labels) abi (chain_abi ws text abi labels c) m)
+        (slot_for ws text abi labels m T) m T ≡ built U
         → Did c m T U
     unfolding put_method
     did U e =
@@ -112,7 +113,8 @@ module _ (ws text abi labels : List ℕ) where
       by (eligible ws text m)
       (λ q.
       let b =
-      built_on (put_method (by_bytes ws text abi labels) ws (fixed_of (by_bytes ws text abi labels) abi (chain_abi ws text abi labels c) m) (slot_for ws text abi labels m T) m T)
+      built_on (put_method (by_bytes ws text abi labels) ws (fixed_of (by_bytes ws text abi labels) abi (chain_abi ws text abi labels c) m)
+      (slot_for ws text abi labels m T) m T)
       (add_methods (by_bytes ws text abi labels) ws text abi (chain_abi ws text abi labels c) ms) U (rw q at e) in
       let d = did c within one m T room b.0 b.1 in
       add q d (adds c within one ms b.0 U (omega (arith, did-longer d)) b.2))

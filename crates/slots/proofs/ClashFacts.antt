@@ -55,7 +55,8 @@ module _ (ws text abi labels : List ℕ) where
         (one_signature_lem (method_signature ws text m) (method_signature ws text k) i (fixed-some ws text abi labels c within m i q)
         (fixed-some ws text abi labels c within k i r))
 
-    no_rivals : (e f : Entry) → rivals (methods_same (by_bytes ws text abi labels)) (fixed_of (by_bytes ws text abi labels) abi (chain_abi ws text abi labels c)) e f ≡ false
+    no_rivals : (e f : Entry)
+        → rivals (methods_same (by_bytes ws text abi labels)) (fixed_of (by_bytes ws text abi labels) abi (chain_abi ws text abi labels c)) e f ≡ false
     unfolding rivals
     no_rivals e f =
         by-found e.method
@@ -80,7 +81,8 @@ module _ (ws text abi labels : List ℕ) where
     orderly_no_clash E =
         no_pair
         (λ e. some (rivals (methods_same (by_bytes ws text abi labels)) (fixed_of (by_bytes ws text abi labels) abi (chain_abi ws text abi labels c)) e) E) E
-        (λ e. no_pair (rivals (methods_same (by_bytes ws text abi labels)) (fixed_of (by_bytes ws text abi labels) abi (chain_abi ws text abi labels c)) e) E (no_rivals e))
+        (λ e. no_pair (rivals (methods_same (by_bytes ws text abi labels)) (fixed_of (by_bytes ws text abi labels) abi (chain_abi ws text abi labels c)) e) E
+        (no_rivals e))
 
   -- ---- so of each class of the chain
 

@@ -3,7 +3,6 @@
 use Rattle.std.proofs.lemmas.Grind.{common_steps}
 use Rattle.std.proofs.Common.{rules, arith, ◌≡◌, refl, sym, ap, ◌∙◌, ◌⊎◌, inl, inr, ◌≢◌, true, false, List, [], ◌∷◌, ◌++◌, ℕ, ◌<◌, length, get_or, set, Option, Some, None}
 use mathlib.Core.Bool.{false≢true}
-use Rattle.class_sheet.specs.ClassSheet.{method_name, method_descriptor}
 use Rattle.linking.specs.Signature.{of_method, by_bytes}
 use Rattle.linking.specs.Vtable.{slot_word, Entry, empty, entry_is, slot_of, entry_is_other}
 use Rattle.slots.proofs.ListFacts.{position-below, position-passes, position-misses, set_at, snoc_at}

@@ -144,7 +144,8 @@ module _ (ws text abi labels : List ℕ) where
         })
         (λ q. not_found (rw q at r.finds))
 
-    pub fixed-none : (m i : ℕ) → fixed_of (by_bytes ws text abi labels) abi (chain_abi ws text abi labels c) m ≡ None → Fixes c (method_signature ws text m) i → ⊥
+    pub fixed-none : (m i : ℕ) → fixed_of (by_bytes ws text abi labels) abi (chain_abi ws text abi labels c) m ≡ None → Fixes c (method_signature ws text m) i
+        → ⊥
     unfolding fixed_of fixed_index vtable_index
     fixed-none m i e f =
         let a = f.along.entry in
@@ -170,7 +171,8 @@ module _ (ws text abi labels : List ℕ) where
 
   -- ---- Reading's second rule: "the first chain class whose ABI entry fixes that index and which itself has a method of that signature"
 
-  own_fixed_live : {c d i m : ℕ} → Memᴰ d (chain ws c) → (class_kind ws d ≡ 2 → own_methods ws d ≡ []) → own_fixed (by_bytes ws text abi labels) ws text abi labels i d ≡ Some m
+  own_fixed_live : {c d i m : ℕ} → Memᴰ d (chain ws c) → (class_kind ws d ≡ 2 → own_methods ws d ≡ [])
+      → own_fixed (by_bytes ws text abi labels) ws text abi labels i d ≡ Some m
       → Live c (method_signature ws text m) i
   unfolding own_fixed
   own_fixed_live {c} {d} {i} {m} along bare e =
@@ -199,11 +201,13 @@ module _ (ws text abi labels : List ℕ) where
         methods = λ k. in_none (bare k) (own-method-member (by_bytes ws text abi labels) ws (of_abi_slot s) d m f);
       }
 
-  pub index_live : (c i m : ℕ) → ((d : ℕ) → Memᴰ d (chain ws c) → class_kind ws d ≡ 2 → own_methods ws d ≡ []) → find_by_index (by_bytes ws text abi labels) ws text abi labels c i ≡ Some m
+  pub index_live : (c i m : ℕ) → ((d : ℕ) → Memᴰ d (chain ws c) → class_kind ws d ≡ 2 → own_methods ws d ≡ [])
+      → find_by_index (by_bytes ws text abi labels) ws text abi labels c i ≡ Some m
       → Live c (method_signature ws text m) i
   unfolding find_by_index
   index_live c i m bare e =
-      let r = found_in (own_fixed (by_bytes ws text abi labels) ws text abi labels i) (chain ws c) m e in own_fixed_live r.along (bare r.element r.along) r.finds
+      let r =
+      found_in (own_fixed (by_bytes ws text abi labels) ws text abi labels i) (chain ws c) m e in own_fixed_live r.along (bare r.element r.along) r.finds
 
   -- a class without an ABI entry reads what its parent does
   pub index-parent : (c i : ℕ) → 0 < c → class_abi ws text abi labels c ≡ None

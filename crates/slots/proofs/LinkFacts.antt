@@ -14,23 +14,27 @@ use Rattle.slots.specs.Made.{read_words, start_from, table_from}
 module _ (ws text abi labels area : List ℕ) (c : ℕ) where
   -- "its table is the words after the place", where they lie in the area
   pub read-area : (n : ℕ) → n ≡ min (class_slot_count ws c) 1024 → class_table_place ws c + 1 + n ≤ length area
-      → read_words ws text abi labels c (take n (drop (class_table_place ws c + 1) area)) ≡ table_entries (by_bytes ws text abi labels) ws text abi labels area c
+      → read_words ws text abi labels c (take n (drop (class_table_place ws c + 1) area))
+      ≡ table_entries (by_bytes ws text abi labels) ws text abi labels area c
   unfolding read_words table_entries read_slot
   read-area n e h = search (rules, length_part, list_ext, part_at)
 
   built-from : class_kind ws c ≢ 2
-      → table_from ws text abi labels c (parent_entries (by_bytes ws text abi labels) ws text abi labels area c) ≡ build_methods (by_bytes ws text abi labels) ws text abi labels area c
+      → table_from ws text abi labels c (parent_entries (by_bytes ws text abi labels) ws text abi labels area c)
+      ≡ build_methods (by_bytes ws text abi labels) ws text abi labels area c
   unfolding table_from start_from build_methods inherited_table
   built-from n = search rules
 
   -- "Array: the parent's entries."
   array-from : class_kind ws c ≡ 2
-      → table_from ws text abi labels c (parent_entries (by_bytes ws text abi labels) ws text abi labels area c) ≡ built (parent_entries (by_bytes ws text abi labels) ws text abi labels area c)
+      → table_from ws text abi labels c (parent_entries (by_bytes ws text abi labels) ws text abi labels area c)
+      ≡ built (parent_entries (by_bytes ws text abi labels) ws text abi labels area c)
   unfolding table_from
   array-from e = cc
 
   -- the table that a link plans for a class that is built, and no interface, or an array: what is made of its parent's entries
-  pub plan-table : (p : Plan) → Plans (by_bytes ws text abi labels) ws text abi labels area c p → (class_kind ws c ≡ 0) ⊎ (class_kind ws c ≡ 2) → is_interface (class_flags ws c) ≡ false
+  pub plan-table : (p : Plan) → Plans (by_bytes ws text abi labels) ws text abi labels area c p → (class_kind ws c ≡ 0) ⊎ (class_kind ws c ≡ 2)
+      → is_interface (class_flags ws c) ≡ false
       → table_from ws text abi labels c (parent_entries (by_bytes ws text abi labels) ws text abi labels area c) ≡ built p.table
   plan-table p h (inl k) f = search (rules, built-from)
   plan-table p h (inr k) f = array-from k ∙ ap built (h.array k)

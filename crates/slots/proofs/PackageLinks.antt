@@ -28,7 +28,9 @@ module _ (ws text abi labels area : List ℕ) (tables : ℕ → List ℕ) where
   unfolding table_has
   has-index i d l = grind (arith, common_steps)
 
-  read_table : (i d : ℕ) → Lies d → i < length (tables d) → read_slot (by_bytes ws text abi labels) ws text abi labels area d i ≡ read_entry (by_bytes ws text abi labels) ws text abi labels d i (get_or (tables d) i 0)
+  read_table : (i d : ℕ) → Lies d → i < length (tables d)
+      → read_slot (by_bytes ws text abi labels) ws text abi labels area d i
+      ≡ read_entry (by_bytes ws text abi labels) ws text abi labels d i (get_or (tables d) i 0)
   unfolding read_slot
   read_table i d l h = grind (arith, common_steps)
 

@@ -296,7 +296,8 @@ module _ (ws text abi labels : List ℕ) where
           absurd (omega (arith, (parent n).longest d j, inherited-length n))))
           (λ u. u)
 
-      introduced-below : (i : ℕ) → length inherited ≤ i → i < length (tables c) → first c i ≡ (read_entry (by_bytes ws text abi labels) ws text abi labels c i (get_or (tables c) i 0)).method
+      introduced-below : (i : ℕ) → length inherited ≤ i → i < length (tables c)
+          → first c i ≡ (read_entry (by_bytes ws text abi labels) ws text abi labels c i (get_or (tables c) i 0)).method
       introduced-below i l b = search (rules, introduced-here, last_none, short)
 
       introduced-new : (i m : ℕ) → Known ws text abi labels c (tables c) i m → length inherited ≤ i → Introduced c i m

@@ -242,7 +242,8 @@ module _ (ws text abi labels : List ℕ) where
         }
 
       adds_same : (n a : ℕ) → ((m : ℕ) → Memᴰ m (numbers a n) → Memᴰ m (own_methods ws c)) → (U : List Entry) → Between a U
-          → (add_methods (by_bytes ws text abi labels) ws text abi [] (numbers a n) U ≡ built (fold take-one U (numbers a n))) × Between (a + n) (fold take-one U (numbers a n))
+          → (add_methods (by_bytes ws text abi labels) ws text abi [] (numbers a n) U ≡ built (fold take-one U (numbers a n)))
+          × Between (a + n) (fold take-one U (numbers a n))
       unfolding add_methods fold list_from
       adds_same zero a sub U z = let q : a + 0 ≡ a = omega arith in (refl, rw q z)
       adds_same (suc n) a sub U z =

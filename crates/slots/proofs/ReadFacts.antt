@@ -49,7 +49,8 @@ module _ (ws text abi labels : List ℕ) where
     unfolding read_words
     length-read = search (rules, length-list-from)
 
-    pub read_at : (i : ℕ) → i < length t → at (read_words ws text abi labels c t) i ≡ read_entry (by_bytes ws text abi labels) ws text abi labels c i (get_or t i 0)
+    pub read_at : (i : ℕ) → i < length t
+        → at (read_words ws text abi labels c t) i ≡ read_entry (by_bytes ws text abi labels) ws text abi labels c i (get_or t i 0)
     unfolding read_words
     read_at i h = search (rules, get_d_list_from)
 
@@ -77,7 +78,8 @@ module _ (ws text abi labels : List ℕ) where
     -- rule says of a class without an ABI entry too; or it is empty
     pub data Firm (c i : ℕ) (e : Entry) : Type 0 where
       ours : (m : ℕ) → ChainMethod ws c m → e.method ≡ Some m → e.word ≡ method_target ws m → Firm c i e
-      lent : P e.word → ((m : ℕ) → e.method ≡ Some m → class_abi ws text abi labels c ≡ None → find_by_index (by_bytes ws text abi labels) ws text abi labels c i ≡ Some m) → Firm c i e
+      lent : P e.word → ((m : ℕ) → e.method ≡ Some m → class_abi ws text abi labels c ≡ None
+          → find_by_index (by_bytes ws text abi labels) ws text abi labels c i ≡ Some m) → Firm c i e
       blank : e.word ≡ 0 → e.method ≡ None → Firm c i e
 
     -- the index does not matter where the class has an ABI entry
@@ -89,11 +91,13 @@ module _ (ws text abi labels : List ℕ) where
     -- ---- Reading along a chain that meets the conditions
 
     module _ (c : ℕ) (k : Conditions ws text abi labels P c) (i w : ℕ) where
-      pub read-target : (m : ℕ) → ChainMethod ws c m → w ≡ method_target ws m → (read_entry (by_bytes ws text abi labels) ws text abi labels c i w).method ≡ Some m
+      pub read-target : (m : ℕ) → ChainMethod ws c m → w ≡ method_target ws m
+          → (read_entry (by_bytes ws text abi labels) ws text abi labels c i w).method ≡ Some m
       unfolding read_entry
       read-target m h e = search (rules, target-own)
 
-      pub read-stub : P w → (read_entry (by_bytes ws text abi labels) ws text abi labels c i w).method ≡ find_by_index (by_bytes ws text abi labels) ws text abi labels c i
+      pub read-stub : P w → (read_entry (by_bytes ws text abi labels) ws text abi labels c i w).method
+          ≡ find_by_index (by_bytes ws text abi labels) ws text abi labels c i
       unfolding read_entry
       read-stub p = search (rules, target_absent)
 
@@ -124,7 +128,8 @@ module _ (ws text abi labels : List ℕ) where
     data Written (c i : ℕ) (e : Entry) (w : ℕ) : Type 0 where
       method : (m : ℕ) → ChainMethod ws c m → e.method ≡ Some m → e.word ≡ w → w ≡ method_target ws m → Written c i e w
       other : P w → ((m : ℕ) → e.method ≡ Some m → e.word ≡ w)
-          → ((m : ℕ) → e.method ≡ Some m → class_abi ws text abi labels c ≡ None → find_by_index (by_bytes ws text abi labels) ws text abi labels c i ≡ Some m) → Written c i e w
+          → ((m : ℕ) → e.method ≡ Some m → class_abi ws text abi labels c ≡ None
+          → find_by_index (by_bytes ws text abi labels) ws text abi labels c i ≡ Some m) → Written c i e w
 
     module _ (c : ℕ) (k : Conditions ws text abi labels P c) where
       written : (i : ℕ) (e : Entry) (x : ℕ) → P x → Firm c i e → Written c i e (slot_word e.word x)
@@ -142,7 +147,8 @@ module _ (ws text abi labels : List ℕ) where
 
       -- read back, it is the entry's method, or the ABI fixes it there
       written_back : ((d : ℕ) → Memᴰ d (chain ws c) → class_kind ws d ≡ 2 → own_methods ws d ≡ []) → (i : ℕ) (e : Entry) (w : ℕ) → Written c i e w
-          → (n : ℕ) → (read_entry (by_bytes ws text abi labels) ws text abi labels c i w).method ≡ Some n → (e.method ≡ Some n) ⊎ Live ws text abi labels c (method_signature ws text n) i
+          → (n : ℕ) → (read_entry (by_bytes ws text abi labels) ws text abi labels c i w).method ≡ Some n
+          → (e.method ≡ Some n) ⊎ Live ws text abi labels c (method_signature ws text n) i
       written_back bare i e w (method m h f g r) n q = search (rules, read-target)
       written_back bare i e w (other p f g) n q = search (rules, index_live, read-stub)
 

@@ -40,11 +40,13 @@ module _ (ws text abi labels : List ℕ) where
     unfolding relay_step
     step-none q = cc
 
-    step-fixed : (m i : ℕ) → e.method ≡ Some m → fixed_of (by_bytes ws text abi labels) abi abis m ≡ Some i → relay_step (by_bytes ws text abi labels) abi abis T e ≡ set T i e
+    step-fixed : (m i : ℕ) → e.method ≡ Some m → fixed_of (by_bytes ws text abi labels) abi abis m ≡ Some i
+        → relay_step (by_bytes ws text abi labels) abi abis T e ≡ set T i e
     unfolding relay_step
     step-fixed m i q r = cc
 
-    step-last : (m : ℕ) → e.method ≡ Some m → fixed_of (by_bytes ws text abi labels) abi abis m ≡ None → relay_step (by_bytes ws text abi labels) abi abis T e ≡ T ++ (e ∷ [])
+    step-last : (m : ℕ) → e.method ≡ Some m → fixed_of (by_bytes ws text abi labels) abi abis m ≡ None
+        → relay_step (by_bytes ws text abi labels) abi abis T e ≡ T ++ (e ∷ [])
     unfolding relay_step
     step-last m q r = cc
 
@@ -140,7 +142,8 @@ module _ (ws text abi labels : List ℕ) where
     lay-all T (e ∷ E) l = lay-all (relay_step (by_bytes ws text abi labels) abi (chain_abi ws text abi labels c) T e) E (lay T E e l)
 
     lay-all-each : (R : ℕ → Entry → Type 0) → ((i j : ℕ) (e : Entry) → R i e → R j e) → (T E : List Entry) → Laying T E
-        → ((i : ℕ) → R i (at T i)) → ((i : ℕ) → R i (at E i)) → (i : ℕ) → R i (at (fold (relay_step (by_bytes ws text abi labels) abi (chain_abi ws text abi labels c)) T E) i)
+        → ((i : ℕ) → R i (at T i)) → ((i : ℕ) → R i (at E i)) → (i : ℕ)
+        → R i (at (fold (relay_step (by_bytes ws text abi labels) abi (chain_abi ws text abi labels c)) T E) i)
     unfolding fold
     lay-all-each R any T [] l h k = h
     lay-all-each R any T (e ∷ E) l h k =
@@ -160,7 +163,8 @@ module _ (ws text abi labels : List ℕ) where
       unfolding relayed_before
       relayed-good = (lay-all (replicate (minimum_size abi (chain_abi ws text abi labels c)) empty) E lay-start).good
 
-      pub relayed-room : minimum_size abi (chain_abi ws text abi labels c) ≤ length (relayed_before (by_bytes ws text abi labels) abi (chain_abi ws text abi labels c) E)
+      pub relayed-room : minimum_size abi (chain_abi ws text abi labels c) ≤ length
+          (relayed_before (by_bytes ws text abi labels) abi (chain_abi ws text abi labels c) E)
       unfolding relayed_before
       relayed-room = (lay-all (replicate (minimum_size abi (chain_abi ws text abi labels c)) empty) E lay-start).room
 

@@ -91,7 +91,8 @@ module _ (ws text abi labels : List ℕ) (tables : ℕ → List ℕ) (P : ℕ �
       firm : (i : ℕ) → Firm ws text abi labels P c i (at T i)
       same : class_abi ws text abi labels c ≡ None → (i : ℕ) → at T i ≡ at inherited i
 
-    before-starts : (a : ℕ) → class_abi ws text abi labels c ≡ Some a → Starts (relayed_before (by_bytes ws text abi labels) abi (chain_abi ws text abi labels c) inherited)
+    before-starts : (a : ℕ) → class_abi ws text abi labels c ≡ Some a
+        → Starts (relayed_before (by_bytes ws text abi labels) abi (chain_abi ws text abi labels c) inherited)
     before-starts a e = record {
       good = good-sub (live_fixes ws text abi labels c) (relayed-good ws text abi labels c within one inherited inherited-good.unique);
       room = relayed-room ws text abi labels c within one inherited inherited-good.unique;
@@ -100,8 +101,11 @@ module _ (ws text abi labels : List ℕ) (tables : ℕ → List ℕ) (P : ℕ �
       same = λ n. not_found (sym n ∙ e);
     }
 
-    relayed-starts : (a : ℕ) → class_abi ws text abi labels c ≡ Some a → Starts (relayed (by_bytes ws text abi labels) abi (chain_abi ws text abi labels c) inherited)
-    relayed-starts a e = rw (relayed_as_before (by_bytes ws text abi labels) abi (chain_abi ws text abi labels c) (bytes_compare ws text abi labels) inherited calm) (before-starts a e)
+    relayed-starts : (a : ℕ) → class_abi ws text abi labels c ≡ Some a
+        → Starts (relayed (by_bytes ws text abi labels) abi (chain_abi ws text abi labels c) inherited)
+    relayed-starts a e =
+        rw (relayed_as_before (by_bytes ws text abi labels) abi (chain_abi ws text abi labels c) (bytes_compare ws text abi labels) inherited calm)
+        (before-starts a e)
 
     extended-starts : class_abi ws text abi labels c ≡ None → Starts (extended abi (chain_abi ws text abi labels c) inherited)
     extended-starts e = record {
@@ -116,7 +120,8 @@ module _ (ws text abi labels : List ℕ) (tables : ℕ → List ℕ) (P : ℕ �
     starts = by-found (class_abi ws text abi labels c) (λ a q. rw q (relayed-starts a q)) (λ q. rw q (extended-starts q))
 
     built-makes : (T : List Entry)
-        → add_methods (by_bytes ws text abi labels) ws text abi (chain_abi ws text abi labels c) (own_methods ws c) (start_from ws text abi labels c inherited) ≡ built T → Makes T
+        → add_methods (by_bytes ws text abi labels) ws text abi (chain_abi ws text abi labels c) (own_methods ws c)
+        (start_from ws text abi labels c inherited) ≡ built T → Makes T
     built-makes T e =
         let a =
         adds ws text abi labels c within one (own_methods ws c) (start_from ws text abi labels c inherited) T starts.room e in
