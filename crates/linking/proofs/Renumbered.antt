@@ -21,12 +21,10 @@ use Rattle.abi_sheet.specs.AbiSheet.{abi_class_count}
 use Rattle.linking.specs.Signature.{Same, Place, of_method, of_abi_slot, methods_same, place_name, place_descriptor, by_bytes}
 use Rattle.linking.specs.Chain.{on_found, own_methods, parent_of, chain, eligible, own_target, find_by_target, own_method}
 use Rattle.linking.specs.Abi.{abi_slots, slot_index, vtable_index, slot_at, class_abi, chain_abi, fixed_index, fixer_distance, minimum_size}
-use Rattle.linking.specs.Vtable.{Entry, empty, Built, built, refused, on_built, own_fixed, find_by_index, read_entry, read_slot, table_entries, parent_entries, entry_is, slot_of, entry_is_other, method_entry, fixed_of, distance_of, relayed, extended, inherited_table, put_method, add_method, add_methods, build_methods, method_entries, build_interface_methods}
+use Rattle.linking.specs.Vtable.{Entry, empty, Built, built, refused, on_built, own_fixed, find_by_index, read_entry, read_slot, table_entries, parent_entries, entry_is, slot_of, entry_is_other, method_entry, fixed_of, distance_of, staying_of, relayed, extended, inherited_table, put_method, add_method, add_methods, build_methods, method_entries, build_interface_methods}
 use Rattle.linking.proofs.Pairs.{Both, both, neither, by_both, both-or, both_less, Pairs, none, pair, pairs-length, pairs-append, pairs-at, pairs_set, pairs-blank, pairs-from, pairs-position, pairs-keep, pairs_less, pairs-find, both_first}
 use Rattle.linking.proofs.AbiLaws.{InSheet, class-abi-room, chain-abi-in}
-use Rattle.linking.proofs.Comparing.{Compares, bytes_compare}
-use Rattle.linking.proofs.RelayLoop.{relayed_loop}
-use Rattle.linking.proofs.RelayRenamed.{relays-same}
+use Rattle.linking.proofs.RelayRenamed.{nearest_same, laid_same}
 
 -- ---- slots and tables
 
@@ -63,14 +61,12 @@ pub record Alike (ws text ws' text' : List ℕ) (R : ℕ → ℕ → Type 0) : T
   pub flags : (m k : ℕ) → R m k → method_flags ws m ≡ method_flags ws' k
   pub target : (m k : ℕ) → R m k → method_target ws m ≡ method_target ws' k
 
--- and how the two comparisons, both equivalences, see their places and those of the ABI sheet's slots
+-- and how the two comparisons see their places and those of the ABI sheet's slots
 pub record Keeps (same same' : Same) (P : Place → Place → Type 0) (ws text ws' text' abi labels : List ℕ) (R : ℕ → ℕ → Type 0) : Type 0 where
   pub alike : Alike ws text ws' text' R
   pub agree : (p q r s : Place) → P p q → P r s → same p r ≡ same' q s
   pub place : (m k : ℕ) → R m k → P (of_method m) (of_method k)
   pub slot : (a s : ℕ) → a < abi_class_count abi → Memᴰ s (abi_slots abi a) → P (of_abi_slot s) (of_abi_slot s)
-  pub compares : Compares same
-  pub compares' : Compares same'
 
 -- by bytes: places with equal bytes of both parts
 pub record SameParts (ws text ws' text' abi labels : List ℕ) (p q : Place) : Type 0 where
@@ -85,8 +81,6 @@ bytes_keep ws text ws' text' abi labels R alike = record {
   agree = λ p q r s x y. rw (x.name, x.descriptor, y.name, y.descriptor) refl;
   place = λ m k r. record { name = alike.name m k r; descriptor = alike.descriptor m k r };
   slot = λ a s l i. record { name = refl; descriptor = refl };
-  compares = bytes_compare ws text abi labels;
-  compares' = bytes_compare ws' text' abi labels;
 }
 
 module _ {same same' : Same} {P : Place → Place → Type 0} {ws text ws' text' abi labels : List ℕ} {R : ℕ → ℕ → Type 0}
@@ -147,7 +141,7 @@ module _ {same same' : Same} {P : Place → Place → Type 0} {ws text ws' text'
   unfolding own_target
   own-target t d s = pairs-find (λ m. eqb (method_target ws m) t) (λ m. eqb (method_target ws' m) t) (λ m k r. rw (keeps.alike.target m k r)) s.own
 
-  own_fixed_lem : (i d : ℕ) → SameClass d → Both R (own_fixed same ws text abi labels i d) (own_fixed same' ws' text' abi labels i d)
+  pub own_fixed_lem : (i d : ℕ) → SameClass d → Both R (own_fixed same ws text abi labels i d) (own_fixed same' ws' text' abi labels i d)
   unfolding own_fixed own_method slot_at
   own_fixed_lem i d s =
       rw (same-abi d s)
@@ -207,11 +201,16 @@ module _ {same same' : Same} {P : Place → Place → Type 0} {ws text ws' text'
 
   pub relayed-same : (abis : List ℕ) → InSheet abi abis → {T U : List Entry} → Tables R T U
       → Tables R (relayed same abi abis T) (relayed same' abi abis U)
+  unfolding relayed staying_of
   relayed-same abis ins {T} {U} h =
-      rw (relayed_loop same abi keeps.compares abis T, relayed_loop same' abi keeps.compares' abis U)
-      (relays-same R (SameEntry R) (λ e e' s. s.method) (methods_same same) (methods_same same') (fixed_of same abi abis)
-      (fixed_of same' abi abis) (distance_of same abi abis) (distance_of same' abi abis) methods-same
-      (λ m k r. fixed_same m k r abis ins) (λ m k r. distance-same m k r abis ins) h h (pairs-blank (minimum_size abi abis) empty empty (same-empty R)))
+      let entries : (e e' : Entry) → SameEntry R e e' → Both R e.method e'.method = λ e e' s. s.method in
+      let fixed : (m k : ℕ) → R m k → fixed_of same abi abis m ≡ fixed_of same' abi abis k = λ m k r. fixed_same m k r abis ins in
+      laid_same R (SameEntry R) entries (fixed_of same abi abis) (fixed_of same' abi abis) fixed (methods_same same) (methods_same same') methods-same
+      (staying_of same abi abis T) (staying_of same' abi abis U)
+      (λ i.
+      (nearest_same R (SameEntry R) entries (fixed_of same abi abis) (fixed_of same' abi abis) fixed
+      (distance_of same abi abis) (distance_of same' abi abis) (λ m k r. distance-same m k r abis ins) (length abis) h i))
+      (same-empty R) h (minimum_size abi abis)
 
   pub extended-same : (abis : List ℕ) {T U : List Entry} → Tables R T U → Tables R (extended abi abis T) (extended abi abis U)
   unfolding extended

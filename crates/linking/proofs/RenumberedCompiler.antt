@@ -118,11 +118,8 @@ pub record Signed (P : Place → Place → Type 0) (ws text ws' text' : List ℕ
 
 module _ {same same' : Same} {P : Place → Place → Type 0} {ws text ws' text' abi labels : List ℕ} {R : ℕ → ℕ → Type 0}
     (keeps : Keeps same same' P ws text ws' text' abi labels R) (new new' : List Taken) where
-  abbrev S : ℕ → ℕ → Type 0
-  S = Signed P ws text ws' text' new new'
-
   -- methods of the sheet
-  pub of-sheet : (m k : ℕ) → m < method_limit → k < method_limit → R m k → S m k
+  pub of-sheet : (m k : ℕ) → m < method_limit → k < method_limit → R m k → Signed P ws text ws' text' new new' m k
   unfolding name_of place_of flags_of target_of
   of-sheet m k h l r =
       let a = lt-ltb m method_limit h in
@@ -134,74 +131,86 @@ module _ {same same' : Same} {P : Place → Place → Type 0} {ws text ws' text'
         target = rw (a, b) (keeps.alike.target m k r);
       }
 
-  module _ (c : ℕ) (methods : Pairs S (class_methods ws new c) (class_methods ws' new' c)) where
-    target-same : (t : ℕ) (e e' : Entry) → SameEntry S e e'
-        → Both S (entry_target ws new t e) (entry_target ws' new' t e')
-    unfolding entry_target
-    target-same t e e' s =
-        by_both s.method
-        (λ m k p q r.
-        rw (p, q, r.target) (by (eqb (target_of ws' new' k) t) (λ u. rw u (both r)) (λ u. rw u neither)))
-        (λ p q. rw (p, q) neither)
+  -- alike in these, and in whatever else `S` says of them
+  module _ (S : ℕ → ℕ → Type 0) (signed : (m k : ℕ) → S m k → Signed P ws text ws' text' new new' m k) where
+    module _ (c : ℕ) (methods : Pairs S (class_methods ws new c) (class_methods ws' new' c)) where
+      target-same : (t : ℕ) (e e' : Entry) → SameEntry S e e'
+          → Both S (entry_target ws new t e) (entry_target ws' new' t e')
+      unfolding entry_target
+      target-same t e e' s =
+          by_both s.method
+          (λ m k p q r.
+          rw (p, q, (signed m k r).target) (by (eqb (target_of ws' new' k) t) (λ u. rw u (both r)) (λ u. rw u neither)))
+          (λ p q. rw (p, q) neither)
 
-    module _ (view view' : List Entry) (h : Tables S view view') where
-      match_same : (t : ℕ) → Both S (match_target ws new c view t) (match_target ws' new' c view' t)
-      unfolding match_target
-      match_same t =
-          both-or
-          (pairs-find (λ m. eqb (target_of ws new m) t) (λ m. eqb (target_of ws' new' m) t) (λ m k r. rw r.target) methods)
-          (pairs_first S (entry_target ws new t) (entry_target ws' new' t) (target-same t) h)
+      module _ (view view' : List Entry) (h : Tables S view view') where
+        match_same : (t : ℕ) → Both S (match_target ws new c view t) (match_target ws' new' c view' t)
+        unfolding match_target
+        match_same t =
+            both-or
+            (pairs-find (λ m. eqb (target_of ws new m) t) (λ m. eqb (target_of ws' new' m) t) (λ m k r. rw (signed m k r).target) methods)
+            (pairs_first S (entry_target ws new t) (entry_target ws' new' t) (target-same t) h)
 
-      entry-same : (i t : ℕ) → SameEntry S (compiler_entry ws new c view i t) (compiler_entry ws' new' c view' i t)
-      unfolding compiler_entry
-      entry-same i t =
-          by (eqb t 0) (λ u. rw u (pairs-at h (same-empty S) i))
-          (λ u. rw u (record { word = refl; method = match_same t; source = refl }))
+        entry-same : (i t : ℕ) → SameEntry S (compiler_entry ws new c view i t) (compiler_entry ws' new' c view' i t)
+        unfolding compiler_entry
+        entry-same i t =
+            by (eqb t 0) (λ u. rw u (pairs-at h (same-empty S) i))
+            (λ u. rw u (record { word = refl; method = match_same t; source = refl }))
 
-      pub compiler-entries : (i : ℕ) (ts : List ℕ)
-          → Tables S (compiler_entries ws new c view i ts) (compiler_entries ws' new' c view' i ts)
-      unfolding compiler_entries
-      compiler-entries i [] = none
-      compiler-entries i (t ∷ ts) = pair (entry-same i t) (compiler-entries (i + 1) ts)
+        pub compiler-entries : (i : ℕ) (ts : List ℕ)
+            → Tables S (compiler_entries ws new c view i ts) (compiler_entries ws' new' c view' i ts)
+        unfolding compiler_entries
+        compiler-entries i [] = none
+        compiler-entries i (t ∷ ts) = pair (entry-same i t) (compiler-entries (i + 1) ts)
 
-  -- appended methods
-  signature-same : (m k n l : ℕ) → S m k → S n l
-      → same_signature same new m n ≡ same_signature same' new' k l
-  unfolding same_signature
-  signature-same m k n l r s = keeps.agree (place_of new m) (place_of new' k) (place_of new n) (place_of new' l) r.place s.place
+    -- appended methods
+    signature-same : (m k n l : ℕ) → S m k → S n l
+        → same_signature same new m n ≡ same_signature same' new' k l
+    unfolding same_signature
+    signature-same m k n l r s = keeps.agree (place_of new m) (place_of new' k) (place_of new n) (place_of new' l) (signed m k r).place (signed n l s).place
 
-  has_same : (m k : ℕ) → S m k → {T U : List Entry} → Tables S T U
-      → has_slot same new m T ≡ has_slot same' new' k U
-  unfolding has_slot
-  has_same m k r h =
-      pairs-some (λ e. on_found e.method (same_signature same new m) false)
-      (λ e. on_found e.method (same_signature same' new' k) false)
-      (λ e e' s. by_both s.method (λ n l p q t. rw (p, q) (signature-same m k n l r t)) (λ p q. rw (p, q))) h
+    has_same : (m k : ℕ) → S m k → {T U : List Entry} → Tables S T U
+        → has_slot same new m T ≡ has_slot same' new' k U
+    unfolding has_slot
+    has_same m k r h =
+        pairs-some (λ e. on_found e.method (same_signature same new m) false)
+        (λ e. on_found e.method (same_signature same' new' k) false)
+        (λ e e' s. by_both s.method (λ n l p q t. rw (p, q) (signature-same m k n l r t)) (λ p q. rw (p, q))) h
 
-  append-same : (source : Option ℕ) (T U : List Entry) (m k : ℕ) → Tables S T U → S m k
-      → Tables S (append_from same ws text new source T m) (append_from same' ws' text' new' source U k)
-  unfolding append_from
-  append-same source T U m k h r =
-      rw (r.flags, r.name, has_same m k r h)
-      (by (is_eligible (flags_of ws' new' k) (name_of ws' text' new' k) && not (has_slot same' new' k U))
-      (λ t. rw t (pairs-append h (pair (record { word = r.target; method = both r; source = refl }) none)))
-      (λ t. rw t h))
+    append-same : (source : Option ℕ) (T U : List Entry) (m k : ℕ) → Tables S T U → S m k
+        → Tables S (append_from same ws text new source T m) (append_from same' ws' text' new' source U k)
+    unfolding append_from
+    append-same source T U m k h r =
+        rw ((signed m k r).flags, (signed m k r).name, has_same m k r h)
+        (by (is_eligible (flags_of ws' new' k) (name_of ws' text' new' k) && not (has_slot same' new' k U))
+        (λ t. rw t (pairs-append h (pair (record { word = (signed m k r).target; method = both r; source = refl }) none)))
+        (λ t. rw t h))
 
-  append-entry : (T U : List Entry) (e e' : Entry) → Tables S T U → SameEntry S e e'
-      → Tables S (append_entry same ws text new T e) (append_entry same' ws' text' new' U e')
-  unfolding append_entry
-  append-entry T U e e' h s =
-      by_both s.method (λ m k p q r. rw (p, q, s.source) (append-same e'.source T U m k h r)) (λ p q. rw (p, q) h)
+    append-entry : (T U : List Entry) (e e' : Entry) → Tables S T U → SameEntry S e e'
+        → Tables S (append_entry same ws text new T e) (append_entry same' ws' text' new' U e')
+    unfolding append_entry
+    append-entry T U e e' h s =
+        by_both s.method (λ m k p q r. rw (p, q, s.source) (append-same e'.source T U m k h r)) (λ p q. rw (p, q) h)
 
-  -- the table, of the methods `new` and `new'` that are added
-  pub tables-same : (c : ℕ) → Pairs S (class_methods ws new c) (class_methods ws' new' c)
-      → (view view' T U : List Entry) → Tables S view view' → Tables S T U → (ts : List ℕ)
-      → Tables S
+    -- the table, of the methods `new` and `new'` that are added
+    pub tables_by : (c : ℕ) → Pairs S (class_methods ws new c) (class_methods ws' new' c)
+        → (view view' T U : List Entry) → Tables S view view' → Tables S T U → (ts : List ℕ)
+        → Tables S
+        (fold (append_entry same ws text new)
+        (fold (append_from same ws text new None) (compiler_entries ws new c view 0 ts) (class_methods ws new c)) T)
+        (fold (append_entry same' ws' text' new')
+        (fold (append_from same' ws' text' new' None) (compiler_entries ws' new' c view' 0 ts) (class_methods ws' new' c)) U)
+    tables_by c methods view view' T U v p ts =
+        pairs-fold (Tables S) (append_entry same ws text new) (append_entry same' ws' text' new') append-entry p
+        (pairs-fold (Tables S) (append_from same ws text new None) (append_from same' ws' text' new' None) (append-same None) methods
+        (compiler-entries c methods view view' v 0 ts))
+
+  pub tables-same : (c : ℕ) → Pairs (Signed P ws text ws' text' new new') (class_methods ws new c) (class_methods ws' new' c)
+      → (view view' T U : List Entry) → Tables (Signed P ws text ws' text' new new') view view' → Tables (Signed P ws text ws' text' new new') T U
+      → (ts : List ℕ)
+      → Tables (Signed P ws text ws' text' new new')
       (fold (append_entry same ws text new)
       (fold (append_from same ws text new None) (compiler_entries ws new c view 0 ts) (class_methods ws new c)) T)
       (fold (append_entry same' ws' text' new')
       (fold (append_from same' ws' text' new' None) (compiler_entries ws' new' c view' 0 ts) (class_methods ws' new' c)) U)
-  tables-same c methods view view' T U v p ts =
-      pairs-fold (Tables S) (append_entry same ws text new) (append_entry same' ws' text' new') append-entry p
-      (pairs-fold (Tables S) (append_from same ws text new None) (append_from same' ws' text' new' None) (append-same None) methods
-      (compiler-entries c methods view view' v 0 ts))
+  tables-same = tables_by (Signed P ws text ws' text' new new') (λ m k s. s)
