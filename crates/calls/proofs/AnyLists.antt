@@ -1,7 +1,6 @@
--- WHATEVER LISTS OF MISSING SLOTS ARE LENT (specs/AnyLists.antt): a link reads its list in row 15's last clause alone (Before.antt), so a list long enough may be
--- any other one, and a link with one too short leaves set and area, as a link of no class does. Assumes nothing.
-use Rattle.std.proofs.Common.{◌≡◌, refl, sym, ap, ◌∙◌, subst, ◌≢◌, ◌⊎◌, inl, inr, Bool, true, false, true≢false, List, [], ◌∷◌, map, ℕ, ◌*◌, ◌≤◌, arith, length, replicate, le-ltb}
-use mathlib.Core.List.{Memᴰ}
+-- WHATEVER LISTS OF MISSING SLOTS ARE LENT (specs/AnyLists.antt): a link reads its list in row 15's last clause alone (Before.antt), so a list long enough may
+-- be any other one, and a link with one too short leaves set and area, as a link of no class does. Assumes nothing.
+use Rattle.std.proofs.Common.{◌≡◌, refl, sym, ap, ◌∙◌, subst, inl, inr, Bool, true, false, true≢false, List, [], ◌∷◌, map, ℕ, ◌*◌, ◌≤◌, arith, length, replicate, le-ltb}
 use lib.ListN.{length-replicate}
 use Rattle.words.proofs.Bools.{by}
 use Rattle.class_sheet.specs.ClassSheet.{class_count}
@@ -10,7 +9,7 @@ use Rattle.linking.specs.Link.{HasTable, Outcome, LinkOutcome, link_def}
 use Rattle.calls.specs.Calls.{Call, link, ask, State, outcome, step, run, left, Unlinked, LinkedIn, now, later, Lent, lent_now, lent_later, stubs_of}
 use Rattle.calls.specs.Demand.{Conditions}
 use Rattle.calls.specs.Kept.{SameStubs, OnList, Once, Right, Found, BuildsSame, AskedIn, asked_now, asked_later}
-use Rattle.calls.specs.AnyLists.{Lending, with_list, outcome_lent, step_lent, run_lent, without_lists, Answered, answered_now, answered_later, unless_short, handed, with_one_list, SameMemory, SameOrRefused, handed_on, OneList, StillThere, KeptAnyLists, LinkedLent, DemandAnyLists}
+use Rattle.calls.specs.AnyLists.{Lending, with_list, outcome_lent, step_lent, run_lent, without_lists, Answered, answered_now, answered_later, unless_short, handed, with_one_list, SameMemory, SameOrRefused, handed_on, OneList, StillThere, KeptAnyLists, DemandAnyLists}
 use Rattle.calls.proofs.Rows.{Refused, link-cases, ask-cases}
 use Rattle.calls.proofs.Tables.{leaves, same-state}
 use Rattle.calls.proofs.Before.{Long, step-long, link-before}
@@ -215,34 +214,6 @@ module _ (ws abi : List ℕ) (c first second : ℕ) where
       rw (k.made, q) (now stubs (rw o at e) (rw o at f) (rw o at g))
   linked-one stubs {s} (answered_later {l = l} j) t a = later (linked-one stubs j (step abi t (handed ws l)) (next-alike ws abi s t a l))
 
-  -- and the other way round, of links
-  record Now (k : Call) (t : State) : Type 0 where
-    stubs : List ℕ
-    call : k ≡ link c stubs
-    refusal : (outcome abi t k).refusal ≡ 0
-    first-is : (outcome abi t k).first ≡ first
-    second-is : (outcome abi t k).second ≡ second
-
-  linked-cases : {t : State} {k : Call} {ks : List Call} → LinkedIn abi c first second t (k ∷ ks)
-      → Now k t ⊎ LinkedIn abi c first second (step abi t k) ks
-  linked-cases (now stubs e f g) = inl (record { stubs = stubs; call = refl; refusal = e; first-is = f; second-is = g })
-  linked-cases (later j) = inr j
-
-  not-linked : {t : State} → LinkedIn abi c first second t [] → ⊥
-  not-linked j = elim j [ ]
-
-  one-linked : (ls : List Lending) (s t : State) → Alike ws abi s t → LinkedIn abi c first second t (with_one_list ws ls)
-      → LinkedLent abi s ls c first second
-  one-linked [] s t a j = absurd (not-linked j)
-  one-linked (l ∷ ls) s t a j =
-      elim (linked-cases j) [
-        | inl n ↦
-            let k = accepted-then ws abi s t a l n.refusal in
-            let o : outcome_lent abi s l ≡ outcome abi t (handed ws l) = k.answers ∙ ap (outcome abi t) (sym k.made) in
-            (n.stubs, answered_now (sym k.made ∙ n.call) (rw o n.refusal) (rw o n.first-is) (rw o n.second-is))
-        | inr i ↦ let r = one-linked ls (step_lent abi s l) (step abi t (handed ws l)) (next-alike ws abi s t a l) i in (r.0, answered_later r.1)
-      ]
-
 -- ---- THE THEOREMS
 
 module _ (abi : List ℕ) (s : State) (unlinked : Unlinked s.set) (ls : List Lending) where
@@ -327,20 +298,10 @@ kept-any-lists = record {
 
 -- ---- demand 3
 
-lent-cases : {x : ℕ} {k : Call} {ks : List Call} → Lent x (k ∷ ks) → Memᴰ x (stubs_of k) ⊎ Lent x ks
-lent-cases (lent_now i) = inl i
-lent-cases (lent_later j) = inr j
-
-none-lent : {x : ℕ} → Lent x [] → ⊥
-none-lent j = elim j [ ]
-
 lent-same : (ws : List ℕ) {x : ℕ} (ls : List Lending) → Lent x (with_one_list ws ls) → Lent x (without_lists ls)
-lent-same ws [] j = absurd (none-lent j)
-lent-same ws (l ∷ ls) j =
-    elim (lent-cases j) [
-      | inl i ↦ lent_now (rw (same_stub (missing_short ws l.list) l.call) at i)
-      | inr i ↦ lent_later (lent-same ws ls i)
-    ]
+lent-same ws [] j = elim j [ ]
+lent-same ws (l ∷ ls) (lent_now i) = lent_now (rw (same_stub (missing_short ws l.list) l.call) at i)
+lent-same ws (l ∷ ls) (lent_later j) = lent_later (lent-same ws ls j)
 
 conditions-one : (ws abi : List ℕ) (c : ℕ) (ls : List Lending) → Conditions ws abi (without_lists ls) c → Conditions ws abi (with_one_list ws ls) c
 conditions-one ws abi c ls k = record {
@@ -355,11 +316,7 @@ conditions-one ws abi c ls k = record {
 
 pub demand-any-lists : DemandAnyLists
 demand-any-lists = record {
-  links = λ abi s list h ls c place slots. (
-    λ j. linked-one s.set abi c place slots j.0 j.1 (with_list s list) (start-alike abi s list h),
-    λ j. one-linked s.set abi c place slots ls s (with_list s list) (start-alike abi s list h) j,
-  );
-  claim = λ abi s list h unlinked ls c place slots j k.
-      demand_3 s.set abi s.area list unlinked (with_one_list s.set ls) c place slots
-      (linked-one s.set abi c place slots j.0 j.1 (with_list s list) (start-alike abi s list h)) (conditions-one s.set abi c ls k);
+  linked = λ abi s list h ls c place slots stubs j. linked-one s.set abi c place slots stubs j (with_list s list) (start-alike abi s list h);
+  claim = λ abi s list unlinked ls c place slots j k.
+      demand_3 s.set abi s.area list unlinked (with_one_list s.set ls) c place slots j (conditions-one s.set abi c ls k);
 }

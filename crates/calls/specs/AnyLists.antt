@@ -1,8 +1,8 @@
--- WHATEVER LISTS OF MISSING SLOTS ARE LENT: `OneList`, `KeptAnyLists` and `DemandAnyLists`, at the end, are the statements; proofs/AnyLists.antt proves them. In
--- Calls.antt each link gets the list of missing slots as the last call left it. That a kept interface table is the right one is asked of calls that get "sheet,
--- area and ticket 10's list, filled from the two sheets, as the last left them": of the list of missing slots nothing is said. Here each call is lent a list of
--- its own, of any length and content. Assumes nothing.
-use Rattle.std.specs.Prelude.{ℕ, ◌+◌, ◌*◌, ◌≤◌, ◌≡◌, ◌≢◌, ◌⊎◌, ◌↔◌, Bool, false, cond, List, [], ◌∷◌, map, replicate}
+-- WHATEVER LISTS OF MISSING SLOTS ARE LENT: `OneList`, `KeptAnyLists` and `DemandAnyLists` are the statements; proofs/AnyLists.antt proves them. In Calls.antt
+-- each link gets the list of missing slots as the last call left it. That a kept interface table is the right one is asked of calls that get "sheet, area and
+-- ticket 10's list, filled from the two sheets, as the last left them": of the list of missing slots nothing is said. Here each call is lent a list of its own,
+-- of any length and content. Assumes nothing.
+use Rattle.std.specs.Prelude.{ℕ, ◌+◌, ◌*◌, ◌≤◌, ◌≡◌, ◌≢◌, ◌⊎◌, Bool, false, cond, List, [], ◌∷◌, map, replicate}
 use Rattle.class_sheet.specs.ClassSheet.{class_count}
 use Rattle.linking.specs.Counts.{missing_width, missing_short}
 use Rattle.linking.specs.Link.{HasTable, Outcome}
@@ -108,16 +108,11 @@ pub record KeptAnyLists : Type 0 where
   pub one_stub_list : (abi stubs : List ℕ) (s : State) → Unlinked s.set → (ls : List Lending) → SameStubs stubs (without_lists ls)
       → OneStubList abi s ls stubs
 
--- ---- and demand 3's claim (Demand.antt)
+-- ---- and demand 3's claim (Demand.antt), of the links and tables where one list is handed on: by `OneList` these are theirs
 
--- a link of class c was accepted, and answered so
-abbrev pub LinkedLent : List ℕ → State → List Lending → ℕ → ℕ → ℕ → Type 0
-LinkedLent abi s ls c place slots = (stubs : List ℕ) × Answered abi (link c stubs) place slots s ls
-
--- it speaks of the links and tables where one list is handed on: these are theirs (of the area: `memory` of `OneList`)
 pub record DemandAnyLists : Type 0 where
-  pub links : (abi : List ℕ) (s : State) (list : List ℕ) → missing_short s.set list ≡ false → (ls : List Lending) (c place slots : ℕ)
-      → LinkedLent abi s ls c place slots ↔ Linked s.set abi s.area list (with_one_list s.set ls) c place slots
-  pub claim : (abi : List ℕ) (s : State) (list : List ℕ) → missing_short s.set list ≡ false → Unlinked s.set → (ls : List Lending) (c place slots : ℕ)
-      → LinkedLent abi s ls c place slots → Conditions s.set abi (without_lists ls) c
+  pub linked : (abi : List ℕ) (s : State) (list : List ℕ) → missing_short s.set list ≡ false → (ls : List Lending) (c place slots : ℕ) (stubs : List ℕ)
+      → Answered abi (link c stubs) place slots s ls → Linked s.set abi s.area list (with_one_list s.set ls) c place slots
+  pub claim : (abi : List ℕ) (s : State) (list : List ℕ) → Unlinked s.set → (ls : List Lending) (c place slots : ℕ)
+      → Linked s.set abi s.area list (with_one_list s.set ls) c place slots → Conditions s.set abi (without_lists ls) c
       → Claim s.set abi s.area list (with_one_list s.set ls) c place slots
