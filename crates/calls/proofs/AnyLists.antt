@@ -152,8 +152,11 @@ module _ (s : State) (list : List ℕ) where
     places = o.places;
     spelt = o.spelt;
     different = o.different;
+    linked = o.linked;
     few = o.few;
     sound = o.sound;
+    misses = o.misses;
+    hits = o.hits;
     nodes_read = o.nodes_read;
   }
 
@@ -168,7 +171,16 @@ module _ (s : State) (list : List ℕ) where
   }
 
   this-list-found : {abi : List ℕ} {c i node : ℕ} {stubs : List ℕ} → Found abi (with_list s list) c i node stubs → Found abi s c i node stubs
-  this-list-found f = record { accepted = f.accepted; place = f.place; same_area = f.same_area }
+  this-list-found f = record {
+    front = f.front;
+    back = f.back;
+    spelt = f.spelt;
+    accepted = f.accepted;
+    place = f.place;
+    nodes = f.nodes;
+    same_set = f.same_set;
+    same_area = f.same_area;
+  }
 
 -- ---- an accepted call of the list is made where one list is handed on, and answers the same
 
