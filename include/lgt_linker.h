@@ -504,13 +504,13 @@ uint32_t lgt_missing_slots(const uint32_t *set, size_t set_len, const uint32_t *
 /*
  * Asks for a class's table of an interface; both are linked classes. The rest is lent as to a link, without the list of missing slots.
  * Answers: answer[0], the place after the node's link word, where the interface number and then the slots stand, as many as
- * the interface's table has; answer[1], how many nodes of the class's list were read on the way: at most as many as there are
- * classes where the calls began with an unlinked set, and at most 64 anyway.
+ * the interface's table has; answer[1], how many nodes of the class's list were read on the way: at most 64, and at most as many as
+ * there are classes where set, area and ABI words are kept as below (the stubs may differ).
  * Leaves: nothing changed if the class's list has a node of the interface. Else, from the next free place on, a node: the
  * old list head, the interface number, the slots; the class's list head and word 0 of the area change. The set is only read.
  * Keeps: a table once answered stays at its place, and stays right: after any links and asks, accepted or refused, its slots are those
  * that an ask would build at that moment. So a caller may keep the place, as long as all calls began with an unlinked set, each gets set
- * and area as the last one left them, and all lend the same ABI words and the same stubs.
+ * and area as the last one left them, and all lend the same ABI words and the same stubs; a link's list of missing slots may be any.
  * Refuses by 3 to 7, 16, 15.
  */
 LGT_MUST_USE

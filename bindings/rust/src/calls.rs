@@ -312,7 +312,8 @@ pub fn missing_slots(set: &[u32], abi: &[u32], missing: &[u32], class: u32) -> R
 ///
 /// A table once answered stays at its place, and stays the one that would be built at that moment, slot for slot, whatever links and asks
 /// follow: a caller may keep the place. This is so where all calls began with an unlinked set, each gets set and area as the last one
-/// left them, and all lend the same ABI words and stubs; the nodes read are then at most as many as there are classes.
+/// left them, and all lend the same ABI words and stubs, whatever list of missing slots a link is lent. The nodes read are then at most
+/// as many as there are classes, whatever the stubs.
 ///
 /// # Errors
 ///

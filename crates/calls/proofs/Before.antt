@@ -143,10 +143,10 @@ module _ (ws abi : List ℕ) (c : ℕ) (area stubs list other : List ℕ) where
 
 -- ---- any list of calls: the list of missing slots keeps its length, and the set its classes
 
-abbrev Long : State → Type 0
+abbrev pub Long : State → Type 0
 Long s = missing_short s.set s.missing ≡ false
 
-step-long : (abi : List ℕ) (s : State) (k : Call) → Long s → Long (step abi s k)
+pub step-long : (abi : List ℕ) (s : State) (k : Call) → Long s → Long (step abi s k)
 unfolding step missing_short
 step-long abi s (link c stubs) h =
     let o : LinkOutcome = link_def s.set abi c s.area stubs s.missing in

@@ -32,7 +32,7 @@ use Rattle.calls.proofs.ElsewhereAsk.{put_in, other-ask, ask-next}
 use Rattle.calls.proofs.NodeLists.{Layout}
 use Rattle.calls.proofs.NodeLinks.{wrote_layout}
 use Rattle.calls.proofs.LinkNext.{link-next}
-use Rattle.calls.proofs.Rows.{Asked, ask-cases}
+use Rattle.calls.proofs.Rows.{PutsNode, ask-cases}
 use Rattle.calls.proofs.Puts.{put_next, put-layout}
 use Rattle.calls.proofs.Clear.{clear?}
 use Rattle.calls.proofs.OldRun.{step_as_before}
@@ -109,7 +109,7 @@ module _ (abi : List ℕ) (E : ℕ → Type 0) where
       let e = linked-free s.area c w.coming.table stubs (sound s.set s.area w.lent).some w.room.free in
       rw (w.new-area, e, ne_eqb (next_free s.area + length w.coming.table + 2) (next_free s.area) (λ q. omega arith)) refl
 
-  ask-took : (s : State) (c i : ℕ) (stubs : List ℕ) (o : Outcome) → Asked s.set abi c i s.area stubs o → takes s.area o ≡ true
+  ask-took : (s : State) (c i : ℕ) (stubs : List ℕ) (o : Outcome) → PutsNode s.set abi c i s.area stubs o → takes s.area o ≡ true
   ask-took s c i stubs o p =
       let e = put_next abi s c i stubs o p in
       rw (e, ne_eqb (next_free s.area + length p.entries + 2) (next_free s.area) (λ q. omega arith)) refl

@@ -17,20 +17,21 @@ use Rattle.calls.proofs.BesideNext.{held_turned, held_then, walk_turned, walk_th
 use Rattle.calls.proofs.Elsewhere.{walk_of, Related}
 use Rattle.calls.proofs.ElsewhereNext.{linked-there}
 use Rattle.calls.proofs.NodeLists.{Layout}
-use Rattle.calls.proofs.Rows.{Asked}
+use Rattle.calls.proofs.Rows.{PutsNode}
 use Rattle.calls.proofs.Puts.{put-size, put_next, put-sound, put-table, put-found, put_walks}
 
 -- what an ask leaves
 abbrev pub put_in : State → Outcome → State
 put_in s o = record { set = s.set; area = o.area; missing = s.missing }
 
-put-held : (abi : List ℕ) (s : State) (c i : ℕ) (stubs : List ℕ) (o : Outcome) (p : Asked s.set abi c i s.area stubs o) → Layout s → (d : ℕ) → HasTable s.set d
-    → Held s.set s.set s.area o.area d
+put-held : (abi : List ℕ) (s : State) (c i : ℕ) (stubs : List ℕ) (o : Outcome) (p : PutsNode s.set abi c i s.area stubs o) → Layout s → (d : ℕ)
+    → HasTable s.set d → Held s.set s.set s.area o.area d
 put-held abi s c i stubs o p lay d l = record { linked = refl; slots = refl; words = λ k h. sym (put-table abi s c i stubs o p lay d l k h) }
 
 module _ (abi : List ℕ) (E : ℕ → Type 0) (c i : ℕ) (stubs : List ℕ) where
   -- in one run
-  pub other-ask : (s : State) (o : Outcome) → Asked s.set abi c i s.area stubs o → Layout s → Related abi E s s → (E c → E i → ⊥) → Related abi E s (put_in s o)
+  pub other-ask : (s : State) (o : Outcome) → PutsNode s.set abi c i s.area stubs o → Layout s → Related abi E s s → (E c → E i → ⊥)
+      → Related abi E s (put_in s o)
   other-ask s o p lay self none = record {
     sets = self.sets;
     held = λ d x l. put-held abi s c i stubs o p lay d l;
@@ -52,7 +53,8 @@ module _ (abi : List ℕ) (E : ℕ → Type 0) (c i : ℕ) (stubs : List ℕ) wh
           (λ t. inl (eqb-false d c t))
 
   -- in both
-  module _ (s t : State) (o o' : Outcome) (p : Asked s.set abi c i s.area stubs o) (p' : Asked t.set abi c i t.area stubs o') (lay : Layout s) (lay' : Layout t)
+  module _ (s t : State) (o o' : Outcome) (p : PutsNode s.set abi c i s.area stubs o) (p' : PutsNode t.set abi c i t.area stubs o')
+      (lay : Layout s) (lay' : Layout t)
       (rel : Related abi E s t) (calm : E c) (calm' : E i)
       (words : table_at o.area o.first (class_slot_count s.set i) ≡ table_at o'.area o'.first (class_slot_count s.set i)) where
     new-walk : SameWalk o.area o'.area (class_slot_count s.set i) (walk_of (put_in s o) c i) (walk_of (put_in t o') c i)

@@ -4,7 +4,7 @@ use mathlib.Core.Path.{◌≡◌, refl, sym, ap, ◌∙◌, subst}
 use mathlib.Core.Logic.{inl, inr}
 use mathlib.Core.Bool.{false}
 use mathlib.Core.List.Memᴰ
-use mathlib.Core.List.{List, [], ◌∷◌, map, Memᴰ, Memᴰ}
+use mathlib.Core.List.{List, [], ◌∷◌, ◌++◌, map, Memᴰ}
 use Prim.Native.Nat.{ℕ, zero, suc, ◌+◌, ◌≤◌, ◌<◌}
 use native.Mathlib.Omega.{arith}
 use lib.ListN.{length, get_or}
@@ -16,9 +16,9 @@ use Rattle.set_rules.specs.SetRules.{set_refusal}
 use Rattle.abi_sheet.specs.AbiSheet.{abi_text_of}
 use Rattle.linking.specs.Vtable.{Built, build_methods}
 use Rattle.linking.specs.Link.{HasTable, no_class, next_free, bad_area, plan_with, Outcome, LinkOutcome}
-use Rattle.linking.specs.Ask.{hit, walk, bad_ask, ask_def}
+use Rattle.linking.specs.Ask.{Walk, hit, walk, bad_ask, ask_def}
 use Rattle.slots.proofs.ListFacts.{in_none}
-use Rattle.calls.specs.Calls.{left, Call, link, ask, State, start, step, run, left}
+use Rattle.calls.specs.Calls.{Call, link, ask, State, start, step, run, left}
 use Rattle.calls.specs.Kept.{head_of, interface_at, Spells, OnList, Different, Found, FoundAgain}
 use Rattle.calls.proofs.Rows.{ask-cases}
 use Rattle.calls.proofs.Wrote.{with_cases, wrote_sound}
@@ -38,9 +38,16 @@ in_mapped f [] i = in_none refl i
 in_mapped f (m ∷ ns) i =
     elim (Memᴰ.cases_cons i) [ inl e ↦ Memᴰ.head (ap f e) | inr j ↦ Memᴰ.tail (in_mapped f ns j) ]
 
+-- the walk has come to this node, after those in front of it
+record Reached (ns : List ℕ) (node read : ℕ) (w : Walk) : Type 0 where
+  front : List ℕ
+  back : List ℕ
+  split : ns ≡ front ++ node ∷ back
+  walks : w ≡ hit node (read + length front + 1)
+
 module _ (area : List ℕ) (i : ℕ) where
   finds : (ns : List ℕ) (left read head node : ℕ) → Spells area head ns → length ns ≤ left → ((n : ℕ) → Memᴰ n ns → n + 1 < next_free area)
-      → Different (map (interface_at area) ns) → Memᴰ node ns → interface_at area node ≡ i → (k : ℕ) × (walk area i left read head ≡ hit node k)
+      → Different (map (interface_at area) ns) → Memᴰ node ns → interface_at area node ≡ i → Reached ns node read (walk area i left read head)
   unfolding walk
   finds [] left read head node s l below d m e = in_none refl m
   finds (n ∷ ns) zero read head node s l below d m e = absurd (omega arith)
@@ -54,13 +61,19 @@ module _ (area : List ℕ) (i : ℕ) where
         | inl p ↦ p
         | inr j ↦ absurd (d.0 (subst (λ (x : ℕ). Memᴰ x (map (interface_at area) ns)) (e ∙ sym q) (in_mapped (interface_at area) ns j)))
       ] in
-      (read + 1, rw (s.0, ne_eqb n 0 s.1, b, t, same) refl))
+      let k : read + 0 + 1 ≡ read + 1 = omega arith in
+      record { front = []; back = ns; split = rw same refl; walks = rw (s.0, ne_eqb n 0 s.1, b, t, same, k) refl })
       (λ f.
       elim (Memᴰ.cases_cons m) [
         | inl p ↦ absurd (eqb-false (get_or area (n + 1) 0) i f (ap (interface_at area) (sym p) ∙ e))
         | inr j ↦
             let r = finds ns left (read + 1) (get_or area n 0) node s.2 (omega arith) (λ k x. below k (Memᴰ.tail x)) d.1 j e in
-            (r.0, rw (s.0, ne_eqb n 0 s.1, b, f) r.1)
+            record {
+              front = n ∷ r.front;
+              back = r.back;
+              split = ap (λ (x : List ℕ). n ∷ x) r.split;
+              walks = rw (s.0, ne_eqb n 0 s.1, b, f) (r.walks ∙ ap (hit node) (omega arith));
+            }
       ])
 
 -- ---- row 7
@@ -123,8 +136,8 @@ module _ (abi : List ℕ) (s : State) (valid : set_refusal s.set abi ≡ 0) (sit
       )
       refl
 
-  walks : (k : ℕ) × (walk s.area i 64 0 (head_of s c) ≡ hit node k)
-  walks =
+  reached : Reached ns.places node 0 (walk s.area i 64 0 (head_of s c))
+  reached =
       let f = few abi Whatever s c ns in
       finds s.area i ns.places 64 0 (head_of s c) node ns.list.spelt (omega arith) (λ n j. omega (arith, (ns.list.each n j).below)) ns.list.different here on.of
 
@@ -133,8 +146,18 @@ module _ (abi : List ℕ) (s : State) (valid : set_refusal s.set abi ≡ 0) (sit
   found =
       let v = eq-eqb (set_refusal s.set abi) 0 valid in
       let a = sits c l in
-      let w = walks.1 in
-      record { accepted = rw (v, asks, a, w) refl; place = rw (v, asks, a, w) refl; same_area = rw (v, asks, a, w) refl }
+      let r = reached in
+      let w = r.walks in
+      record {
+        front = r.front;
+        back = r.back;
+        spelt = subst (Spells s.area (head_of s c)) r.split ns.list.spelt;
+        accepted = rw (v, asks, a, w) refl;
+        place = rw (v, asks, a, w) refl;
+        nodes = rw (v, asks, a, w) (omega arith);
+        same_set = rw (v, asks, a, w) refl;
+        same_area = rw (v, asks, a, w) refl;
+      }
 
 pub found-again : FoundAgain
 found-again ws abi area missing unlinked calls c i node l on stubs =

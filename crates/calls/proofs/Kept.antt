@@ -28,7 +28,7 @@ use Rattle.calls.proofs.Area.{asked-slots}
 use Rattle.calls.proofs.Like.{like-same}
 use Rattle.calls.proofs.Like as like
 use Rattle.calls.proofs.Dispatch.{built-size, built_alike}
-use Rattle.calls.proofs.Rows.{Hits, Asked, ask-cases}
+use Rattle.calls.proofs.Rows.{Hits, PutsNode, ask-cases}
 use Rattle.calls.proofs.Walk.{ended, missed-all, hit-one, spells_one}
 use Rattle.calls.proofs.NodeLists as laid
 use Rattle.calls.proofs.Nodes.{Nodes, Stands, stands-start, step-stands, StillOn, answered-on, Lends, run-stands, run_on}
@@ -58,7 +58,17 @@ module _ (abi : List ℕ) (L : List ℕ → Type 0) (s : State) (c : ℕ) (ns : 
       laid.sound-list s.set s.area i 64 0 ns.list (omega arith)
 
   once : class_count s.set ≤ 64 → Once abi (class_count s.set) s c
-  once h = record { places = ns.places; spelt = ns.list.spelt; different = ns.list.different; few = few; sound = sound-list h; nodes_read = read }
+  once h = record {
+    places = ns.places;
+    spelt = ns.list.spelt;
+    different = ns.list.different;
+    linked = λ n m. (ns.list.each n m).interface;
+    few = few;
+    sound = sound-list h;
+    misses = λ i k e. let m = (missed-all s.area i ns.places 64 0 (head_of s c) k ns.list.spelt e).1 in omega arith;
+    hits = λ i n k e. let m = (hit-one s.area i ns.places 64 0 (head_of s c) n k ns.list.spelt e).2 in omega arith;
+    nodes_read = read;
+  }
 
 -- ---- THE THEOREMS
 
@@ -108,7 +118,7 @@ record Answers (abi stubs : List ℕ) (s : State) (c i : ℕ) : Type 0 where
   slots : answered abi s c i stubs ≡ slot_words stubs 0 entries
 
 -- where it puts a node
-built-answers : (abi stubs : List ℕ) (s : State) (c i : ℕ) → Asked s.set abi c i s.area stubs (ask_def s.set abi c i s.area stubs)
+built-answers : (abi stubs : List ℕ) (s : State) (c i : ℕ) → PutsNode s.set abi c i s.area stubs (ask_def s.set abi c i s.area stubs)
     → Answers abi stubs s c i
 built-answers abi stubs s c i a =
     let o : Outcome = ask_def s.set abi c i s.area stubs in

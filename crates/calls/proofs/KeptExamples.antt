@@ -18,10 +18,11 @@ use Rattle.linking.proofs.Assemble as assemble
 use Rattle.linking.proofs.Assemble.{AbiClass, method, flagged, built, interface, compiled, linked_at, abi, slot, sized, class_sheet, abi_sheet, lent, spare, fresh, sevens}
 use Rattle.linking.proofs.Opened.{opened}
 use Rattle.calls.specs.Calls.{left, Call, link, ask, State, start, outcome, table_at}
-use Rattle.calls.specs.Kept.{SameStubs, head_of, interface_at, Spells, OnList, Different, Once, built_afresh, Right, BuildsSame}
+use Rattle.calls.specs.Kept.{SameStubs, head_of, interface_at, Spells, OnList, Different, Once, built_afresh, Right, BuildsSame, Found, AnswerKept, AskedIn, asked_now, asked_later}
 use Rattle.calls.proofs.Tests.{is_unlinked, unlinked-holds, answers, shown}
 use Rattle.calls.proofs.Walk.{spells_one}
-use Rattle.calls.proofs.Kept.{kept_tables, asked-afresh}
+use Rattle.calls.proofs.Kept.{once-only, kept_tables, kept-answers, asked-afresh}
+use Rattle.calls.proofs.Found.{found-again}
 
 abbrev world : assemble.Lent
 world =
@@ -94,8 +95,30 @@ first-node : OnList final 3 1 18
 unfolding opened shown ws sheet
 first-node = record { places = 29 ∷ 26 ∷ 18 ∷ []; spelt = spelt; along = Memᴰ.tail (Memᴰ.tail (Memᴰ.head refl)); of = refl }
 
+third-node : OnList final 3 3 29
+unfolding opened shown ws sheet
+third-node = record { places = 29 ∷ 26 ∷ 18 ∷ []; spelt = spelt; along = Memᴰ.head refl; of = refl }
+
+-- its node is the one that the fifth call put
+first-ask : AskedIn sheet 3 1 19 0 (start ws area missing) calls
+unfolding opened shown ws sheet
+first-ask = asked_later (asked_later (asked_later (asked_later (asked_now stubs refl refl refl))))
+
 pub instance : Right sheet stubs final 3 1 18
 instance = kept_tables ws sheet area missing stubs (unlinked-holds ws unlinked) calls same 3 1 18 third-linked first-node
+
+pub instance-itself : Right sheet stubs final 3 3 29
+instance-itself = kept_tables ws sheet area missing stubs (unlinked-holds ws unlinked) calls same 3 3 29 third-linked third-node
+
+pub instance-once : Once sheet (class_count ws) final 3
+instance-once = once-only ws sheet area missing (unlinked-holds ws unlinked) calls 3 third-linked
+
+-- with another stub list
+pub instance-found : Found sheet final 3 1 18 (903 ∷ [])
+instance-found = found-again ws sheet area missing (unlinked-holds ws unlinked) calls 3 1 18 third-linked first-node (903 ∷ [])
+
+pub instance-answer : AnswerKept sheet stubs final 3 1 19
+instance-answer = kept-answers ws sheet area missing stubs (unlinked-holds ws unlinked) calls same 3 1 19 0 first-ask
 
 -- the same ask where the list is empty builds the slots that it finds
 accepted : (outcome sheet final (ask 3 1 stubs)).refusal ≡ 0
@@ -106,6 +129,10 @@ pub again : BuildsSame sheet final 3 1 stubs
 again = asked-afresh ws sheet area missing stubs (unlinked-holds ws unlinked) calls same 3 1 accepted
 
 -- ---- each premise is needed
+
+-- class c is linked, and the node is on its list and of interface i, as the theorem asks; but its table is not the one built afresh
+abbrev pub Outdated : List ℕ → List ℕ → State → ℕ → ℕ → ℕ → Type 0
+Outdated abi stubs s c i node = HasTable s.set c × OnList s c i node × (Right abi stubs s c i node → ⊥)
 
 not_right : (abi stubs : List ℕ) (s : State) (c i node : ℕ) (T : List Entry) → built_afresh abi s c i ≡ vtable.built T
     → get_or (table_at s.area (node + 1) (length T)) 0 0 ≢ get_or (slot_words stubs 0 T) 0 0 → Right abi stubs s c i node → ⊥
@@ -122,17 +149,25 @@ asked_once i k entries =
 unfoldable pub kept901 : State
 kept901 = asked_once (interface "I" (method "k" 5 ∷ [])) (built "K" 0 (method "k" 0 ∷ []) []) []
 
-stubs-needed : Right (abi_sheet []) (903 ∷ []) kept901 2 1 7 → ⊥
+stubs-needed : Outdated (abi_sheet []) (903 ∷ []) kept901 2 1 7
 unfolding opened shown kept901
-stubs-needed = not_right (abi_sheet []) (903 ∷ []) kept901 2 1 7 (record { word = 0; method = Some 1; source = None } ∷ []) refl (omega arith)
+stubs-needed = (
+  omega arith,
+  record { places = 7 ∷ []; spelt = (refl, omega arith, refl); along = Memᴰ.head refl; of = refl },
+  not_right (abi_sheet []) (903 ∷ []) kept901 2 1 7 (record { word = 0; method = Some 1; source = None } ∷ []) refl (omega arith),
+)
 
 -- "the same ABI sheet": without it I's slot is unknown, and keeps its stub
 unfoldable pub kept_fixed : State
 kept_fixed = asked_once (built "I" 0 (flagged 9 "k" 5 ∷ []) []) (built "K" 0 (method "k" 6 ∷ []) []) (abi "I" (slot "k" 0 ∷ []) [] ∷ [])
 
-sheet-needed : Right (abi_sheet []) (901 ∷ []) kept_fixed 2 1 7 → ⊥
+sheet-needed : Outdated (abi_sheet []) (901 ∷ []) kept_fixed 2 1 7
 unfolding opened shown kept_fixed
-sheet-needed = not_right (abi_sheet []) (901 ∷ []) kept_fixed 2 1 7 (record { word = 901; method = None; source = Some 0 } ∷ []) refl (omega arith)
+sheet-needed = (
+  omega arith,
+  record { places = 7 ∷ []; spelt = (refl, omega arith, refl); along = Memᴰ.head refl; of = refl },
+  not_right (abi_sheet []) (901 ∷ []) kept_fixed 2 1 7 (record { word = 901; method = None; source = Some 0 } ∷ []) refl (omega arith),
+)
 
 -- sheet and area as the last call left them: the node's slot, or K's target, was changed
 unfoldable pub kept6 : State
@@ -141,16 +176,24 @@ kept6 = asked_once (interface "I" (method "k" 5 ∷ [])) (built "K" 0 (method "k
 unfoldable pub other_area : State
 other_area = record { set = kept6.set; area = set kept6.area 9 77; missing = kept6.missing }
 
-area-needed : Right (abi_sheet []) (901 ∷ []) other_area 2 1 7 → ⊥
+area-needed : Outdated (abi_sheet []) (901 ∷ []) other_area 2 1 7
 unfolding opened shown kept6 other_area
-area-needed = not_right (abi_sheet []) (901 ∷ []) other_area 2 1 7 (record { word = 6; method = Some 1; source = None } ∷ []) refl (omega arith)
+area-needed = (
+  omega arith,
+  record { places = 7 ∷ []; spelt = (refl, omega arith, refl); along = Memᴰ.head refl; of = refl },
+  not_right (abi_sheet []) (901 ∷ []) other_area 2 1 7 (record { word = 6; method = Some 1; source = None } ∷ []) refl (omega arith),
+)
 
 unfoldable pub other_set : State
 other_set = record { set = set kept6.set (methods_at kept6.set + 11) 7; area = kept6.area; missing = kept6.missing }
 
-set-needed : Right (abi_sheet []) (901 ∷ []) other_set 2 1 7 → ⊥
+set-needed : Outdated (abi_sheet []) (901 ∷ []) other_set 2 1 7
 unfolding opened shown kept6 other_set
-set-needed = not_right (abi_sheet []) (901 ∷ []) other_set 2 1 7 (record { word = 7; method = Some 1; source = None } ∷ []) refl (omega arith)
+set-needed = (
+  omega arith,
+  record { places = 7 ∷ []; spelt = (refl, omega arith, refl); along = Memᴰ.head refl; of = refl },
+  not_right (abi_sheet []) (901 ∷ []) other_set 2 1 7 (record { word = 7; method = Some 1; source = None } ∷ []) refl (omega arith),
+)
 
 -- "on an unlinked sheet": a list that lay in the area before holds interface 1 twice
 unfoldable pub linked_before : State
@@ -164,8 +207,8 @@ same-interface : map (interface_at linked_before.area) (3 ∷ 5 ∷ []) ≡ 1 �
 unfolding opened shown linked_before
 same-interface = refl
 
-unlinked-needed : Once (abi_sheet []) 1 linked_before 1 → ⊥
-unlinked-needed o =
+once-needed : Once (abi_sheet []) 1 linked_before 1 → ⊥
+once-needed o =
     let e = spells_one linked_before.area o.places (3 ∷ 5 ∷ []) (head_of linked_before 1) o.spelt twice in
     (subst (λ (l : List ℕ). Different l) (ap (map (interface_at linked_before.area)) e ∙ same-interface) o.different).0 (Memᴰ.head refl)
 
@@ -178,20 +221,26 @@ both = left (class_sheet (interface "I" (method "k" 5 ∷ []) ∷ built "K" 0 (m
 -- ---- as rows of one theorem
 
 pub record Needed : Type 0 where
-  pub stubs-same : Right (abi_sheet []) (903 ∷ []) kept901 2 1 7 → ⊥
-  pub sheet-same : Right (abi_sheet []) (901 ∷ []) kept_fixed 2 1 7 → ⊥
-  pub area-handed : Right (abi_sheet []) (901 ∷ []) other_area 2 1 7 → ⊥
-  pub set-handed : Right (abi_sheet []) (901 ∷ []) other_set 2 1 7 → ⊥
-  pub unlinked-start : Once (abi_sheet []) 1 linked_before 1 → ⊥
+  pub stubs-same : Outdated (abi_sheet []) (903 ∷ []) kept901 2 1 7
+  -- an ask with the other stub list answers the kept one
+  pub stubs-found : (outcome (abi_sheet []) kept901 (ask 2 1 (903 ∷ []))).first ≡ 8
+  pub sheet-same : Outdated (abi_sheet []) (901 ∷ []) kept_fixed 2 1 7
+  pub area-handed : Outdated (abi_sheet []) (901 ∷ []) other_area 2 1 7
+  pub set-handed : Outdated (abi_sheet []) (901 ∷ []) other_set 2 1 7
+  -- class 1 is linked, and an ask for it is accepted
+  pub unlinked-start : HasTable linked_before.set 1
+      × ((outcome (abi_sheet []) linked_before (ask 1 1 [])).refusal ≡ 0)
+      × (Once (abi_sheet []) 1 linked_before 1 → ⊥)
   pub bound-met : (outcome (abi_sheet []) both (ask 2 1 (901 ∷ []))).second ∷ class_count both.set ∷ [] ≡ 2 ∷ 2 ∷ []
 
 pub needed : Needed
-unfolding opened shown both
+unfolding opened shown both kept901 linked_before
 needed = record {
   stubs-same = stubs-needed;
+  stubs-found = refl;
   sheet-same = sheet-needed;
   area-handed = area-needed;
   set-handed = set-needed;
-  unlinked-start = unlinked-needed;
+  unlinked-start = (omega arith, refl, once-needed);
   bound-met = refl;
 }

@@ -57,3 +57,5 @@ pub mod Nodes
 pub mod Kept
 pub mod Found
 pub mod KeptExamples
+pub mod AnyLists
+pub mod AnyListsExamples

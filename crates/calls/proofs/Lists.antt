@@ -9,14 +9,14 @@ use Rattle.set_rules.specs.Valid.{Valid}
 use Rattle.linking.specs.Link.{HasTable, Outcome, LinkOutcome, link_def}
 use Rattle.linking.specs.Ask.{ask_def}
 use Rattle.calls.specs.Calls.{Call, link, ask, State, step, run, LinkedIn, now, later, Lent, lent_now, lent_later, stubs_of}
-use Rattle.calls.proofs.Rows.{link-cases, Asked, ask-cases}
+use Rattle.calls.proofs.Rows.{link-cases, PutsNode, ask-cases}
 use Rattle.calls.proofs.Tables.{Keeps, keeps_same, still, keeps-next, link-keeps, new-place, new-slots, new-linked, was, ask-next, ask-keeps, ask-tables, same-state}
 use Rattle.calls.proofs.Runs.{Inv, made-keeps, link-inv}
 
 module _ (ws₀ abi : List ℕ) (valid₀ : Valid ws₀) (P : ℕ → Type 0) where
   -- ---- an ask keeps what is linked
 
-  ask-inv : (s : State) → (inv : Inv ws₀ abi valid₀ P s) → (c i : ℕ) (stubs : List ℕ) (o : Outcome) → Asked s.set abi c i s.area stubs o
+  ask-inv : (s : State) → (inv : Inv ws₀ abi valid₀ P s) → (c i : ℕ) (stubs : List ℕ) (o : Outcome) → PutsNode s.set abi c i s.area stubs o
       → Inv ws₀ abi valid₀ P (record { set = s.set; area = o.area; missing = s.missing })
   ask-inv s inv c i stubs o asked = record {
     tables = ask-tables abi s inv.tables c i stubs o asked;

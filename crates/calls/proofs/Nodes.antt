@@ -26,7 +26,7 @@ use Rattle.calls.proofs.Area.{linked-length, linked-before, linked-head, linked-
 use Rattle.calls.proofs.Linked.{unmoved-other}
 use Rattle.calls.proofs.Like.{like-same, alike}
 use Rattle.calls.proofs.Dispatch.{built_alike}
-use Rattle.calls.proofs.Rows.{Accepted, link-cases, Asked, ask-cases}
+use Rattle.calls.proofs.Rows.{Accepted, link-cases, PutsNode, ask-cases}
 use Rattle.calls.proofs.Tables.{Keeps, still, Tables, none-linked, tables_start, chain-linked, valid-now, leaves, link-keeps, new-place, new-slots, was, link-tables, ask-next, ask-keeps, ask-tables, same-state}
 use Rattle.calls.proofs.Puts.{put-valid, put-size, head-below, put-more, put-long, put-agree, new-head, new-link, new-interface, new-node}
 use Rattle.calls.proofs.Walk.{missed-all, hit-one, spells_one}
@@ -181,7 +181,7 @@ module _ (abi : List ℕ) where
 
     -- ---- an ask that puts a node
 
-    module _ (c i : ℕ) (stubs : List ℕ) (o : Outcome) (asked : Asked s.set abi c i s.area stubs o) where
+    module _ (c i : ℕ) (stubs : List ℕ) (o : Outcome) (asked : PutsNode s.set abi c i s.area stubs o) where
       abbrev put : State
       put = record { set = s.set; area = o.area; missing = s.missing }
 

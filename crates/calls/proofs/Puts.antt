@@ -1,4 +1,4 @@
--- An ask that puts one node in front of a class's list (`Asked`): that list gets the node, and all other words below the next free one stay. Assumes
+-- An ask that puts one node in front of a class's list (`PutsNode`): that list gets the node, and all other words below the next free one stay. Assumes
 -- nothing.
 use mathlib.Core.Path.{◌≡◌, refl, sym, ap, ◌∙◌}
 use mathlib.Core.Logic.{◌≢◌, ◌⊎◌, inl, inr}
@@ -19,7 +19,7 @@ use Rattle.linking.specs.Ask.{hit, walk, head_place}
 use Rattle.calls.specs.Calls.{State}
 use Rattle.calls.specs.Kept.{interface_at}
 use Rattle.calls.proofs.Area.{asked-length, asked-before, asked-link, asked-interface, asked-head, asked-free}
-use Rattle.calls.proofs.Rows.{Asked, silent}
+use Rattle.calls.proofs.Rows.{PutsNode, silent}
 use Rattle.calls.proofs.Dispatch.{built-size}
 use Rattle.calls.proofs.BesideAsk.{SameWalk}
 use Rattle.calls.proofs.Elsewhere.{walk_of}
@@ -28,7 +28,7 @@ use Rattle.calls.proofs.NodeLists.{Node, Nodes, more, few, fewer, walks_same, no
 
 -- ---- what it leaves
 
-module _ (abi : List ℕ) (s : State) (c i : ℕ) (stubs : List ℕ) (o : Outcome) (p : Asked s.set abi c i s.area stubs o) where
+module _ (abi : List ℕ) (s : State) (c i : ℕ) (stubs : List ℕ) (o : Outcome) (p : PutsNode s.set abi c i s.area stubs o) where
   abbrev ws : List ℕ
   ws = s.set
 

@@ -186,7 +186,7 @@ pub record Idle (ws abi : List ℕ) (c i : ℕ) (area : List ℕ) (o : Outcome) 
   pub hits : o.refusal ≡ 0 → Hits ws abi c i area o
 
 -- it puts a node in front
-pub record Asked (ws abi : List ℕ) (c i : ℕ) (area stubs : List ℕ) (o : Outcome) : Type 0 where
+pub record PutsNode (ws abi : List ℕ) (c i : ℕ) (area stubs : List ℕ) (o : Outcome) : Type 0 where
   pub valid : set_refusal ws abi ≡ 0
   pub class : HasTable ws c
   pub interface : HasTable ws i
@@ -221,7 +221,7 @@ ask-classes ws c i e =
 
 module _ (ws abi : List ℕ) (c i : ℕ) (area stubs : List ℕ) where
   abbrev Any : Outcome → Type 0
-  Any o = Idle ws abi c i area o ⊎ Asked ws abi c i area stubs o
+  Any o = Idle ws abi c i area o ⊎ PutsNode ws abi c i area stubs o
 
   module _ (v : set_refusal ws abi ≡ 0) (asks : bad_ask ws c i ≡ false) (sits : bad_area ws area ≡ false) where
     put-node : (nodes : ℕ) → walk area i 64 0 (get_or area (head_place ws c) 0) ≡ missed nodes → (b : Built)

@@ -27,7 +27,7 @@ use Rattle.slots.proofs.ReadFacts.{length-words}
 use Rattle.calls.specs.Calls.{State, start, Unlinked, table_at}
 use Rattle.calls.proofs.Area.{linked-length, linked-before, linked-slots, asked-length, asked-before}
 use Rattle.calls.proofs.Linked.{Leaves, link_leaves}
-use Rattle.calls.proofs.Rows.{Accepted, Asked}
+use Rattle.calls.proofs.Rows.{Accepted, PutsNode}
 use Rattle.calls.proofs.Like.{alike}
 use Rattle.calls.proofs.View.{parent-same}
 
@@ -222,7 +222,7 @@ module _ (abi : List ℕ) (s : State) (c : ℕ) (stubs : List ℕ) (o : LinkOutc
 
 -- ---- an ask keeps what is linked: its node lies after all tables, and the list head that it stores to is no slot
 
-module _ (abi : List ℕ) (s : State) (tables : Tables s) (c i : ℕ) (stubs : List ℕ) (o : Outcome) (asked : Asked s.set abi c i s.area stubs o) where
+module _ (abi : List ℕ) (s : State) (tables : Tables s) (c i : ℕ) (stubs : List ℕ) (o : Outcome) (asked : PutsNode s.set abi c i s.area stubs o) where
   abbrev put : State
   put = record { set = s.set; area = o.area; missing = s.missing }
 

@@ -1,12 +1,12 @@
 -- A KEPT INTERFACE TABLE IS STILL THE RIGHT ONE: `OnceOnly` and `KeptTables`, at the end, are the statements, with what they come to for asks;
 -- proofs/Kept.antt proves them. They speak of what a list of calls leaves, and so of every beginning of it. Assumes nothing.
 use Rattle.std.specs.Prelude.{ℕ, ◌+◌, ◌≤◌, ◌<◌, ◌≡◌, ◌≢◌, ◌⊎◌, length, get_or, set}
-use mathlib.Core.List.{List, [], ◌∷◌, map, Memᴰ}
+use mathlib.Core.List.{List, [], ◌∷◌, ◌++◌, map, Memᴰ}
 use Rattle.class_sheet.specs.ClassSheet.{class_count, text_of, class_slot_count}
 use Rattle.abi_sheet.specs.AbiSheet.{abi_text_of}
 use Rattle.linking.specs.Vtable.{Entry, Built, built, table_entries, slot_words}
 use Rattle.linking.specs.Link.{HasTable, next_free}
-use Rattle.linking.specs.Ask.{broken, walk, head_place, dispatch_entries}
+use Rattle.linking.specs.Ask.{hit, missed, broken, walk, head_place, dispatch_entries}
 use Rattle.calls.specs.Calls.{Call, ask, State, start, outcome, step, left, Unlinked, table_at, stubs_of}
 
 -- every call lends this stub list
@@ -44,9 +44,14 @@ pub record Once (abi : List ℕ) (classes : ℕ) (s : State) (c : ℕ) : Type 0 
   pub places : List ℕ
   pub spelt : Spells s.area (head_of s c) places
   pub different : Different (map (interface_at s.area) places)
+  -- whatever stub lists were lent, the interface numbers on it are linked classes of the set
+  pub linked : (node : ℕ) → Memᴰ node places → HasTable s.set (interface_at s.area node)
   pub few : length places ≤ classes
   -- so row 7 has nothing against it
   pub sound : (i : ℕ) → walk s.area i 64 0 (head_of s c) ≢ broken
+  -- what a walk reads, of an ask accepted or refused: all of them where it misses, no more where it hits
+  pub misses : (i k : ℕ) → walk s.area i 64 0 (head_of s c) ≡ missed k → k ≡ length places
+  pub hits : (i node k : ℕ) → walk s.area i 64 0 (head_of s c) ≡ hit node k → k ≤ length places
   -- an accepted ask's second answer is the nodes that it read
   pub nodes_read : (i : ℕ) (stubs : List ℕ) → (outcome abi s (ask c i stubs)).refusal ≡ 0 → (outcome abi s (ask c i stubs)).second ≤ classes
 
@@ -88,11 +93,23 @@ BuildsSame abi s c i stubs =
     (((outcome abi (without_list s c) (ask c i stubs)).refusal ≡ 15) × Full s i)
     ⊎ (((outcome abi (without_list s c) (ask c i stubs)).refusal ≡ 0) × (answered abi s c i stubs ≡ answered abi (without_list s c) c i stubs))
 
--- an ask for interface i finds this node: it answers its place, and leaves the area
+-- an ask for interface i finds this node: it reads the nodes before it and this one, answers its place, and leaves set and area
 pub record Found (abi : List ℕ) (s : State) (c i node : ℕ) (stubs : List ℕ) : Type 0 where
+  pub front : List ℕ
+  pub back : List ℕ
+  pub spelt : Spells s.area (head_of s c) (front ++ node ∷ back)
   pub accepted : (outcome abi s (ask c i stubs)).refusal ≡ 0
   pub place : (outcome abi s (ask c i stubs)).first ≡ node + 1
+  pub nodes : (outcome abi s (ask c i stubs)).second ≡ length front + 1
+  pub same_set : (outcome abi s (ask c i stubs)).set ≡ s.set
   pub same_area : (outcome abi s (ask c i stubs)).area ≡ s.area
+
+-- the table that an ask answered is at this place, on the class's list, and right
+pub record AnswerKept (abi stubs : List ℕ) (s : State) (c i place : ℕ) : Type 0 where
+  pub node : ℕ
+  pub at : place ≡ node + 1
+  pub on : OnList s c i node
+  pub right : Right abi stubs s c i node
 
 -- an ask in the list was accepted, and answered this place and so many nodes
 pub data AskedIn (abi : List ℕ) (c i place nodes : ℕ) : State → List Call → Type 0 where
@@ -103,71 +120,66 @@ pub data AskedIn (abi : List ℕ) (c i place nodes : ℕ) : State → List Call 
       → AskedIn abi c i place nodes s (ask c i stubs ∷ ks)
   asked_later : {s : State} {k : Call} {ks : List Call} → AskedIn abi c i place nodes (step abi s k) ks → AskedIn abi c i place nodes s (k ∷ ks)
 
--- ---- the statements: after any links and asks on an unlinked sheet, "whether accepted or refused", each call on what the last one left, with
--- one ABI sheet; whatever the area and the list of counts hold at the start
+-- ---- of all lists, nodes and asks of one state
 
-module _ (ws abi area missing : List ℕ) (calls : List Call) where
-  abbrev after : State
-  after = left ws abi area missing calls
-
-  -- of every linked class's list
-  abbrev pub AllOnce : Type 0
-  AllOnce = (c : ℕ) → HasTable after.set c → Once abi (class_count ws) after c
+module _ (abi : List ℕ) (s : State) where
+  -- of every linked class's list; the sheet has so many classes
+  abbrev pub AllOnce : ℕ → Type 0
+  AllOnce classes = (c : ℕ) → HasTable s.set c → Once abi classes s c
 
   -- of every node on it
   abbrev pub AllRight : List ℕ → Type 0
-  AllRight stubs = (c i node : ℕ) → HasTable after.set c → OnList after c i node → Right abi stubs after c i node
+  AllRight stubs = (c i node : ℕ) → HasTable s.set c → OnList s c i node → Right abi stubs s c i node
 
-  -- an ask of the list answered so
-  abbrev pub Asked : ℕ → ℕ → ℕ → ℕ → Type 0
-  Asked c i place nodes = AskedIn abi c i place nodes (start ws area missing) calls
+  -- "a table found on a class's list": every node on it is what an ask answers, whatever stub list that lends
+  abbrev pub AllFound : Type 0
+  AllFound = (c i node : ℕ) → HasTable s.set c → OnList s c i node → (stubs : List ℕ) → Found abi s c i node stubs
 
-  -- the table answered is still at that place, on the class's list, and right
-  pub record AnswerKept (stubs : List ℕ) (c i place : ℕ) : Type 0 where
-    pub node : ℕ
-    pub at : place ≡ node + 1
-    pub on : OnList after c i node
-    pub right : Right abi stubs after c i node
+  -- an accepted ask answers, found or built, the slots that the same ask builds where the class's list is empty
+  abbrev pub AllAfresh : List ℕ → Type 0
+  AllAfresh stubs = (c i : ℕ) → (outcome abi s (ask c i stubs)).refusal ≡ 0 → BuildsSame abi s c i stubs
+
+-- ---- the statements: after any links and asks on an unlinked sheet, "whether accepted or refused", each call on what the last one left, with
+-- one ABI sheet; whatever the area and the list of counts hold at the start
 
 -- whatever stub lists were lent
 abbrev pub OnceOnly : Type 0
-OnceOnly = (ws abi area missing : List ℕ) → Unlinked ws → (calls : List Call) → AllOnce ws abi area missing calls
+OnceOnly = (ws abi area missing : List ℕ) → Unlinked ws → (calls : List Call) → AllOnce abi (left ws abi area missing calls) (class_count ws)
 
 -- where one stub list was lent
 abbrev pub KeptTables : Type 0
 KeptTables =
-    (ws abi area missing stubs : List ℕ) → Unlinked ws → (calls : List Call) → SameStubs stubs calls → AllRight ws abi area missing calls stubs
+    (ws abi area missing stubs : List ℕ) → Unlinked ws → (calls : List Call) → SameStubs stubs calls
+    → AllRight abi (left ws abi area missing calls) stubs
 
 -- ---- what they come to for asks
 
 -- "the nodes read never exceed the number of classes"
 abbrev pub NodesBound : Type 0
 NodesBound =
-    (ws abi area missing : List ℕ) → Unlinked ws → (calls : List Call) (c i place nodes : ℕ) → Asked ws abi area missing calls c i place nodes
-    → nodes ≤ class_count ws
+    (ws abi area missing : List ℕ) → Unlinked ws → (calls : List Call) (c i place nodes : ℕ)
+    → AskedIn abi c i place nodes (start ws area missing) calls → nodes ≤ class_count ws
 
 -- a table that an ask of the list answered: a caller may keep the place
 abbrev pub KeptAnswers : Type 0
 KeptAnswers =
     (ws abi area missing stubs : List ℕ) → Unlinked ws → (calls : List Call) → SameStubs stubs calls → (c i place nodes : ℕ)
-    → Asked ws abi area missing calls c i place nodes → AnswerKept ws abi area missing calls stubs c i place
+    → AskedIn abi c i place nodes (start ws area missing) calls → AnswerKept abi stubs (left ws abi area missing calls) c i place
 
--- "a table found on a class's list": every node on it is what an ask answers, whatever stub list it lends
+-- whatever stub lists were lent
 abbrev pub FoundAgain : Type 0
-FoundAgain =
-    (ws abi area missing : List ℕ) → Unlinked ws → (calls : List Call) (c i node : ℕ) → HasTable (left ws abi area missing calls).set c
-    → OnList (left ws abi area missing calls) c i node → (stubs : List ℕ) → Found abi (left ws abi area missing calls) c i node stubs
+FoundAgain = (ws abi area missing : List ℕ) → Unlinked ws → (calls : List Call) → AllFound abi (left ws abi area missing calls)
 
--- an accepted ask answers, found or built, the slots that the same ask builds where the class's list is empty
+-- where one stub list was lent, of the asks that lend it too
 abbrev pub AskedAfresh : Type 0
 AskedAfresh =
-    (ws abi area missing stubs : List ℕ) → Unlinked ws → (calls : List Call) → SameStubs stubs calls → (c i : ℕ)
-    → (outcome abi (left ws abi area missing calls) (ask c i stubs)).refusal ≡ 0
-    → BuildsSame abi (left ws abi area missing calls) c i stubs
+    (ws abi area missing stubs : List ℕ) → Unlinked ws → (calls : List Call) → SameStubs stubs calls
+    → AllAfresh abi (left ws abi area missing calls) stubs
 
--- ---- all of it with "a fresh area", which is not needed
+-- ---- the request's own sentences, with "a fresh area": its word 0 is 1. That is not needed: `OnceOnly` and `KeptTables` say the two claims of whatever
+-- area, and the first of whatever stub lists
 
 abbrev pub AsAsked : Type 0
 AsAsked =
     (ws abi area missing stubs : List ℕ) → Unlinked ws → get_or area 0 0 ≡ 1 → (calls : List Call) → SameStubs stubs calls
-    → AllOnce ws abi area missing calls × AllRight ws abi area missing calls stubs
+    → AllOnce abi (left ws abi area missing calls) (class_count ws) × AllRight abi (left ws abi area missing calls) stubs

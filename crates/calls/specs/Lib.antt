@@ -11,3 +11,4 @@ pub mod Missing
 pub mod OldRun
 pub mod OneSlot
 pub mod Kept
+pub mod AnyLists

@@ -9,7 +9,7 @@ use Rattle.linking.specs.Counts.{missing_width, missing_at, missing_bit, missing
 use Rattle.linking.specs.Link.{HasTable, refused_call, link_def}
 use Rattle.linking.specs.Missing.{missing_def, table_by, recounted}
 use Rattle.slots.specs.Slots.{ChainMethod}
-use Rattle.calls.specs.Calls.{Call, link, State, start, outcome, run, left, Unlinked, table_at}
+use Rattle.calls.specs.Calls.{Call, link, State, outcome, left, Unlinked, table_at}
 use Rattle.calls.specs.Demand.{Conditions, Linked, table}
 use Rattle.calls.specs.Unlisted.{link_unlisted}
 

@@ -11,11 +11,11 @@ use borrow.Author.Tests.{ne_eqb}
 use Rattle.words.specs.Lists.{list_from}
 use Rattle.words.proofs.Lists.{part_at}
 use Rattle.calls.specs.Calls.{Call, ask, State, start, outcome, step}
-use Rattle.calls.specs.Kept.{AskedIn, asked_now, asked_later}
+use Rattle.calls.specs.Kept.{AskedIn, asked_now, asked_later, AnswerKept}
 use Rattle.calls.proofs.Kept.{nodes-bound, kept-answers}
 use Rattle.replay.specs.Replay.{stub_list, call_of, call_at, calls_of, answers_of, over}
 use Rattle.replay.specs.Replayed.{Made}
-use Rattle.replay.specs.Asked.{ToldAsk, Stays, ReplayedNodes, ReplayedTables}
+use Rattle.replay.specs.Asked.{ToldAsk, ReplayedNodes, ReplayedTables}
 use Rattle.replay.proofs.Demand.{over-at, length-answers}
 
 -- the words of an ask
@@ -76,6 +76,6 @@ replayed_nodes ws abi area missing answers calls stubs left answers' unlinked ma
 
 pub replayed_tables : ReplayedTables
 replayed_tables ws abi area missing answers calls stubs left answers' lent unlinked made same c i place nodes told =
-    let r = kept-answers ws abi area missing lent unlinked (calls_of calls stubs) same c i place nodes
-    (told-asked ws abi area missing answers calls stubs left answers' made told) in
-    subst (λ (s : State). Stays abi lent s c i place) (sym made.0) (record { node = r.node; at = r.at; on = r.on; right = r.right })
+    subst (λ (s : State). AnswerKept abi lent s c i place) (sym made.0)
+    (kept-answers ws abi area missing lent unlinked (calls_of calls stubs) same c i place nodes
+    (told-asked ws abi area missing answers calls stubs left answers' made told))

@@ -3,7 +3,7 @@
 use Rattle.std.specs.Prelude.{ℕ, ◌+◌, ◌*◌, ◌/◌, ◌≤◌, ◌<◌, ◌≡◌, ◌≢◌, List, length, get_or}
 use Rattle.class_sheet.specs.ClassSheet.{class_count}
 use Rattle.calls.specs.Calls.{State, start, Unlinked}
-use Rattle.calls.specs.Kept.{SameStubs, OnList, Right}
+use Rattle.calls.specs.Kept.{SameStubs, AnswerKept}
 use Rattle.replay.specs.Replay.{calls_of}
 use Rattle.replay.specs.Replayed.{Made}
 
@@ -26,17 +26,10 @@ ReplayedNodes =
     → Made abi (start ws area missing) answers calls stubs left answers'
     → (c i place nodes : ℕ) → ToldAsk calls answers' c i place nodes → nodes ≤ class_count ws
 
--- a table is at the place, on the class's list, and the one that would be built afresh with this stub list
-pub record Stays (abi stubs : List ℕ) (s : State) (c i place : ℕ) : Type 0 where
-  pub node : ℕ
-  pub at : place ≡ node + 1
-  pub on : OnList s c i node
-  pub right : Right abi stubs s c i node
-
--- the table that an ask answered is so in what `replay` leaves, where every call lent the stub list `lent`
+-- a table that an ask answered is still at its place and right in what `replay` leaves, where every call lent the stub list `lent`
 abbrev pub ReplayedTables : Type 0
 ReplayedTables =
     (ws abi area missing answers calls stubs : List ℕ) (left : State) (answers' lent : List ℕ) → Unlinked ws
     → Made abi (start ws area missing) answers calls stubs left answers'
     → SameStubs lent (calls_of calls stubs) → (c i place nodes : ℕ) → ToldAsk calls answers' c i place nodes
-    → Stays abi lent left c i place
+    → AnswerKept abi lent left c i place

@@ -12,7 +12,7 @@ use crate::sheet::{Set, class_word};
 use crate::side::{Answer, Linker};
 
 /// What is counted, each of which must be reached.
-const REACHED: [&str; 17] = [
+const REACHED: [&str; 20] = [
     "calls",
     "calls refused",
     "links after a node",
@@ -25,6 +25,9 @@ const REACHED: [&str; 17] = [
     "found again: no slot in it",
     "found again: a class as its own interface",
     "found again: what an ask of the list answered",
+    "found again: in an area that had words behind the free place",
+    "found again: on an array class's list",
+    "found again: on the list of a class of kind 3",
     "not there: built on either",
     "not there: refused by 15",
     "not there: refused by 16",
@@ -124,6 +127,9 @@ fn after(case: &Case, side: &mut dyn Linker, state: &State, told: &Told, counts:
             let afresh = perform(side, case, call, &mut bare);
             let slots = set.class(interface).get(class_word::SLOTS);
             let pair = Pair { classes, slots, again, afresh, kept: &kept, bare: &bare };
+            if nodes.contains_key(&interface) {
+                where_found(case, set.class(class).get(class_word::KIND), counts);
+            }
             let judged = match nodes.get(&interface) {
                 Some(&node) => pair.found(state, node, told.get(&(class, interface)), class == interface, counts),
                 None => pair.missed(state, told.get(&(class, interface)), counts),
@@ -132,6 +138,18 @@ fn after(case: &Case, side: &mut dyn Linker, state: &State, told: &Told, counts:
         }
     }
     Ok(())
+}
+
+/// What a node that is found again stands in.
+fn where_found(case: &Case, kind: u32, counts: &mut Counts) {
+    if case.area[1..].iter().any(|&word| word != 0) {
+        counts.hit("found again: in an area that had words behind the free place");
+    }
+    match kind {
+        2 => counts.hit("found again: on an array class's list"),
+        3 => counts.hit("found again: on the list of a class of kind 3"),
+        _ => {}
+    }
 }
 
 /// The nodes of a list by their interfaces: it ends, after as many nodes as there are classes at most, and has no interface twice.

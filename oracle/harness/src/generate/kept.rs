@@ -1,4 +1,5 @@
-//! Lists for kept interface tables: few classes, a third of them interfaces; each is linked when its turn comes, and most other calls ask. One stub list a case.
+//! Lists for kept interface tables: few classes, a third of them interfaces, some of arrays, in some cases all others of kind 3; each is linked when its turn
+//! comes, and most other calls ask. One stub list a case, and an area that often has something in its free words.
 
 use crate::case::{Call, Case};
 use crate::random::Random;
@@ -8,14 +9,18 @@ use super::members::FIRST_STUB;
 
 const NAMES: [&str; 4] = ["a", "b", "c", "d"];
 
+/// What an array class's parent is called.
+const ROOT: &str = "java/lang/Object";
+
 pub fn case(random: &mut Random) -> Case {
+    let packaged = random.chance(15);
     let mut classes: Vec<ClassDraft> = Vec::new();
     for number in 1..=random.between(3, 8) {
-        let class = class(random, number, &classes);
+        let class = class(random, number, &classes, packaged);
         classes.push(class);
     }
-    // a compiler table adds methods by its class's entry
-    let mut has_entry = |class: &&ClassDraft| random.chance(if class.compiler.is_some() { 90 } else { 30 });
+    // a compiler table adds methods by its class's entry; a chain of kind 3 has none
+    let mut has_entry = |class: &&ClassDraft| class.kind != 3 && random.chance(if class.compiler.is_some() { 90 } else { 30 });
     let named: Vec<String> = classes.iter().filter(&mut has_entry).map(|class| class.name.clone()).collect();
     let abi = named.into_iter().map(|name| entry(random, name)).collect();
     let shape = Shape { shares_text: random.chance(50), slack: random.pick(&[60, 200]), ..Shape::default() };
@@ -26,7 +31,7 @@ pub fn case(random: &mut Random) -> Case {
     Case {
         set: draft.set_words(),
         abi: draft.abi_words(),
-        area: [vec![1], vec![0; words as usize]].concat(),
+        area: area(random, words),
         missing: vec![0; 33 * count as usize],
         stubs: vec![stubs],
         calls: calls(random, count),
@@ -35,14 +40,28 @@ pub fn case(random: &mut Random) -> Case {
     }
 }
 
-/// An interface, a built class or a generated one, with or without a compiler table.
-fn class(random: &mut Random, number: u32, above: &[ClassDraft]) -> ClassDraft {
-    let parent = if number > 1 && random.chance(50) { random.between(1, number - 1) } else { 0 };
+/// A free place, and words behind it: in four of ten cases with something in them.
+fn area(random: &mut Random, words: u32) -> Vec<u32> {
+    let junk = random.chance(40);
+    let word = |_| if junk { random.word() } else { 0 };
+    [vec![1], (0..words).map(word).collect()].concat()
+}
+
+/// An interface, a built class, one of kind 3, a class of arrays below the root, or a generated class with or without a compiler table.
+fn class(random: &mut Random, number: u32, above: &[ClassDraft], packaged: bool) -> ClassDraft {
+    let has_root = above.first().is_some_and(|root| root.name == ROOT);
+    if has_root && !packaged && random.chance(10) {
+        return ClassDraft { name: format!("[C{number}"), parent: 1, flags: 1, kind: 2, ..ClassDraft::default() };
+    }
     let is_interface = random.chance(30);
+    let parent = parent(random, above, packaged, is_interface);
     let methods: Vec<MemberDraft> = (0..random.below(4)).map(|place| method(random, number, place, is_interface)).collect();
-    let mut class = ClassDraft { name: format!("C{number}"), parent, flags: 1, methods, ..ClassDraft::default() };
+    let name = if number == 1 && random.chance(50) { ROOT.to_owned() } else { format!("C{number}") };
+    let mut class = ClassDraft { name, parent, flags: 1, methods, ..ClassDraft::default() };
     if is_interface {
         class.flags = 0x0201;
+    } else if packaged {
+        class.kind = 3;
     } else if random.chance(30) {
         (class.kind, class.link_state) = (1, random.pick(&[3, 3, 0]));
         if random.chance(70) {
@@ -52,6 +71,13 @@ fn class(random: &mut Random, number: u32, above: &[ClassDraft]) -> ClassDraft {
         }
     }
     class
+}
+
+/// None, or a class above; of kind 3 below kind 3 only.
+fn parent(random: &mut Random, above: &[ClassDraft], packaged: bool, is_interface: bool) -> u32 {
+    let fits = |class: &ClassDraft| !packaged || (class.kind == 3) != is_interface;
+    let fitting: Vec<u32> = (1..).zip(above).filter(|(_, class)| fits(class)).map(|(number, _)| number).collect();
+    if fitting.is_empty() || random.chance(50) { 0 } else { random.pick(&fitting) }
 }
 
 fn method(random: &mut Random, number: u32, place: u32, is_interface: bool) -> MemberDraft {
