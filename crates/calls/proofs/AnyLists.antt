@@ -8,8 +8,8 @@ use Rattle.linking.specs.Counts.{missing_width, missing_short}
 use Rattle.linking.specs.Link.{HasTable, Outcome, LinkOutcome, link_def}
 use Rattle.calls.specs.Calls.{Call, link, ask, State, outcome, step, run, left, Unlinked, LinkedIn, now, later, Lent, lent_now, lent_later, stubs_of}
 use Rattle.calls.specs.Demand.{Conditions}
-use Rattle.calls.specs.Kept.{SameStubs, OnList, Once, Right, Found, BuildsSame, AskedIn, asked_now, asked_later}
-use Rattle.calls.specs.AnyLists.{Lending, with_list, outcome_lent, step_lent, run_lent, without_lists, Answered, answered_now, answered_later, unless_short, handed, with_one_list, SameMemory, SameOrRefused, handed_on, OneList, StillThere, KeptAnyLists, DemandAnyLists}
+use Rattle.calls.specs.Kept.{SameStubs, OnList, Once, Right, Found, BuildsSame, AnswerKept, AskedIn, asked_now, asked_later}
+use Rattle.calls.specs.AnyLists.{Lending, with_list, outcome_lent, step_lent, run_lent, without_lists, Answered, answered_now, answered_later, unless_short, handed, with_one_list, SameMemory, SameOrRefused, handed_on, OneList, KeptAnyLists, DemandAnyLists}
 use Rattle.calls.proofs.Rows.{Refused, link-cases, ask-cases}
 use Rattle.calls.proofs.Tables.{leaves, same-state}
 use Rattle.calls.proofs.Before.{Long, step-long, link-before}
@@ -287,7 +287,7 @@ module _ (abi : List ℕ) (s : State) (unlinked : Unlinked s.set) (ls : List Len
     right-any c i node l on =
         right-here (kept_tables s.set abi s.area long stubs unlinked calls same-there c i node (linked-there l) (on-there on))
 
-    answers-any : (c i place nodes : ℕ) → Answered abi (ask c i stubs) place nodes s ls → StillThere abi stubs u c i place
+    answers-any : (c i place nodes : ℕ) → Answered abi (ask c i stubs) place nodes s ls → AnswerKept abi stubs u c i place
     answers-any c i place nodes j =
         let k = kept-answers s.set abi s.area long stubs unlinked calls same-there c i place nodes (asked-there c i place nodes stubs j) in
         record { node = k.node; at = k.at; on = on-here k.on; right = right-here k.right }

@@ -2,13 +2,13 @@
 -- each link gets the list of missing slots as the last call left it. That a kept interface table is the right one is asked of calls that get "sheet, area and
 -- ticket 10's list, filled from the two sheets, as the last left them": of the list of missing slots nothing is said. Here each call is lent a list of its own,
 -- of any length and content. Assumes nothing.
-use Rattle.std.specs.Prelude.{ℕ, ◌+◌, ◌*◌, ◌≤◌, ◌≡◌, ◌≢◌, ◌⊎◌, Bool, false, cond, List, [], ◌∷◌, map, replicate}
+use Rattle.std.specs.Prelude.{ℕ, ◌*◌, ◌≤◌, ◌≡◌, ◌≢◌, ◌⊎◌, Bool, false, cond, List, [], ◌∷◌, map, replicate}
 use Rattle.class_sheet.specs.ClassSheet.{class_count}
 use Rattle.linking.specs.Counts.{missing_width, missing_short}
-use Rattle.linking.specs.Link.{HasTable, Outcome}
+use Rattle.linking.specs.Link.{Outcome}
 use Rattle.calls.specs.Calls.{Call, link, ask, State, outcome, step, run, Unlinked, stubs_of}
 use Rattle.calls.specs.Demand.{Conditions, Linked, Claim}
-use Rattle.calls.specs.Kept.{SameStubs, OnList, Once, Right, Found, BuildsSame}
+use Rattle.calls.specs.Kept.{SameStubs, AnswerKept, AllOnce, AllRight, AllFound, AllAfresh}
 
 -- a call, and the list that it is lent, which an ask does not read
 pub record Lending : Type 0 where
@@ -80,28 +80,21 @@ pub record OneList : Type 0 where
 
 -- ---- so the claims on kept interface tables (Kept.antt) hold of what such calls leave
 
--- a table is at the place that an ask answered, on the class's list, and right
-pub record StillThere (abi stubs : List ℕ) (s : State) (c i place : ℕ) : Type 0 where
-  pub node : ℕ
-  pub at : place ≡ node + 1
-  pub on : OnList s c i node
-  pub right : Right abi stubs s c i node
-
 module _ (abi : List ℕ) (s : State) (ls : List Lending) where
   abbrev pub after : State
   after = run_lent abi ls s
 
   -- those that hold whatever stub lists were lent
   pub record AnyStubs : Type 0 where
-    pub once : (c : ℕ) → HasTable after.set c → Once abi (class_count s.set) after c
-    pub found : (c i node : ℕ) → HasTable after.set c → OnList after c i node → (stubs : List ℕ) → Found abi after c i node stubs
+    pub once : AllOnce abi after (class_count s.set)
+    pub found : AllFound abi after
     pub nodes : (c i place nodes : ℕ) (stubs : List ℕ) → Answered abi (ask c i stubs) place nodes s ls → nodes ≤ class_count s.set
 
   -- and those where every call lent this one
   pub record OneStubList (stubs : List ℕ) : Type 0 where
-    pub right : (c i node : ℕ) → HasTable after.set c → OnList after c i node → Right abi stubs after c i node
-    pub answers : (c i place nodes : ℕ) → Answered abi (ask c i stubs) place nodes s ls → StillThere abi stubs after c i place
-    pub afresh : (c i : ℕ) → (outcome abi after (ask c i stubs)).refusal ≡ 0 → BuildsSame abi after c i stubs
+    pub right : AllRight abi after stubs
+    pub answers : (c i place nodes : ℕ) → Answered abi (ask c i stubs) place nodes s ls → AnswerKept abi stubs after c i place
+    pub afresh : AllAfresh abi after stubs
 
 pub record KeptAnyLists : Type 0 where
   pub any_stubs : (abi : List ℕ) (s : State) → Unlinked s.set → (ls : List Lending) → AnyStubs abi s ls
