@@ -74,7 +74,7 @@ found_all f g (x ∷ xs) s h e = found-cons (f x) g (all_found f xs) s (h x) (fo
 
 module _ (same : Same) (ws text abi labels : List ℕ)
     (lists : (d : ℕ) → IsClass ws d → class_first_method ws d + class_method_count ws d ≤ method_count ws) where
-  own_room : (d m : ℕ) → IsClass ws d → Memᴰ m (own_methods ws d) → m < method_count ws
+  pub own_room : (d m : ℕ) → IsClass ws d → Memᴰ m (own_methods ws d) → m < method_count ws
   unfolding own_methods
   own_room d m k h =
       omega (
@@ -116,7 +116,7 @@ source-slot ws text abi labels c i z e =
     here d a q r = (a, (class-abi-room ws text abi labels d a q, find-member (λ k. eqb (slot_index abi k) i) (abi_slots abi a) z r))
 
 -- the slots of an ABI class are records of its section
-listed-room : (abi : List ℕ) → ((a : ℕ) → a < abi_class_count abi → abi_class_first_slot abi a + abi_class_slot_count abi a ≤ abi_slot_count abi)
+pub listed-room : (abi : List ℕ) → ((a : ℕ) → a < abi_class_count abi → abi_class_first_slot abi a + abi_class_slot_count abi a ≤ abi_slot_count abi)
     → (a s : ℕ) → a < abi_class_count abi → Memᴰ s (abi_slots abi a) → s < abi_slot_count abi
 unfolding abi_slots
 listed-room abi slots a s n t =

@@ -1,3 +1,5 @@
+pub mod Agrees
+pub mod Equal
 pub mod Examples
 pub mod Filled
 pub mod Parts
