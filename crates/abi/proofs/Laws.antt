@@ -14,6 +14,7 @@ use Rattle.words.specs.Lists.{cons_found, all_found}
 use Rattle.std.specs.Prelude.{Option, Some, None}
 use Rattle.std.specs.Option.{is_some}
 use Rattle.abi_sheet.specs.AbiSheet.{abi_class_table_size_plus_one, abi_class_first_slot, abi_class_slot_count, abi_slot_limit}
+use Rattle.linking.specs.Signature.{Same, Place}
 use Rattle.linking.specs.Chain.{list_count, parent_of, chain}
 use Rattle.linking.specs.Abi.{abi_slots, slot_index, slot_at, vtable_index, class_size, fixer_distance, minimum_size}
 use Rattle.words.proofs.ListLaws.{by-found, numbers-within, find-member, largest_room}
@@ -82,15 +83,15 @@ minimum_size-room abi abis = largest_room (class_size abi) abis 0 1024 (omega ar
 
 -- ---- how far up the chain an index comes from, counted from the i-th ABI class on
 
-module _ (abi labels name descriptor abis : List ℕ) where
+module _ (same : Same) (abi : List ℕ) (p : Place) (abis : List ℕ) where
   unfoldable pub distance_from : ℕ → ℕ
-  distance_from i = i + fixer_distance abi labels (drop i abis) name descriptor
+  distance_from i = i + fixer_distance same abi (drop i abis) p
 
-  pub distance-start : distance_from 0 ≡ fixer_distance abi labels abis name descriptor
+  pub distance-start : distance_from 0 ≡ fixer_distance same abi abis p
   unfolding distance_from
   distance-start = omega arith
 
-  module _ (i : ℕ) {r : Option ℕ} (within : i < length abis) (finds : r ≡ vtable_index abi labels name descriptor (get_or abis i 0)) where
+  module _ (i : ℕ) {r : Option ℕ} (within : i < length abis) (finds : r ≡ vtable_index same abi p (get_or abis i 0)) where
     pub distance-hit : {b : Bool} → b ≡ is_some r → b ≡ true → i ≡ distance_from i
     unfolding distance_from fixer_distance
     distance-hit s t =

@@ -1,8 +1,8 @@
 -- Where the code reads member records, and a class's slot at an index. Assumes nothing.
 use Rattle.std.specs.Prelude.{ℕ, List, Option, drop}
 use Rattle.std.specs.Option.{option_and_then}
-use Rattle.linking.specs.Abi.{slot_at, class_abi}
 use Rattle.abi_sheet.specs.AbiSheet.{abi_slots_at, abi_fields_at}
+use Rattle.linking.specs.Abi.{slot_at, class_abi}
 
 -- the words from the first slot record on, and from the first field record on
 unfoldable pub slot_records : List ℕ → List ℕ

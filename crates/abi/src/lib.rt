@@ -8,8 +8,9 @@ ghost use Rattle.words.specs.Folds.{Computes};
 ghost use Rattle.words.specs.Lists.{find, all_found};
 ghost use Rattle.text.specs.Text.{number_word, same_bytes};
 ghost use Rattle.abi_sheet.specs.AbiSheet.{abi_member_width, abi_class_name, abi_class_first_slot, abi_class_slot_count, abi_class_first_field, abi_class_field_count, abi_slot_limit, abi_field_limit};
+ghost use Rattle.linking.specs.Signature.{of_method, of_abi_slot, by_bytes};
 ghost use Rattle.linking.specs.Chain.{list_count, chain};
-ghost use Rattle.linking.specs.Abi.{abi_named, abi_slots, slot_index, fixed_field_index, slot_is, vtable_index, slot_at, field_is, fixed_field, class_size, given_words, class_abi, chain_abi, fixed_index, fixer_distance, minimum_size};
+ghost use Rattle.linking.specs.Abi.{abi_named, abi_slots, slot_index, fixed_field_index, vtable_index, slot_at, field_is, fixed_field, class_size, given_words, class_abi, chain_abi, minimum_size};
 ghost use Rattle.linking.specs.Vtable.{fixed_of, distance_of};
 ghost use Rattle.chain.specs.Records.{record_word};
 ghost use Rattle.abi.specs.Abis.{slot_records, field_records, class_slot};
@@ -101,22 +102,23 @@ fn find_slot<F: Fn(u32) -> bool>(abi: &[u32], a: u32, test: F) -> Option<u32>
     words::find_in(first, first + slot_count(abi, a), test)
 }
 
-// ABI class a's first slot record of this signature.
-fn slot_of(abi: &[u32], labels: &[u8], signature: Signature, a: u32) -> Option<u32>
-    ensures { result ≡ find (λ s. of_signature (slot_is abi.now labels.now s) signature.entry) (abi_slots abi.now a) }
+// ABI class a's first slot record of method m's signature.
+fn slot_of(sheets: Sheets, m: u32, a: u32) -> Option<u32>
+    ensures { result ≡ find (λ s. of_sheets by_bytes sheets.entry (of_abi_slot s) (of_method m)) (abi_slots sheets.entry.abi.now a) }
 {
-    let records = slot_records(abi);
-    find_slot(abi, a, |s| {
-        chain::record_is(records, MEMBER_WIDTH, labels, s, signature)
+    let records = slot_records(sheets.abi);
+    let signature = class_sheet::method_signature(sheets.set, sheets.text, m);
+    find_slot(sheets.abi, a, |s| {
+        chain::record_is(records, MEMBER_WIDTH, sheets.labels, s, signature)
     })
 }
 
-// The index that ABI class a fixes for this signature.
+// The index that ABI class a fixes for method m's signature.
 #[tactic(auto, unfolding(linking::specs::Abi::vtable_index))]
-fn vtable_index(abi: &[u32], labels: &[u8], signature: Signature, a: u32) -> Option<u32>
-    ensures { result ≡ of_signature (vtable_index abi.now labels.now) signature.entry a }
+fn vtable_index(sheets: Sheets, m: u32, a: u32) -> Option<u32>
+    ensures { result ≡ vtable_index (of_sheets by_bytes sheets.entry) sheets.entry.abi.now (of_method m) a }
 {
-    slot_of(abi, labels, signature, a).map(|s| slot_index(abi, s))
+    slot_of(sheets, m, a).map(|s| slot_index(sheets.abi, s))
 }
 
 // Whether record s of the slot records fixes index i.
@@ -221,49 +223,23 @@ pub fn chain_abi(sheets: Sheets, c: u32) -> AbiClasses
     classes
 }
 
-// The fixed index of a signature: that of the first ABI class that fixes one.
-pub fn first_fixed(abi: &[u32], labels: &[u8], abis: &[u32], signature: Signature) -> Option<u32>
-    ensures { result ≡ of_signature (fixed_index abi.now labels.now abis.now) signature.entry }
-{
-    words::first_found(abis, |a| vtable_index(abi, labels, signature, a))
-}
-
 // The index that the first of the ABI classes fixes for method m's signature.
-#[tactic(auto, unfolding(linking::specs::Vtable::fixed_of))]
 pub fn fixed_of(sheets: Sheets, abis: &[u32], m: u32) -> Option<u32>
-    ensures { result ≡ of_sheets fixed_of sheets.entry abis.now m }
+    ensures { result ≡ fixed_of (of_sheets by_bytes sheets.entry) sheets.entry.abi.now abis.now m }
 {
-    first_fixed(
-        sheets.abi,
-        sheets.labels,
-        abis,
-        class_sheet::method_signature(sheets.set, sheets.text, m),
-    )
+    words::first_found(abis, |a| vtable_index(sheets, m, a))
 }
 
-// How many ABI classes stand before the first that fixes an index for this signature.
-fn fixer_distance(abi: &[u32], labels: &[u8], abis: &[u32], signature: Signature) -> usize
-    ensures { result ≡ of_signature (fixer_distance abi.now labels.now abis.now) signature.entry }
+// How far up the chain's ABI classes the one stands that method m's index comes from: how many stand before the first that fixes one.
+pub fn distance_of(sheets: Sheets, abis: &[u32], m: u32) -> usize
+    ensures { result ≡ distance_of (of_sheets by_bytes sheets.entry) sheets.entry.abi.now abis.now m }
 {
     for i in 0..abis.len() {
-        if vtable_index(abi, labels, signature, abis[i]).is_some() {
+        if vtable_index(sheets, m, abis[i]).is_some() {
             return i;
         }
     }
     abis.len()
-}
-
-// How far up the chain's ABI classes the one stands that method m's index comes from.
-#[tactic(auto, unfolding(linking::specs::Vtable::distance_of))]
-pub fn distance_of(sheets: Sheets, abis: &[u32], m: u32) -> usize
-    ensures { result ≡ of_sheets distance_of sheets.entry abis.now m }
-{
-    fixer_distance(
-        sheets.abi,
-        sheets.labels,
-        abis,
-        class_sheet::method_signature(sheets.set, sheets.text, m),
-    )
 }
 
 // How many slots a table has at least: the largest fixed index + 1 or table size among the ABI classes.

@@ -3,9 +3,10 @@
 #![tactic(auto)]
 
 ghost use Rattle.std.specs.Prelude.{◌≡◌};
+ghost use Rattle.words.specs.Lists.{find};
 ghost use Rattle.class_sheet.specs.ClassSheet.{member_width, method_limit, field_limit, interface_limit, target_word, class_first_method, class_method_count, class_first_field, class_field_count, class_first_interface, class_interface_count};
-ghost use Rattle.linking.specs.Chain.{list_count, parent_of, is_virtual, is_eligible, eligible, method_is, own_method};
-ghost use Rattle.chain.specs.Records.{method_records, record_word, record_is};
+ghost use Rattle.linking.specs.Chain.{list_count, own_methods, parent_of, is_virtual, is_eligible, eligible};
+ghost use Rattle.chain.specs.Records.{method_records, record_word, record_is, method_is};
 ghost use Rattle.text.specs.Signatures.{of_signature};
 
 use text::Signature;
@@ -142,7 +143,7 @@ pub fn record_target(records: &[u32], m: u32) -> u32
 
 // Class c's first method of this signature, of any flags.
 pub fn own_method(ws: &[u32], text: &[u8], signature: Signature, c: u32) -> Option<u32>
-    ensures { result ≡ of_signature (own_method ws.now text.now) signature.entry c }
+    ensures { result ≡ find (λ m. of_signature (method_is ws.now text.now m) signature.entry) (own_methods ws.now c) }
 {
     let records = method_records(ws);
     let first = class_sheet::class_first_method(ws, c);

@@ -19,6 +19,7 @@ use Rattle.words.proofs.ListLaws.{length-list-from, get_d_list_from}
 use Rattle.class_sheet.specs.ClassSheet.{class_first_method, class_method_count, class_table_place, method_limit}
 use Rattle.linking.specs.declared.Declared.{Declared}
 use Rattle.linking.specs.Whose.{declared, method_of, declaring_class, declared_in, first_declared, declared_by_target, declared_by_index, read_declared, slot_class}
+use Rattle.linking.specs.Signature.{Same}
 use Rattle.linking.specs.Chain.{parent_of, chain, own_target, find_by_target}
 use Rattle.linking.specs.Vtable.{own_fixed}
 use Rattle.linking.proofs.ChainLaws.{chain-none, chain_more, own-target-room, own-fixed-room}
@@ -205,25 +206,25 @@ module _ (ws ts : List ℕ) (c n : ℕ) (ms cs : List ℕ) where
 
 -- ---- by index
 
-module _ (ws text abi labels : List ℕ) (c n : ℕ) (ms cs : List ℕ) where
-  pub indices-nobody : c ≡ 0 → cs ≡ classes_with (declared_by_index ws text abi labels c) n cs
+module _ (same : Same) (ws text abi labels : List ℕ) (c n : ℕ) (ms cs : List ℕ) where
+  pub indices-nobody : c ≡ 0 → cs ≡ classes_with (declared_by_index same ws text abi labels c) n cs
   unfolding declared_by_index
   indices-nobody e =
-      classes-none (λ i. first_declared (own_fixed ws text abi labels i) (chain ws c)) n cs (λ i. declared-none (own_fixed ws text abi labels i) ws c e)
+      classes-none (λ i. first_declared (own_fixed same ws text abi labels i) (chain ws c)) n cs (λ i. declared-none (own_fixed same ws text abi labels i) ws c e)
 
-  module _ {ns ds : List ℕ} (marks : ns ≡ marks_with (λ i. own_fixed ws text abi labels i c) n ms) (classes : ds ≡ claims c n ns cs) (some : 0 < c)
+  module _ {ns ds : List ℕ} (marks : ns ≡ marks_with (λ i. own_fixed same ws text abi labels i c) n ms) (classes : ds ≡ claims c n ns cs) (some : 0 < c)
       (h : n ≤ length ms) (g : n ≤ length cs) (paired : Paired n ms cs) where
     pub indices_paired : Paired n ns ds
     indices_paired =
-        turn_paired c n (λ i. own_fixed ws text abi labels i c) ms cs some (λ i. own-fixed-room ws text abi labels i c) h g paired marks classes
+        turn_paired c n (λ i. own_fixed same ws text abi labels i c) ms cs some (λ i. own-fixed-room same ws text abi labels i c) h g paired marks classes
 
-    pub indices-declared : {es : List ℕ} {p : ℕ} → p ≡ parent_of ws c → es ≡ classes_with (declared_by_index ws text abi labels p) n ds
-        → es ≡ classes_with (declared_by_index ws text abi labels c) n cs
+    pub indices-declared : {es : List ℕ} {p : ℕ} → p ≡ parent_of ws c → es ≡ classes_with (declared_by_index same ws text abi labels p) n ds
+        → es ≡ classes_with (declared_by_index same ws text abi labels c) n cs
     unfolding declared_by_index
     indices-declared {p = p} e u =
-        turn-then c n (λ i. own_fixed ws text abi labels i c) ms cs some (λ i. own-fixed-room ws text abi labels i c) h g paired marks classes
-        (λ i. first_declared (own_fixed ws text abi labels i) (chain ws p)) (λ i. first_declared (own_fixed ws text abi labels i) (chain ws c))
-        (λ i. rw e (declared-step (own_fixed ws text abi labels i) ws c some)) u
+        turn-then c n (λ i. own_fixed same ws text abi labels i c) ms cs some (λ i. own-fixed-room same ws text abi labels i c) h g paired marks classes
+        (λ i. first_declared (own_fixed same ws text abi labels i) (chain ws p)) (λ i. first_declared (own_fixed same ws text abi labels i) (chain ws c))
+        (λ i. rw e (declared-step (own_fixed same ws text abi labels i) ws c some)) u
 
 -- ---- a whole table
 
@@ -247,26 +248,26 @@ module _ (ws area : List ℕ) (place c n : ℕ) (ts ms cs : List ℕ) {us ns ds 
       (λ i. target_found ws c (get_or us i 0)) (λ i. target_sound ws c (get_or us i 0)) marks_room classes-room (paired_start n ms cs z y s q) k e
 
   -- and then by index
-  module _ (text abi labels : List ℕ) {fs : List ℕ}
-      (f : fs ≡ classes_with (declared_by_index ws text abi labels c) n es) (at : place ≡ class_table_place ws c) where
+  module _ (same : Same) (text abi labels : List ℕ) {fs : List ℕ}
+      (f : fs ≡ classes_with (declared_by_index same ws text abi labels c) n es) (at : place ≡ class_table_place ws c) where
     abbrev both : ℕ → Option Declared
-    both i = option_or (declared_by_target ws c (get_or us i 0)) (declared_by_index ws text abi labels c i)
+    both i = option_or (declared_by_target ws c (get_or us i 0)) (declared_by_index same ws text abi labels c i)
 
     both_is : fs ≡ classes_with both n ds
     both_is =
-        f ∙ rw e (classes-then (λ i. declared_by_target ws c (get_or us i 0)) n ds (declared_by_index ws text abi labels c) both classes-room
+        f ∙ rw e (classes-then (λ i. declared_by_target ws c (get_or us i 0)) n ds (declared_by_index same ws text abi labels c) both classes-room
         (λ i. target_sound ws c (get_or us i 0)) (λ i. refl))
 
-    slot_is_lem : (i : ℕ) → i < n → or_class (get_or ds i 0) (both i) ≡ slot_class ws text abi labels area c i
+    slot_is_lem : (i : ℕ) → i < n → or_class (get_or ds i 0) (both i) ≡ slot_class same ws text abi labels area c i
     unfolding or_class slot_class read_declared
     slot_is_lem i h =
         let a : get_or ds i 0 ≡ 0 = rw y (stores_at n (λ i. 0) cs i h q) in
         let b : get_or us i 0 ≡ get_or area (class_table_place ws c + 1 + i) 0 = rw (t, ← at) (stores_at n (λ i. get_or area (place + 1 + i) 0) ts i h r) in
         rw (a, b)
 
-    pub read_classes : (take n fs ≡ list_from (slot_class ws text abi labels area c) 0 n) × (drop n fs ≡ drop n cs)
+    pub read_classes : (take n fs ≡ list_from (slot_class same ws text abi labels area c) 0 n) × (drop n fs ≡ drop n cs)
     read_classes = (
       rw both_is (classes-taken both n ds classes-room
-          ∙ list-from-ext (λ i. or_class (get_or ds i 0) (both i)) (slot_class ws text abi labels area c) 0 n (λ i h. slot_is_lem i (omega arith))),
+          ∙ list-from-ext (λ i. or_class (get_or ds i 0) (both i)) (slot_class same ws text abi labels area c) 0 n (λ i h. slot_is_lem i (omega arith))),
       rw both_is (classes-past both n ds classes-room ∙ rw y (stores-past n (λ i. 0) cs q)),
     )

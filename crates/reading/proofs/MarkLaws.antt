@@ -16,6 +16,7 @@ use Rattle.words.proofs.FoldLaws.{length-table, stores-turn, stores-is, length-s
 use Rattle.words.proofs.ListLaws.{find-within}
 use Rattle.words.proofs.Bools.{by}
 use Rattle.class_sheet.specs.ClassSheet.{member_width, target_word, class_first_method, class_method_count, method_limit}
+use Rattle.linking.specs.Signature.{Same}
 use Rattle.linking.specs.Chain.{list_count, parent_of, chain, own_target, find_by_target}
 use Rattle.linking.specs.Vtable.{own_fixed, find_by_index, read_entry}
 use Rattle.chain.specs.Records.{method_records, record_word, first_target}
@@ -197,23 +198,23 @@ module _ (ws ts : List ℕ) (c n : ℕ) (ms : List ℕ) where
 
 -- ---- by index, along the chain
 
-module _ (ws text abi labels : List ℕ) (c n : ℕ) (ms : List ℕ) where
-  pub indices-none : c ≡ 0 → ms ≡ marks_with (find_by_index ws text abi labels c) n ms
+module _ (same : Same) (ws text abi labels : List ℕ) (c n : ℕ) (ms : List ℕ) where
+  pub indices-none : c ≡ 0 → ms ≡ marks_with (find_by_index same ws text abi labels c) n ms
   unfolding find_by_index
   indices-none e =
-      marks_none (λ i. first_found (own_fixed ws text abi labels i) (chain ws c)) n ms (λ i. along-none (own_fixed ws text abi labels i) ws c e)
+      marks_none (λ i. first_found (own_fixed same ws text abi labels i) (chain ws c)) n ms (λ i. along-none (own_fixed same ws text abi labels i) ws c e)
 
-  index-step : (i : ℕ) → 0 < c → find_by_index ws text abi labels c i
-      ≡ option_or (own_fixed ws text abi labels i c) (find_by_index ws text abi labels (parent_of ws c) i)
+  index-step : (i : ℕ) → 0 < c → find_by_index same ws text abi labels c i
+      ≡ option_or (own_fixed same ws text abi labels i c) (find_by_index same ws text abi labels (parent_of ws c) i)
   unfolding find_by_index first_found
   index-step i h = rw (chain_more ws c h)
 
-  pub indices-all : {ns us : List ℕ} {p : ℕ} → ns ≡ marks_with (λ i. own_fixed ws text abi labels i c) n ms → p ≡ parent_of ws c
-      → us ≡ marks_with (find_by_index ws text abi labels p) n ns → 0 < c → n ≤ length ms → us ≡ marks_with (find_by_index ws text abi labels c) n ms
+  pub indices-all : {ns us : List ℕ} {p : ℕ} → ns ≡ marks_with (λ i. own_fixed same ws text abi labels i c) n ms → p ≡ parent_of ws c
+      → us ≡ marks_with (find_by_index same ws text abi labels p) n ns → 0 < c → n ≤ length ms → us ≡ marks_with (find_by_index same ws text abi labels c) n ms
   indices-all {p = p} s q u h l =
-      u ∙ rw s (marks_then (λ i. own_fixed ws text abi labels i c) n ms (find_by_index ws text abi labels p) (find_by_index ws text abi labels c) l
+      u ∙ rw s (marks_then (λ i. own_fixed same ws text abi labels i c) n ms (find_by_index same ws text abi labels p) (find_by_index same ws text abi labels c) l
       (λ i k. rw (q, index-step i h)
-      (mark-then k (own_fixed ws text abi labels i c) (find_by_index ws text abi labels (parent_of ws c) i) (own-fixed-room ws text abi labels i c))))
+      (mark-then k (own_fixed same ws text abi labels i c) (find_by_index same ws text abi labels (parent_of ws c) i) (own-fixed-room same ws text abi labels i c))))
 
 -- ---- a table's words, `method_of` by target and then by index, are its entries
 
@@ -229,12 +230,12 @@ front-entries us os xs ys n e f =
     list-from-ext (entry_at (us ++ xs) (os ++ ys)) (entry_at us os) 0 n
     (λ i h. rw (get_or-append us xs 0 i (omega arith), get_or-append os ys 0 i (omega arith)))
 
-module _ (ws text abi labels area : List ℕ) (place c n : ℕ) (ts ms : List ℕ) where
+module _ (same : Same) (ws text abi labels area : List ℕ) (place c n : ℕ) (ts ms : List ℕ) where
   module _ {us ns ks ls os : List ℕ} (t : us ≡ stores n (λ i. get_or area (place + 1 + i) 0) ts)
       (z : ns ≡ stores n (λ i. 0) ms) (k : ks ≡ marks_with (λ i. find_by_target ws c (get_or us i 0)) n ns)
-      (l : ls ≡ marks_with (find_by_index ws text abi labels c) n ks) (o : os ≡ copy_marks n ls)
+      (l : ls ≡ marks_with (find_by_index same ws text abi labels c) n ks) (o : os ≡ copy_marks n ls)
       (r : n ≤ length ts) (s : n ≤ length ms) where
-    mark-read : (i w : ℕ) → i < n → get_or us i 0 ≡ w → get_or ls i 0 ≡ mark_of (read_entry ws text abi labels c i w).method
+    mark-read : (i w : ℕ) → i < n → get_or us i 0 ≡ w → get_or ls i 0 ≡ mark_of (read_entry same ws text abi labels c i w).method
     unfolding read_entry or_mark
     mark-read i w h e =
         let x : length ns ≡ length ms = rw z (length-stores n (λ i. 0) ms) in
@@ -243,29 +244,29 @@ module _ (ws text abi labels area : List ℕ) (place c n : ℕ) (ts ms : List �
         let p : get_or ks i 0 ≡ or_mark (get_or ns i 0) (find_by_target ws c (get_or us i 0)) =
         rw k (marks_at_lem (λ i. find_by_target ws c (get_or us i 0)) n ns i h (omega arith)) in
         let b : get_or ks i 0 ≡ or_mark 0 (find_by_target ws c w) = p ∙ rw (a, e) in
-        let d : get_or ls i 0 ≡ or_mark (get_or ks i 0) (find_by_index ws text abi labels c i) =
-        rw l (marks_at_lem (find_by_index ws text abi labels c) n ks i h (omega arith)) in
-        d ∙ rw b (mark-then 0 (find_by_target ws c w) (find_by_index ws text abi labels c i) (target_room ws c w))
+        let d : get_or ls i 0 ≡ or_mark (get_or ks i 0) (find_by_index same ws text abi labels c i) =
+        rw l (marks_at_lem (find_by_index same ws text abi labels c) n ks i h (omega arith)) in
+        d ∙ rw b (mark-then 0 (find_by_target ws c w) (find_by_index same ws text abi labels c i) (target_room ws c w))
 
     length_ls : length ls ≡ length ms
     length_ls =
         let x : length ns ≡ length ms = rw z (length-stores n (λ i. 0) ms) in
         let y : length ks ≡ length ns = rw k (length_marks (λ i. find_by_target ws c (get_or us i 0)) n ns) in
-        let a : length ls ≡ length ks = rw l (length_marks (find_by_index ws text abi labels c) n ks) in
+        let a : length ls ≡ length ks = rw l (length_marks (find_by_index same ws text abi labels c) n ks) in
         omega arith
 
-    slot-is-read : (i : ℕ) → i < n → entry_at us os i ≡ slot_read ws text abi labels area place c i
+    slot-is-read : (i : ℕ) → i < n → entry_at us os i ≡ slot_read same ws text abi labels area place c i
     unfolding entry_at slot_read copy_marks
     slot-is-read i h =
         let w : ℕ = get_or area (place + 1 + i) 0 in
         let e : get_or us i 0 ≡ w = rw t (stores_at n (λ i. get_or area (place + 1 + i) 0) ts i h r) in
         let b = length_ls in
         let f : get_or os i 0 ≡ copy_mark i (get_or ls i 0) = rw o (stores_at n (λ i. copy_mark i (get_or ls i 0)) ls i h (omega arith)) in
-        rw (f, copy-method i (get_or ls i 0), copy-source i (get_or ls i 0), mark-read i w h e, e) (read_back ws text abi labels c i w)
+        rw (f, copy-method i (get_or ls i 0), copy-source i (get_or ls i 0), mark-read i w h e, e) (read_back same ws text abi labels c i w)
 
-    slots_are_read : entries_of us os n ≡ list_from (slot_read ws text abi labels area place c) 0 n
+    slots_are_read : entries_of us os n ≡ list_from (slot_read same ws text abi labels area place c) 0 n
     unfolding entries_of
-    slots_are_read = list-from-ext (entry_at us os) (slot_read ws text abi labels area place c) 0 n (λ i h. slot-is-read i (omega arith))
+    slots_are_read = list-from-ext (entry_at us os) (slot_read same ws text abi labels area place c) 0 n (λ i h. slot-is-read i (omega arith))
 
     -- past them both arrays stay
     words_stay : drop n us ≡ drop n ts
@@ -276,12 +277,12 @@ module _ (ws text abi labels area : List ℕ) (place c n : ℕ) (ts ms : List �
     marks_stay =
         let x : length ns ≡ length ms = rw z (length-stores n (λ i. 0) ms) in
         let y : length ks ≡ length ns = rw k (length_marks (λ i. find_by_target ws c (get_or us i 0)) n ns) in
-        let a : drop n ls ≡ drop n ks = rw l (marks_past (find_by_index ws text abi labels c) n ks (omega arith)) in
+        let a : drop n ls ≡ drop n ks = rw l (marks_past (find_by_index same ws text abi labels c) n ks (omega arith)) in
         let b : drop n ks ≡ drop n ns = rw k (marks_past (λ i. find_by_target ws c (get_or us i 0)) n ns (omega arith)) in
         let d : drop n ns ≡ drop n ms = rw z (stores-past n (λ i. 0) ms s) in
         let q = length_ls in
         let e : drop n os ≡ drop n ls = rw o (stores-past n (λ i. copy_mark i (get_or ls i 0)) ls (omega arith)) in
         e ∙ a ∙ b ∙ d
 
-    pub all_read : (entries_of us os n ≡ list_from (slot_read ws text abi labels area place c) 0 n) × ((drop n us ≡ drop n ts) × (drop n os ≡ drop n ms))
+    pub all_read : (entries_of us os n ≡ list_from (slot_read same ws text abi labels area place c) 0 n) × ((drop n us ≡ drop n ts) × (drop n os ≡ drop n ms))
     all_read = (slots_are_read, (words_stay, marks_stay))

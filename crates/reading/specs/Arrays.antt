@@ -2,6 +2,7 @@
 use Rattle.std.specs.Prelude.{ℕ, ◌+◌, ◌*◌, ◌-◌, ◌/◌, ◌%◌, cond, List, get_or, eqb, ltb, Option, Some, None}
 use Rattle.words.specs.Folds.{stores}
 use Rattle.words.specs.Lists.{list_from}
+use Rattle.linking.specs.Signature.{Same}
 use Rattle.linking.specs.Vtable.{Entry, read_entry}
 
 -- a method's mark: its number plus 1; 0 for none, and for numbers above those of methods
@@ -40,5 +41,5 @@ unfoldable pub entries_of : List ℕ → List ℕ → ℕ → List Entry
 entries_of ts ms n = list_from (entry_at ts ms) 0 n
 
 -- slot i of the table at a place, as the area holds it and Reading finds it along class c's chain
-unfoldable pub slot_read : List ℕ → List ℕ → List ℕ → List ℕ → List ℕ → ℕ → ℕ → ℕ → Entry
-slot_read ws text abi labels area place c i = read_entry ws text abi labels c i (get_or area (place + 1 + i) 0)
+unfoldable pub slot_read : Same → List ℕ → List ℕ → List ℕ → List ℕ → List ℕ → ℕ → ℕ → ℕ → Entry
+slot_read same ws text abi labels area place c i = read_entry same ws text abi labels c i (get_or area (place + 1 + i) 0)

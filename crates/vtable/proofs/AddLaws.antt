@@ -9,46 +9,45 @@ use lib.Dec.{eqb}
 use Rattle.words.specs.Lists.{numbers}
 use Rattle.words.proofs.ListLaws.{rest_from, rest-start, rest-turn, rest_end}
 use Rattle.std.specs.Prelude.{Option, Some, Result, Ok, Err}
-use Rattle.class_sheet.specs.ClassSheet.{class_first_method, class_method_count, method_name, method_descriptor, method_limit}
+use Rattle.class_sheet.specs.ClassSheet.{class_first_method, class_method_count, method_limit}
+use Rattle.linking.specs.Signature.{Same, of_method}
 use Rattle.linking.specs.Chain.{on_found, list_count, own_methods, eligible}
 use Rattle.linking.specs.Vtable.{Entry, Built, built, refused, empty, entry_is_other, fixed_of, slot_of, method_entry, put_method, add_method, add_methods}
 use Rattle.refusal.specs.declared.Refusal.{Refusal}
 use Rattle.refusal.specs.Rows.{row}
 use Rattle.vtable.specs.Tables.{step_of}
 
-module _ (ws text : List ℕ) (m : ℕ) where
-  -- ---- a method with a fixed index
+-- ---- a method with a fixed index
 
+module _ (same : Same) (ws : List ℕ) (m : ℕ) where
   module _ (i : ℕ) (slot : Option ℕ) {b : Bool} (moved : b ≡ on_found slot (λ j. not (eqb j i)) false) (T : List Entry) where
-    pub put-moved : b ≡ true → refused 11 ≡ put_method ws text (Some i) slot m T
+    pub put-moved : b ≡ true → refused 11 ≡ put_method same ws (Some i) slot m T
     unfolding put_method
     put-moved e = rw (← moved, e)
 
     module _ (stays : b ≡ false) {there : Entry} {o : Bool} (at : there ≡ get_or T i empty)
-        (other : o ≡ entry_is_other ws text (method_name ws text m) (method_descriptor ws text m) there) where
-      pub put-taken : o ≡ true → refused 12 ≡ put_method ws text (Some i) slot m T
+        (other : o ≡ entry_is_other same (of_method m) there) where
+      pub put-taken : o ≡ true → refused 12 ≡ put_method same ws (Some i) slot m T
       unfolding put_method
       put-taken e = rw (← moved, stays, ← at, ← other, e)
 
       pub put-there : {U : List Entry} {own : Entry} → o ≡ false → own ≡ method_entry ws m → U ≡ set T i own
-          → built U ≡ put_method ws text (Some i) slot m T
+          → built U ≡ put_method same ws (Some i) slot m T
       unfolding put_method
       put-there e w u = rw (u, w, ← moved, stays, ← at, ← other, e)
 
-  -- ---- an own method
+-- ---- an own method
 
-  module _ (abi labels abis : List ℕ) (T : List Entry) {e : Bool} (able : e ≡ eligible ws text m) where
-    pub add_none : e ≡ false → built T ≡ add_method ws text abi labels abis m T
+module _ (same : Same) (ws text : List ℕ) (m : ℕ) where
+  module _ (abi abis : List ℕ) (T : List Entry) {e : Bool} (able : e ≡ eligible ws text m) where
+    pub add_none : e ≡ false → built T ≡ add_method same ws text abi abis m T
     unfolding add_method
     add_none h = rw (← able, h)
 
-    pub add-put : {f s : Option ℕ} {name descriptor : List ℕ} (X : Built) → e ≡ true → f ≡ fixed_of ws text abi labels abis m
-        → name ≡ method_name ws text m → descriptor ≡ method_descriptor ws text m → s ≡ slot_of ws text name descriptor T
-        → X ≡ put_method ws text f s m T → X ≡ add_method ws text abi labels abis m T
+    pub add-put : {f s : Option ℕ} (X : Built) → e ≡ true → f ≡ fixed_of same abi abis m → s ≡ slot_of same (of_method m) T
+        → X ≡ put_method same ws f s m T → X ≡ add_method same ws text abi abis m T
     unfolding add_method
-    add-put {s = s} X h g p q l x =
-        let y : s ≡ slot_of ws text (method_name ws text m) (method_descriptor ws text m) T = l ∙ rw (p, q) in
-        x ∙ rw (← able, h, g, y)
+    add-put X h g l x = x ∙ rw (← able, h, g, l)
 
 -- ---- all of a class's own methods
 
@@ -72,25 +71,25 @@ module _ (first count : ℕ) where
   unfolding left
   left_end m h = rw (rest_end (λ (k : ℕ). k) first count (m - first) (omega arith))
 
-module _ (ws text abi labels abis : List ℕ) (first count : ℕ) where
+module _ (same : Same) (ws text abi abis : List ℕ) (first count : ℕ) where
   pub adds-start : (c : ℕ) (T : List Entry) → first ≡ class_first_method ws c
       → count ≡ list_count (class_first_method ws c) (class_method_count ws c) method_limit
-      → add_methods ws text abi labels abis (left first count first) T ≡ add_methods ws text abi labels abis (own_methods ws c) T
+      → add_methods same ws text abi abis (left first count first) T ≡ add_methods same ws text abi abis (own_methods ws c) T
   unfolding own_methods
   adds-start c T e f = rw (left_start first count, e, f)
 
   pub adds-turn : (m : ℕ) (T U : List Entry) {s : Result Unit Refusal} {x : Unit} → first ≤ m → m < first + count → s ≡ Ok x
-      → step_of s U ≡ add_method ws text abi labels abis m T
-      → add_methods ws text abi labels abis (left first count (m + 1)) U ≡ add_methods ws text abi labels abis (left first count m) T
+      → step_of s U ≡ add_method same ws text abi abis m T
+      → add_methods same ws text abi abis (left first count (m + 1)) U ≡ add_methods same ws text abi abis (left first count m) T
   unfolding add_methods
   adds-turn m T U g h e f = rw (left_turn first count m g h, ← f, e)
 
   pub adds-stop : (m : ℕ) (r : Refusal) (T U : List Entry) {s : Result Unit Refusal} → first ≤ m → m < first + count → s ≡ Err r
-      → step_of s U ≡ add_method ws text abi labels abis m T
-      → refused (row r) ≡ add_methods ws text abi labels abis (left first count m) T
+      → step_of s U ≡ add_method same ws text abi abis m T
+      → refused (row r) ≡ add_methods same ws text abi abis (left first count m) T
   unfolding add_methods
   adds-stop m r T U g h e f = rw (left_turn first count m g h, ← f, e)
 
-  pub adds-end : (m : ℕ) (T : List Entry) → first + count ≤ m → built T ≡ add_methods ws text abi labels abis (left first count m) T
+  pub adds-end : (m : ℕ) (T : List Entry) → first + count ≤ m → built T ≡ add_methods same ws text abi abis (left first count m) T
   unfolding add_methods
   adds-end m T h = rw (left_end first count m h)

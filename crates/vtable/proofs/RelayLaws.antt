@@ -14,13 +14,15 @@ use Rattle.words.specs.Lists.{list_from, numbers, fold, some}
 use Rattle.words.proofs.Bools.{by}
 use Rattle.words.proofs.Lists.{zeros}
 use Rattle.words.proofs.ListLaws.{by-found}
-use Rattle.text.proofs.Laws.{same_refl}
 use Rattle.class_sheet.specs.ClassSheet.{method_name, method_descriptor}
-use Rattle.linking.specs.Chain.{on_found, method_is, same_methods}
+use Rattle.linking.specs.Signature.{Same, of_method, methods_same, place_name, place_descriptor, by_bytes}
+use Rattle.linking.specs.Chain.{on_found}
 use Rattle.linking.specs.Abi.{minimum_size}
 use Rattle.linking.specs.Vtable.{Entry, empty, entry_is, is_of, occurs, stays, fixed_of, relayed}
 use Rattle.linking.specs.Relays.{hold, hold_entry, holder, relay_one, relays}
+use Rattle.linking.proofs.Comparing.{Compares}
 use Rattle.linking.proofs.RelayLoop.{fixed-below, relayed_loop}
+use Rattle.chain.specs.Records.{method_is}
 use Rattle.abi.proofs.Laws.{minimum_size-room}
 use Rattle.reading.specs.Arrays.{mark_of, method_of}
 use Rattle.reading.proofs.ArrayLaws.{method-back, no_method, none-back}
@@ -30,28 +32,28 @@ use Rattle.vtable.specs.declared.Place.TheVariants.{At, Last, Away}
 
 -- ---- the fixed indices
 
-module _ (ws text abi labels abis : List ℕ) where
-  pub fixed_small : (m i : ℕ) → fixed_of ws text abi labels abis m ≡ Some i → i < 1024
-  fixed_small m i e = let b = fixed-below ws text abi labels abis m i e in let r = minimum_size-room abi abis in omega arith
+module _ (same : Same) (abi abis : List ℕ) where
+  pub fixed_small : (m i : ℕ) → fixed_of same abi abis m ≡ Some i → i < 1024
+  fixed_small m i e = let b = fixed-below same abi abis m i e in let r = minimum_size-room abi abis in omega arith
 
   -- they come back from their marks
   index_back : (f : Option ℕ)
-      → method_of (mark_of (option_and_then (fixed_of ws text abi labels abis) f)) ≡ option_and_then (fixed_of ws text abi labels abis) f
+      → method_of (mark_of (option_and_then (fixed_of same abi abis) f)) ≡ option_and_then (fixed_of same abi abis) f
   index_back None = none-back
   index_back (Some m) =
-      by-found (fixed_of ws text abi labels abis m)
+      by-found (fixed_of same abi abis m)
       (λ i q. let l = fixed_small m i q in rw q (method-back i (omega arith)))
       (λ q. rw q none-back)
 
   -- those of the entries before the i-th are there
   pub record Indexed (E : List Entry) (at : List ℕ) (i : ℕ) : Type 0 where
-    pub each : (k : ℕ) → k < i → found_at at k ≡ option_and_then (fixed_of ws text abi labels abis) (get_or E k empty).method
+    pub each : (k : ℕ) → k < i → found_at at k ≡ option_and_then (fixed_of same abi abis) (get_or E k empty).method
 
   module _ (E : List Entry) (at : List ℕ) where
     pub indexed_start : Indexed E at 0
     indexed_start = record { each = λ k h. absurd (omega arith) }
 
-    pub indexed_turn : (i a : ℕ) {e : Entry} → i < length at → e ≡ get_or E i empty → a ≡ mark_of (option_and_then (fixed_of ws text abi labels abis) e.method)
+    pub indexed_turn : (i a : ℕ) {e : Entry} → i < length at → e ≡ get_or E i empty → a ≡ mark_of (option_and_then (fixed_of same abi abis) e.method)
         → Indexed E at i → Indexed E (set at i a) (i + 1)
     indexed_turn i a {e = e} l q s b = record {
       each = λ k h.
@@ -60,7 +62,7 @@ module _ (ws text abi labels abis : List ℕ) where
           (λ t. let v = eqb-false k i t in rw (get_or-set_other at i k a 0 v) (b.each k (omega arith)));
     }
 
-    pub indexed_end : (i : ℕ) → length E ≤ i → Indexed E at i → Indices (fixed_of ws text abi labels abis) E at
+    pub indexed_end : (i : ℕ) → length E ≤ i → Indexed E at i → Indices (fixed_of same abi abis) E at
     indexed_end i h b = record { each = λ k l. b.each k (omega arith) }
 
 -- ---- the holders after one entry
@@ -133,14 +135,25 @@ module _ (fixed : ℕ → Option ℕ) (distance : ℕ → ℕ) (E : List Entry) 
 
 -- ---- the signatures of two methods
 
-pub same_self : (ws text : List ℕ) (k m : ℕ) → k ≡ m → true ≡ same_methods ws text k m
-unfolding same_methods method_is
-same_self ws text k m e = rw (e, same_refl (method_name ws text m), same_refl (method_descriptor ws text m)) refl
+pub same_self : (same : Same) (k m : ℕ) → Compares same → k ≡ m → true ≡ methods_same same k m
+unfolding methods_same
+same_self same k m compares e = rw e (sym (compares.self (of_method m)))
 
-pub signature_is : (ws text : List ℕ) (m : ℕ) (e : Entry) {name descriptor : List ℕ} → name ≡ method_name ws text m → descriptor ≡ method_descriptor ws text m
-    → entry_is ws text name descriptor e ≡ is_of (same_methods ws text) m e
-unfolding entry_is is_of same_methods
-signature_is ws text m e p q = rw (p, q) refl
+-- by the bytes of a method's name and descriptor
+module _ (ws text abi labels : List ℕ) (m : ℕ) {name descriptor : List ℕ} (n : name ≡ method_name ws text m) (d : descriptor ≡ method_descriptor ws text m) where
+  pub method_named : (k : ℕ) → method_is ws text k name descriptor ≡ methods_same (by_bytes ws text abi labels) k m
+  unfolding methods_same by_bytes place_name place_descriptor method_is
+  method_named k = rw (n, d) refl
+
+  pub slot_named : (e : Entry) {s : Entry} {r : Bool} → s ≡ e → r ≡ on_found s.method (λ k. method_is ws text k name descriptor) false
+      → r ≡ entry_is (by_bytes ws text abi labels) (of_method m) e
+  unfolding entry_is by_bytes place_name place_descriptor method_is
+  slot_named e q h = h ∙ rw (q, n, d) refl
+
+  pub entry_named : (e : Entry) {s : Entry} {r : Bool} → s ≡ e → r ≡ on_found s.method (λ k. method_is ws text k name descriptor) false
+      → r ≡ is_of (methods_same (by_bytes ws text abi labels)) m e
+  unfolding is_of methods_same by_bytes place_name place_descriptor method_is
+  entry_named e q h = h ∙ rw (q, n, d) refl
 
 -- an element of a list from the k-th on
 some_rest : {A : Type 0} (p : A → Bool) (d : A) (xs : List A) (k n : ℕ) → n ≡ length xs - k
@@ -225,7 +238,7 @@ relay_end same fixed distance E i T W h r = rw (drop_of_length-le E h) at r
 
 -- ---- all of them, onto the minimum size
 
-pub relayed-is : (ws text abi labels abis : List ℕ) (E : List Entry) {size n : ℕ} {C P T U : List Entry} → size ≡ minimum_size abi abis → P ≡ E → n ≡ 0
-    → C ≡ [] → T ≡ C ++ replicate (size - n) empty → U ≡ relays_of ws text abi labels abis P T → U ≡ relayed ws text abi labels abis E
-relayed-is ws text abi labels abis E {size = size} least p n c t u =
-    let z : size - 0 ≡ size = omega arith in u ∙ rw (t, c, n, z, least, p) (sym (relayed_loop ws text abi labels abis E))
+pub relayed-is : (same : Same) (abi abis : List ℕ) (E : List Entry) {size n : ℕ} {C P T U : List Entry} → size ≡ minimum_size abi abis → P ≡ E → n ≡ 0
+    → C ≡ [] → T ≡ C ++ replicate (size - n) empty → U ≡ relays_of same abi abis P T → Compares same → U ≡ relayed same abi abis E
+relayed-is same abi abis E {size = size} least p n c t u compares =
+    let z : size - 0 ≡ size = omega arith in u ∙ rw (t, c, n, z, least, p) (sym (relayed_loop same abi compares abis E))

@@ -7,17 +7,18 @@ use Rattle.words.proofs.Bools.{by}
 use Rattle.words.specs.Lists.{keep}
 use Rattle.vtable.proofs.AddLaws.{left, left_start, left_turn, left_end}
 use Rattle.class_sheet.specs.ClassSheet.{class_first_method, class_method_count, method_limit}
+use Rattle.linking.specs.Signature.{Same}
 use Rattle.linking.specs.Chain.{list_count, own_methods, eligible}
 use Rattle.linking.specs.Abi.{chain_abi}
 use Rattle.linking.specs.Vtable.{Entry, Built, method_entry, method_entries, inherited_table, add_methods, build_methods, build_interface_methods}
 
 -- ---- `build_methods`
 
-pub built-is : (ws text abi labels area : List ℕ) (c : ℕ) (abis : List ℕ) (T : List Entry) {B : Built} → abis ≡ chain_abi ws text abi labels c
-    → T ≡ inherited_table ws text abi labels area c → B ≡ add_methods ws text abi labels abis (own_methods ws c) T
-    → B ≡ build_methods ws text abi labels area c
+pub built-is : (same : Same) (ws text abi labels area : List ℕ) (c : ℕ) (abis : List ℕ) (T : List Entry) {B : Built} → abis ≡ chain_abi ws text abi labels c
+    → T ≡ inherited_table same ws text abi labels area c → B ≡ add_methods same ws text abi abis (own_methods ws c) T
+    → B ≡ build_methods same ws text abi labels area c
 unfolding build_methods
-built-is ws text abi labels area c abis T e f g = g ∙ rw (e, f)
+built-is same ws text abi labels area c abis T e f g = g ∙ rw (e, f)
 
 -- ---- `build_interface_methods`
 

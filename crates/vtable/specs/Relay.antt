@@ -1,12 +1,22 @@
 -- Relaying as the code does it, over two arrays of marks: the fixed indices of the inherited entries, and the methods that hold the indices. Assumes nothing.
 use Rattle.std.specs.Prelude.{ℕ, ◌<◌, ◌≡◌, Bool, cond, List, [], ◌∷◌, ◌++◌, length, get_or, set, Option}
 use Rattle.std.specs.Option.{option_and_then}
-use Rattle.linking.specs.Chain.{on_found, same_methods}
+use Rattle.linking.specs.Signature.{Same, methods_same, by_bytes}
+use Rattle.linking.specs.Sheets.{of_sheets}
+use Rattle.linking.specs.declared.Sheets.{Sheets}
+use Rattle.linking.specs.Chain.{on_found}
 use Rattle.linking.specs.Vtable.{Entry, empty, occurs, stays, fixed_of, distance_of}
 use Rattle.linking.specs.Relays.{hold_entry, holder, relays}
 use Rattle.reading.specs.Arrays.{method_of}
 use Rattle.vtable.specs.declared.Place.{Place}
 use Rattle.vtable.specs.declared.Place.TheVariants.{At, Last, Away}
+
+-- the fixed index of a method among these ABI classes, and how far up the one stands that it comes from
+abbrev pub fixed_in : Sheets → List ℕ → ℕ → Option ℕ
+fixed_in sheets abis = fixed_of (of_sheets by_bytes sheets) sheets.abi.now abis
+
+abbrev pub distance_in : Sheets → List ℕ → ℕ → ℕ
+distance_in sheets abis = distance_of (of_sheets by_bytes sheets) sheets.abi.now abis
 
 -- what the i-th mark of an array stands for
 abbrev pub found_at : List ℕ → ℕ → Option ℕ
@@ -36,6 +46,5 @@ put_place Last e T = T ++ (e ∷ [])
 put_place Away e T = T
 
 -- what relaying all of the entries E entry by entry makes of the table T
-abbrev pub relays_of : List ℕ → List ℕ → List ℕ → List ℕ → List ℕ → List Entry → List Entry → List Entry
-relays_of ws text abi labels abis E T =
-    relays (same_methods ws text) (fixed_of ws text abi labels abis) (distance_of ws text abi labels abis) E T E
+abbrev pub relays_of : Same → List ℕ → List ℕ → List Entry → List Entry → List Entry
+relays_of same abi abis E T = relays (methods_same same) (fixed_of same abi abis) (distance_of same abi abis) E T E

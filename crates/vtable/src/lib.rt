@@ -3,16 +3,18 @@
 
 ghost use Rattle.std.specs.Prelude.{◌≡◌, ◌≤◌, ◌<◌, ◌+◌, ◌-◌, max, ltb, true, false, replicate, [], ◌∷◌, ◌++◌, get_or, drop, None, Some};
 ghost use Rattle.std.specs.Option.{option_and_then};
-ghost use Rattle.class_sheet.specs.ClassSheet.{method_limit, method_name, method_descriptor};
+ghost use Rattle.class_sheet.specs.ClassSheet.{method_limit};
 ghost use Rattle.words.specs.Lists.{keep};
-ghost use Rattle.linking.specs.Chain.{on_found, own_methods, eligible, same_methods};
+ghost use Rattle.linking.specs.Signature.{Same, of_method, methods_same, by_bytes};
+ghost use Rattle.linking.specs.Chain.{on_found, own_methods, eligible};
+ghost use Rattle.chain.specs.Records.{method_is};
 ghost use Rattle.linking.specs.Abi.{chain_abi};
-ghost use Rattle.linking.specs.Vtable.{built, entry_is, entry_is_other, slot_of, parent_entries, occurs, fixed_of, distance_of, relayed, extended, inherited_table, put_method, add_method, add_methods, build_methods, method_entries, build_interface_methods, empty};
+ghost use Rattle.linking.specs.Vtable.{built, entry_is_other, slot_of, parent_entries, occurs, relayed, extended, inherited_table, put_method, add_method, add_methods, build_methods, method_entries, build_interface_methods, empty};
 ghost use Rattle.reading.specs.Arrays.{mark_of, method_of};
 ghost use Rattle.reading.specs.Tables.{entry, entries};
-ghost use Rattle.vtable.specs.Relay.{found_at, Indices, Holders, Held, place_of, put_place, relays_of};
+ghost use Rattle.vtable.specs.Relay.{fixed_in, distance_in, found_at, Indices, Holders, Held, place_of, put_place, relays_of};
 ghost use Rattle.vtable.specs.Tables.{step_of};
-ghost use Rattle.linking.specs.Sheets.{of_sheets};
+ghost use Rattle.linking.specs.Sheets.{of_sheets, of_bytes};
 ghost use Rattle.text.specs.Signatures.{of_signature};
 
 use linking::Sheets;
@@ -29,9 +31,8 @@ enum Place {
 }
 
 // Whether a slot's method has this name and descriptor.
-#[tactic(auto, unfolding(linking::specs::Vtable::entry_is))]
 fn slot_is(ws: &[u32], text: &[u8], signature: Signature, slot: Slot) -> bool
-    ensures { result ≡ of_signature (entry_is ws.now text.now) signature.entry (entry slot) }
+    ensures { result ≡ on_found (entry slot).method (λ k. of_signature (method_is ws.now text.now k) signature.entry) false }
 {
     match slot.method() {
         Some(m) => chain::method_is(ws, text, m, signature),
@@ -39,12 +40,13 @@ fn slot_is(ws: &[u32], text: &[u8], signature: Signature, slot: Slot) -> bool
     }
 }
 
-// The table's first slot that has this signature.
-fn find_slot(ws: &[u32], text: &[u8], signature: Signature, table: &BuiltTable) -> Option<u32>
-    ensures { result ≡ of_signature (slot_of ws.now text.now) signature.entry (entries table.now) }
+// The table's first slot that has method m's signature.
+fn find_slot(sheets: Sheets, m: u32, table: &BuiltTable) -> Option<u32>
+    ensures { result ≡ slot_of (of_sheets by_bytes sheets.entry) (of_method m) (entries table.now) }
 {
+    let signature = class_sheet::method_signature(sheets.set, sheets.text, m);
     words::find_in(0, table.len, |i| {
-        slot_is(ws, text, signature, table.slot(i))
+        slot_is(sheets.set, sheets.text, signature, table.slot(i))
     })
 }
 
@@ -62,7 +64,7 @@ fn extend(table: &mut BuiltTable, size: u32)
 // The fixed index of a slot's method, as a mark.
 #[tactic(auto, unfolding(reading::specs::Arrays::mark_of))]
 fn fixed_mark(sheets: Sheets, abis: &[u32], slot: Slot) -> u32
-    ensures { result ≡ mark_of (option_and_then (of_sheets fixed_of sheets.entry abis.now) (entry slot).method) }
+    ensures { result ≡ mark_of (option_and_then (fixed_in sheets.entry abis.now) (entry slot).method) }
 {
     match slot.method() {
         Some(m) => reading::mark_of(abi::fixed_of(sheets, abis, m)),
@@ -72,7 +74,7 @@ fn fixed_mark(sheets: Sheets, abis: &[u32], slot: Slot) -> u32
 
 // Fills an array with the fixed indices of the parent's slots.
 fn fixed_marks(sheets: Sheets, abis: &[u32], parent: &ReadTable, at: &mut [u32; TABLE_LIMIT])
-    ensures { Indices (of_sheets fixed_of sheets.entry abis.now) (entries parent.now) at.new }
+    ensures { Indices (fixed_in sheets.entry abis.now) (entries parent.now) at.new }
 {
     for i in 0..parent.len {
         at[i as usize] = fixed_mark(sheets, abis, parent.slot(i));
@@ -81,7 +83,7 @@ fn fixed_marks(sheets: Sheets, abis: &[u32], parent: &ReadTable, at: &mut [u32; 
 
 // Whether method m takes an index that this method holds so far: none holds it, or one whose index comes from an ABI class farther up.
 fn takes(sheets: Sheets, abis: &[u32], m: u32, held: Option<u32>) -> bool
-    ensures { result ≡ on_found held (λ k. ltb (of_sheets distance_of sheets.entry abis.now m) (of_sheets distance_of sheets.entry abis.now k)) true }
+    ensures { result ≡ on_found held (λ k. ltb (distance_in sheets.entry abis.now m) (distance_in sheets.entry abis.now k)) true }
 {
     match held {
         Some(k) => abi::distance_of(sheets, abis, m) < abi::distance_of(sheets, abis, k),
@@ -91,8 +93,8 @@ fn takes(sheets: Sheets, abis: &[u32], m: u32, held: Option<u32>) -> bool
 
 // Gives the index with mark a, a slot's fixed one, to its method, if it takes it.
 fn hold_entry(sheets: Sheets, abis: &[u32], slot: Slot, a: u32, holders: &mut [u32; TABLE_LIMIT])
-    requires { method_of a ≡ option_and_then (of_sheets fixed_of sheets abis.now) (entry slot).method }
-    ensures { Held (of_sheets fixed_of sheets.entry abis.now) (of_sheets distance_of sheets.entry abis.now) (entry slot) holders.old holders.new }
+    requires { method_of a ≡ option_and_then (fixed_in sheets abis.now) (entry slot).method }
+    ensures { Held (fixed_in sheets.entry abis.now) (distance_in sheets.entry abis.now) (entry slot) holders.old holders.new }
 {
     let Some(m) = slot.method() else {
         return;
@@ -114,9 +116,9 @@ fn hold_entries(
     at: &[u32; TABLE_LIMIT],
     holders: &mut [u32; TABLE_LIMIT],
 )
-    requires indices { Indices (of_sheets fixed_of sheets abis.now) (entries parent.now) at.now }
+    requires indices { Indices (fixed_in sheets abis.now) (entries parent.now) at.now }
     requires none { holders.old ≡ replicate 1024 0 }
-    ensures { Holders (of_sheets fixed_of sheets.entry abis.now) (of_sheets distance_of sheets.entry abis.now) (entries parent.now) holders.new }
+    ensures { Holders (fixed_in sheets.entry abis.now) (distance_in sheets.entry abis.now) (entries parent.now) holders.new }
 {
     for i in 0..parent.len {
         hold_entry(sheets, abis, parent.slot(i), at[i as usize], holders);
@@ -124,38 +126,41 @@ fn hold_entries(
 }
 
 // Whether methods k and m have one signature.
-#[tactic(auto, using(crate::proofs::RelayLaws::same_self), unfolding(linking::specs::Chain::same_methods))]
-fn same_methods(ws: &[u32], text: &[u8], k: u32, m: u32) -> bool
-    ensures { result ≡ same_methods ws.now text.now k m }
+#[tactic(auto, using(crate::proofs::RelayLaws::same_self, linking::proofs::Comparing::bytes_compare, crate::proofs::RelayLaws::method_named))]
+fn same_methods(sheets: Sheets, k: u32, m: u32) -> bool
+    ensures { result ≡ methods_same (of_sheets by_bytes sheets.entry) k m }
 {
     if k == m {
         return true;
     }
-    chain::method_is(ws, text, k, class_sheet::method_signature(ws, text, m))
+    let signature = class_sheet::method_signature(sheets.set, sheets.text, m);
+    chain::method_is(sheets.set, sheets.text, k, signature)
 }
 
 // Whether method m's signature is that of the method that holds its index.
-fn is_held(ws: &[u32], text: &[u8], m: u32, held: Option<u32>) -> bool
-    ensures { result ≡ on_found held (λ k. same_methods ws.now text.now k m) false }
+fn is_held(sheets: Sheets, m: u32, held: Option<u32>) -> bool
+    ensures { result ≡ on_found held (λ k. methods_same (of_sheets by_bytes sheets.entry) k m) false }
 {
-    held.is_some_and(|k| same_methods(ws, text, k, m))
+    match held {
+        Some(k) => same_methods(sheets, k, m),
+        None => false,
+    }
 }
 
 // Whether method m's signature is that of one of the parent's slots from the first on.
-fn occurs(ws: &[u32], text: &[u8], m: u32, parent: &ReadTable, first: u32) -> bool
-    ensures { result ≡ occurs (same_methods ws.now text.now) m (drop first (entries parent.now)) }
+fn occurs(sheets: Sheets, m: u32, parent: &ReadTable, first: u32) -> bool
+    ensures { result ≡ occurs (methods_same (of_sheets by_bytes sheets.entry)) m (drop first (entries parent.now)) }
 {
-    let signature = class_sheet::method_signature(ws, text, m);
+    let signature = class_sheet::method_signature(sheets.set, sheets.text, m);
     words::some_in(first, parent.len, |i| {
-        slot_is(ws, text, signature, parent.slot(i))
+        slot_is(sheets.set, sheets.text, signature, parent.slot(i))
     })
 }
 
 // Where the parent's slot k goes: to its fixed index, if its signature stays there, or after the last slot; an unknown one goes away, and one of a
 // signature that gives way and comes again.
 fn place_of(
-    ws: &[u32],
-    text: &[u8],
+    sheets: Sheets,
     parent: &ReadTable,
     at: &[u32; TABLE_LIMIT],
     holders: &[u32; TABLE_LIMIT],
@@ -163,7 +168,7 @@ fn place_of(
 ) -> Place
     requires { k < parent.now.len }
     ensures { result
-        ≡ place_of (same_methods ws.now text.now) (found_at holders.now) (found_at at.now k) (get_or (entries parent.now) k empty).method (drop (k + 1) (entries parent.now)) }
+        ≡ place_of (methods_same (of_sheets by_bytes sheets.entry)) (found_at holders.now) (found_at at.now k) (get_or (entries parent.now) k empty).method (drop (k + 1) (entries parent.now)) }
 {
     let Some(m) = parent.slot(k).method() else {
         return Place::Away;
@@ -172,10 +177,10 @@ fn place_of(
         return Place::Last;
     };
     let held = reading::method_of(words::get_or(holders, i as usize, 0));
-    if is_held(ws, text, m, held) {
+    if is_held(sheets, m, held) {
         return Place::At(i);
     }
-    if occurs(ws, text, m, parent, k + 1) {
+    if occurs(sheets, m, parent, k + 1) {
         return Place::Away;
     }
     Place::Last
@@ -198,7 +203,7 @@ fn relay_entry(place: Place, slot: Slot, table: &mut BuiltTable)
 // Puts each of the parent's slots to its place, in their order: who holds each index, and then slot by slot.
 fn relay(sheets: Sheets, abis: &[u32], parent: &ReadTable, table: &mut BuiltTable)
     requires { table.old.len ≤ 1024 }
-    ensures is { entries table.new ≡ of_sheets relays_of sheets.entry abis.now (entries parent.now) (entries table.old) }
+    ensures is { entries table.new ≡ relays_of (of_sheets by_bytes sheets.entry) sheets.entry.abi.now abis.now (entries parent.now) (entries table.old) }
     ensures count { table.new.len ≤ 2048 }
 {
     let mut at = [0u32; TABLE_LIMIT];
@@ -206,7 +211,7 @@ fn relay(sheets: Sheets, abis: &[u32], parent: &ReadTable, table: &mut BuiltTabl
     let mut holders = [0u32; TABLE_LIMIT];
     hold_entries(sheets, abis, parent, &at, &mut holders);
     for i in 0..parent.len {
-        let place = place_of(sheets.set, sheets.text, parent, &at, &holders, i);
+        let place = place_of(sheets, parent, &at, &holders, i);
         relay_entry(place, parent.slot(i), table);
     }
 }
@@ -214,7 +219,7 @@ fn relay(sheets: Sheets, abis: &[u32], parent: &ReadTable, table: &mut BuiltTabl
 // Fills the table with the slots of class c's parent, relayed by the ABI classes of the chain. They are read beside the table, where no other
 // case needs room for them.
 fn relay_parent(sheets: Sheets, area: &[u32], abis: &[u32], c: u32, table: &mut BuiltTable)
-    ensures is { entries table.new ≡ of_sheets relayed sheets.entry abis.now (of_sheets parent_entries sheets.entry area.now c) }
+    ensures is { entries table.new ≡ relayed (of_sheets by_bytes sheets.entry) sheets.entry.abi.now abis.now (of_bytes parent_entries sheets.entry area.now c) }
     ensures count { table.new.len ≤ 2048 }
 {
     let mut parent = Table::for_reading();
@@ -226,7 +231,7 @@ fn relay_parent(sheets: Sheets, area: &[u32], abis: &[u32], c: u32, table: &mut 
 
 // Fills the table with the slots of class c's parent, extended to the minimum size.
 fn extend_parent(sheets: Sheets, area: &[u32], abis: &[u32], c: u32, table: &mut BuiltTable)
-    ensures is { entries table.new ≡ extended sheets.entry.abi.now abis.now (of_sheets parent_entries sheets.entry area.now c) }
+    ensures is { entries table.new ≡ extended sheets.entry.abi.now abis.now (of_bytes parent_entries sheets.entry area.now c) }
     ensures count { table.new.len ≤ 1024 }
 {
     reading::parent_entries(sheets, area, c, table);
@@ -236,7 +241,7 @@ fn extend_parent(sheets: Sheets, area: &[u32], abis: &[u32], c: u32, table: &mut
 // Fills the table with class c's before its own methods.
 fn inherited_table(sheets: Sheets, area: &[u32], abis: &[u32], c: u32, table: &mut BuiltTable)
     requires { abis.now ≡ of_sheets chain_abi sheets c }
-    ensures is { entries table.new ≡ of_sheets inherited_table sheets.entry area.now c }
+    ensures is { entries table.new ≡ of_bytes inherited_table sheets.entry area.now c }
     ensures count { table.new.len ≤ 2048 }
 {
     match abi::class_abi(sheets, c) {
@@ -246,43 +251,43 @@ fn inherited_table(sheets: Sheets, area: &[u32], abis: &[u32], c: u32, table: &m
 }
 
 // Whether a slot holds a method of another signature than method m's.
-#[tactic(auto, unfolding(linking::specs::Vtable::entry_is_other))]
-fn holds_other(ws: &[u32], text: &[u8], m: u32, slot: Slot) -> bool
-    ensures { result ≡ entry_is_other ws.now text.now (method_name ws.now text.now m) (method_descriptor ws.now text.now m) (entry slot) }
+#[tactic(auto, unfolding(linking::specs::Vtable::entry_is_other, linking::specs::Signature::methods_same))]
+fn holds_other(sheets: Sheets, m: u32, slot: Slot) -> bool
+    ensures { result ≡ entry_is_other (of_sheets by_bytes sheets.entry) (of_method m) (entry slot) }
 {
-    slot.method().is_some_and(|j| {
-        !chain::method_is(ws, text, j, class_sheet::method_signature(ws, text, m))
-    })
+    match slot.method() {
+        Some(k) => !same_methods(sheets, k, m),
+        None => false,
+    }
 }
 
 // Puts method m, whose fixed index is i and whose signature has this slot, at its fixed index.
 fn put_fixed(
-    ws: &[u32],
-    text: &[u8],
+    sheets: Sheets,
     m: u32,
     i: u32,
     slot: Option<u32>,
     table: &mut BuiltTable,
 ) -> Result<(), Refusal>
     requires { m < method_limit }
-    ensures is { step_of result (entries table.new) ≡ put_method ws.now text.now (Some i) slot m (entries table.old) }
+    ensures is { step_of result (entries table.new) ≡ put_method (of_sheets by_bytes sheets.entry) sheets.entry.set.now (Some i) slot m (entries table.old) }
     ensures count { table.new.len ≡ table.old.len }
 {
     if slot.is_some_and(|j| j != i) {
         return Err(Refusal::MovedSlot);
     }
-    if holds_other(ws, text, m, table.slot(i)) {
+    if holds_other(sheets, m, table.slot(i)) {
         return Err(Refusal::TakenSlot);
     }
-    table.put(i, Slot::of_method(ws, m));
+    table.put(i, Slot::of_method(sheets.set, m));
     Ok(())
 }
 
-// Puts method m, which has no fixed index, at the slot of its signature, or after the table's slots.
+// Puts method m, which has no fixed index, at the slot of its signature, or after the table's slots. Nothing is compared.
 #[tactic(auto, unfolding(linking::specs::Vtable::put_method))]
-fn put_found(ws: &[u32], text: &[u8], m: u32, slot: Option<u32>, table: &mut BuiltTable)
+fn put_found(ws: &[u32], m: u32, slot: Option<u32>, table: &mut BuiltTable)
     requires { (m < method_limit) × (table.old.len < 3584) }
-    ensures is { built (entries table.new) ≡ put_method ws.now text.now None slot m (entries table.old) }
+    ensures is { (same : Same) → built (entries table.new) ≡ put_method same ws.now None slot m (entries table.old) }
     ensures count { table.new.len ≤ table.old.len + 1 }
 {
     let own = Slot::of_method(ws, m);
@@ -295,18 +300,17 @@ fn put_found(ws: &[u32], text: &[u8], m: u32, slot: Option<u32>, table: &mut Bui
 // Gives method m its slot, if it is eligible.
 fn add_method(sheets: Sheets, abis: &[u32], m: u32, table: &mut BuiltTable) -> Result<(), Refusal>
     requires { (m < method_limit) × (table.old.len < 3584) }
-    ensures is { step_of result (entries table.new) ≡ of_sheets add_method sheets.entry abis.now m (entries table.old) }
+    ensures is { step_of result (entries table.new) ≡ add_method (of_sheets by_bytes sheets.entry) sheets.entry.set.now sheets.entry.text.now sheets.entry.abi.now abis.now m (entries table.old) }
     ensures count { table.new.len ≤ table.old.len + 1 }
 {
     if !chain::eligible(sheets.set, sheets.text, m) {
         return Ok(());
     }
-    let signature = class_sheet::method_signature(sheets.set, sheets.text, m);
-    let slot = find_slot(sheets.set, sheets.text, signature, table);
+    let slot = find_slot(sheets, m, table);
     match abi::fixed_of(sheets, abis, m) {
-        Some(i) => put_fixed(sheets.set, sheets.text, m, i, slot, table),
+        Some(i) => put_fixed(sheets, m, i, slot, table),
         None => {
-            put_found(sheets.set, sheets.text, m, slot, table);
+            put_found(sheets.set, m, slot, table);
             Ok(())
         }
     }
@@ -315,7 +319,8 @@ fn add_method(sheets: Sheets, abis: &[u32], m: u32, table: &mut BuiltTable) -> R
 // Gives each of class c's own methods its slot, in their order, or the row that refuses the first that is refused.
 fn add_methods(sheets: Sheets, abis: &[u32], c: u32, table: &mut BuiltTable) -> Result<(), Refusal>
     requires { table.old.len ≤ 2048 }
-    ensures is { step_of result (entries table.new) ≡ of_sheets add_methods sheets.entry abis.now (own_methods sheets.entry.set.now c) (entries table.old) }
+    ensures is { step_of result (entries table.new)
+        ≡ add_methods (of_sheets by_bytes sheets.entry) sheets.entry.set.now sheets.entry.text.now sheets.entry.abi.now abis.now (own_methods sheets.entry.set.now c) (entries table.old) }
     ensures count { table.new.len ≤ 2560 }
 {
     let first = class_sheet::class_first_method(sheets.set, c);
@@ -335,7 +340,7 @@ pub fn build_methods(
     c: u32,
     table: &mut BuiltTable,
 ) -> Result<(), Refusal>
-    ensures is { step_of result (entries table.new) ≡ of_sheets build_methods sheets.entry area.now c }
+    ensures is { step_of result (entries table.new) ≡ of_bytes build_methods sheets.entry area.now c }
     ensures count { table.new.len ≤ 2560 }
 {
     let classes = abi::chain_abi(sheets, c);

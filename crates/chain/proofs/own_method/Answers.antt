@@ -1,11 +1,11 @@
 -- The numbers that are searched are those of the class's methods, and each record that is read is the method's. Assumes nothing.
 use Rattle.std.proofs.Common.{rules, arith}
-use Rattle.linking.specs.Chain.{own_method, own_methods}
+use Rattle.linking.specs.Chain.{own_methods}
 use Rattle.chain.proofs.RecordLaws.{record_method}
 use Rattle.chain.proofs.own_method.Goals as goal
 
 pub returns : goal.returns
-unfolding own_method own_methods
+unfolding own_methods
 returns c =
     rw (← c.method_count.ensures, ← c.class_first_method-first.ensures)
     (c.find_in.ensures _ _ (omega arith) (λ i r l post. search (rules, record_method)))

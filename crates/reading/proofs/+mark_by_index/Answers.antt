@@ -8,10 +8,10 @@ use Rattle.reading.proofs.+mark_by_index.Goals as goal
 
 -- the chain's end
 pub returns-then-c-eq0-clause-marks : goal.returns-then-c-eq0-clause-marks
-returns-then-c-eq0-clause-marks t c = indices-none _ _ _ _ _ _ _ c.if-c-eq0.true
+returns-then-c-eq0-clause-marks t c = indices-none _ _ _ _ _ _ _ _ c.if-c-eq0.true
 
 pub returns-then-c-eq0-clause-classes : goal.returns-then-c-eq0-clause-classes
-returns-then-c-eq0-clause-classes t c = indices-nobody _ _ _ _ _ _ c.args.marks.now _ c.if-c-eq0.true
+returns-then-c-eq0-clause-classes t c = indices-nobody _ _ _ _ _ _ _ c.args.marks.now _ c.if-c-eq0.true
 
 -- the parent's number is smaller, and what the class marked it claimed
 pub mark_by_index-requires : goal.mark_by_index-requires
@@ -22,7 +22,7 @@ mark_by_index-requires t c =
       (
         omega arith,
         omega arith,
-        rw n (indices_paired _ _ _ _ _ _ _ _ c.mark_own.ensures claimed (pos_of_ne-zero c.if-c-eq0.false) (omega arith) (omega arith) c.requires.2),
+        rw n (indices_paired _ _ _ _ _ _ _ _ _ c.mark_own.ensures claimed (pos_of_ne-zero c.if-c-eq0.false) (omega arith) (omega arith) c.requires.2),
       ),
     )
 
@@ -30,10 +30,10 @@ mark_by_index-requires t c =
 pub returns-clause-marks : goal.returns-clause-marks
 returns-clause-marks t c =
     let n : length c.mark_own.new.marks ≡ length c.args.marks.now = omega arith in
-    indices-all _ _ _ _ _ _ _ c.mark_own.ensures c.parent_of.ensures (rw n at c.mark_by_index.ensures.marks) (pos_of_ne-zero c.if-c-eq0.false) (omega arith)
+    indices-all _ _ _ _ _ _ _ _ c.mark_own.ensures c.parent_of.ensures (rw n at c.mark_by_index.ensures.marks) (pos_of_ne-zero c.if-c-eq0.false) (omega arith)
 
 pub returns-clause-classes : goal.returns-clause-classes
 returns-clause-classes t c =
     let n : length c.mark_own.new.marks ≡ length c.args.marks.now = omega arith in
-    indices-declared _ _ _ _ _ _ _ _ c.mark_own.ensures (rw n at c.claim.ensures) (pos_of_ne-zero c.if-c-eq0.false) (omega arith) (omega arith) c.requires.2
+    indices-declared _ _ _ _ _ _ _ _ _ c.mark_own.ensures (rw n at c.claim.ensures) (pos_of_ne-zero c.if-c-eq0.false) (omega arith) (omega arith) c.requires.2
     c.parent_of.ensures (rw n at c.mark_by_index.ensures.classes)

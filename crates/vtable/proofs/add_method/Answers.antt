@@ -1,6 +1,8 @@
 -- A method that is not eligible is left out; any other one goes to its fixed slot, or to the slot of its signature, or behind the last
 -- one. Assumes nothing.
 use mathlib.Core.Path.{◌∙◌}
+use Rattle.linking.specs.Signature.{by_bytes}
+use Rattle.linking.specs.Sheets.{of_sheets}
 use Rattle.vtable.proofs.AddLaws.{add_none, add-put}
 use Rattle.vtable.proofs.add_method.Goals as goal
 
@@ -9,12 +11,10 @@ returns-then-not-eligible-clause-is c = search add_none
 
 pub returns-in-Some-clause-is : goal.returns-in-Some-clause-is
 returns-in-Some-clause-is c =
-    let s = c.method_signature-signature.ensures in
-    add-put _ _ _ _ _ _ _ c.eligible.ensures _ c.if-not-eligible.false c.fixed_of.ensures s.name s.descriptor c.find_slot-slot.ensures
+    add-put _ _ _ _ _ _ _ c.eligible.ensures _ c.if-not-eligible.false c.fixed_of.ensures c.find_slot-slot.ensures
     (c.put_fixed.ensures.is ∙ rw c.in-Some.is)
 
 pub returns-in-None-clause-is : goal.returns-in-None-clause-is
 returns-in-None-clause-is c =
-    let s = c.method_signature-signature.ensures in
-    add-put _ _ _ _ _ _ _ c.eligible.ensures _ c.if-not-eligible.false c.fixed_of.ensures s.name s.descriptor c.find_slot-slot.ensures
-    (c.put_found.ensures.is ∙ rw c.in-None.is)
+    add-put _ _ _ _ _ _ _ c.eligible.ensures _ c.if-not-eligible.false c.fixed_of.ensures c.find_slot-slot.ensures
+    (c.put_found.ensures.is (of_sheets by_bytes c.args.sheets) ∙ rw c.in-None.is)

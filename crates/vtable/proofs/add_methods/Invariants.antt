@@ -1,5 +1,6 @@
 -- The methods left, added to the table so far, make what all of them make of the first table. Assumes nothing.
 use Rattle.std.proofs.Common.{◌≡◌, ◌+◌, ◌-◌, ◌≤◌}
+use Rattle.linking.specs.Signature.{by_bytes}
 use Rattle.linking.specs.Chain.{own_methods}
 use Rattle.linking.specs.Sheets.{of_sheets}
 use Rattle.linking.specs.Vtable.{add_methods}
@@ -10,6 +11,6 @@ use Rattle.vtable.proofs.add_methods.Given as goal
 abbrev pub invariant-loop-m : goal.invariant-loop-m
 invariant-loop-m l = record {
   slots : l.table.len ≤ l.initial.table.len + (l.m - l.first);
-  rest : of_sheets add_methods l.sheets l.abis (left l.first l.count l.m) (entries l.table)
-      ≡ of_sheets add_methods l.sheets l.abis (own_methods l.sheets.set.now l.c) (entries l.initial.table);
+  rest : add_methods (of_sheets by_bytes l.sheets) l.sheets.set.now l.sheets.text.now l.sheets.abi.now l.abis (left l.first l.count l.m) (entries l.table)
+      ≡ add_methods (of_sheets by_bytes l.sheets) l.sheets.set.now l.sheets.text.now l.sheets.abi.now l.abis (own_methods l.sheets.set.now l.c) (entries l.initial.table);
 }

@@ -1,9 +1,17 @@
--- The slots are searched in order, and each that is asked is the table's. Assumes nothing.
-use Rattle.std.proofs.Common.{◌∙◌, sym, rules, arith}
-use Rattle.reading.proofs.ArrayLaws.{entry_found}
+-- The slots are searched in order. Assumes nothing.
+use Rattle.std.proofs.Common.{◌∙◌, rules, arith}
+use Rattle.std.specs.Prelude.{get_or}
+use Rattle.linking.specs.Signature.{of_method, by_bytes}
+use Rattle.linking.specs.Sheets.{of_sheets}
+use Rattle.linking.specs.Vtable.{empty, entry_is}
+use Rattle.reading.specs.Tables.{entries}
+use Rattle.vtable.proofs.RelayLaws.{slot_named}
 use Rattle.vtable.proofs.SlotLaws.{slot_found}
 use Rattle.vtable.proofs.find_slot.Goals as goal
 
 pub returns : goal.returns
 returns c =
-    c.find_in.ensures _ _ (omega arith) (λ i r l post. search (rules, entry_found)) ∙ sym (slot_found _ _ _ _ _ _ _)
+    let a = c.args in
+    c.find_in.ensures (λ i. entry_is (of_sheets by_bytes a.sheets) (of_method a.m) (get_or (entries a.table.now) i empty)) _ (omega arith)
+    (λ i r l post. search (rules, slot_named))
+    ∙ slot_found _ _ _ _ _

@@ -5,10 +5,10 @@ use Rattle.vtable.proofs.RelayLaws.{indexed_start, indexed_turn, indexed_end}
 use Rattle.vtable.proofs.fixed_marks.Goals as goal
 
 pub loop-i-init : goal.loop-i-init
-loop-i-init c = indexed_start _ _ _ _ _ _ _
+loop-i-init c = indexed_start _ _ _ _ _
 
 pub loop-i-preserved : goal.loop-i-preserved
-loop-i-preserved c = indexed_turn _ _ _ _ _ _ _ _ _ (omega arith) c.slot.ensures c.fixed_mark.ensures c.loop-i.invariant
+loop-i-preserved c = indexed_turn _ _ _ _ _ _ _ (omega arith) c.slot.ensures c.fixed_mark.ensures c.loop-i.invariant
 
 pub returns : goal.returns
-returns c = indexed_end _ _ _ _ _ _ _ _ (rw (length-entries _ _ _) c.loop-i-test.false) c.loop-i.invariant
+returns c = indexed_end _ _ _ _ _ _ (rw (length-entries _ _ _) c.loop-i-test.false) c.loop-i.invariant

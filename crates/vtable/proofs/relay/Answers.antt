@@ -7,7 +7,7 @@ use Rattle.vtable.proofs.relay.Goals as goal
 pub loop-i-preserved : goal.loop-i-preserved
 loop-i-preserved c = record {
   slots = omega arith;
-  rest = relay_turn _ _ _ (fixed_small _ _ _ _ _) _ _ _ c.fixed_marks.ensures c.hold_entries.ensures _ _ _ (rw (length-entries _ _ _) c.loop-i-test.true)
+  rest = relay_turn _ _ _ (fixed_small _ _ _) _ _ _ c.fixed_marks.ensures c.hold_entries.ensures _ _ _ (rw (length-entries _ _ _) c.loop-i-test.true)
       c.place_of-place.ensures c.slot.ensures c.relay_entry.ensures.is c.loop-i.invariant.rest;
 }
 
