@@ -22,6 +22,6 @@ pub record Rows : Type 0 where
   pub cut-size : class_size abi 0 ≡ 1024
 
 pub rows : Rows
-unfolding by_bytes place_name place_descriptor abi_slots slot_index vtable_index class_size abi_count_at abi_slots_at abi_class_word abi_slot_word name_at same_bytes list_from find
-    first_found fold
+unfolding by_bytes place_name place_descriptor abi_slots slot_index vtable_index class_size abi_count_at abi_slots_at abi_class_word abi_slot_word name_at
+    same_bytes list_from find first_found fold
 rows = record { cut-index = refl; cut-size = refl }

@@ -210,7 +210,8 @@ module _ (same : Same) (ws text abi labels : List ℕ) (c n : ℕ) (ms cs : List
   pub indices-nobody : c ≡ 0 → cs ≡ classes_with (declared_by_index same ws text abi labels c) n cs
   unfolding declared_by_index
   indices-nobody e =
-      classes-none (λ i. first_declared (own_fixed same ws text abi labels i) (chain ws c)) n cs (λ i. declared-none (own_fixed same ws text abi labels i) ws c e)
+      classes-none (λ i. first_declared (own_fixed same ws text abi labels i) (chain ws c)) n cs
+      (λ i. declared-none (own_fixed same ws text abi labels i) ws c e)
 
   module _ {ns ds : List ℕ} (marks : ns ≡ marks_with (λ i. own_fixed same ws text abi labels i c) n ms) (classes : ds ≡ claims c n ns cs) (some : 0 < c)
       (h : n ≤ length ms) (g : n ≤ length cs) (paired : Paired n ms cs) where

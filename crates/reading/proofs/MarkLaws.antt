@@ -212,9 +212,11 @@ module _ (same : Same) (ws text abi labels : List ℕ) (c n : ℕ) (ms : List �
   pub indices-all : {ns us : List ℕ} {p : ℕ} → ns ≡ marks_with (λ i. own_fixed same ws text abi labels i c) n ms → p ≡ parent_of ws c
       → us ≡ marks_with (find_by_index same ws text abi labels p) n ns → 0 < c → n ≤ length ms → us ≡ marks_with (find_by_index same ws text abi labels c) n ms
   indices-all {p = p} s q u h l =
-      u ∙ rw s (marks_then (λ i. own_fixed same ws text abi labels i c) n ms (find_by_index same ws text abi labels p) (find_by_index same ws text abi labels c) l
+      u ∙ rw s (marks_then (λ i. own_fixed same ws text abi labels i c) n ms (find_by_index same ws text abi labels p)
+      (find_by_index same ws text abi labels c) l
       (λ i k. rw (q, index-step i h)
-      (mark-then k (own_fixed same ws text abi labels i c) (find_by_index same ws text abi labels (parent_of ws c) i) (own-fixed-room same ws text abi labels i c))))
+      (mark-then k (own_fixed same ws text abi labels i c) (find_by_index same ws text abi labels (parent_of ws c) i)
+      (own-fixed-room same ws text abi labels i c))))
 
 -- ---- a table's words, `method_of` by target and then by index, are its entries
 

@@ -33,7 +33,8 @@ module _ (same : Same) (ws text abi labels : List ℕ) where
     fixed-none e = rw (← entry, e)
 
   entry_eta : (c i w : ℕ)
-      → ◌≡◌ {A = Entry} (record { word = w; method = (read_entry same ws text abi labels c i w).method; source = Some i }) (read_entry same ws text abi labels c i w)
+      → ◌≡◌ {A = Entry} (record { word = w; method = (read_entry same ws text abi labels c i w).method; source = Some i })
+      (read_entry same ws text abi labels c i w)
   unfolding read_entry
   entry_eta c i w = refl
 

@@ -140,7 +140,8 @@ unfolding methods_same
 same_self same k m compares e = rw e (sym (compares.self (of_method m)))
 
 -- by the bytes of a method's name and descriptor
-module _ (ws text abi labels : List ℕ) (m : ℕ) {name descriptor : List ℕ} (n : name ≡ method_name ws text m) (d : descriptor ≡ method_descriptor ws text m) where
+module _ (ws text abi labels : List ℕ) (m : ℕ) {name descriptor : List ℕ} (n : name ≡ method_name ws text m)
+    (d : descriptor ≡ method_descriptor ws text m) where
   pub method_named : (k : ℕ) → method_is ws text k name descriptor ≡ methods_same (by_bytes ws text abi labels) k m
   unfolding methods_same by_bytes place_name place_descriptor method_is
   method_named k = rw (n, d) refl

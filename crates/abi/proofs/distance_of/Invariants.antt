@@ -8,4 +8,5 @@ use Rattle.abi.proofs.distance_of.Given as goal
 
 abbrev pub invariant-loop-i : goal.invariant-loop-i
 invariant-loop-i l =
-    distance_from (of_sheets by_bytes l.sheets) l.sheets.abi.now (of_method l.m) l.abis l.i ≡ distance_of (of_sheets by_bytes l.sheets) l.sheets.abi.now l.abis l.m
+    distance_from (of_sheets by_bytes l.sheets) l.sheets.abi.now (of_method l.m) l.abis l.i
+    ≡ distance_of (of_sheets by_bytes l.sheets) l.sheets.abi.now l.abis l.m

@@ -12,5 +12,6 @@ abbrev pub invariant-loop-m : goal.invariant-loop-m
 invariant-loop-m l = record {
   slots : l.table.len ≤ l.initial.table.len + (l.m - l.first);
   rest : add_methods (of_sheets by_bytes l.sheets) l.sheets.set.now l.sheets.text.now l.sheets.abi.now l.abis (left l.first l.count l.m) (entries l.table)
-      ≡ add_methods (of_sheets by_bytes l.sheets) l.sheets.set.now l.sheets.text.now l.sheets.abi.now l.abis (own_methods l.sheets.set.now l.c) (entries l.initial.table);
+      ≡ add_methods (of_sheets by_bytes l.sheets) l.sheets.set.now l.sheets.text.now l.sheets.abi.now l.abis
+      (own_methods l.sheets.set.now l.c) (entries l.initial.table);
 }

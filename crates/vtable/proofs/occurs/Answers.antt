@@ -12,6 +12,7 @@ use Rattle.vtable.proofs.occurs.Goals as goal
 pub returns : goal.returns
 returns c =
     let a = c.args in
-    c.some_in.ensures (λ i. is_of (methods_same (of_sheets by_bytes a.sheets)) a.m (get_or (entries a.parent.now) i empty)) (a.parent.now.len - a.first) (omega arith)
+    c.some_in.ensures (λ i. is_of (methods_same (of_sheets by_bytes a.sheets)) a.m (get_or (entries a.parent.now) i empty))
+    (a.parent.now.len - a.first) (omega arith)
     (λ i r l post. search (rules, entry_named))
     ∙ occurs-rest (methods_same (of_sheets by_bytes a.sheets)) a.m (entries a.parent.now) a.first _ (rw (length-entries _ _ _) refl)
