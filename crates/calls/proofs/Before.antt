@@ -6,9 +6,10 @@ use Rattle.words.proofs.Bools.{by}
 use Rattle.class_sheet.specs.ClassSheet.{class_count, text_of}
 use Rattle.abi_sheet.specs.AbiSheet.{abi_text_of}
 use Rattle.set_rules.specs.SetRules.{set_refusal}
+use Rattle.linking.specs.Signature.{by_sheets}
 use Rattle.linking.specs.Packages.{bad_packages}
 use Rattle.linking.specs.Counts.{missing_width, missing_short}
-use Rattle.linking.specs.Link.{bad_class, bad_area, Plan, Planned, planned, unplanned, plan, lists_full, set_short, no_room, Outcome, refused_call, LinkOutcome, refused_link, finish_link, on_plan, link_def}
+use Rattle.linking.specs.Link.{bad_class, bad_area, Plan, Planned, planned, unplanned, plan, lists_full, set_short, no_room, Outcome, refused_call, LinkOutcome, refused_link, finish_link, on_plan, link_def, link_by}
 use Rattle.linking.proofs.MissingLaws.{count-read, bit-read}
 use Rattle.calls.specs.Calls.{left, Call, link, ask, State, start, outcome, step, run}
 use Rattle.calls.specs.Unlisted.{finish_unlisted, on_planned, link_unlisted}
@@ -39,7 +40,7 @@ module _ (ws abi : List ℕ) (c : ℕ) (area stubs list : List ℕ) (long : miss
   planned-unlisted (unplanned n) = refl
 
   as-before : (link_def ws abi c area stubs list).outcome ≡ link_unlisted ws abi c area stubs
-  unfolding link_def link_unlisted
+  unfolding link_def link_by link_unlisted
   as-before =
       by (eqb (set_refusal ws abi) 0)
       (λ v.
@@ -51,7 +52,7 @@ module _ (ws abi : List ℕ) (c : ℕ) (area stubs list : List ℕ) (long : miss
       (λ u.
       rw u
       (by (bad_packages ws (text_of ws) abi (abi_text_of abi) c) (λ k. rw k)
-      (λ k. rw k (planned-unlisted (plan ws (text_of ws) abi (abi_text_of abi) area c)))))))))
+      (λ k. rw k (planned-unlisted (plan (by_sheets ws abi) ws (text_of ws) abi (abi_text_of abi) area c)))))))))
       (λ v. rw v)
 
 -- ---- one link, and two lists
@@ -74,7 +75,7 @@ module _ (ws abi : List ℕ) (c : ℕ) (area stubs list other : List ℕ) where
   planned-same e (unplanned n) = refl
 
   same : missing_short ws list ≡ missing_short ws other → (link_def ws abi c area stubs list).outcome ≡ (link_def ws abi c area stubs other).outcome
-  unfolding link_def
+  unfolding link_def link_by
   same e =
       by (eqb (set_refusal ws abi) 0)
       (λ v.
@@ -86,7 +87,7 @@ module _ (ws abi : List ℕ) (c : ℕ) (area stubs list other : List ℕ) where
       (λ u.
       rw u
       (by (bad_packages ws (text_of ws) abi (abi_text_of abi) c) (λ k. rw k)
-      (λ k. rw k (planned-same e (plan ws (text_of ws) abi (abi_text_of abi) area c)))))))))
+      (λ k. rw k (planned-same e (plan (by_sheets ws abi) ws (text_of ws) abi (abi_text_of abi) area c)))))))))
       (λ v. rw v)
 
   -- the one too short: 15 where the other is accepted
@@ -110,7 +111,7 @@ module _ (ws abi : List ℕ) (c : ℕ) (area stubs list other : List ℕ) where
     planned-either (unplanned n) = inr refl
 
     either : Either (link_def ws abi c area stubs list) (link_def ws abi c area stubs other)
-    unfolding link_def
+    unfolding link_def link_by
     either =
         by (eqb (set_refusal ws abi) 0)
         (λ v.
@@ -122,7 +123,7 @@ module _ (ws abi : List ℕ) (c : ℕ) (area stubs list other : List ℕ) where
         (λ u.
         rw u
         (by (bad_packages ws (text_of ws) abi (abi_text_of abi) c) (λ k. rw k (inr refl))
-        (λ k. rw k (planned-either (plan ws (text_of ws) abi (abi_text_of abi) area c)))))))))
+        (λ k. rw k (planned-either (plan (by_sheets ws abi) ws (text_of ws) abi (abi_text_of abi) area c)))))))))
         (λ v. rw v (inr refl))
 
     -- a link with a short list is not accepted

@@ -15,20 +15,21 @@ use Rattle.words.proofs.Ext.{list_ext, founds_ext}
 use Rattle.class_sheet.specs.ClassSheet.{class_width, parent_word, flags_word, kind_word, first_method_word, method_count_word, first_field_word, first_interface_word, interface_count_word, link_state_word, instance_words_word, compiler_table_word, compiler_slots_word, table_place_word, class_count, interface_count, compiler_count, text_of, class_word, class_name, class_flags, class_kind, class_first_method, class_method_count, class_first_field, class_field_count, class_first_interface, class_interface_count, class_link_state, class_compiler_table, class_compiler_slots, class_table_place, interface_word, compiler_word, is_built_kind, is_packaged, method_name, method_descriptor, method_flags, method_target, field_name, field_descriptor, field_flags, field_index, method_limit, interface_limit}
 use Rattle.abi_sheet.specs.AbiSheet.{abi_text_of}
 use Rattle.set_rules.specs.Valid.{IsClass, Valid}
-use Rattle.linking.specs.Chain.{list_count, own_methods, own_interfaces, parent_of, chain_of, chain, is_interface, same_methods}
+use Rattle.linking.specs.Signature.{Same, Place, by_sheets}
+use Rattle.linking.specs.Chain.{list_count, own_methods, own_interfaces, parent_of, chain_of, chain, is_interface}
 use Rattle.linking.specs.Abi.{class_abi}
 use Rattle.linking.specs.Vtable.{Entry, parent_entries, build_methods, slot_words}
-use Rattle.linking.specs.Compiler.{New, owner_state, native_view, compiler_targets, signature_sources, added_methods, compiler_table}
+use Rattle.linking.specs.Compiler.{Taken, owner_state, native_view, compiler_targets, signature_sources, added_methods, compiler_table}
 use Rattle.linking.specs.Packages.{build_packages}
 use Rattle.linking.specs.Link.{built_table, generated_table}
 use Rattle.linking.specs.Missing.{table_by}
 use Rattle.linking.proofs.ChainLaws.{parent-within, chain-within, chain_more}
 use Rattle.linking.proofs.LinkedBack.{Untouched, early}
-use Rattle.linking.proofs.Pairs.{none, pair, pairs-from}
-use Rattle.linking.proofs.Renumbered.{Tables, tables_less, SameBuilt, both-built, built_less, SameParent, Keeps, SameClass, SameChain, parents-same, interface-same, build-same}
+use Rattle.linking.proofs.Pairs.{Pairs, none, pair, pairs-from}
+use Rattle.linking.proofs.Renumbered.{Tables, tables_less, SameBuilt, both-built, built_less, SameParent, Keeps, SameParts, bytes_keep, SameClass, SameChain, parents-same, interface-same, build-same}
 use Rattle.linking.proofs.Overriding.{chain-of-chain}
 use Rattle.linking.proofs.RenumberedPackages.{Held, packages-same}
-use Rattle.linking.proofs.RenumberedCompiler.{native_same, added-from, Signed, of-sheet, tables-same}
+use Rattle.linking.proofs.RenumberedCompiler.{native_same, SameTaken, added-from, Signed, of-sheet, tables-same}
 use Rattle.linking.proofs.Rebuilt.{Any, methods-signed}
 use Rattle.linking.proofs.Whose.{whose}
 
@@ -103,16 +104,27 @@ module _ (ws ws' abi : List ℕ) (E : ℕ → Type 0) where
     abbrev labels : List ℕ
     labels = abi_text_of abi
 
+    abbrev same : Same
+    same = by_sheets ws abi
+
+    abbrev same' : Same
+    same' = by_sheets ws' abi
+
+    abbrev Parts : Place → Place → Type 0
+    Parts = SameParts ws text ws' text' abi labels
+
     placed-method : (m k : ℕ) → Placed m k → SameMethod m k
     placed-method m k r = rw (r.one, r.other) (sets.method r.class r.at r.is r.here r.inside)
 
-    pub placed-keeps : Keeps ws text ws' text' Placed
-    placed-keeps = record {
-      name = λ m k r. (placed-method m k r).name;
-      descriptor = λ m k r. (placed-method m k r).descriptor;
-      flags = λ m k r. (placed-method m k r).flags;
-      target = λ m k r. (placed-method m k r).target;
-    }
+    pub placed-keeps : Keeps same same' Parts ws text ws' text' abi labels Placed
+    placed-keeps =
+        bytes_keep ws text ws' text' abi labels Placed
+        (record {
+          name = λ m k r. (placed-method m k r).name;
+          descriptor = λ m k r. (placed-method m k r).descriptor;
+          flags = λ m k r. (placed-method m k r).flags;
+          target = λ m k r. (placed-method m k r).target;
+        })
 
     many : (d : ℕ) → IsClass ws d → E d → class_method_count ws d ≡ class_method_count ws' d
     many d l e = sets.word d method_count_word l e (omega arith) (record { method = omega arith; field = omega arith; place = omega arith })
@@ -227,10 +239,10 @@ module _ (ws ws' abi : List ℕ) (E : ℕ → Type 0) where
     -- ---- classes and chains
 
     abbrev Class : ℕ → Type 0
-    Class d = SameClass ws text ws' text' abi labels Placed placed-keeps d
+    Class d = SameClass placed-keeps d
 
     abbrev Chain : ℕ → Type 0
-    Chain d = SameChain ws text ws' text' abi labels Placed placed-keeps d
+    Chain d = SameChain placed-keeps d
 
     pub class_same : (d : ℕ) → IsClass ws d → E d → Class d
     unfolding own_methods
@@ -352,14 +364,14 @@ module _ (ws ws' abi : List ℕ) (E : ℕ → Type 0) where
       chain-all : Chain d
       chain-all = same-chain d l.1 (λ e i. sets.up d e l here i)
 
-      pub parents-held : Tables Placed (parent_entries ws text abi labels area d) (parent_entries ws' text' abi labels area' d)
-      parents-held = parents-same ws text ws' text' abi labels Placed placed-keeps area area' d parent-held chain-above
+      pub parents-held : Tables Placed (parent_entries same ws text abi labels area d) (parent_entries same' ws' text' abi labels area' d)
+      parents-held = parents-same placed-keeps area area' d parent-held chain-above
 
-      view-held : Tables Placed (native_view ws text abi labels area d) (native_view ws' text' abi labels area' d)
-      view-held = native_same ws text ws' text' abi labels Placed placed-keeps placed-owner area area' d parent-held chain-above
+      view-held : Tables Placed (native_view same ws text abi labels area d) (native_view same' ws' text' abi labels area' d)
+      view-held = native_same placed-keeps placed-owner area area' d parent-held chain-above
 
-      build-held : SameBuilt Placed (build_methods ws text abi labels area d) (build_methods ws' text' abi labels area' d)
-      build-held = build-same ws text ws' text' abi labels Placed placed-keeps area area' d parent-held chain-above chain-all (class_same d l here)
+      build-held : SameBuilt Placed (build_methods same ws text abi labels area d) (build_methods same' ws' text' abi labels area' d)
+      build-held = build-same placed-keeps area area' d parent-held chain-above chain-all (class_same d l here)
 
       chains : (e : ℕ) → Memᴰ e (chain ws (parent_of ws d)) → Chain e
       chains e i =
@@ -367,12 +379,10 @@ module _ (ws ws' abi : List ℕ) (E : ℕ → Type 0) where
           let b = chain-within ws (parent_of ws d) e i in
           same-chain e (omega (arith, l.1)) (λ x j. above x (chain-of-chain ws (parent_of ws d) (parent_of ws d) (omega arith) i j))
 
-      packages-held : Tables Placed (build_packages (same_methods ws text) ws text abi labels area d)
-          (build_packages (same_methods ws' text') ws' text' abi labels area' d)
-      packages-held =
-          packages-same ws text ws' text' abi labels Placed placed-keeps placed_one area area' d (class_same d l here) parent-held chain-above chains held
+      packages-held : Tables Placed (build_packages same ws text abi labels area d) (build_packages same' ws' text' abi labels area' d)
+      packages-held = packages-same placed-keeps placed_one area area' d (class_same d l here) parent-held chain-above chains held
 
-      pub built-held : SameBuilt Placed (built_table ws text abi labels area d) (built_table ws' text' abi labels area' d)
+      pub built-held : SameBuilt Placed (built_table same ws text abi labels area d) (built_table same' ws' text' abi labels area' d)
       unfolding built_table
       built-held =
           rw (
@@ -383,40 +393,40 @@ module _ (ws ws' abi : List ℕ) (E : ℕ → Type 0) where
           (λ v.
           rw v
           (by (is_interface (class_flags ws d))
-          (λ t. rw t (both-built (interface-same ws text ws' text' abi labels Placed placed-keeps d (class_same d l here))))
+          (λ t. rw t (both-built (interface-same placed-keeps d (class_same d l here))))
           (λ t. rw t build-held))))
 
       -- the same methods are added
-      pub added-held : added_methods ws text abi labels area d ≡ added_methods ws' text' abi labels area' d
+      pub added-held : Pairs (SameTaken Parts) (added_methods same ws text abi labels area d) (added_methods same' ws' text' abi labels area' d)
       unfolding added_methods
       added-held =
-          added-from ws text ws' text' abi labels Placed placed-keeps d (class_same d l here).own (sources-same d l)
-          (native_view ws text abi labels area d) (native_view ws' text' abi labels area' d) view-held 0 (compiler_targets ws d)
-          ∙ rw (targets-same d l)
+          rw (← targets-same d l)
+          (added-from placed-keeps d (class_same d l here).own (sources-same d l) (native_view same ws text abi labels area d)
+          (native_view same' ws' text' abi labels area' d) view-held 0 (compiler_targets ws d))
 
-      signed : (new : List New) (m k : ℕ) → Placed m k → Signed ws text ws' text' abi labels new new m k
-      signed new m k r = of-sheet ws text ws' text' abi labels new new Placed placed-keeps m k (placed-small m k r).0 (placed-small m k r).1 r
+      signed : (new new' : List Taken) (m k : ℕ) → Placed m k → Signed Parts ws text ws' text' new new' m k
+      signed new new' m k r = of-sheet placed-keeps new new' m k (placed-small m k r).0 (placed-small m k r).1 r
 
-      compiler-held : Tables Any (compiler_table ws text abi labels area d) (compiler_table ws' text' abi labels area' d)
+      compiler-held : Tables Any (compiler_table same ws text abi labels area d) (compiler_table same' ws' text' abi labels area' d)
       unfolding compiler_table
       compiler-held =
-          let new : List New = added_methods ws text abi labels area d in
-          rw (← added-held, ← targets-same d l)
+          let new : List Taken = added_methods same ws text abi labels area d in
+          let new' : List Taken = added_methods same' ws' text' abi labels area' d in
+          rw (← targets-same d l)
           (tables_less (λ m k r. tt)
-          (tables-same ws text ws' text' abi labels new new d
-          (methods-signed ws text ws' text' abi labels new Placed placed-keeps placed-small d (class_same d l here).own)
-          (native_view ws text abi labels area d) (native_view ws' text' abi labels area' d)
-          (parent_entries ws text abi labels area d) (parent_entries ws' text' abi labels area' d)
-          (tables_less (signed new) view-held) (tables_less (signed new) parents-held) (compiler_targets ws d)))
+          (tables-same placed-keeps new new' d (methods-signed placed-keeps added-held placed-small d (class_same d l here).own)
+          (native_view same ws text abi labels area d) (native_view same' ws' text' abi labels area' d)
+          (parent_entries same ws text abi labels area d) (parent_entries same' ws' text' abi labels area' d)
+          (tables_less (signed new new') view-held) (tables_less (signed new new') parents-held) (compiler_targets ws d)))
 
-      pub generated-held : SameBuilt Any (generated_table ws text abi labels area d) (generated_table ws' text' abi labels area' d)
+      pub generated-held : SameBuilt Any (generated_table same ws text abi labels area d) (generated_table same' ws' text' abi labels area' d)
       unfolding generated_table
       generated-held =
           rw (← late_word d compiler_table_word l (omega arith) (omega arith) (omega arith))
           (by (eqb (class_compiler_table ws d) 0) (λ t. rw t (built_less (λ m k r. tt) build-held)) (λ t. rw t (both-built compiler-held)))
 
       -- the same words from the same slots
-      pub table-held : SameBuilt Any (table_by ws text abi labels area d) (table_by ws' text' abi labels area' d)
+      pub table-held : SameBuilt Any (table_by same ws text abi labels area d) (table_by same' ws' text' abi labels area' d)
       unfolding table_by
       table-held =
           rw (← sets.untouched d kind_word l (omega arith) (early kind_word (omega arith)))

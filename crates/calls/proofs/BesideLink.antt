@@ -12,20 +12,23 @@ use borrow.Author.Tests.{eqb-false, eq-eqb, ne_eqb}
 use Rattle.words.specs.Lists.{some}
 use Rattle.words.proofs.Bools.{by, or-neither}
 use Rattle.text.specs.Text.{same_bytes}
-use Rattle.class_sheet.specs.ClassSheet.{flags_word, kind_word, method_count_word, field_count_word, compiler_table_word, text_of, class_name, class_flags, class_kind, class_method_count, class_field_count, is_built_kind, is_packaged}
+use Rattle.class_sheet.specs.ClassSheet.{flags_word, kind_word, method_count_word, field_count_word, compiler_table_word, text_of, class_name, class_flags, class_kind, class_method_count, class_field_count, class_compiler_table, is_built_kind, is_packaged}
 use Rattle.abi_sheet.specs.AbiSheet.{abi_text_of}
 use Rattle.set_rules.specs.Valid.{IsClass}
+use Rattle.linking.specs.Signature.{Same, by_sheets}
 use Rattle.linking.specs.Chain.{parent_of, chain}
 use Rattle.linking.specs.Abi.{class_abi}
 use Rattle.linking.specs.Vtable.{Entry, Built, slot_words}
 use Rattle.linking.specs.Packages.{unfit_for_packages, bad_packages}
 use Rattle.linking.specs.Fields.{number_fields, added_fields, too_many_words, generated_refusal, generated_indices}
+use Rattle.linking.specs.Compiler.{members}
 use Rattle.linking.specs.Link.{object_name, no_class, is_linked, bad_array, bad_class, next_free, Plan, Planned, planned, unplanned, on_table, within_slots, new_fields_of, plan_built, generated_methods, plan_generated, plan_array, plan, lists_full, set_short, no_room, linked_area, Outcome, refused_call, LinkOutcome, refused_link, finish_link, on_plan}
 use Rattle.linking.specs.Counts.{missing_short}
 use Rattle.linking.proofs.ChainLaws.{parent-within, chain-within, chain_more}
 use Rattle.linking.proofs.LinkedBack.{early}
 use Rattle.linking.proofs.Pairs.{pairs-length}
 use Rattle.linking.proofs.Rebuilt.{Any}
+use Rattle.linking.proofs.RenumberedCompiler.{members_same}
 use Rattle.linking.proofs.Renumbered.{Tables, tables_less, SameBuilt, both-built, both-refused, built_less}
 use Rattle.linking.proofs.RenumberedPackages.{Held, some-ext}
 use Rattle.linking.proofs.Rows.{Fits, fits}
@@ -44,7 +47,7 @@ or-true false d e = refl
 pub record SamePlan (p q : Plan) : Type 0 where
   pub table : Tables Any p.table q.table
   pub indices : p.indices ≡ q.indices
-  pub methods : p.new_methods ≡ q.new_methods
+  pub methods : members p.added ≡ members q.added
   pub fields : p.new_fields ≡ q.new_fields
 
 pub data SamePlanned : Planned → Planned → Type 0 where
@@ -72,6 +75,12 @@ module _ (ws ws' abi : List ℕ) (E : ℕ → Type 0) (sets : Sets ws ws' abi E)
   abbrev labels : List ℕ
   labels = abi_text_of abi
 
+  abbrev same : Same
+  same = by_sheets ws abi
+
+  abbrev same' : Same
+  same' = by_sheets ws' abi
+
   kind-same : (d : ℕ) → IsClass ws d → class_kind ws d ≡ class_kind ws' d
   kind-same d l = sets.untouched d kind_word l (omega arith) (early kind_word (omega arith))
 
@@ -80,7 +89,7 @@ module _ (ws ws' abi : List ℕ) (E : ℕ → Type 0) (sets : Sets ws ws' abi E)
 
   module _ (area area' : List ℕ) (d : ℕ) (l : IsClass ws d) (here : E d)
       (held : (e : ℕ) → Memᴰ e (chain ws (parent_of ws d)) → Held ws ws' area area' e) where
-    built-plan : SamePlanned (plan_built ws text abi labels area d) (plan_built ws' text' abi labels area' d)
+    built-plan : SamePlanned (plan_built same ws text abi labels area d) (plan_built same' ws' text' abi labels area' d)
     unfolding plan_built
     built-plan =
         let own' = class_abi ws' text' abi labels d in
@@ -92,13 +101,13 @@ module _ (ws ws' abi : List ℕ) (E : ℕ → Type 0) (sets : Sets ws ws' abi E)
         (λ T. record {
           table = T;
           indices = (number_fields ws text abi labels (class_abi ws' text' abi labels d) d).indices;
-          new_methods = [];
+          added = [];
           new_fields = new_fields_of abi labels (added_fields ws text abi labels (class_abi ws' text' abi labels d) d);
         })
         (λ T. record {
           table = T;
           indices = (number_fields ws' text' abi labels (class_abi ws' text' abi labels d) d).indices;
-          new_methods = [];
+          added = [];
           new_fields = new_fields_of abi labels (added_fields ws' text' abi labels (class_abi ws' text' abi labels d) d);
         })
         (built_less (λ m k r. tt) (built-held ws ws' abi E sets area area' d l here held))
@@ -109,16 +118,14 @@ module _ (ws ws' abi : List ℕ) (E : ℕ → Type 0) (sets : Sets ws ws' abi E)
           fields = rw (added-fields ws ws' abi E sets d l here (class_abi ws' text' abi labels d)) refl;
         }))))
 
-    generated-methods : generated_methods ws text abi labels area d ≡ generated_methods ws' text' abi labels area' d
-    unfolding generated_methods
+    generated-methods : members (generated_methods same ws text abi labels area d) ≡ members (generated_methods same' ws' text' abi labels area' d)
+    unfolding generated_methods members
     generated-methods =
-        rw (
-          ← late_word ws ws' abi E sets d compiler_table_word l (omega arith) (omega arith) (omega arith),
-          added-held ws ws' abi E sets area area' d l here held,
-        )
-        refl
+        rw (← late_word ws ws' abi E sets d compiler_table_word l (omega arith) (omega arith) (omega arith))
+        (by (eqb (class_compiler_table ws d) 0) (λ t. rw t refl)
+        (λ t. rw t (members_same (added-held ws ws' abi E sets area area' d l here held))))
 
-    generated-plan : SamePlanned (plan_generated ws text abi labels area d) (plan_generated ws' text' abi labels area' d)
+    generated-plan : SamePlanned (plan_generated same ws text abi labels area d) (plan_generated same' ws' text' abi labels area' d)
     unfolding plan_generated
     generated-plan =
         rw (generated-refusal ws ws' abi E sets d l here)
@@ -126,13 +133,13 @@ module _ (ws ws' abi : List ℕ) (E : ℕ → Type 0) (sets : Sets ws ws' abi E)
         (λ t.
         rw t
         (table_same
-        (λ T. record { table = T; indices = generated_indices ws text d; new_methods = generated_methods ws text abi labels area d; new_fields = [] })
-        (λ T. record { table = T; indices = generated_indices ws' text' d; new_methods = generated_methods ws' text' abi labels area' d; new_fields = [] })
+        (λ T. record { table = T; indices = generated_indices ws text d; added = generated_methods same ws text abi labels area d; new_fields = [] })
+        (λ T. record { table = T; indices = generated_indices ws' text' d; added = generated_methods same' ws' text' abi labels area' d; new_fields = [] })
         (generated-held ws ws' abi E sets area area' d l here held)
         (λ T U h. record { table = h; indices = generated-indices ws ws' abi E sets d l here; methods = generated-methods; fields = refl })))
         (λ t. rw t both-unplanned))
 
-    array-plan : SamePlanned (plan_array ws text abi labels area d) (plan_array ws' text' abi labels area' d)
+    array-plan : SamePlanned (plan_array same ws text abi labels area d) (plan_array same' ws' text' abi labels area' d)
     unfolding plan_array
     array-plan =
         within_same _ _
@@ -143,7 +150,7 @@ module _ (ws ws' abi : List ℕ) (E : ℕ → Type 0) (sets : Sets ws ws' abi E)
           fields = refl;
         })
 
-    pub plan-same : SamePlanned (plan ws text abi labels area d) (plan ws' text' abi labels area' d)
+    pub plan-same : SamePlanned (plan same ws text abi labels area d) (plan same' ws' text' abi labels area' d)
     unfolding plan
     plan-same =
         rw (← kind-same d l)

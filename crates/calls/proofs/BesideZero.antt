@@ -4,7 +4,8 @@ use Rattle.std.proofs.Common.{◌≡◌, refl, ◌≢◌, Bool, true, false, not
 use mathlib.Core.List.{Memᴰ}
 use Rattle.words.proofs.Bools.{or-either}
 use Rattle.class_sheet.specs.ClassSheet.{text_of, class_kind, is_packaged, method_flags}
-use Rattle.linking.specs.Chain.{own_methods, chain, eligible, same_methods}
+use Rattle.linking.specs.Signature.{methods_same, by_bytes}
+use Rattle.linking.specs.Chain.{own_methods, chain, eligible}
 use Rattle.linking.specs.Packages.{is_public, is_protected}
 use Rattle.linking.proofs.Overriding.{same_true}
 use Rattle.linking.proofs.Assemble.{Class, flagged, built, linked_at, sized, abi, class_sheet, abi_sheet, fresh, sevens}
@@ -26,8 +27,12 @@ module _ (ws : List ℕ) (c : ℕ) where
   has_open_methods =
       every (λ m. not (eligible ws (text_of ws) m) || (is_public (method_flags ws m) || is_protected (method_flags ws m))) (chain_methods ws c)
 
+  -- which ABI sheet is there is all one to methods
+  abbrev alike : ℕ → ℕ → Bool
+  alike = methods_same (by_bytes ws (text_of ws) [] [])
+
   abbrev again : ℕ → ℕ → Bool
-  again m k = not (eligible ws (text_of ws) m && eligible ws (text_of ws) k && same_methods ws (text_of ws) k m) || eqb m k
+  again m k = not (eligible ws (text_of ws) m && eligible ws (text_of ws) k && alike k m) || eqb m k
 
   unfoldable pub once : Bool
   once = every (λ d. every (λ m. every (again m) (own_methods ws d)) (own_methods ws d)) (chain ws c)
@@ -56,11 +61,11 @@ module _ (ws : List ℕ) (c : ℕ) where
           e);
       once = λ d m k i j l e f s.
           eqb-true m k
-          (implied (eligible ws (text_of ws) m && eligible ws (text_of ws) k && same_methods ws (text_of ws) k m) (eqb m k)
+          (implied (eligible ws (text_of ws) m && eligible ws (text_of ws) k && alike k m) (eqb m k)
           (every-each (again m)
           (every-each (λ m. every (again m) (own_methods ws d))
           (every-each (λ d. every (λ m. every (again m) (own_methods ws d)) (own_methods ws d)) p.once-only i) j) l)
-          (rw (e, f, same_true ws (text_of ws) s)));
+          (rw (e, f, same_true ws (text_of ws) [] [] s)));
       nonzero_targets = nonzero_hold ws abi [] c p.nonzero_targets;
       different_targets = different_hold ws abi [] c p.different_targets;
     }

@@ -6,11 +6,13 @@ use mathlib.Core.List.{Memᴰ}
 use Rattle.words.proofs.ListLaws.{by-found}
 use Rattle.class_sheet.specs.ClassSheet.{class_count, method_count, text_of, class_kind}
 use Rattle.set_rules.specs.Valid.{Valid}
+use Rattle.linking.specs.Signature.{Same, by_bytes}
 use Rattle.linking.specs.Chain.{own_methods, chain}
 use Rattle.linking.specs.Abi.{class_abi, chain_abi}
 use Rattle.linking.specs.Vtable.{Entry, Built, read_entry, add_methods}
+use Rattle.linking.proofs.AbiLaws.{chain-abi-in}
 use Rattle.linking.proofs.Pairs.{Both, both, neither, none, pair, pairs-from, pairs-same}
-use Rattle.linking.proofs.Renumbered.{SameEntry, Tables, SameBuilt, both-built, both-refused, Keeps, SameClass, same-abi, SameChain, chain-abi-same, read_same, relayed-same, extended-same, adds_same}
+use Rattle.linking.proofs.Renumbered.{SameEntry, Tables, SameBuilt, both-built, both-refused, Keeps, SameParts, bytes_keep, SameClass, same-abi, SameChain, chain-abi-same, read_same, relayed-same, extended-same, adds_same}
 use Rattle.linking.proofs.Rebuilt.{Unmoved}
 use Rattle.slots.specs.Made.{read_words, start_from, table_from}
 use Rattle.slots.proofs.ChainFacts.{chain-here}
@@ -48,15 +50,23 @@ module _ (old new : List ℕ) (valid : Valid old) (like : Alike old new) (abi la
   abbrev R : ℕ → ℕ → Type 0
   R = Own (method_count old)
 
-  pub kept : Keeps old (text_of old) new (text_of new) R
-  kept = record {
-    name = λ m k r. rw r.same (sym (method-name old new valid like m r.below));
-    descriptor = λ m k r. rw r.same (sym (method-descriptor old new valid like m r.below));
-    flags = λ m k r. rw r.same (sym (method-flags old new valid like m r.below));
-    target = λ m k r. rw r.same (sym (method-target old new valid like m r.below));
-  }
+  abbrev same : Same
+  same = by_bytes old (text_of old) abi labels
 
-  pub class-kept : (d : ℕ) → 1 ≤ d → d ≤ class_count old → Unmoved old new d → SameClass old (text_of old) new (text_of new) abi labels R kept d
+  abbrev same' : Same
+  same' = by_bytes new (text_of new) abi labels
+
+  pub kept : Keeps same same' (SameParts old (text_of old) new (text_of new) abi labels) old (text_of old) new (text_of new) abi labels R
+  kept =
+      bytes_keep old (text_of old) new (text_of new) abi labels R
+      (record {
+        name = λ m k r. rw r.same (sym (method-name old new valid like m r.below));
+        descriptor = λ m k r. rw r.same (sym (method-descriptor old new valid like m r.below));
+        flags = λ m k r. rw r.same (sym (method-flags old new valid like m r.below));
+        target = λ m k r. rw r.same (sym (method-target old new valid like m r.below));
+      })
+
+  pub class-kept : (d : ℕ) → 1 ≤ d → d ≤ class_count old → Unmoved old new d → SameClass kept d
   class-kept d s a u = record {
     own = rw (own_same old new valid like d u)
         (pairs-same R (own_methods old d)
@@ -66,7 +76,7 @@ module _ (old new : List ℕ) (valid : Valid old) (like : Alike old new) (abi la
 
   -- along a chain whose classes list their own methods as before
   module _ (c : ℕ) (a : c ≤ class_count old) (still : (d : ℕ) → Memᴰ d (chain old c) → Unmoved old new d) where
-    pub chain-kept : SameChain old (text_of old) new (text_of new) abi labels R kept c
+    pub chain-kept : SameChain kept c
     chain-kept = record {
       along = sym (chain_same old new valid like c a);
       class = λ d i. let j = i in let k = chain-class old c d a j in class-kept d k.0 k.1 (still d j);
@@ -76,9 +86,9 @@ module _ (old new : List ℕ) (valid : Valid old) (like : Alike old new) (abi la
     pub read-words-kept : (t : List ℕ) → Tables R (read_words old (text_of old) abi labels c t) (read_words new (text_of new) abi labels c t)
     unfolding read_words
     read-words-kept t =
-        pairs-from (λ i. read_entry old (text_of old) abi labels c i (get_or t i 0))
-        (λ i. read_entry new (text_of new) abi labels c i (get_or t i 0)) 0 0 (length t)
-        (λ i h. read_same old (text_of old) new (text_of new) abi labels R kept c chain-kept (0 + i) (get_or t (0 + i) 0))
+        pairs-from (λ i. read_entry same old (text_of old) abi labels c i (get_or t i 0))
+        (λ i. read_entry same' new (text_of new) abi labels c i (get_or t i 0)) 0 0 (length t)
+        (λ i h. read_same kept c chain-kept (0 + i) (get_or t (0 + i) 0))
 
     -- the table of entries that are alike, whatever the class's kind
     start-kept : 1 ≤ c → (P Q : List Entry) → Tables R P Q
@@ -87,20 +97,21 @@ module _ (old new : List ℕ) (valid : Valid old) (like : Alike old new) (abi la
     start-kept s P Q h =
         let abis : List ℕ = chain_abi new (text_of new) abi labels c in
         rw (
-          chain-abi-same old (text_of old) new (text_of new) abi labels R kept c chain-kept,
-          same-abi old (text_of old) new (text_of new) abi labels R kept c (class-kept c s a (still c (chain-here old c s))),
+          chain-abi-same kept c chain-kept,
+          same-abi kept c (class-kept c s a (still c (chain-here old c s))),
         )
         (by-found (class_abi new (text_of new) abi labels c)
-        (λ z e. rw e (relayed-same old (text_of old) new (text_of new) abi labels R kept abis h))
-        (λ e. rw e (extended-same old (text_of old) new (text_of new) abi labels R kept abis h)))
+        (λ z e. rw e (relayed-same kept abis (chain-abi-in new (text_of new) abi labels c) h))
+        (λ e. rw e (extended-same kept abis h)))
 
     pub built-same : 1 ≤ c → (P Q : List Entry) → Tables R P Q
-        → add_methods old (text_of old) abi labels (chain_abi old (text_of old) abi labels c) (own_methods old c) (start_from old (text_of old) abi labels c P)
-        ≡ add_methods new (text_of new) abi labels (chain_abi new (text_of new) abi labels c) (own_methods new c) (start_from new (text_of new) abi labels c Q)
+        → add_methods same old (text_of old) abi (chain_abi old (text_of old) abi labels c) (own_methods old c) (start_from old (text_of old) abi labels c P)
+        ≡ add_methods same' new (text_of new) abi (chain_abi new (text_of new) abi labels c) (own_methods new c)
+        (start_from new (text_of new) abi labels c Q)
     built-same s P Q h =
         own-built {n = method_count old}
-        (rw (chain-abi-same old (text_of old) new (text_of new) abi labels R kept c chain-kept)
-        (adds_same old (text_of old) new (text_of new) abi labels R kept (chain_abi new (text_of new) abi labels c)
+        (rw (chain-abi-same kept c chain-kept)
+        (adds_same kept (chain_abi new (text_of new) abi labels c) (chain-abi-in new (text_of new) abi labels c)
         (class-kept c s a (still c (chain-here old c s))).own _ _ (start-kept s P Q h)))
 
     pub table_same : 1 ≤ c → class_kind new c ≡ class_kind old c → (P Q : List Entry) → Tables R P Q

@@ -7,19 +7,20 @@ use borrow.Author.Tests.{eqb-false}
 use Rattle.words.specs.Lists.{fold, some}
 use Rattle.words.proofs.Bools.{by}
 use Rattle.words.proofs.ListLaws.{by-found, some-append, not_found}
+use Rattle.linking.specs.Signature.{Same, Place, by_bytes}
 use Rattle.linking.specs.Chain.{on_found, is_eligible}
 use Rattle.linking.specs.Vtable.{Entry, empty, parent_entries}
-use Rattle.linking.specs.Compiler.{New, native_view, compiler_targets, added_methods, name_of, descriptor_of, flags_of, target_of, class_methods, compiler_entry, compiler_entries, same_signature, has_slot, append_from, append_entry, compiler_table}
-use Rattle.calls.specs.Sources.{Sources}
-use Rattle.text.proofs.Laws.{same_refl}
+use Rattle.linking.specs.Compiler.{Taken, place_of, native_view, compiler_targets, added_methods, name_of, flags_of, target_of, class_methods, compiler_entry, compiler_entries, same_signature, has_slot, append_from, append_entry, compiler_table}
+use Rattle.calls.specs.Sources.{Copies, Sources}
+use Rattle.linking.proofs.Comparing.{Compares, bytes_compare}
 use Rattle.slots.proofs.ListFacts.{found-same}
 use Rattle.calls.proofs.Sources.{all-at, read-parent, table-built}
-use Rattle.calls.proofs.RelayedCopies.{relayed-copy, relayed-ordered}
+use Rattle.calls.proofs.RelayedCopies.{table-copied, table-ordered}
 use Rattle.calls.proofs.SameIndex.{table-placed}
 
 -- ---- the compiler's slots
 
-module _ (ws : List ℕ) (new : List New) (c : ℕ) (view : List Entry) where
+module _ (ws : List ℕ) (new : List Taken) (c : ℕ) (view : List Entry) where
   length-entries : (k : ℕ) (ts : List ℕ) → length (compiler_entries ws new c view k ts) ≡ length ts
   unfolding compiler_entries
   length-entries k [] = refl
@@ -48,10 +49,10 @@ module _ (P : List Entry) where
   no_source : (e : Entry) → e.source ≡ None → First e
   no_source x z j m k e = not_found (sym z ∙ e)
 
-module _ (ws text : List ℕ) (new : List New) where
+module _ (same : Same) (ws text : List ℕ) (new : List Taken) where
   -- method m is appended to T
   abbrev appends : ℕ → List Entry → Bool
-  appends m T = is_eligible (flags_of ws new m) (name_of ws text new m) && not (has_slot ws text new m T)
+  appends m T = is_eligible (flags_of ws new m) (name_of ws text new m) && not (has_slot same new m T)
 
   abbrev new_entry : Option ℕ → ℕ → Entry
   new_entry source m = record { word = target_of ws new m; method = Some m; source = source }
@@ -60,9 +61,9 @@ module _ (ws text : List ℕ) (new : List New) where
 
   record Front (T U : List Entry) : Type 0 where
     long : length T ≤ length U
-    same : (i : ℕ) → i < length T → get_or U i empty ≡ get_or T i empty
+    kept : (i : ℕ) → i < length T → get_or U i empty ≡ get_or T i empty
 
-  front-from : (source : Option ℕ) (T : List Entry) (m : ℕ) → Front T (append_from ws text new source T m)
+  front-from : (source : Option ℕ) (T : List Entry) (m : ℕ) → Front T (append_from same ws text new source T m)
   unfolding append_from
   front-from source T m =
       by (appends m T)
@@ -70,22 +71,22 @@ module _ (ws text : List ℕ) (new : List New) where
       rw t
       (record {
         long = omega (arith, length-append T (new_entry source m ∷ []));
-        same = λ i h. get_or-append T (new_entry source m ∷ []) empty i h;
+        kept = λ i h. get_or-append T (new_entry source m ∷ []) empty i h;
       }))
-      (λ t. rw t (record { long = omega arith; same = λ i h. refl }))
+      (λ t. rw t (record { long = omega arith; kept = λ i h. refl }))
 
-  front-known : (f source : Option ℕ) (T : List Entry) → Front T (on_found f (append_from ws text new source T) T)
+  front-known : (f source : Option ℕ) (T : List Entry) → Front T (on_found f (append_from same ws text new source T) T)
   front-known (Some m) source T = front-from source T m
-  front-known None source T = record { long = omega arith; same = λ i h. refl }
+  front-known None source T = record { long = omega arith; kept = λ i h. refl }
 
   front-fold : {A : Type 0} (f : List Entry → A → List Entry) → ((T : List Entry) (x : A) → Front T (f T x)) → (T : List Entry) (xs : List A)
       → Front T (fold f T xs)
   unfolding fold
-  front-fold f h T [] = record { long = omega arith; same = λ i l. refl }
+  front-fold f h T [] = record { long = omega arith; kept = λ i l. refl }
   front-fold f h T (x ∷ xs) =
       let a = h T x in
       let b = front-fold f h (f T x) xs in
-      record { long = omega (arith, a.long, b.long); same = λ i l. b.same i (omega (arith, a.long)) ∙ a.same i l }
+      record { long = omega (arith, a.long, b.long); kept = λ i l. b.kept i (omega (arith, a.long)) ∙ a.kept i l }
 
   -- ---- what is appended, from index n on
 
@@ -93,62 +94,64 @@ module _ (ws text : List ℕ) (new : List New) where
     abbrev From : List Entry → Type 0
     From T = (i : ℕ) → n ≤ i → S (get_or T i empty)
 
-    from_one : (source : Option ℕ) (T : List Entry) (m : ℕ) → (appends m T ≡ true → S (new_entry source m)) → From T → From (append_from ws text new source T m)
+    from_one : (source : Option ℕ) (T : List Entry) (m : ℕ) → (appends m T ≡ true → S (new_entry source m)) → From T
+        → From (append_from same ws text new source T m)
     unfolding append_from
     from_one source T m s h i l =
         by (appends m T) (λ t. rw t (at-end S blank (new_entry source m) (s t) T i (h i l))) (λ t. rw t (h i l))
 
-    from-known : (f source : Option ℕ) (T : List Entry) → ((m : ℕ) → S (new_entry source m)) → From T → From (on_found f (append_from ws text new source T) T)
+    from-known : (f source : Option ℕ) (T : List Entry) → ((m : ℕ) → S (new_entry source m)) → From T
+        → From (on_found f (append_from same ws text new source T) T)
     from-known (Some m) source T s h = from_one source T m (λ t. s m) h
     from-known None source T s h = h
 
     from-methods : (ms : List ℕ) (T : List Entry) → ((m : ℕ) → Memᴰ m ms → S (new_entry None m)) → From T
-        → From (fold (append_from ws text new None) T ms)
+        → From (fold (append_from same ws text new None) T ms)
     unfolding fold
     from-methods [] T s h = h
     from-methods (m ∷ ms) T s h =
-        from-methods ms (append_from ws text new None T m) (λ k i. s k (Memᴰ.tail i)) (from_one None T m (λ t. s m (Memᴰ.head refl)) h)
+        from-methods ms (append_from same ws text new None T m) (λ k i. s k (Memᴰ.tail i)) (from_one None T m (λ t. s m (Memᴰ.head refl)) h)
 
     from_entries : (E T : List Entry) → ((k m : ℕ) → k < length E → S (new_entry (get_or E k empty).source m)) → From T
-        → From (fold (append_entry ws text new) T E)
+        → From (fold (append_entry same ws text new) T E)
     unfolding fold append_entry
     from_entries [] T s h = h
     from_entries (e ∷ E) T s h =
-        from_entries E (on_found e.method (append_from ws text new e.source T) T) (λ k m l. s (suc k) m (omega arith))
+        from_entries E (on_found e.method (append_from same ws text new e.source T) T) (λ k m l. s (suc k) m (omega arith))
         (from-known e.method e.source T (λ m. s 0 m (omega arith)) h)
 
   -- ---- a method that had its turn is not appended again: it is not eligible, or has a slot by then
 
-  own-slot : (source : Option ℕ) (m : ℕ) (T : List Entry) → has_slot ws text new m (T ++ (new_entry source m ∷ [])) ≡ true
-  unfolding has_slot some same_signature
-  own-slot source m T =
-      rw (
-        some-append (λ e. on_found e.method (same_signature ws text new m) false) T (new_entry source m ∷ []),
-        same_refl (name_of ws text new m),
-        same_refl (descriptor_of ws text new m),
-      )
-      (by (has_slot ws text new m T) (λ t. rw t) (λ t. rw t))
+  module _ (self : (p : Place) → same p p ≡ true) where
+    own-slot : (source : Option ℕ) (m : ℕ) (T : List Entry) → has_slot same new m (T ++ (new_entry source m ∷ [])) ≡ true
+    unfolding has_slot some same_signature
+    own-slot source m T =
+        rw (
+          some-append (λ e. on_found e.method (same_signature same new m) false) T (new_entry source m ∷ []),
+          self (place_of new m),
+        )
+        (by (has_slot same new m T) (λ t. rw t) (λ t. rw t))
 
-  turn-over : (source : Option ℕ) (m : ℕ) (T : List Entry) → appends m (append_from ws text new source T m) ≡ false
-  unfolding append_from
-  turn-over source m T =
-      by (appends m T)
-      (λ t. rw (t, own-slot source m T) (by (is_eligible (flags_of ws new m) (name_of ws text new m)) (λ u. rw u) (λ u. rw u)))
-      (λ t. rw (t, t))
+    turn-over : (source : Option ℕ) (m : ℕ) (T : List Entry) → appends m (append_from same ws text new source T m) ≡ false
+    unfolding append_from
+    turn-over source m T =
+        by (appends m T)
+        (λ t. rw (t, own-slot source m T) (by (is_eligible (flags_of ws new m) (name_of ws text new m)) (λ u. rw u) (λ u. rw u)))
+        (λ t. rw (t, t))
 
   over-stays : (m : ℕ) (T : List Entry) (e : Entry) → appends m T ≡ false → appends m (T ++ (e ∷ [])) ≡ false
   unfolding has_slot
   over-stays m T e h =
       by (is_eligible (flags_of ws new m) (name_of ws text new m))
       (λ t.
-      by (has_slot ws text new m T)
-      (λ u. rw (t, some-append (λ e. on_found e.method (same_signature ws text new m) false) T (e ∷ []), u))
+      by (has_slot same new m T)
+      (λ u. rw (t, some-append (λ e. on_found e.method (same_signature same new m) false) T (e ∷ []), u))
       (λ u. absurd (true≢false (rw (t, u) at h))))
       (λ t. rw t)
 
   -- ---- so an appended parent method is a copy of its first entry: the turn of a later one comes too late
 
-  module _ (P : List Entry) where
+  module _ (self : (p : Place) → same p p ≡ true) (P : List Entry) where
     -- the methods of entries below b had their turn
     abbrev Over : ℕ → List Entry → Type 0
     Over b T = (k m : ℕ) → k < b → (get_or P k empty).method ≡ Some m → appends m T ≡ false
@@ -158,14 +161,14 @@ module _ (ws text : List ℕ) (new : List New) where
       first-new t j n k e f l g =
           let q : b ≡ j = found-same e in true≢false (sym t ∙ over k m (omega arith) (g ∙ sym f))
 
-      over-next : Over (b + 1) (append_from ws text new (Some b) T m)
+      over-next : Over (b + 1) (append_from same ws text new (Some b) T m)
       unfolding append_from
       over-next k n l g =
           by (eqb k b)
           (λ u.
           let e : k ≡ b = eqb-true k b u in
           let f : n ≡ m = found-same (sym (rw e at g) ∙ is) in
-          rw f (unfold append_from in turn-over (Some b) m T))
+          rw f (unfold append_from in turn-over self (Some b) m T))
           (λ u.
           let d = eqb-false k b u in
           let h : appends n T ≡ false = over k n (omega arith) g in
@@ -173,7 +176,7 @@ module _ (ws text : List ℕ) (new : List New) where
 
     turns : (n b : ℕ) (E T : List Entry)
         → ((k : ℕ) → k < length E → (get_or E k empty ≡ get_or P (b + k) empty) × ((get_or E k empty).source ≡ Some (b + k)))
-        → From (First P) (no_source P empty refl) n T → Over b T → From (First P) (no_source P empty refl) n (fold (append_entry ws text new) T E)
+        → From (First P) (no_source P empty refl) n T → Over b T → From (First P) (no_source P empty refl) n (fold (append_entry same ws text new) T E)
     unfolding fold append_entry
     turns n b [] T at h over = h
     turns n b (e ∷ E) T at h over =
@@ -186,7 +189,7 @@ module _ (ws text : List ℕ) (new : List New) where
         (λ m q.
         let p : (get_or P b empty).method ≡ Some m = ap (λ (x : Entry). x.method) (sym is) ∙ q in
         rw (q, from)
-        (turns n (b + 1) E (append_from ws text new (Some b) T m) rest
+        (turns n (b + 1) E (append_from same ws text new (Some b) T m) rest
         (from_one (First P) (no_source P empty refl) n (Some b) T m (first-new b m T p over) h) (over-next b m T p over)))
         (λ q.
         rw q
@@ -197,80 +200,84 @@ module _ (ws text : List ℕ) (new : List New) where
         let r : k ≡ b = eqb-true k b u in not_found (sym q ∙ ap (λ (x : Entry). x.method) is ∙ (rw r at g)))
         (λ u. let d = eqb-false k b u in over k m (omega arith) g))))
 
-module _ (ws text abi labels area : List ℕ) (c : ℕ) where
-  abbrev methods : List New
-  methods = added_methods ws text abi labels area c
+module _ (same : Same) (compares : Compares same) (ws text abi labels area : List ℕ) (c : ℕ) where
+  abbrev methods : List Taken
+  methods = added_methods same ws text abi labels area c
 
   abbrev view : List Entry
-  view = native_view ws text abi labels area c
+  view = native_view same ws text abi labels area c
 
   abbrev slots : List Entry
   slots = compiler_entries ws methods c view 0 (compiler_targets ws c)
 
   compiler-slot : (i : ℕ) → i < length (compiler_targets ws c)
-      → get_or (compiler_table ws text abi labels area c) i empty ≡ compiler_entry ws methods c view i (get_or (compiler_targets ws c) i 0)
+      → get_or (compiler_table same ws text abi labels area c) i empty ≡ compiler_entry ws methods c view i (get_or (compiler_targets ws c) i 0)
   unfolding compiler_table append_entry
   compiler-slot i h =
       let n = length-entries ws methods c view 0 (compiler_targets ws c) in
-      let T : List Entry = fold (append_from ws text methods None) slots (class_methods ws methods c) in
-      let a = front-fold ws text methods (append_from ws text methods None) (front-from ws text methods None) slots (class_methods ws methods c) in
-      let b = front-fold ws text methods (append_entry ws text methods) (λ T e. front-known ws text methods e.method e.source T) T
-      (parent_entries ws text abi labels area c) in
+      let T : List Entry = fold (append_from same ws text methods None) slots (class_methods ws methods c) in
+      let a = front-fold same ws text methods (append_from same ws text methods None) (front-from same ws text methods None) slots
+      (class_methods ws methods c) in
+      let b = front-fold same ws text methods (append_entry same ws text methods) (λ T e. front-known same ws text methods e.method e.source T) T
+      (parent_entries same ws text abi labels area c) in
       let z : 0 + i ≡ i = omega arith in
-      b.same i (omega (arith, a.long)) ∙ a.same i (omega arith) ∙ (rw z at (entry_at ws methods c view 0 (compiler_targets ws c) i h))
+      b.kept i (omega (arith, a.long)) ∙ a.kept i (omega arith) ∙ (rw z at (entry_at ws methods c view 0 (compiler_targets ws c) i h))
 
   nonzero-slot : (i : ℕ) → i < length (compiler_targets ws c) → get_or (compiler_targets ws c) i 0 ≢ 0
-      → (get_or (compiler_table ws text abi labels area c) i empty).source ≡ None
+      → (get_or (compiler_table same ws text abi labels area c) i empty).source ≡ None
   unfolding compiler_entry
   nonzero-slot i h n = rw (compiler-slot i h, ne_eqb (get_or (compiler_targets ws c) i 0) 0 n)
 
   zero-slot : (i : ℕ) → i < length (compiler_targets ws c) → get_or (compiler_targets ws c) i 0 ≡ 0
-      → get_or (compiler_table ws text abi labels area c) i empty ≡ get_or view i empty
+      → get_or (compiler_table same ws text abi labels area c) i empty ≡ get_or view i empty
   unfolding compiler_entry
   zero-slot i h z = rw (compiler-slot i h, z)
 
   abbrev of_parent : List Entry
-  of_parent = parent_entries ws text abi labels area c
+  of_parent = parent_entries same ws text abi labels area c
 
   abbrev of_class : List Entry
-  of_class = fold (append_from ws text methods None) slots (class_methods ws methods c)
+  of_class = fold (append_from same ws text methods None) slots (class_methods ws methods c)
 
   -- past the compiler's slots
   past : (S : Entry → Type 0) → S empty → (i : ℕ) → length slots ≤ i → S (get_or slots i empty)
   past S z i h = subst S (sym (get_or-eq_default slots empty h)) z
 
-  own-from : (i m : ℕ) → length (compiler_targets ws c) ≤ i → (get_or (compiler_table ws text abi labels area c) i empty).source ≡ None
-      → (get_or (compiler_table ws text abi labels area c) i empty).method ≡ Some m → Memᴰ m (class_methods ws methods c)
+  own-from : (i m : ℕ) → length (compiler_targets ws c) ≤ i → (get_or (compiler_table same ws text abi labels area c) i empty).source ≡ None
+      → (get_or (compiler_table same ws text abi labels area c) i empty).method ≡ Some m → Memᴰ m (class_methods ws methods c)
   unfolding compiler_table
   own-from i m h =
       let n = length-entries ws methods c view 0 (compiler_targets ws c) in
       let S : Entry → Type 0 = λ e. e.source ≡ None → e.method ≡ Some m → Memᴰ m (class_methods ws methods c) in
       let z : S empty = λ e f. not_found f in
-      from_entries ws text methods S z (length slots) of_parent of_class
-      (λ k l g e f. not_found (sym e ∙ (read-parent ws text abi labels area c k g).0))
-      (from-methods ws text methods S z (length slots) (class_methods ws methods c) slots
+      from_entries same ws text methods S z (length slots) of_parent of_class
+      (λ k l g e f. not_found (sym e ∙ (read-parent same ws text abi labels area c k g).0))
+      (from-methods same ws text methods S z (length slots) (class_methods ws methods c) slots
       (λ k g e f. subst (λ x. Memᴰ x (class_methods ws methods c)) (found-same f) g) (past S z))
       i (omega arith)
 
-  first-copy : (i : ℕ) → length (compiler_targets ws c) ≤ i → First of_parent (get_or (compiler_table ws text abi labels area c) i empty)
+  first-copy : (i : ℕ) → length (compiler_targets ws c) ≤ i → First of_parent (get_or (compiler_table same ws text abi labels area c) i empty)
   unfolding compiler_table
   first-copy i h =
       let n = length-entries ws methods c view 0 (compiler_targets ws c) in
       let z : First of_parent empty = no_source of_parent empty refl in
-      turns ws text methods of_parent (length slots) 0 of_parent of_class
-      (λ k l. let q : 0 + k ≡ k = omega arith in rw q (refl, (read-parent ws text abi labels area c k l).0))
-      (from-methods ws text methods (First of_parent) z (length slots) (class_methods ws methods c) slots
-      (λ m g. no_source of_parent (new_entry ws text methods None m) refl) (past (First of_parent) z))
+      turns same ws text methods compares.self of_parent (length slots) 0 of_parent of_class
+      (λ k l. let q : 0 + k ≡ k = omega arith in rw q (refl, (read-parent same ws text abi labels area c k l).0))
+      (from-methods same ws text methods (First of_parent) z (length slots) (class_methods ws methods c) slots
+      (λ m g. no_source of_parent (new_entry same ws text methods None m) refl) (past (First of_parent) z))
       (λ k m l g. absurd (omega arith)) i (omega arith)
 
+  copies : Copies same ws text abi labels area c
+  copies = record {
+    slots = λ T e i h. all-at (table-built same ws text abi labels area c T e) i h;
+    same_index = λ T e none no_table. table-placed same ws text abi labels area c none no_table T e;
+    relayed = λ T r e. table-copied same compares ws text abi labels area c r T e;
+    in_order = λ T r e. table-ordered same compares ws text abi labels area c r T e;
+    nonzero = nonzero-slot;
+    zero = zero-slot;
+    own = own-from;
+    first = λ i j m k h. first-copy i h j m k;
+  }
+
 pub sources : Sources
-sources = record {
-  slots = λ ws text abi labels area c T e i h. all-at (table-built ws text abi labels area c T e) i h;
-  same_index = λ ws text abi labels area c T e none no_table. table-placed ws text abi labels area c none no_table T e;
-  relayed = relayed-copy;
-  in_order = relayed-ordered;
-  nonzero = nonzero-slot;
-  zero = zero-slot;
-  own = own-from;
-  first = λ ws text abi labels area c i j m k h. first-copy ws text abi labels area c i h j m k;
-}
+sources ws text abi labels area c = copies (by_bytes ws text abi labels) (bytes_compare ws text abi labels) ws text abi labels area c

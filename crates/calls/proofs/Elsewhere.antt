@@ -16,12 +16,13 @@ use Rattle.abi_sheet.specs.AbiSheet.{abi_text_of}
 use Rattle.set_rules.specs.SetRules.{set_refusal}
 use Rattle.set_rules.specs.Valid.{IsClass}
 use Rattle.set_rules.proofs.Valid.{valid}
+use Rattle.linking.specs.Signature.{by_sheets}
 use Rattle.linking.specs.Chain.{parent_of, chain}
 use Rattle.linking.specs.Packages.{bad_packages}
 use Rattle.linking.specs.Before.{reaches_table, link_clashes}
-use Rattle.linking.specs.Link.{HasTable, no_class, is_linked, bad_class, bad_area, next_free, refused_call, LinkOutcome, link_def}
-use Rattle.linking.specs.Ask.{Walk, walk, head_place, dispatch_entries, build_node, on_walk, bad_ask, ask_def}
-use Rattle.linking.specs.Vtable.{table_entries}
+use Rattle.linking.specs.Link.{HasTable, no_class, is_linked, bad_class, bad_area, next_free, refused_call, LinkOutcome, link_def, link_by}
+use Rattle.linking.specs.Ask.{Walk, walk, head_place, build_node, on_walk, bad_ask, ask_def, ask_by}
+use Rattle.linking.specs.Vtable.{Entry, table_entries}
 use Rattle.linking.proofs.Before.{link_as_before}
 use Rattle.linking.proofs.ChainLaws.{parent-within, parent_below, chain-none, chain_more}
 use Rattle.linking.proofs.Rebuilt.{Any}
@@ -33,9 +34,10 @@ use Rattle.slots.proofs.ChainFacts.{chain-here}
 use Rattle.linking.proofs.Overriding.{chain-of-chain}
 use Rattle.calls.specs.Calls.{Call, link, ask, State, outcome, start, step, Unlinked}
 use Rattle.calls.specs.OldRun.{outcome_before, step_before, clashes}
+use Rattle.calls.specs.Kept.{built_afresh}
 use Rattle.calls.specs.Elsewhere.{Comes, now, later, AllRoomy, SameAnswer, Made, Clear, IsElsewhere, Roomy}
 use Rattle.calls.proofs.Rows.{ask-classes, ClassOk, class-ok, ask-cases}
-use Rattle.calls.proofs.Beside.{Sets, Placed, placed-keeps, same-chain}
+use Rattle.calls.proofs.Beside.{Sets, placed-keeps, same-chain}
 use Rattle.calls.proofs.Dispatch.{built-size, dispatch_refused}
 use Rattle.calls.proofs.BesideAsk.{SameWalk, both-hit, both-missed, SameAsk, ask-refused, dispatched, found-same}
 use Rattle.calls.proofs.NodeLists.{Layout}
@@ -110,7 +112,7 @@ module _ (abi : List ℕ) (E : ℕ → Type 0) (s t : State) (rel : Related abi 
       → Roomy (link_def t.set abi c t.area stubs t.missing).outcome
       → SameLink s.area t.area (link_def s.set abi c s.area stubs s.missing).outcome
       (link_def t.set abi c t.area stubs t.missing).outcome
-  unfolding link_def
+  unfolding link_def link_by
   link-same c stubs calm room room' =
       let v = eq-eqb (set_refusal s.set abi) 0 rel.accepted in
       let v' = eq-eqb (set_refusal t.set abi) 0 rel.accepted' in
@@ -146,18 +148,13 @@ module _ (abi : List ℕ) (E : ℕ → Type 0) (s t : State) (rel : Related abi 
   }
 
   module _ (c i : ℕ) (calm : E c) (calm' : E i) (l : HasTable s.set c) (k : HasTable s.set i) where
-    dispatch_both : SameBuilt Any (dispatch_entries s.set (text_of s.set) c (table_entries s.set (text_of s.set) abi (abi_text_of abi) s.area i))
-        (dispatch_entries t.set (text_of t.set) c (table_entries t.set (text_of t.set) abi (abi_text_of abi) t.area i))
+    dispatch_both : SameBuilt Any (built_afresh abi s c i) (built_afresh abi t c i)
     dispatch_both =
-        let R = Placed s.set t.set abi E in
-        let keeps = placed-keeps s.set t.set abi E rel.sets in
         let h = rel.held i calm' k in
         built_less (λ m n r. tt)
-        (dispatch_same s.set (text_of s.set) t.set (text_of t.set) abi (abi_text_of abi) (Placed s.set t.set abi E)
-        (placed-keeps s.set t.set abi E rel.sets) c
+        (dispatch_same (placed-keeps s.set t.set abi E rel.sets) c
         (same-chain s.set t.set abi E rel.sets c l.among (λ e j. rel.sets.up c e (l.some, l.among) calm j))
-        (entries-same s.set (text_of s.set) t.set (text_of t.set) abi (abi_text_of abi) (Placed s.set t.set abi E)
-        (placed-keeps s.set t.set abi E rel.sets) i
+        (entries-same (placed-keeps s.set t.set abi E rel.sets) i
         (same-chain s.set t.set abi E rel.sets i k.among (λ e j. rel.sets.up i e (k.some, k.among) calm' j)) s.area t.area
         h.slots h.words))
 
@@ -181,22 +178,24 @@ module _ (abi : List ℕ) (E : ℕ → Type 0) (s t : State) (rel : Related abi 
 
     walked : (stubs : List ℕ) {w w' : Walk} → SameWalk s.area t.area (class_slot_count s.set i) w w'
         → Roomy (on_walk w (λ n nodes. record { refusal = 0; first = n + 1; second = nodes; set = s.set; area = s.area })
-        (build_node s.set abi c i s.area stubs) (refused_call 7 s.set s.area))
+        (build_node (by_sheets s.set abi) s.set abi c i s.area stubs) (refused_call 7 s.set s.area))
         → Roomy (on_walk w' (λ n nodes. record { refusal = 0; first = n + 1; second = nodes; set = t.set; area = t.area })
-        (build_node t.set abi c i t.area stubs) (refused_call 7 t.set t.area))
+        (build_node (by_sheets t.set abi) t.set abi c i t.area stubs) (refused_call 7 t.set t.area))
         → SameAsk s.area t.area (class_slot_count s.set i)
         (on_walk w (λ n nodes. record { refusal = 0; first = n + 1; second = nodes; set = s.set; area = s.area })
-        (build_node s.set abi c i s.area stubs) (refused_call 7 s.set s.area))
+        (build_node (by_sheets s.set abi) s.set abi c i s.area stubs) (refused_call 7 s.set s.area))
         (on_walk w' (λ n nodes. record { refusal = 0; first = n + 1; second = nodes; set = t.set; area = t.area })
-        (build_node t.set abi c i t.area stubs) (refused_call 7 t.set t.area))
+        (build_node (by_sheets t.set abi) t.set abi c i t.area stubs) (refused_call 7 t.set t.area))
     unfolding build_node
     walked stubs (both-hit {n} {n'} {r} {r'} h e e') room room' =
         found-same s.set t.set abi c i s.area t.area stubs r r' (class_slot_count s.set i) head-below head_below' some-free some_free' n n' r r' h
     walked stubs (both-missed {r} {r'}) room room' =
         dispatched s.set t.set abi c i s.area t.area stubs r r' (class_slot_count s.set i) head-below head_below' some-free some_free' dispatch_both
-        (λ n q. let m = dispatch_refused s.set (text_of s.set) c (table_entries s.set (text_of s.set) abi (abi_text_of abi) s.area i) n q in λ z. omega arith)
-        (λ T q. built-size s.set (text_of s.set) abi (abi_text_of abi) s.area c i T few q)
-        (λ U q. built-size t.set (text_of t.set) abi (abi_text_of abi) t.area c i U few' q ∙ sym (rel.held i calm' k).slots) room room'
+        (λ n q.
+        let T : List Entry = table_entries (by_sheets s.set abi) s.set (text_of s.set) abi (abi_text_of abi) s.area i in
+        let m = dispatch_refused (by_sheets s.set abi) s.set c T n q in λ z. omega arith)
+        (λ T q. built-size (by_sheets s.set abi) s.set (text_of s.set) abi (abi_text_of abi) s.area c i T few q)
+        (λ U q. built-size (by_sheets t.set abi) t.set (text_of t.set) abi (abi_text_of abi) t.area c i U few' q ∙ sym (rel.held i calm' k).slots) room room'
 
   linked-both : (d : ℕ) → E d → no_class s.set d ≡ false → is_linked s.set d ≡ is_linked t.set d
   linked-both d calm h = ap not (rel.sets.linked d (is-class abi E s t rel d h) calm)
@@ -213,7 +212,7 @@ module _ (abi : List ℕ) (E : ℕ → Type 0) (s t : State) (rel : Related abi 
   pub ask-same : (c i : ℕ) (stubs : List ℕ) → E c → E i → Roomy (ask_def s.set abi c i s.area stubs)
       → Roomy (ask_def t.set abi c i t.area stubs)
       → SameAsk s.area t.area (class_slot_count s.set i) (ask_def s.set abi c i s.area stubs) (ask_def t.set abi c i t.area stubs)
-  unfolding ask_def
+  unfolding ask_def ask_by
   ask-same c i stubs calm calm' room room' =
       let v = eq-eqb (set_refusal s.set abi) 0 rel.accepted in
       let v' = eq-eqb (set_refusal t.set abi) 0 rel.accepted' in
@@ -233,7 +232,7 @@ module _ (abi : List ℕ) (E : ℕ → Type 0) (s t : State) (rel : Related abi 
   -- an accepted ask has two linked classes, and leaves the set
   pub ask-slots : (c i : ℕ) (stubs : List ℕ) → E i → (ask_def s.set abi c i s.area stubs).refusal ≡ 0
       → class_slot_count s.set i ≡ class_slot_count t.set i
-  unfolding ask_def
+  unfolding ask_def ask_by
   ask-slots c i stubs calm z =
       let v = eq-eqb (set_refusal s.set abi) 0 rel.accepted in
       by (bad_ask s.set c i) (λ h. let e = rw (v, h) at z in absurd (omega arith)) (λ h. (rel.held i calm (ask-classes s.set c i h).1).slots)

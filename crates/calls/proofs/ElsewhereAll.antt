@@ -11,8 +11,9 @@ use borrow.Author.Tests.{eq-eqb, ne_eqb}
 use Rattle.class_sheet.specs.ClassSheet.{class_count, text_of}
 use Rattle.abi_sheet.specs.AbiSheet.{abi_text_of}
 use Rattle.set_rules.specs.SetRules.{set_refusal}
-use Rattle.linking.specs.Vtable.{Built, build_methods}
-use Rattle.linking.specs.Before.{build_before, link_before}
+use Rattle.linking.specs.Signature.{by_sheets}
+use Rattle.linking.specs.Vtable.{Built}
+use Rattle.linking.specs.Before.{link_before}
 use Rattle.linking.specs.Link.{next_free, Plan, Planned, planned, built_table, plan_built, generated_table, plan_generated, plan, plan_with, Outcome, LinkOutcome}
 use Rattle.linking.specs.Ask.{ask_def}
 use Rattle.linking.proofs.Plans.{planned-same, not-planned}
@@ -24,9 +25,9 @@ use Rattle.calls.specs.Elsewhere.{takes, Made, Clear, IsElsewhere, AllRoomy, Els
 use Rattle.calls.proofs.Stays.{plan-stands}
 use Rattle.calls.proofs.BesideLink.{SamePlan, SamePlanned, both-planned, both-unplanned, plan-same}
 use Rattle.calls.proofs.Area.{linked-free}
-use Rattle.calls.proofs.Wrote.{Wrote, with_cases, wrote_after}
+use Rattle.calls.proofs.Wrote.{plan_from, Wrote, with_cases, wrote_after}
 use Rattle.calls.proofs.Elsewhere.{Related, InStep, above-held, link-same, ask-same, ask-set, calm-link, before_here}
-use Rattle.calls.proofs.ElsewhereNext.{link_by, left_by, related-moved, related-each, related_self, related_turned, link-is, other-links}
+use Rattle.calls.proofs.ElsewhereNext.{made_now, made_before, link_built, left_by, related-moved, related-each, related_self, related_turned, link-is, other-links}
 use Rattle.calls.proofs.ElsewhereStuck.{elsewhere-from}
 use Rattle.calls.proofs.ElsewhereAsk.{put_in, other-ask, ask-next}
 use Rattle.calls.proofs.NodeLists.{Layout}
@@ -39,14 +40,14 @@ use Rattle.calls.proofs.OldRun.{step_as_before}
 
 -- rows 3 to 5 accept what a link leaves, whatever table `build_methods` makes
 stays : (abi : List ℕ) (E : ℕ → Type 0) (s : State) (c : ℕ) (stubs : List ℕ) (B : Built) → set_refusal s.set abi ≡ 0
-    → set_refusal (link_by abi E s c stubs B).outcome.set abi ≡ 0
+    → set_refusal (link_built abi E s c stubs B).outcome.set abi ≡ 0
 stays abi E s c stubs B v =
-    elim (with_cases s.set abi c s.area stubs s.missing (plan_with s.set (text_of s.set) abi (abi_text_of abi) s.area B c)) [
+    elim (with_cases s.set abi c s.area stubs s.missing (plan_from s.set abi s.area B c)) [
       | inl u ↦ ap (λ (x : List ℕ). set_refusal x abi) u.same_set ∙ v
       | inr w ↦
           rw w.new-set
           (plan-stands s.set abi c s.area w.valid w.class w.coming
-          (plans_with s.set (text_of s.set) abi (abi_text_of abi) s.area c B w.coming w.comes) w.lists)
+          (plans_with (by_sheets s.set abi) s.set (text_of s.set) abi (abi_text_of abi) s.area c B w.coming w.comes) w.lists)
     ]
 
 -- ---- one run
@@ -59,12 +60,12 @@ layout-moved s lay u p q =
 
 module _ (abi : List ℕ) (E : ℕ → Type 0) where
   step-link : (s : State) (c : ℕ) (stubs : List ℕ)
-      → step abi s (link c stubs) ≡ left_by abi E (link_by abi E s c stubs (build_methods s.set (text_of s.set) abi (abi_text_of abi) s.area c))
+      → step abi s (link c stubs) ≡ left_by abi E (link_built abi E s c stubs (made_now abi s c))
   unfolding step
   step-link s c stubs = ap (left_by abi E) (link-is abi E s c stubs)
 
   before-link : (s : State) (c : ℕ) (stubs : List ℕ)
-      → step_before abi s (link c stubs) ≡ left_by abi E (link_by abi E s c stubs (build_before s.set (text_of s.set) abi (abi_text_of abi) s.area c))
+      → step_before abi s (link c stubs) ≡ left_by abi E (link_built abi E s c stubs (made_before abi s c))
   unfolding step_before link_before
   before-link s c stubs = refl
 
@@ -76,10 +77,10 @@ module _ (abi : List ℕ) (E : ℕ → Type 0) where
   unfolding step_before
   before-ask s c i stubs = rw (ask-set s.set abi c i s.area stubs) refl
 
-  layout-link : (s : State) (c : ℕ) (stubs : List ℕ) (B : Built) → Layout s → Layout (left_by abi E (link_by abi E s c stubs B))
+  layout-link : (s : State) (c : ℕ) (stubs : List ℕ) (B : Built) → Layout s → Layout (left_by abi E (link_built abi E s c stubs B))
   layout-link s c stubs B lay =
-      let o : LinkOutcome = link_by abi E s c stubs B in
-      elim (with_cases s.set abi c s.area stubs s.missing (plan_with s.set (text_of s.set) abi (abi_text_of abi) s.area B c)) [
+      let o : LinkOutcome = link_built abi E s c stubs B in
+      elim (with_cases s.set abi c s.area stubs s.missing (plan_from s.set abi s.area B c)) [
         | inl u ↦ layout-moved s lay (left_by abi E o) u.same_set u.same_area
         | inr w ↦ wrote_layout abi s c stubs B o.outcome w o.missing lay
       ]
@@ -92,10 +93,10 @@ module _ (abi : List ℕ) (E : ℕ → Type 0) where
         | inr p ↦ put-layout abi s c i stubs o p lay s.missing
       ]
 
-  count-link : (s : State) (c : ℕ) (stubs : List ℕ) (B : Built) → class_count (link_by abi E s c stubs B).outcome.set ≡ class_count s.set
+  count-link : (s : State) (c : ℕ) (stubs : List ℕ) (B : Built) → class_count (link_built abi E s c stubs B).outcome.set ≡ class_count s.set
   count-link s c stubs B =
-      let o : LinkOutcome = link_by abi E s c stubs B in
-      elim (with_cases s.set abi c s.area stubs s.missing (plan_with s.set (text_of s.set) abi (abi_text_of abi) s.area B c)) [
+      let o : LinkOutcome = link_built abi E s c stubs B in
+      elim (with_cases s.set abi c s.area stubs s.missing (plan_from s.set abi s.area B c)) [
         | inl u ↦ ap class_count u.same_set
         | inr w ↦ (wrote_after s.set abi c s.area stubs B o.outcome w).classes
       ]
@@ -126,10 +127,10 @@ module _ (ws abi area missing : List ℕ) (calls : List Call) (roomy : AllRoomy 
   E = Clear ws abi area missing calls
 
   abbrev now : State → ℕ → Built
-  now s c = build_methods s.set (text_of s.set) abi (abi_text_of abi) s.area c
+  now s c = made_now abi s c
 
   abbrev before : State → ℕ → Built
-  before s c = build_before s.set (text_of s.set) abi (abi_text_of abi) s.area c
+  before s c = made_before abi s c
 
   -- ---- a link elsewhere
 
@@ -141,17 +142,17 @@ module _ (ws abi area missing : List ℕ) (calls : List Call) (roomy : AllRoomy 
     as_before : step_before abi t (link c stubs) ≡ step abi t (link c stubs)
     as_before = sym (step_as_before abi t (link c stubs) (calm-link ws abi area missing calls c stubs s t made calm r.classes))
 
-    took : takes s.area (link_by abi E s c stubs (now s c)).outcome ≡ takes t.area (link_by abi E t c stubs (now t c)).outcome
+    took : takes s.area (link_built abi E s c stubs (now s c)).outcome ≡ takes t.area (link_built abi E t c stubs (now t c)).outcome
     took =
         let q = roomy (link c stubs) s t made is-elsewhere in
         let e = before_here ws abi area missing calls (link c stubs) s t made is-elsewhere r.classes in
         rw (← link-is abi E s c stubs, ← link-is abi E t c stubs)
         (link-same abi E s t r.related c stubs calm q.0 (rw e at q.1)).took
 
-    plans-same : (w : Wrote s.set abi c s.area stubs (plan_with s.set (text_of s.set) abi (abi_text_of abi) s.area (now s c) c)
-        (link_by abi E s c stubs (now s c)).outcome)
-        (w' : Wrote t.set abi c t.area stubs (plan_with t.set (text_of t.set) abi (abi_text_of abi) t.area (now t c) c)
-        (link_by abi E t c stubs (now t c)).outcome) → SamePlan w.coming w'.coming
+    plans-same : (w : Wrote s.set abi c s.area stubs (plan_from s.set abi s.area (now s c) c)
+        (link_built abi E s c stubs (now s c)).outcome)
+        (w' : Wrote t.set abi c t.area stubs (plan_from t.set abi t.area (now t c) c)
+        (link_built abi E t c stubs (now t c)).outcome) → SamePlan w.coming w'.coming
     unfolding plan plan_with plan_built built_table plan_generated generated_table
     plans-same w w' =
         plans-both
@@ -161,19 +162,19 @@ module _ (ws abi area missing : List ℕ) (calls : List Call) (roomy : AllRoomy 
 
     link-kept : Related abi E (step abi s (link c stubs)) (step abi t (link c stubs))
     link-kept =
-        let o : LinkOutcome = link_by abi E s c stubs (now s c) in
-        let o' : LinkOutcome = link_by abi E t c stubs (now t c) in
+        let o : LinkOutcome = link_built abi E s c stubs (now s c) in
+        let o' : LinkOutcome = link_built abi E t c stubs (now t c) in
         let rel = r.related in
         rw (step-link abi E s c stubs, step-link abi E t c stubs)
-        (elim (with_cases s.set abi c s.area stubs s.missing (plan_with s.set (text_of s.set) abi (abi_text_of abi) s.area (now s c) c)) [
-          | inl u ↦ elim (with_cases t.set abi c t.area stubs t.missing (plan_with t.set (text_of t.set) abi (abi_text_of abi) t.area (now t c) c)) [
+        (elim (with_cases s.set abi c s.area stubs s.missing (plan_from s.set abi s.area (now s c) c)) [
+          | inl u ↦ elim (with_cases t.set abi c t.area stubs t.missing (plan_from t.set abi t.area (now t c) c)) [
             | inl v ↦ related-each abi E s (left_by abi E o) t (left_by abi E o')
                 (related-moved abi E s (related_self abi E s t rel) (left_by abi E o) u.same_set u.same_area)
                 (related-moved abi E t (related_self abi E t s (related_turned abi E s t rel)) (left_by abi E o') v.same_set v.same_area) rel
             | inr v ↦ absurd (true≢false
                 (sym (link-took abi E t c stubs _ o'.outcome v) ∙ sym took ∙ none-taken abi E s.area o.outcome u.same_area))
           ]
-          | inr w ↦ elim (with_cases t.set abi c t.area stubs t.missing (plan_with t.set (text_of t.set) abi (abi_text_of abi) t.area (now t c) c)) [
+          | inr w ↦ elim (with_cases t.set abi c t.area stubs t.missing (plan_from t.set abi t.area (now t c) c)) [
             | inl v ↦ absurd (true≢false
                 (sym (link-took abi E s c stubs _ o.outcome w) ∙ took ∙ none-taken abi E t.area o'.outcome v.same_area))
             | inr v ↦ link-next abi E s t rel r.layout r.layout' c calm stubs (now s c) (now t c) o.outcome o'.outcome w v (plans-same w v)

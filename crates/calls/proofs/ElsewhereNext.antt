@@ -13,9 +13,11 @@ use Rattle.abi_sheet.specs.AbiSheet.{abi_text_of}
 use Rattle.set_rules.specs.SetRules.{set_refusal}
 use Rattle.set_rules.specs.Valid.{IsClass, Valid}
 use Rattle.set_rules.proofs.Valid.{valid}
+use Rattle.linking.specs.Signature.{by_sheets}
 use Rattle.linking.specs.Chain.{parent_of, chain}
 use Rattle.linking.specs.Vtable.{Entry, Built, build_methods}
-use Rattle.linking.specs.Link.{HasTable, next_free, bad_area, linked_area, built_table, plan_built, generated_table, plan_generated, plan, plan_with, link_with, LinkOutcome, link_def}
+use Rattle.linking.specs.Before.{build_before}
+use Rattle.linking.specs.Link.{HasTable, next_free, bad_area, linked_area, built_table, plan_built, generated_table, plan_generated, plan, plan_with, link_with, LinkOutcome, link_def, link_by}
 use Rattle.linking.specs.Ask.{head_place}
 use Rattle.linking.proofs.LinkRead.{After}
 use Rattle.linking.proofs.Rows.{Sound, sound}
@@ -24,8 +26,15 @@ use Rattle.calls.proofs.Area.{linked-length, linked-before, linked-free}
 use Rattle.calls.proofs.Beside.{SameField}
 use Rattle.calls.proofs.BesideAsk.{SameWalk}
 use Rattle.calls.proofs.BesideNext.{sets_turned, sets_then, held_turned, held_then, walk_turned, walk_then, after-sets, after-held, Safe, safe_of, walk-next}
-use Rattle.calls.proofs.Wrote.{with_cases, wrote_after, wrote_fields, wrote_sound, wrote_parent}
+use Rattle.calls.proofs.Wrote.{plan_from, with_cases, wrote_after, wrote_fields, wrote_sound, wrote_parent}
 use Rattle.calls.proofs.Elsewhere.{walk_of, Related}
+
+-- what `build_methods` makes of a class, and what the linker before ticket 13 made
+abbrev pub made_now : List ℕ → State → ℕ → Built
+made_now abi s c = build_methods (by_sheets s.set abi) s.set (text_of s.set) abi (abi_text_of abi) s.area c
+
+abbrev pub made_before : List ℕ → State → ℕ → Built
+made_before abi s c = build_before (by_sheets s.set abi) s.set (text_of s.set) abi (abi_text_of abi) s.area c
 
 module _ (abi : List ℕ) (E : ℕ → Type 0) where
   module _ (s t : State) (a : Related abi E s t) where
@@ -160,9 +169,8 @@ module _ (abi : List ℕ) (E : ℕ → Type 0) where
     }
 
   -- a link of class c by the table that `build_methods` makes
-  abbrev pub link_by : State → ℕ → List ℕ → Built → LinkOutcome
-  link_by s c stubs B =
-      link_with (plan_with s.set (text_of s.set) abi (abi_text_of abi) s.area B c) s.set abi c s.area stubs s.missing
+  abbrev pub link_built : State → ℕ → List ℕ → Built → LinkOutcome
+  link_built s c stubs B = link_with (plan_from s.set abi s.area B c) s.set abi c s.area stubs s.missing
 
   abbrev pub left_by : LinkOutcome → State
   left_by o = record { set = o.outcome.set; area = o.outcome.area; missing = o.missing }
@@ -170,10 +178,10 @@ module _ (abi : List ℕ) (E : ℕ → Type 0) where
   -- of a class that is not elsewhere, by the linker (`build_methods`) or by the one before (`build_before`), refused or accepted. `stays`: rows 3 to 5 accept
   -- what it leaves
   pub other-link : (s : State) (c : ℕ) (stubs : List ℕ) (B : Built) → Related abi E s s → ((d : ℕ) → E d → d ≢ c)
-      → set_refusal (link_by s c stubs B).outcome.set abi ≡ 0 → Related abi E s (left_by (link_by s c stubs B))
+      → set_refusal (link_built s c stubs B).outcome.set abi ≡ 0 → Related abi E s (left_by (link_built s c stubs B))
   other-link s c stubs B self other stays =
-      let o : LinkOutcome = link_by s c stubs B in
-      elim (with_cases s.set abi c s.area stubs s.missing (plan_with s.set (text_of s.set) abi (abi_text_of abi) s.area B c)) [
+      let o : LinkOutcome = link_built s c stubs B in
+      elim (with_cases s.set abi c s.area stubs s.missing (plan_from s.set abi s.area B c)) [
         | inl u ↦ related-moved s self (left_by o) u.same_set u.same_area
         | inr w ↦
             link-leaves-related s (left_by o) c w.coming.table stubs self.accepted self.sound self.parent
@@ -187,16 +195,15 @@ module _ (abi : List ℕ) (E : ℕ → Type 0) where
   related_self s t r = related_then s t r s (related_turned s t r)
 
   pub link-is : (s : State) (c : ℕ) (stubs : List ℕ)
-      → link_def s.set abi c s.area stubs s.missing
-      ≡ link_by s c stubs (build_methods s.set (text_of s.set) abi (abi_text_of abi) s.area c)
-  unfolding link_def plan plan_with plan_built built_table plan_generated generated_table
+      → link_def s.set abi c s.area stubs s.missing ≡ link_built s c stubs (made_now abi s c)
+  unfolding link_def link_by plan plan_with plan_built built_table plan_generated generated_table
   link-is s c stubs = refl
 
   -- in both runs
   pub other-links : (s t : State) (c : ℕ) (stubs : List ℕ) (B B' : Built) → Related abi E s t → (E c → ⊥)
-      → set_refusal (link_by s c stubs B).outcome.set abi ≡ 0 → set_refusal (link_by t c stubs B').outcome.set abi ≡ 0
-      → Related abi E (left_by (link_by s c stubs B)) (left_by (link_by t c stubs B'))
+      → set_refusal (link_built s c stubs B).outcome.set abi ≡ 0 → set_refusal (link_built t c stubs B').outcome.set abi ≡ 0
+      → Related abi E (left_by (link_built s c stubs B)) (left_by (link_built t c stubs B'))
   other-links s t c stubs B B' r n v v' =
       let other : (d : ℕ) → E d → d ≢ c = λ d e q. n (subst E q e) in
-      related-each s (left_by (link_by s c stubs B)) t (left_by (link_by t c stubs B')) (other-link s c stubs B (related_self s t r) other v)
+      related-each s (left_by (link_built s c stubs B)) t (left_by (link_built t c stubs B')) (other-link s c stubs B (related_self s t r) other v)
       (other-link t c stubs B' (related_self t s (related_turned s t r)) other v') r

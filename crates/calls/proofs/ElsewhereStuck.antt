@@ -10,8 +10,8 @@ use Rattle.words.proofs.Bools.{by}
 use Rattle.class_sheet.specs.ClassSheet.{text_of}
 use Rattle.set_rules.specs.SetRules.{set_refusal}
 use Rattle.linking.specs.Before.{reaches_table, link_clashes}
-use Rattle.linking.specs.Link.{bad_class, bad_area, Outcome, LinkOutcome, refused_link, link_def}
-use Rattle.linking.specs.Ask.{bad_ask, ask_def}
+use Rattle.linking.specs.Link.{bad_class, bad_area, Outcome, LinkOutcome, refused_link, link_def, link_by}
+use Rattle.linking.specs.Ask.{bad_ask, ask_def, ask_by}
 use Rattle.calls.specs.Calls.{Call, link, ask, State, outcome, start, step, Unlinked, table_at}
 use Rattle.calls.specs.OldRun.{outcome_before, step_before, clashes}
 use Rattle.calls.specs.Elsewhere.{Comes, now, later, slots_of, takes, SameAnswer, Made, IsElsewhere, AllRoomy}
@@ -32,7 +32,7 @@ module _ (abi : List ℕ) (b : State) (bad : (set_refusal b.set abi ≢ 0) ⊎ (
 
   link_stuck : (c : ℕ) (stubs : List ℕ)
       → (n : ℕ) × (link_def b.set abi c b.area stubs b.missing ≡ refused_link n b.set b.area b.missing)
-  unfolding link_def
+  unfolding link_def link_by
   link_stuck c stubs =
       elim bad [
         | inl n ↦ (set_refusal b.set abi, rw (ne_eqb (set_refusal b.set abi) 0 n) refl)
@@ -43,7 +43,7 @@ module _ (abi : List ℕ) (b : State) (bad : (set_refusal b.set abi ≢ 0) ⊎ (
       ]
 
   ask-area : (c i : ℕ) (stubs : List ℕ) → (ask_def b.set abi c i b.area stubs).area ≡ b.area
-  unfolding ask_def
+  unfolding ask_def ask_by
   ask-area c i stubs =
       elim bad [
         | inl n ↦ rw (ne_eqb (set_refusal b.set abi) 0 n) refl

@@ -3,6 +3,7 @@
 use Rattle.std.proofs.Common.{◌≡◌, refl, true, List, [], ◌∷◌, ℕ, Some, None}
 use Rattle.class_sheet.specs.ClassSheet.{method_count, field_count, text_length, text_of}
 use Rattle.abi_sheet.specs.AbiSheet.{abi_text_of}
+use Rattle.linking.specs.Signature.{by_sheets}
 use Rattle.linking.specs.Vtable.{read_entry}
 use Rattle.linking.proofs.Assemble as assemble
 use Rattle.linking.proofs.Assemble.{method, built, interface, compiled, array, slot, fixed, abi, lent, spare, fresh}
@@ -51,10 +52,10 @@ pub record Rows : Type 0 where
   pub second : table_at (run sheet calls (start ws area missing)).area 14 2 ≡ 902 ∷ 100 ∷ []
   pub third : table_at (run sheet calls (start ws area missing)).area 18 3 ≡ 902 ∷ 200 ∷ 300 ∷ []
   -- the known slots, by Reading at the start: those that demand 3's conclusions are about
-  pub parent-known : (read_entry ws (text_of ws) sheet (abi_text_of sheet) 2 1 100).method ≡ Some 0
-  pub child_known : (read_entry ws (text_of ws) sheet (abi_text_of sheet) 3 1 200).method ≡ Some 1
-  pub child_new : (read_entry ws (text_of ws) sheet (abi_text_of sheet) 3 2 300).method ≡ Some 2
-  pub child_unknown : (read_entry ws (text_of ws) sheet (abi_text_of sheet) 3 0 902).method ≡ None
+  pub parent-known : (read_entry (by_sheets ws sheet) ws (text_of ws) sheet (abi_text_of sheet) 2 1 100).method ≡ Some 0
+  pub child_known : (read_entry (by_sheets ws sheet) ws (text_of ws) sheet (abi_text_of sheet) 3 1 200).method ≡ Some 1
+  pub child_new : (read_entry (by_sheets ws sheet) ws (text_of ws) sheet (abi_text_of sheet) 3 2 300).method ≡ Some 2
+  pub child_unknown : (read_entry (by_sheets ws sheet) ws (text_of ws) sheet (abi_text_of sheet) 3 0 902).method ≡ None
   -- a field, a method and their names were added before classes 2 and 3 were linked
   pub methods : method_count ws ∷ method_count (run sheet calls (start ws area missing)).set ∷ [] ≡ 4 ∷ 5 ∷ []
   pub fields : field_count ws ∷ field_count (run sheet calls (start ws area missing)).set ∷ [] ≡ 0 ∷ 1 ∷ []

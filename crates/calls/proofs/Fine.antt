@@ -10,12 +10,14 @@ use Rattle.descriptor.proofs.Meaning.{meaning}
 use Rattle.class_sheet.specs.ClassSheet.{class_count, method_count, text_of, method_flags, method_descriptor}
 use Rattle.abi_sheet.specs.AbiSheet.{abi_slot_count, abi_field_count, abi_field_limit, abi_class_first_field, abi_class_field_count, abi_slot_descriptor, abi_text_of}
 use Rattle.set_rules.specs.Valid.{MethodFlags, Valid, ValidAbi}
+use Rattle.linking.specs.Signature.{Same}
 use Rattle.linking.specs.Chain.{list_count, is_abstract}
 use Rattle.linking.specs.Abi.{abi_fields, class_abi}
 use Rattle.linking.specs.Fields.{declares_field, added_fields}
-use Rattle.linking.specs.Compiler.{New, without_abstract, from_method, from_slot}
+use Rattle.linking.specs.Compiler.{New, members, without_abstract, from_method, from_slot}
 use Rattle.linking.specs.Link.{new_fields_of, generated_methods}
-use Rattle.linking.proofs.Added.{EachNew, generated-each, class-abi-room, same_receiver, abstract_receiver}
+use Rattle.linking.proofs.AbiLaws.{class-abi-room}
+use Rattle.linking.proofs.Added.{EachNew, generated-each, same_receiver, abstract_receiver}
 use Rattle.calls.proofs.Sources.{keep-member}
 use Rattle.calls.proofs.Members.{part-word, Fine}
 
@@ -39,7 +41,7 @@ module _ (ws abi : List ℕ) (v : Valid ws) (w : ValidAbi abi) where
   abbrev pub FineMethod : New → Type 0
   FineMethod = Fine ValidDescriptor MethodFlags
 
-  from-method : (m target : ℕ) → m < method_count ws → FineMethod (from_method ws text m target)
+  from-method : (m target : ℕ) → m < method_count ws → FineMethod (from_method ws text m target).member
   from-method m target h =
       let r = v.method m h in
       record {
@@ -51,7 +53,7 @@ module _ (ws abi : List ℕ) (v : Valid ws) (w : ValidAbi abi) where
             ∙ meaning.valid_complete (method_descriptor ws text m) (method_flags ws m) r.derivation);
       }
 
-  from-slot : (s target : ℕ) → s < abi_slot_count abi → FineMethod (from_slot abi labels s target)
+  from-slot : (s target : ℕ) → s < abi_slot_count abi → FineMethod (from_slot abi labels s target).member
   from-slot s target h =
       let r = w.slot s h in
       record {
@@ -62,9 +64,10 @@ module _ (ws abi : List ℕ) (v : Valid ws) (w : ValidAbi abi) where
             (meaning.static_more (abi_slot_descriptor abi labels s) 1 (meaning.valid_complete (abi_slot_descriptor abi labels s) 0 r.derivation));
       }
 
-  pub fine_methods : (area : List ℕ) (c : ℕ) → c ≤ class_count ws → EachNew FineMethod (generated_methods ws text abi labels area c)
-  fine_methods area c h =
-      generated-each ws text abi labels (λ d k. (v.class d k).methods) (λ a k. (w.class a k).slots) FineMethod from-method from-slot area c h
+  pub fine_methods : (same : Same) (area : List ℕ) (c : ℕ) → c ≤ class_count ws
+      → EachNew FineMethod (members (generated_methods same ws text abi labels area c))
+  fine_methods same area c h =
+      generated-each same ws text abi labels (λ d k. (v.class d k).methods) (λ a k. (w.class a k).slots) FineMethod from-method from-slot area c h
 
   -- ---- fields
 

@@ -11,18 +11,17 @@ use lib.ListN.{length, get_or}
 use lib.Dec.{eqb}
 use borrow.Author.Tests.{eqb-true, eqb-false, eq-eqb, ne_eqb, lt-leb, le-ltb}
 use Rattle.words.proofs.Bools.{by}
-use Rattle.class_sheet.specs.ClassSheet.{class_count, class_table_place, text_of}
+use Rattle.class_sheet.specs.ClassSheet.{class_count, class_table_place}
 use Rattle.set_rules.specs.SetRules.{set_refusal}
-use Rattle.abi_sheet.specs.AbiSheet.{abi_text_of}
-use Rattle.linking.specs.Vtable.{Built, build_methods}
-use Rattle.linking.specs.Link.{HasTable, no_class, next_free, bad_area, plan_with, Outcome, LinkOutcome}
-use Rattle.linking.specs.Ask.{Walk, hit, walk, bad_ask, ask_def}
+use Rattle.linking.specs.Vtable.{Built}
+use Rattle.linking.specs.Link.{HasTable, no_class, next_free, bad_area, Outcome, LinkOutcome}
+use Rattle.linking.specs.Ask.{Walk, hit, walk, bad_ask, ask_def, ask_by}
 use Rattle.slots.proofs.ListFacts.{in_none}
 use Rattle.calls.specs.Calls.{Call, link, ask, State, start, step, run, left}
 use Rattle.calls.specs.Kept.{head_of, interface_at, Spells, OnList, Different, Found, FoundAgain}
 use Rattle.calls.proofs.Rows.{ask-cases}
-use Rattle.calls.proofs.Wrote.{with_cases, wrote_sound}
-use Rattle.calls.proofs.ElsewhereNext.{link_by, left_by, link-is}
+use Rattle.calls.proofs.Wrote.{plan_from, with_cases, wrote_sound}
+use Rattle.calls.proofs.ElsewhereNext.{made_now, link_built, left_by, link-is}
 use Rattle.calls.proofs.Puts.{put-sound}
 use Rattle.calls.proofs.Tables.{Tables, none-linked, ask-next, same-state}
 use Rattle.calls.proofs.Nodes.{Nodes, Stands, stands-start, step-stands, run-stands}
@@ -89,10 +88,10 @@ module _ (abi : List ℕ) (s : State) where
   step-sits : Tables s → Sits s → (k : Call) → Sits (step abi s k)
   unfolding step
   step-sits tables h (link c stubs) =
-      let B : Built = build_methods s.set (text_of s.set) abi (abi_text_of abi) s.area c in
-      let o : LinkOutcome = link_by abi Any s c stubs B in
+      let B : Built = made_now abi s c in
+      let o : LinkOutcome = link_built abi Any s c stubs B in
       subst (λ (x : LinkOutcome). Sits (left_by abi Any x)) (sym (link-is abi Any s c stubs))
-      (elim (with_cases s.set abi c s.area stubs s.missing (plan_with s.set (text_of s.set) abi (abi_text_of abi) s.area B c)) [
+      (elim (with_cases s.set abi c s.area stubs s.missing (plan_from s.set abi s.area B c)) [
         | inl u ↦ (λ d l.
             let k : HasTable s.set d = subst (λ (x : List ℕ). HasTable x d) u.same_set l in
             rw (u.same_set, u.same_area) (h d k))
@@ -142,7 +141,7 @@ module _ (abi : List ℕ) (s : State) (valid : set_refusal s.set abi ≡ 0) (sit
       finds s.area i ns.places 64 0 (head_of s c) node ns.list.spelt (omega arith) (λ n j. omega (arith, (ns.list.each n j).below)) ns.list.different here on.of
 
   found : Found abi s c i node stubs
-  unfolding ask_def
+  unfolding ask_def ask_by
   found =
       let v = eq-eqb (set_refusal s.set abi) 0 valid in
       let a = sits c l in

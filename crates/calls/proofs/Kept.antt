@@ -16,9 +16,10 @@ use Rattle.abi_sheet.specs.AbiSheet.{abi_text_of}
 use Rattle.set_rules.specs.SetRules.{set_refusal}
 use Rattle.set_rules.specs.Valid.{Valid}
 use Rattle.set_rules.proofs.Valid.{valid}
+use Rattle.linking.specs.Signature.{by_sheets}
 use Rattle.linking.specs.Vtable.{Entry, built, slot_words}
 use Rattle.linking.specs.Link.{HasTable, next_free, ends_below, bad_area, no_room, Outcome}
-use Rattle.linking.specs.Ask.{missed, broken, walk, head_place, build_node, bad_ask, ask_def}
+use Rattle.linking.specs.Ask.{missed, broken, walk, head_place, build_node, bad_ask, ask_def, ask_by}
 use Rattle.linking.proofs.Plans.{built-same}
 use Rattle.linking.proofs.Rows.{Sound, sound}
 use Rattle.slots.proofs.ListFacts.{in_none}
@@ -123,7 +124,7 @@ built-answers : (abi stubs : List ℕ) (s : State) (c i : ℕ) → PutsNode s.se
 built-answers abi stubs s c i a =
     let o : Outcome = ask_def s.set abi c i s.area stubs in
     let v = (valid s.set abi a.valid).0 in
-    let n = built-size s.set (text_of s.set) abi (abi_text_of abi) s.area c i a.entries
+    let n = built-size (by_sheets s.set abi) s.set (text_of s.set) abi (abi_text_of abi) s.area c i a.entries
     ((v.class i (a.interface.some, a.interface.among)).slots a.interface.has) a.builds in
     record {
       accepted = a.valid;
@@ -244,7 +245,7 @@ module _ (abi stubs : List ℕ) (n : ℕ) (s : State) (stands : Stands abi (λ x
 
   bare-refusal : Answers abi stubs s c i
       → (((outcome abi bare (ask c i stubs)).refusal ≡ 15) × Full s i) ⊎ ((outcome abi bare (ask c i stubs)).refusal ≡ 0)
-  unfolding ask_def build_node
+  unfolding ask_def ask_by build_node
   bare-refusal a =
       rw (
         eq-eqb (set_refusal s.set abi) 0 a.accepted,

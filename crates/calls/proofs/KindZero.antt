@@ -8,6 +8,7 @@ use Rattle.words.proofs.Bools.{by}
 use Rattle.class_sheet.specs.ClassSheet.{counts_width, class_width, member_width, kind_word, count_at, class_count, methods_at, fields_at, interfaces_at, compilers_at, text_at, text_of, class_word, class_kind, is_packaged, method_word}
 use Rattle.abi_sheet.specs.AbiSheet.{abi_text_of}
 use Rattle.set_rules.specs.Valid.{Valid}
+use Rattle.linking.specs.Signature.{by_bytes}
 use Rattle.linking.specs.Chain.{own_methods, chain, is_interface}
 use Rattle.linking.specs.Abi.{class_abi, chain_abi, minimum_size}
 use Rattle.linking.specs.Vtable.{Entry, built, extended, add_methods}
@@ -239,7 +240,7 @@ module _ (ws abi area₃ area₀ missing₃ missing₀ : List ℕ) (unlinked : U
   unmoved d i = let j = class d i in unmoved-kind like j.0 j.1 (not-one d i)
 
   zero-from : (d : ℕ) → Memᴰ d (chain ws c) → (T : List Entry) → made_from vs (text_of vs) abi labels zeros d ≡ built T
-      → add_methods vs (text_of vs) abi labels (chain_abi vs (text_of vs) abi labels d) (own_methods vs d)
+      → add_methods (by_bytes vs (text_of vs) abi labels) vs (text_of vs) abi (chain_abi vs (text_of vs) abi labels d) (own_methods vs d)
       (start_from vs (text_of vs) abi labels d (inherited_from vs (text_of vs) abi labels zeros d))
       ≡ built T
   unfolding made_from table_from
@@ -255,8 +256,8 @@ module _ (ws abi area₃ area₀ missing₃ missing₀ : List ℕ) (unlinked : U
       record {
         entries = m.entries;
         stubs = m.stubs;
-        from = sym (ap (add_methods ws text abi labels [] (own_methods ws d)) (start_is ws text abi labels d above j.0 none))
-            ∙ ap (λ (abis : List ℕ). add_methods ws text abi labels abis (own_methods ws d) (start_from ws text abi labels d above))
+        from = sym (ap (add_methods (by_bytes ws text abi labels) ws text abi [] (own_methods ws d)) (start_is ws text abi labels d above j.0 none))
+            ∙ ap (λ (abis : List ℕ). add_methods (by_bytes ws text abi labels) ws text abi abis (own_methods ws d) (start_from ws text abi labels d above))
             (sym (no_abis ws text abi labels d none))
             ∙ built-same ws vs valid₃ like abi labels d j.1 (λ e y. unmoved e (up d i e y)) j.0 above
             (inherited_from vs (text_of vs) abi labels zeros d) (inherited-kept ws vs valid₃ like abi labels zeros d j.0 j.1 (λ e y. unmoved e (up d i e y)))

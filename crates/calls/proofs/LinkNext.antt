@@ -19,8 +19,8 @@ use Rattle.set_rules.proofs.Valid.{valid}
 use Rattle.linking.specs.Chain.{chain}
 use Rattle.linking.specs.Abi.{class_abi}
 use Rattle.linking.specs.Vtable.{Built}
-use Rattle.linking.specs.Compiler.{New, no_new}
-use Rattle.linking.specs.Link.{HasTable, next_free, Plan, is_none, plan_with, new_words, new_statics, Outcome}
+use Rattle.linking.specs.Compiler.{New, no_new, members}
+use Rattle.linking.specs.Link.{HasTable, next_free, Plan, is_none, new_words, new_statics, Outcome}
 use Rattle.linking.specs.Ask.{missed, head_place}
 use Rattle.linking.proofs.LinkRead.{After, class-name, field-name, field-descriptor}
 use Rattle.linking.proofs.LinkedBack.{Untouched, early}
@@ -35,7 +35,7 @@ use Rattle.calls.proofs.BesideFields.{built-words, static-words}
 use Rattle.calls.proofs.BesideLink.{SamePlan}
 use Rattle.calls.proofs.BesideAsk.{SameWalk, both-missed}
 use Rattle.calls.proofs.BesideNext.{method_turned, field_turned, method_then, field_then, left_word, method-left, after-sets, held_turned, held_then, walk_turned, walk_then}
-use Rattle.calls.proofs.Wrote.{Wrote, wrote_after, wrote_leaves, wrote_still, wrote_listed, wrote_brings, wrote_words, wrote_statics, wrote_added, wrote_fields-added, wrote_indices, wrote_field, wrote_index, wrote_past, wrote_fields, wrote_sound, wrote_parent}
+use Rattle.calls.proofs.Wrote.{plan_from, Wrote, wrote_after, wrote_leaves, wrote_still, wrote_listed, wrote_brings, wrote_words, wrote_statics, wrote_added, wrote_fields-added, wrote_indices, wrote_field, wrote_index, wrote_past, wrote_fields, wrote_sound, wrote_parent}
 use Rattle.calls.proofs.Elsewhere.{walk_of, Related}
 use Rattle.calls.proofs.NodeLists.{missed_too, few, misses, Layout}
 use Rattle.calls.proofs.Walk.{ended}
@@ -50,7 +50,7 @@ record SameParts (ws ws' : List ℕ) (f g : ℕ) : Type 0 where
   flags : field_flags ws f ≡ field_flags ws' g
 
 module _ (abi : List ℕ) (E : ℕ → Type 0) (s : State) (c : ℕ) (stubs : List ℕ) (B : Built) (o : Outcome)
-    (w : Wrote s.set abi c s.area stubs (plan_with s.set (text_of s.set) abi (abi_text_of abi) s.area B c) o) where
+    (w : Wrote s.set abi c s.area stubs (plan_from s.set abi s.area B c) o) where
   abbrev ws : List ℕ
   ws = s.set
 
@@ -84,7 +84,7 @@ module _ (abi : List ℕ) (E : ℕ → Type 0) (s : State) (c : ℕ) (stubs : Li
   own-method : (j : ℕ) → j < class_method_count ws c → SameMethod ws o.set abi E (class_first_method ws c + j) (class_first_method o.set c + j)
   own-method j h =
       let v = (ok.class c here).methods in
-      by (is_none w.coming.new_methods)
+      by (is_none (members w.coming.added))
       (λ t.
       rw (wrote_still ws abi c s.area stubs B o w t first_method_word (omega arith))
       (method-left ws o.set abi E c ok after (class_first_method ws c + j) (class_first_method ws c + j) (omega arith)
@@ -116,15 +116,15 @@ module _ (abi : List ℕ) (E : ℕ → Type 0) (s : State) (c : ℕ) (stubs : Li
 
 -- ---- both runs
 
-same_none : {p q : Plan} → SamePlan p q → is_none p.new_methods ≡ is_none q.new_methods
+same_none : {p q : Plan} → SamePlan p q → is_none (members p.added) ≡ is_none (members q.added)
 same_none h = ap is_none h.methods
 
 same_no_field : {p q : Plan} → SamePlan p q → is_none p.new_fields ≡ is_none q.new_fields
 same_no_field h = ap is_none h.fields
 
 module _ (abi : List ℕ) (E : ℕ → Type 0) (s t : State) (rel : Related abi E s t) (lay : Layout s) (lay' : Layout t) (c : ℕ) (calm : E c) (stubs : List ℕ)
-    (B B' : Built) (o o' : Outcome) (w : Wrote s.set abi c s.area stubs (plan_with s.set (text_of s.set) abi (abi_text_of abi) s.area B c) o)
-    (w' : Wrote t.set abi c t.area stubs (plan_with t.set (text_of t.set) abi (abi_text_of abi) t.area B' c) o')
+    (B B' : Built) (o o' : Outcome) (w : Wrote s.set abi c s.area stubs (plan_from s.set abi s.area B c) o)
+    (w' : Wrote t.set abi c t.area stubs (plan_from t.set abi t.area B' c) o')
     (same : SamePlan w.coming w'.coming) (stays : set_refusal o.set abi ≡ 0) (stays' : set_refusal o'.set abi ≡ 0) where
   abbrev sets : Sets s.set t.set abi E
   sets = rel.sets
@@ -156,7 +156,7 @@ module _ (abi : List ℕ) (E : ℕ → Type 0) (s t : State) (rel : Related abi 
   counts_same =
       let k : class_method_count s.set c ≡ class_method_count t.set c =
       kept_word method_count_word (omega arith) (record { method = omega arith; field = omega arith; place = omega arith }) in
-      by (is_none w.coming.new_methods)
+      by (is_none (members w.coming.added))
       (λ t₁.
       let t₂ = sym (same_none same) ∙ t₁ in
       wrote_still s.set abi c s.area stubs B o w t₁ method_count_word (omega arith) ∙ k
@@ -258,13 +258,13 @@ module _ (abi : List ℕ) (E : ℕ → Type 0) (s t : State) (rel : Related abi 
 
   -- ---- its members
 
-  new-method : is_none w.coming.new_methods ≡ false → (j i : ℕ) → j ≡ class_method_count s.set c + i → i < length w.coming.new_methods
+  new-method : is_none (members w.coming.added) ≡ false → (j i : ℕ) → j ≡ class_method_count s.set c + i → i < length (members w.coming.added)
       → SameMethod o.set o'.set abi E (class_first_method o.set c + j) (class_first_method o'.set c + j)
   new-method t₁ j i e h =
       let t₂ = sym (same_none same) ∙ t₁ in
       let a = wrote_added s.set abi c s.area stubs B o w t₁ in
       let b = wrote_added t.set abi c t.area stubs B' o' w' t₂ in
-      let h' : i < length w'.coming.new_methods = omega (arith, ap length same.methods) in
+      let h' : i < length (members w'.coming.added) = omega (arith, ap length same.methods) in
       let k : class_method_count s.set c ≡ class_method_count t.set c =
       kept_word method_count_word (omega arith) (record { method = omega arith; field = omega arith; place = omega arith }) in
       rw (a.first, b.first, e)
@@ -289,7 +289,7 @@ module _ (abi : List ℕ) (E : ℕ → Type 0) (s t : State) (rel : Related abi 
       by (ltb j (class_method_count s.set c)) (λ b. old-method j (ltb-true j (class_method_count s.set c) b))
       (λ b.
       let l = ltb-false j (class_method_count s.set c) b in
-      by (is_none w.coming.new_methods)
+      by (is_none (members w.coming.added))
       (λ t₁. let e = wrote_still s.set abi c s.area stubs B o w t₁ method_count_word (omega arith) in absurd (omega arith))
       (λ t₁.
       let m = (wrote_added s.set abi c s.area stubs B o w t₁).many in

@@ -8,6 +8,7 @@ use Rattle.words.specs.Rows.{row_word}
 use Rattle.words.specs.Words.{AreBytes}
 use Rattle.class_sheet.specs.Sections.{Sections, laid_out, sections_of}
 use Rattle.class_sheet.proofs.Sections.{number_of_classes, number_of_methods, class-word, method-word, text-of, formed-of, class_of, method-of, text-of-words}
+use Rattle.linking.specs.Compiler.{members}
 use Rattle.linking.specs.Set.{new_text}
 use Rattle.linking.specs.Link.{Plan, is_none, linked_words}
 use Rattle.linking.specs.Grown.{linked_sections}
@@ -32,8 +33,8 @@ unmoved-other l d s a n = record {
 
 module _ (ws : List ℕ) (c place words statics : ℕ) (p : Plan) (some : 1 ≤ c) (among : c ≤ class_count ws) (fits : content_end ws ≤ length ws)
     (methods : class_first_method ws c + class_method_count ws c ≤ method_count ws) (fields : class_first_field ws c + class_field_count ws c ≤ field_count ws)
-    (inside : class_first_field ws c + length p.indices ≤ field_count ws) (generated : is_none p.new_methods ≡ false → class_kind ws c ≡ 1)
-    (method-bytes : AreBytes (new_text p.new_methods)) (field-bytes : AreBytes (new_text p.new_fields)) where
+    (inside : class_first_field ws c + length p.indices ≤ field_count ws) (generated : is_none (members p.added) ≡ false → class_kind ws c ≡ 1)
+    (method-bytes : AreBytes (new_text (members p.added))) (field-bytes : AreBytes (new_text p.new_fields)) where
   abbrev s : Sections
   s = sections_of ws
 
@@ -70,7 +71,7 @@ module _ (ws : List ℕ) (c place words statics : ℕ) (p : Plan) (some : 1 ≤ 
   -- its method list grows only where it is generated
   still : (k : ℕ) → k < first_field_word → class_kind ws c ≢ 1 → class_word (laid_out g) c k ≡ class_word ws c k
   still k h n =
-      by (is_none p.new_methods)
+      by (is_none (members p.added))
       (λ t. kept c k some among (omega arith) (linked-still s (formed-of ws fits) c place words statics p some within t k h))
       (λ f. absurd (n (generated f)))
 

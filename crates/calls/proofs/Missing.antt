@@ -16,10 +16,11 @@ use Rattle.abi_sheet.specs.AbiSheet.{abi_text_length, abi_text_words, abi_text_o
 use Rattle.set_rules.specs.SetRules.{set_refusal}
 use Rattle.set_rules.specs.Valid.{IsClass, Valid}
 use Rattle.set_rules.proofs.Valid.{valid}
+use Rattle.linking.specs.Signature.{Same, by_sheets}
 use Rattle.linking.specs.Chain.{parent_of, chain}
 use Rattle.linking.specs.Vtable.{Entry, empty, Built, read_entry, read_slot, table_entries, parent_entries, inherited_table, build_methods, slot_words}
 use Rattle.linking.specs.Packages.{topmost, table_has, introducing, build_packages}
-use Rattle.linking.specs.Compiler.{New, native_view, added_methods, compiler_table}
+use Rattle.linking.specs.Compiler.{New, native_view, added_methods, compiler_table, members}
 use Rattle.linking.specs.Set.{write_at, new_text, section_full}
 use Rattle.linking.specs.Link.{HasTable, next_free, is_none, built_table, generated_table, generated_methods, lists_full, new_words, new_statics, no_class, Outcome, LinkOutcome, link_def}
 use Rattle.linking.specs.Ask.{ask_def}
@@ -71,11 +72,12 @@ held s s' k d l = record {
 
 -- ---- a table depends on the area by the parent's entries and the introducing methods alone
 
-module _ (ws text abi labels area area' : List ℕ) (d : ℕ) (same : parent_entries ws text abi labels area d ≡ parent_entries ws text abi labels area' d)
-    (first : introducing ws text abi labels area (parent_of ws d) ≡ introducing ws text abi labels area' (parent_of ws d)) where
-  table-area : table_by ws text abi labels area d ≡ table_by ws text abi labels area' d
+module _ (same : Same) (ws text abi labels area area' : List ℕ) (d : ℕ)
+    (parents : parent_entries same ws text abi labels area d ≡ parent_entries same ws text abi labels area' d)
+    (first : introducing same ws text abi labels area (parent_of ws d) ≡ introducing same ws text abi labels area' (parent_of ws d)) where
+  table-area : table_by same ws text abi labels area d ≡ table_by same ws text abi labels area' d
   unfolding table_by built_table generated_table build_methods inherited_table build_packages compiler_table added_methods native_view
-  table-area = rw (same, first)
+  table-area = rw (parents, first)
 
 -- ---- chains of linked classes
 
@@ -92,10 +94,10 @@ module _ (s : State) (tables : Tables s) where
 
 module _ (abi : List ℕ) where
   abbrev table_now : State → ℕ → Built
-  table_now s d = table_by s.set (text_of s.set) abi (abi_text_of abi) s.area d
+  table_now s d = table_by (by_sheets s.set abi) s.set (text_of s.set) abi (abi_text_of abi) s.area d
 
   abbrev along_now : State → List ℕ → List Bool
-  along_now s cs = recounted_along s.set (text_of s.set) abi (abi_text_of abi) s.area cs
+  along_now s cs = recounted_along (by_sheets s.set abi) s.set (text_of s.set) abi (abi_text_of abi) s.area cs
 
   -- along classes whose tables have the same words from the same slots
   along-same : (s s' : State) (cs : List ℕ) → ((e : ℕ) → Memᴰ e cs → SameBuilt Any (table_now s e) (table_now s' e)) → along_now s cs ≡ along_now s' cs
@@ -126,8 +128,8 @@ module _ (abi : List ℕ) (s : State) (c : ℕ) (stubs : List ℕ) (o : LinkOutc
   valid-now : Valid s.set
   valid-now = (valid s.set abi acc.valid).0
 
-  planning : Plans s.set (text_of s.set) abi (abi_text_of abi) s.area c acc.coming
-  planning = plans s.set (text_of s.set) abi (abi_text_of abi) s.area c acc.coming acc.comes
+  planning : Plans (by_sheets s.set abi) s.set (text_of s.set) abi (abi_text_of abi) s.area c acc.coming
+  planning = plans (by_sheets s.set abi) s.set (text_of s.set) abi (abi_text_of abi) s.area c acc.coming acc.comes
 
   one : (d : ℕ) → HasTable s.set d → d ≢ c
   one d l e = l.has (rw e acc.class.new)
@@ -135,7 +137,7 @@ module _ (abi : List ℕ) (s : State) (c : ℕ) (stubs : List ℕ) (o : LinkOutc
   inside : class_first_field s.set c + length acc.coming.indices ≤ field_count s.set
   inside = let v = (valid-now.class c here).fields in let i = planning.indices in omega arith
 
-  method-bytes : AreBytes (new_text acc.coming.new_methods)
+  method-bytes : AreBytes (new_text (members acc.coming.added))
   method-bytes = planning.method-bytes (text-bytes (text_words s.set) (text_length s.set)) (text-bytes (abi_text_words abi) (abi_text_length abi))
 
   field-bytes : AreBytes (new_text acc.coming.new_fields)
@@ -156,40 +158,40 @@ module _ (abi : List ℕ) (s : State) (c : ℕ) (stubs : List ℕ) (o : LinkOutc
       (link-after s.set c (next_free s.area) words statics acc.coming here.0 here.1 valid-now.fits
       (valid-now.class c here).methods (valid-now.class c here).fields inside method-bytes field-bytes)
 
-  stays : is_none acc.coming.new_methods ≡ true → Unmoved s.set next.set c
+  stays : is_none (members acc.coming.added) ≡ true → Unmoved s.set next.set c
   stays t =
       let k = link-still s.set c (next_free s.area) words statics acc.coming here.0 here.1 valid-now.fits
       (valid-now.class c here).methods (valid-now.class c here).fields inside method-bytes field-bytes t in
       rw acc.new-set (record { first = k first_method_word (omega arith); many = k method_count_word (omega arith) })
 
-  no_fields : is_none acc.coming.new_methods ≡ false → is_none acc.coming.new_fields ≡ true
+  no_fields : is_none (members acc.coming.added) ≡ false → is_none acc.coming.new_fields ≡ true
   no_fields t = rw (planning.grows (planning.generated t)).1
 
-  grown : is_none acc.coming.new_methods ≡ false → Added s.set next.set c acc.coming.new_methods
+  grown : is_none (members acc.coming.added) ≡ false → Added s.set next.set c (members acc.coming.added)
   grown t =
       rw acc.new-set
       (link-added s.set c (next_free s.area) words statics acc.coming here.0 here.1 valid-now.fits
       (valid-now.class c here).methods (valid-now.class c here).fields inside method-bytes field-bytes (no_fields t) t)
 
   moves : Unmoved s.set next.set c ⊎ (class_first_method next.set c ≡ method_count s.set)
-  moves = by (is_none acc.coming.new_methods) (λ t. inl (stays t)) (λ t. inr (grown t).first)
+  moves = by (is_none (members acc.coming.added)) (λ t. inl (stays t)) (λ t. inr (grown t).first)
 
   -- where methods are added, the class has a compiler table, and there is room for them
-  module _ (t : is_none acc.coming.new_methods ≡ false) where
+  module _ (t : is_none (members acc.coming.added) ≡ false) where
     has-table : class_compiler_table s.set c ≢ 0
-    unfolding generated_methods
+    unfolding generated_methods members
     has-table e =
         let g = (planning.grows (planning.generated t)).0 in
         absurd (true≢false (rw (g, eq-eqb (class_compiler_table s.set c) 0 e) at t))
 
-    are_new : acc.coming.new_methods ≡ added_methods s.set (text_of s.set) abi (abi_text_of abi) s.area c
+    are_new : acc.coming.added ≡ added_methods (by_sheets s.set abi) s.set (text_of s.set) abi (abi_text_of abi) s.area c
     unfolding generated_methods
     are_new = (planning.grows (planning.generated t)).0 ∙ rw (ne_eqb (class_compiler_table s.set c) 0 has-table)
 
-    room-new : method_count s.set + (class_method_count s.set c + length acc.coming.new_methods) ≤ method_limit
+    room-new : method_count s.set + (class_method_count s.set c + length (members acc.coming.added)) ≤ method_limit
     unfolding lists_full section_full
     room-new =
-        let new : List New = acc.coming.new_methods in
+        let new : List New = members acc.coming.added in
         let full : Bool = section_full s.set (method_count s.set) (class_method_count s.set c) new in
         let p : (not (is_none new) && full) ≡ false =
         (or-neither (not (is_none new) && full)
@@ -261,12 +263,12 @@ module _ (abi : List ℕ) (s : State) (c : ℕ) (stubs : List ℕ) (o : LinkOutc
 
     table_c : SameBuilt Any (table_now abi s c) (table_now abi next c)
     table_c =
-        by (is_none acc.coming.new_methods)
+        by (is_none (members acc.coming.added))
         (λ t.
         table-held s.set next.set abi s.area next.area c valid-now after moves here.0 here.1 c here held_c above_c (stays t))
         (λ t.
-        table-grown s.set next.set abi s.area next.area c valid-now after here acc.coming.new_methods (grown t) (room-new t) held_c above_c
-        (are_new t) (planning.generated t) (has-table t))
+        table-grown s.set next.set abi s.area next.area c valid-now after here acc.coming.added (are_new t) (grown t) (room-new t) held_c above_c
+        (planning.generated t) (has-table t))
 
     rebuilt_c : Rebuilt abi next c
     rebuilt_c =
@@ -341,7 +343,8 @@ module _ (abi : List ℕ) (s : State) (tables : Tables s) (area : List ℕ)
   asked = record { set = s.set; area = area; missing = s.missing }
 
   parents-kept : (d : ℕ) → HasTable s.set d
-      → parent_entries s.set (text_of s.set) abi (abi_text_of abi) s.area d ≡ parent_entries s.set (text_of s.set) abi (abi_text_of abi) area d
+      → parent_entries (by_sheets s.set abi) s.set (text_of s.set) abi (abi_text_of abi) s.area d
+      ≡ parent_entries (by_sheets s.set abi) s.set (text_of s.set) abi (abi_text_of abi) area d
   unfolding parent_entries table_entries read_slot
   parents-kept d l =
       let p : ℕ = parent_of s.set d in
@@ -349,14 +352,14 @@ module _ (abi : List ℕ) (s : State) (tables : Tables s) (area : List ℕ)
       (λ t.
       let h = held s asked keeps p (tables.parent d l (eqb-false p 0 t)) in
       rw t
-      (list_ext (λ i. read_entry s.set (text_of s.set) abi (abi_text_of abi) p i (get_or s.area (class_table_place s.set p + 1 + i) 0))
-      (λ i. read_entry s.set (text_of s.set) abi (abi_text_of abi) p i (get_or area (class_table_place s.set p + 1 + i) 0)) 0
+      (list_ext (λ i. read_entry (by_sheets s.set abi) s.set (text_of s.set) abi (abi_text_of abi) p i (get_or s.area (class_table_place s.set p + 1 + i) 0))
+      (λ i. read_entry (by_sheets s.set abi) s.set (text_of s.set) abi (abi_text_of abi) p i (get_or area (class_table_place s.set p + 1 + i) 0)) 0
       (min (class_slot_count s.set p) 1024)
-      (λ i b. ap (read_entry s.set (text_of s.set) abi (abi_text_of abi) p i) (h.words i (omega arith)))))
+      (λ i b. ap (read_entry (by_sheets s.set abi) s.set (text_of s.set) abi (abi_text_of abi) p i) (h.words i (omega arith)))))
 
   first-kept : (d : ℕ) → HasTable s.set d → (i : ℕ)
-      → introducing s.set (text_of s.set) abi (abi_text_of abi) s.area (parent_of s.set d) i
-      ≡ introducing s.set (text_of s.set) abi (abi_text_of abi) area (parent_of s.set d) i
+      → introducing (by_sheets s.set abi) s.set (text_of s.set) abi (abi_text_of abi) s.area (parent_of s.set d) i
+      ≡ introducing (by_sheets s.set abi) s.set (text_of s.set) abi (abi_text_of abi) area (parent_of s.set d) i
   unfolding introducing read_slot read_entry
   first-kept d l i =
       by-found (topmost (table_has s.set i) (chain s.set (parent_of s.set d)))
@@ -367,7 +370,7 @@ module _ (abi : List ℕ) (s : State) (tables : Tables s) (area : List ℕ)
       (λ q. rw q)
 
   table_kept : (d : ℕ) → HasTable s.set d → table_now abi s d ≡ table_now abi asked d
-  table_kept d l = table-area s.set (text_of s.set) abi (abi_text_of abi) s.area area d (parents-kept d l) (fun_ext (first-kept d l))
+  table_kept d l = table-area (by_sheets s.set abi) s.set (text_of s.set) abi (abi_text_of abi) s.area area d (parents-kept d l) (fun_ext (first-kept d l))
 
   along-kept : (cs : List ℕ) → ((e : ℕ) → Memᴰ e cs → HasTable s.set e) → along_now abi s cs ≡ along_now abi asked cs
   unfolding recounted_along

@@ -14,24 +14,29 @@ use Rattle.words.specs.Lists.{some}
 use Rattle.std.specs.Prelude.{Some, None}
 use Rattle.words.proofs.Bools.{by, and_both}
 use Rattle.words.proofs.ListLaws.{by-found}
-use Rattle.class_sheet.specs.ClassSheet.{text_of, class_flags, class_kind, class_compiler_table, is_built_kind, is_packaged, is_generated, method_name, method_descriptor}
+use Rattle.class_sheet.specs.ClassSheet.{text_of, class_flags, class_kind, class_compiler_table, is_built_kind, is_packaged, is_generated}
 use Rattle.abi_sheet.specs.AbiSheet.{abi_text_of}
 use Rattle.set_rules.specs.SetRules.{set_refusal}
-use Rattle.linking.specs.Chain.{own_methods, is_interface, eligible, same_methods}
+use Rattle.linking.specs.Signature.{of_method, methods_same, by_sheets}
+use Rattle.linking.specs.Chain.{own_methods, is_interface, eligible}
 use Rattle.linking.specs.Abi.{class_abi, chain_abi, minimum_size}
 use Rattle.linking.specs.Vtable.{Entry, empty, Built, built, refused, parent_entries, is_of, occurs, entry_is_other, fixed_of, staying_of, relayed, extended, inherited_table, add_methods, build_methods}
 use Rattle.linking.specs.Fields.{too_many_words, generated_refusal, generated_indices, number_fields, added_fields}
 use Rattle.linking.specs.Packages.{bad_packages}
 use Rattle.linking.specs.Counts.{missing_short}
 use Rattle.linking.specs.Missing.{table_by}
-use Rattle.linking.specs.Link.{bad_class, bad_area, Plan, Planned, planned, on_table, on_plan, within_slots, new_fields_of, generated_methods, built_table, generated_table, plan, plan_with, lists_full, no_room, set_short, finish_link, refused_link, LinkOutcome, link_def}
+use Rattle.linking.specs.Link.{bad_class, bad_area, Plan, Planned, planned, on_table, on_plan, within_slots, new_fields_of, generated_methods, built_table, generated_table, plan, plan_with, lists_full, no_room, set_short, finish_link, refused_link, LinkOutcome, link_def, link_by}
 use Rattle.linking.specs.Before.{relayed_before, build_before, builds_methods, relays_class, entries_clash, field_row, reaches_table, link_clashes, link_before, GaveWay, Moved, Displaced, Stands}
 use Rattle.linking.proofs.Plans.{plans}
+use Rattle.linking.proofs.Comparing.{Compares, bytes_compare}
 use Rattle.linking.proofs.Before.{link_as_before}
 use Rattle.slots.proofs.EntryFacts.{known-below}
 use Rattle.calls.specs.OneSlot.{Refused}
 use Rattle.calls.proofs.Stays.{plan-is}
 use Rattle.slots.proofs.MovedRows.{Turned, eleven-moved, twelve-before, before-rows, relayed-stands, moved-refused, displaced_refused}
+
+abbrev bytes : (ws abi : List ℕ) → Compares (by_sheets ws abi)
+bytes ws abi = bytes_compare ws (text_of ws) abi (abi_text_of abi)
 
 -- ---- the table of a class that builds one
 
@@ -55,13 +60,15 @@ module _ (ws : List ℕ) (c : ℕ) (builds : builds_methods ws c ≡ true) where
       (λ l. absurd (false≢true (rw (k, l) at builds))))
 
   module _ (abi area : List ℕ) where
-    table_is : table_by ws (text_of ws) abi (abi_text_of abi) area c ≡ build_methods ws (text_of ws) abi (abi_text_of abi) area c
+    table_is : table_by (by_sheets ws abi) ws (text_of ws) abi (abi_text_of abi) area c
+        ≡ build_methods (by_sheets ws abi) ws (text_of ws) abi (abi_text_of abi) area c
     unfolding table_by built_table generated_table
     table_is = kind-cases (λ k p i. rw (k, p, i) refl) (λ k g t. rw (k, g, t) refl)
 
     -- rows 8 to 10 aside, the plan is the table, within the slots
     plan-table : field_row ws abi c ≡ false
-        → (f : List Entry → Plan) × ((B : Built) → plan_with ws (text_of ws) abi (abi_text_of abi) area B c ≡ on_table B (λ T. within_slots (f T)))
+        → (f : List Entry → Plan)
+        × ((B : Built) → plan_with (by_sheets ws abi) ws (text_of ws) abi (abi_text_of abi) area B c ≡ on_table B (λ T. within_slots (f T)))
     unfolding plan_with field_row
     plan-table h =
         kind-cases
@@ -72,7 +79,7 @@ module _ (ws : List ℕ) (c : ℕ) (builds : builds_methods ws c ≡ true) where
           (λ T. record {
             table = T;
             indices = (number_fields ws (text_of ws) abi (abi_text_of abi) (class_abi ws (text_of ws) abi (abi_text_of abi) c) c).indices;
-            new_methods = [];
+            added = [];
             new_fields = new_fields_of abi (abi_text_of abi)
                 (added_fields ws (text_of ws) abi (abi_text_of abi) (class_abi ws (text_of ws) abi (abi_text_of abi) c) c);
           }),
@@ -84,7 +91,7 @@ module _ (ws : List ℕ) (c : ℕ) (builds : builds_methods ws c ≡ true) where
           (λ T. record {
             table = T;
             indices = generated_indices ws (text_of ws) c;
-            new_methods = generated_methods ws (text_of ws) abi (abi_text_of abi) area c;
+            added = generated_methods (by_sheets ws abi) ws (text_of ws) abi (abi_text_of abi) area c;
             new_fields = [];
           }),
           λ B. rw (k, g, i, t) refl,
@@ -92,6 +99,16 @@ module _ (ws : List ℕ) (c : ℕ) (builds : builds_methods ws c ≡ true) where
         (λ t. absurd (true≢false (rw (k, g, t) at h))))
 
 module _ (ws abi area : List ℕ) (c : ℕ) (stubs missing : List ℕ) where
+  -- the table that the linker makes, and that of the one before
+  abbrev now : Built
+  now = build_methods (by_sheets ws abi) ws (text_of ws) abi (abi_text_of abi) area c
+
+  abbrev old : Built
+  old = build_before (by_sheets ws abi) ws (text_of ws) abi (abi_text_of abi) area c
+
+  abbrev with_table : Built → Planned
+  with_table B = plan_with (by_sheets ws abi) ws (text_of ws) abi (abi_text_of abi) area B c
+
   abbrev outcome_of : Planned → LinkOutcome
   outcome_of P = on_plan P (finish_link ws abi c area stubs missing) (λ n. refused_link n ws area missing)
 
@@ -153,41 +170,37 @@ module _ (ws abi area : List ℕ) (c : ℕ) (stubs missing : List ℕ) where
           fields = not-true (field_row ws abi c) p.1;
         }
 
-    link-is : link_def ws abi c area stubs missing
-        ≡ outcome_of (plan_with ws (text_of ws) abi (abi_text_of abi) area (build_methods ws (text_of ws) abi (abi_text_of abi) area c) c)
-    unfolding link_def
-    link-is = let p = passed in rw (p.valid, p.class, p.fit, p.packages, plan-is ws (text_of ws) abi (abi_text_of abi) area c) refl
+    link-is : link_def ws abi c area stubs missing ≡ outcome_of (with_table now)
+    unfolding link_def link_by
+    link-is = let p = passed in rw (p.valid, p.class, p.fit, p.packages, plan-is (by_sheets ws abi) ws (text_of ws) abi (abi_text_of abi) area c) refl
 
-    before-is : link_before ws abi c area stubs missing
-        ≡ outcome_of (plan_with ws (text_of ws) abi (abi_text_of abi) area (build_before ws (text_of ws) abi (abi_text_of abi) area c) c)
+    before-is : link_before ws abi c area stubs missing ≡ outcome_of (with_table old)
     unfolding link_before
     before-is = let p = passed in rw (p.valid, p.class, p.fit, p.packages) refl
 
     -- row 11 or 12 of the link is the table's
-    built-row : (r : ℕ) → (r ≡ 11) ⊎ (r ≡ 12) → refusal_of (link_def ws abi c area stubs missing) ≡ r
-        → build_methods ws (text_of ws) abi (abi_text_of abi) area c ≡ refused r
+    built-row : (r : ℕ) → (r ≡ 11) ⊎ (r ≡ 12) → refusal_of (link_def ws abi c area stubs missing) ≡ r → now ≡ refused r
     built-row r h e =
         let t = plan-table ws c builds abi area passed.fields in
-        table-row (build_methods ws (text_of ws) abi (abi_text_of abi) area c) t.0 r h
-        (sym (ap refusal_of (link-is ∙ ap outcome_of (t.1 (build_methods ws (text_of ws) abi (abi_text_of abi) area c)))) ∙ e)
+        table-row now t.0 r h (sym (ap refusal_of (link-is ∙ ap outcome_of (t.1 now))) ∙ e)
 
     -- and the table's the link's
-    refused-row : (r : ℕ) → build_methods ws (text_of ws) abi (abi_text_of abi) area c ≡ refused r → refusal_of (link_def ws abi c area stubs missing) ≡ r
+    refused-row : (r : ℕ) → now ≡ refused r → refusal_of (link_def ws abi c area stubs missing) ≡ r
     refused-row r e =
         let t = plan-table ws c builds abi area passed.fields in
-        ap refusal_of (link-is ∙ ap outcome_of (t.1 (build_methods ws (text_of ws) abi (abi_text_of abi) area c)))
+        ap refusal_of (link-is ∙ ap outcome_of (t.1 now))
         ∙ ap (λ (B : Built). refusal_of (outcome_of (on_table B (λ T. within_slots (t.0 T))))) e
 
-    before-row : (r : ℕ) → build_before ws (text_of ws) abi (abi_text_of abi) area c ≡ refused r → refusal_of (link_before ws abi c area stubs missing) ≡ r
+    before-row : (r : ℕ) → old ≡ refused r → refusal_of (link_before ws abi c area stubs missing) ≡ r
     before-row r e =
         let t = plan-table ws c builds abi area passed.fields in
-        ap refusal_of (before-is ∙ ap outcome_of (t.1 (build_before ws (text_of ws) abi (abi_text_of abi) area c)))
+        ap refusal_of (before-is ∙ ap outcome_of (t.1 old))
         ∙ ap (λ (B : Built). refusal_of (outcome_of (on_table B (λ T. within_slots (t.0 T))))) e
 
     -- either row
     either-row : (m : ℕ)
-        → Turned ws (text_of ws) abi (abi_text_of abi) (chain_abi ws (text_of ws) abi (abi_text_of abi) c) m (own_methods ws c)
-        (inherited_table ws (text_of ws) abi (abi_text_of abi) area c)
+        → Turned (by_sheets ws abi) (bytes ws abi) ws (text_of ws) abi (chain_abi ws (text_of ws) abi (abi_text_of abi) c) m (own_methods ws c)
+        (inherited_table (by_sheets ws abi) ws (text_of ws) abi (abi_text_of abi) area c)
         → Refused ws abi area c stubs missing m
     unfolding build_methods
     either-row m (inl e) = inl (refused-row 11 e)
@@ -201,7 +214,7 @@ module _ (ws abi area : List ℕ) (c : ℕ) where
   abis = chain_abi ws (text_of ws) abi (abi_text_of abi) c
 
   abbrev entries : List Entry
-  entries = parent_entries ws (text_of ws) abi (abi_text_of abi) area c
+  entries = parent_entries (by_sheets ws abi) ws (text_of ws) abi (abi_text_of abi) area c
 
   module _ (relaying : relays_class ws (text_of ws) abi (abi_text_of abi) c ≡ true) where
     own-entry : (a : ℕ) × (class_abi ws (text_of ws) abi (abi_text_of abi) c ≡ Some a)
@@ -214,26 +227,26 @@ module _ (ws abi area : List ℕ) (c : ℕ) where
     unfolding relays_class
     relays_builds = let e = own-entry in rw e.1 at relaying
 
-    inherited-is : inherited_table ws (text_of ws) abi (abi_text_of abi) area c ≡ relayed ws (text_of ws) abi (abi_text_of abi) abis entries
+    inherited-is : inherited_table (by_sheets ws abi) ws (text_of ws) abi (abi_text_of abi) area c ≡ relayed (by_sheets ws abi) abi abis entries
     unfolding inherited_table
     inherited-is = rw own-entry.1 refl
 
-    build-is : build_methods ws (text_of ws) abi (abi_text_of abi) area c
-        ≡ add_methods ws (text_of ws) abi (abi_text_of abi) abis (own_methods ws c) (relayed ws (text_of ws) abi (abi_text_of abi) abis entries)
+    build-is : build_methods (by_sheets ws abi) ws (text_of ws) abi (abi_text_of abi) area c
+        ≡ add_methods (by_sheets ws abi) ws (text_of ws) abi abis (own_methods ws c) (relayed (by_sheets ws abi) abi abis entries)
     unfolding build_methods
     build-is = rw inherited-is refl
 
-    build-before-is : build_before ws (text_of ws) abi (abi_text_of abi) area c
-        ≡ add_methods ws (text_of ws) abi (abi_text_of abi) abis (own_methods ws c) (relayed_before ws (text_of ws) abi (abi_text_of abi) abis entries)
+    build-before-is : build_before (by_sheets ws abi) ws (text_of ws) abi (abi_text_of abi) area c
+        ≡ add_methods (by_sheets ws abi) ws (text_of ws) abi abis (own_methods ws c) (relayed_before (by_sheets ws abi) abi abis entries)
     unfolding build_before
     build-before-is = rw own-entry.1 refl
 
     -- "a close method vanished": none does
-    pub none_lost : (p : Plan) → plan ws (text_of ws) abi (abi_text_of abi) area c ≡ planned p → (m : ℕ)
-        → occurs (same_methods ws (text_of ws)) m entries ≡ true → Stands ws (text_of ws) entries p.table (own_methods ws c) m
+    pub none_lost : (p : Plan) → plan (by_sheets ws abi) ws (text_of ws) abi (abi_text_of abi) area c ≡ planned p → (m : ℕ)
+        → occurs (methods_same (by_sheets ws abi)) m entries ≡ true → Stands (by_sheets ws abi) ws entries p.table (own_methods ws c) m
     none_lost p e m o =
-        relayed-stands ws (text_of ws) abi (abi_text_of abi) abis entries (own_methods ws c) p.table m o
-        (sym build-is ∙ sym (table_is ws c relays_builds abi area) ∙ (plans ws (text_of ws) abi (abi_text_of abi) area c p e).table)
+        relayed-stands (by_sheets ws abi) (bytes ws abi) ws (text_of ws) abi abis entries (own_methods ws c) p.table m o
+        (sym build-is ∙ sym (table_is ws c relays_builds abi area) ∙ (plans (by_sheets ws abi) ws (text_of ws) abi (abi_text_of abi) area c p e).table)
 
 -- ---- the rows of a whole link
 
@@ -242,7 +255,7 @@ module _ (ws abi area : List ℕ) (c : ℕ) (stubs missing : List ℕ) where
     clash-parts : (reaches_table ws abi area c ≡ true) × (relays_class ws (text_of ws) abi (abi_text_of abi) c ≡ true)
     unfolding link_clashes entries_clash
     clash-parts =
-        let a = and_both (reaches_table ws abi area c) (entries_clash ws (text_of ws) abi (abi_text_of abi) area c) clashes in
+        let a = and_both (reaches_table ws abi area c) (entries_clash (by_sheets ws abi) ws (text_of ws) abi (abi_text_of abi) area c) clashes in
         (a.0, (and_both (relays_class ws (text_of ws) abi (abi_text_of abi) c) _ a.1).0)
 
   pub eleven-is-moved : (link_def ws abi c area stubs missing).outcome.refusal ≡ 11 → (link_before ws abi c area stubs missing).outcome.refusal ≢ 11
@@ -252,7 +265,7 @@ module _ (ws abi area : List ℕ) (c : ℕ) (stubs missing : List ℕ) where
       (λ t.
       let q = clash-parts t in
       let m =
-      eleven-moved ws (text_of ws) abi (abi_text_of abi) (abis ws abi area c) (entries ws abi area c) (own_methods ws c)
+      eleven-moved (by_sheets ws abi) (bytes ws abi) ws (text_of ws) abi (abis ws abi area c) (entries ws abi area c) (own_methods ws c)
       (sym (build-is ws abi area c q.1)
       ∙ built-row ws abi area c stubs missing q.0 (relays_builds ws abi area c q.1) 11 (inl refl) e) in
       record {
@@ -262,7 +275,7 @@ module _ (ws abi area : List ℕ) (c : ℕ) (stubs missing : List ℕ) where
         it_is_eligible = m.1.1.0;
         gave_way = m.1.1.1;
         before = rw (build-before-is ws abi area c q.1)
-            (before-rows ws (text_of ws) abi (abi_text_of abi) (abis ws abi area c) (entries ws abi area c) (own_methods ws c));
+            (before-rows (by_sheets ws abi) (bytes ws abi) ws (text_of ws) abi (abis ws abi area c) (entries ws abi area c) (own_methods ws c));
       })
       (λ t. absurd (n (sym (ap (λ (o : LinkOutcome). o.outcome.refusal) (link_as_before ws abi area c stubs missing t)) ∙ e)))
 
@@ -273,40 +286,40 @@ module _ (ws abi area : List ℕ) (c : ℕ) (stubs missing : List ℕ) where
       let q = clash-parts t in
       before-row ws abi area c stubs missing q.0 (relays_builds ws abi area c q.1) 12
       (build-before-is ws abi area c q.1
-      ∙ twelve-before ws (text_of ws) abi (abi_text_of abi) (abis ws abi area c) (entries ws abi area c) (own_methods ws c)
+      ∙ twelve-before (by_sheets ws abi) (bytes ws abi) ws (text_of ws) abi (abis ws abi area c) (entries ws abi area c) (own_methods ws c)
       (sym (build-is ws abi area c q.1)
       ∙ built-row ws abi area c stubs missing q.0 (relays_builds ws abi area c q.1) 12 (inr refl) e)))
       (λ t. sym (ap (λ (o : LinkOutcome). o.outcome.refusal) (link_as_before ws abi area c stubs missing t)) ∙ e)
 
   -- such a class that redeclares a signature that gave way
   pub redeclared-refused : link_clashes ws abi area c ≡ true → (m : ℕ) → Memᴰ m (own_methods ws c) → eligible ws (text_of ws) m ≡ true
-      → GaveWay (same_methods ws (text_of ws)) (fixed_of ws (text_of ws) abi (abi_text_of abi) (abis ws abi area c))
-      (staying_of ws (text_of ws) abi (abi_text_of abi) (abis ws abi area c) (entries ws abi area c)) (entries ws abi area c) m
+      → GaveWay (methods_same (by_sheets ws abi)) (fixed_of (by_sheets ws abi) abi (abis ws abi area c))
+      (staying_of (by_sheets ws abi) abi (abis ws abi area c) (entries ws abi area c)) (entries ws abi area c) m
       → Refused ws abi area c stubs missing m
   redeclared-refused t m i e g =
       let q = clash-parts t in
       either-row ws abi area c stubs missing q.0 (relays_builds ws abi area c q.1) m
       (rw (inherited-is ws abi area c q.1)
-      (moved-refused ws (text_of ws) abi (abi_text_of abi) (abis ws abi area c) (entries ws abi area c) (own_methods ws c) m i e g))
+      (moved-refused (by_sheets ws abi) (bytes ws abi) ws (text_of ws) abi (abis ws abi area c) (entries ws abi area c) (own_methods ws c) m i e g))
 
   -- ---- a descendant without an entry of its own: its parent's entries, extended
 
-  occurs-left : (m : ℕ) (E F : List Entry) → occurs (same_methods ws (text_of ws)) m E ≡ true → occurs (same_methods ws (text_of ws)) m (E ++ F) ≡ true
+  occurs-left : (m : ℕ) (E F : List Entry) → occurs (methods_same (by_sheets ws abi)) m E ≡ true
+      → occurs (methods_same (by_sheets ws abi)) m (E ++ F) ≡ true
   unfolding occurs some
   occurs-left m [] F h = absurd (false≢true h)
   occurs-left m (e ∷ E) F h =
-      by (is_of (same_methods ws (text_of ws)) m e) (λ t. rw t refl) (λ t. rw t (occurs-left m E F (rw t at h)))
+      by (is_of (methods_same (by_sheets ws abi)) m e) (λ t. rw t refl) (λ t. rw t (occurs-left m E F (rw t at h)))
 
   other-inside : (m i : ℕ) (E : List Entry)
-      → entry_is_other ws (text_of ws) (method_name ws (text_of ws) m) (method_descriptor ws (text_of ws) m) (get_or E i empty) ≡ true
-      → i < length E
+      → entry_is_other (by_sheets ws abi) (of_method m) (get_or E i empty) ≡ true → i < length E
   unfolding entry_is_other
   other-inside m i E h =
       by-found (get_or E i empty).method (λ k q. known-below E i k q) (λ q. absurd (false≢true (rw q at h)))
 
   pub descendant-refused : reaches_table ws abi area c ≡ true → builds_methods ws c ≡ true → class_abi ws (text_of ws) abi (abi_text_of abi) c ≡ None
       → (m : ℕ) → Memᴰ m (own_methods ws c) → eligible ws (text_of ws) m ≡ true
-      → Displaced ws (text_of ws) abi (abi_text_of abi) (abis ws abi area c) (entries ws abi area c) m
+      → Displaced (by_sheets ws abi) abi (abis ws abi area c) (entries ws abi area c) m
       → Refused ws abi area c stubs missing m
   unfolding inherited_table extended
   descendant-refused r b none m i e d =
@@ -316,7 +329,7 @@ module _ (ws abi area : List ℕ) (c : ℕ) (stubs missing : List ℕ) where
       let long : n ≤ length (E ++ F) = omega (arith, length-append E F, length-replicate (n - length E) empty) in
       either-row ws abi area c stubs missing r b m
       (rw none
-      (displaced_refused ws (text_of ws) abi (abi_text_of abi) (abis ws abi area c) (own_methods ws c) (E ++ F) m i e long
+      (displaced_refused (by_sheets ws abi) (bytes ws abi) ws (text_of ws) abi (abis ws abi area c) (own_methods ws c) (E ++ F) m i e long
       (record {
         index = d.index;
         fixed_at = d.fixed_at;

@@ -5,6 +5,7 @@ use Rattle.std.proofs.Common.{◌≡◌, refl, sym, ap, ◌∙◌, inl, inr, ◌
 use mathlib.Core.List.Memᴰ
 use Rattle.class_sheet.specs.ClassSheet.{text_of, method_name, method_descriptor}
 use Rattle.abi_sheet.specs.AbiSheet.{abi_text_of}
+use Rattle.linking.specs.Signature.{by_sheets}
 use Rattle.linking.specs.Chain.{own_methods, parent_of}
 use Rattle.linking.specs.Abi.{class_abi}
 use Rattle.linking.specs.Vtable.{read_entry}
@@ -40,7 +41,7 @@ module _ (x : Case) where
 
   -- slot i of a table reads as method m
   abbrev pub Reads : ℕ → List ℕ → ℕ → ℕ → Type 0
-  Reads c t i m = (read_entry x.set (text_of x.set) x.sheet (abi_text_of x.sheet) c i (get_or t i 0)).method ≡ Some m
+  Reads c t i m = (read_entry (by_sheets x.set x.sheet) x.set (text_of x.set) x.sheet (abi_text_of x.sheet) c i (get_or t i 0)).method ≡ Some m
 
   a_known : (c : ℕ) (t u : List ℕ) → t ≡ u → (i m : ℕ) → i < length u → Reads c u i m
       → Known x.set (text_of x.set) x.sheet (abi_text_of x.sheet) c t i m
@@ -69,7 +70,7 @@ module _ (x : Case) where
   KeptAt c t q = Kept x.set (text_of x.set) x.sheet (abi_text_of x.sheet) c t q
 
   module _ (c : ℕ) (t q u v : List ℕ) (child : t ≡ u) (parent : q ≡ v) (i m : ℕ) (h : i < length v) (known : Reads (parent_of x.set c) v i m) where
-    not_known : (read_entry x.set (text_of x.set) x.sheet (abi_text_of x.sheet) c i (get_or u i 0)).method ≡ None → KeptAt c t q → ⊥
+    not_known : (read_entry (by_sheets x.set x.sheet) x.set (text_of x.set) x.sheet (abi_text_of x.sheet) c i (get_or u i 0)).method ≡ None → KeptAt c t q → ⊥
     not_known r kept =
         let g = kept i m (a_known (parent_of x.set c) q v parent i m h known) in
         not_found (sym r ∙ (rw child at g.known.reads))

@@ -8,10 +8,9 @@ use lib.ListN.{length, get_or}
 use lib.Dec.{eqb}
 use borrow.Author.Tests.{eqb-true, eqb-false}
 use Rattle.words.proofs.Bools.{by}
-use Rattle.class_sheet.specs.ClassSheet.{table_place_word, slot_count_word, class_count, class_table_place, class_slot_count, text_of}
-use Rattle.abi_sheet.specs.AbiSheet.{abi_text_of}
+use Rattle.class_sheet.specs.ClassSheet.{table_place_word, slot_count_word, class_count, class_table_place, class_slot_count}
 use Rattle.linking.specs.Vtable.{Entry, Built}
-use Rattle.linking.specs.Link.{HasTable, next_free, plan_with, Outcome}
+use Rattle.linking.specs.Link.{HasTable, next_free, Outcome}
 use Rattle.linking.specs.Ask.{head_place}
 use Rattle.linking.proofs.LinkRead.{After}
 use Rattle.linking.proofs.Rows.{Sound, sound}
@@ -20,11 +19,11 @@ use Rattle.calls.proofs.Area.{linked-before, linked-length, linked-head, linked-
 use Rattle.calls.proofs.Linked.{Leaves}
 use Rattle.calls.proofs.BesideAsk.{SameWalk}
 use Rattle.calls.proofs.Elsewhere.{walk_of}
-use Rattle.calls.proofs.Wrote.{Wrote, wrote_after, wrote_leaves}
+use Rattle.calls.proofs.Wrote.{plan_from, Wrote, wrote_after, wrote_leaves}
 use Rattle.calls.proofs.NodeLists.{Node, Nodes, none, few, walks_same, node-same, nodes-moved, Listed, Layout}
 
 module _ (abi : List ℕ) (s : State) (c : ℕ) (stubs : List ℕ) (B : Built) (o : Outcome)
-    (w : Wrote s.set abi c s.area stubs (plan_with s.set (text_of s.set) abi (abi_text_of abi) s.area B c) o) (missing : List ℕ) where
+    (w : Wrote s.set abi c s.area stubs (plan_from s.set abi s.area B c) o) (missing : List ℕ) where
   abbrev T : List Entry
   T = w.coming.table
 

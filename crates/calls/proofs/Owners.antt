@@ -6,6 +6,7 @@ use Rattle.class_sheet.specs.ClassSheet.{first_method_word, method_count_word, m
 use Rattle.abi_sheet.specs.AbiSheet.{abi_text_length, abi_text_words, abi_text_of}
 use Rattle.set_rules.specs.Valid.{IsClass, Valid}
 use Rattle.set_rules.proofs.Valid.{valid}
+use Rattle.linking.specs.Signature.{by_sheets}
 use Rattle.linking.specs.Link.{next_free, new_words, new_statics, linked_words, LinkOutcome, link_def}
 use Rattle.linking.specs.Whose.{MethodsApart}
 use Rattle.linking.proofs.Plans.{Plans, plans}
@@ -28,8 +29,8 @@ module _ (ws abi : List ℕ) (c : ℕ) (area stubs missing : List ℕ) (o : Link
   valid-now : Valid ws
   valid-now = (valid ws abi acc.valid).0
 
-  abbrev planning : Plans ws (text_of ws) abi (abi_text_of abi) area c acc.coming
-  planning = plans ws (text_of ws) abi (abi_text_of abi) area c acc.coming acc.comes
+  abbrev planning : Plans (by_sheets ws abi) ws (text_of ws) abi (abi_text_of abi) area c acc.coming
+  planning = plans (by_sheets ws abi) ws (text_of ws) abi (abi_text_of abi) area c acc.coming acc.comes
 
   abbrev left : List ℕ
   left = linked_words ws c (next_free area) (new_words ws (text_of ws) abi (abi_text_of abi) c) (new_statics ws (text_of ws) c) acc.coming

@@ -35,8 +35,7 @@ module _ (old new : List ℕ) (valid : Valid old) (like : Alike old new) (abi la
         let h = chain-kept old new valid like abi labels d (omega arith)
         (λ x j. still x (chain-of-chain old p p (omega arith) r j)) in
         rw e
-        (read_same old (text_of old) new (text_of new) abi labels (Own (method_count old)) (kept old new valid like abi labels) d h i (get_or (tables d) i 0)
-        ).method)
+        (read_same (kept old new valid like abi labels) d h i (get_or (tables d) i 0)).method)
         (λ e. rw e neither))
 
   module _ (c : ℕ) (s : 1 ≤ c) (a : c ≤ class_count old) (still : (d : ℕ) → Memᴰ d (chain old c) → Unmoved old new d) where
@@ -60,7 +59,7 @@ module _ (old new : List ℕ) (valid : Valid old) (like : Alike old new) (abi la
         let p : ℕ = parent_of old c in
         own-table {n = method_count old}
         (rw (parent-same old new valid like c s a)
-        (over-same old (text_of old) new (text_of new) abi labels (Own (method_count old)) (kept old new valid like abi labels)
+        (over-same (kept old new valid like abi labels)
         (λ m k n j r q. rw (r.same, q.same)) (introduced_from old (text_of old) abi labels tables p) (introduced_from new (text_of new) abi labels tables p)
         (introduced-kept p parent_below above) c (class-kept old new valid like abi labels c s a (still c (chain-here old c s)))
         (sym (parent-same old new valid like c s a)) (chain-kept old new valid like abi labels p parent_below above) inherited-kept))

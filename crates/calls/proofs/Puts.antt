@@ -14,6 +14,7 @@ use Rattle.class_sheet.specs.ClassSheet.{class_count, class_table_place, class_s
 use Rattle.abi_sheet.specs.AbiSheet.{abi_text_of}
 use Rattle.set_rules.specs.Valid.{Valid}
 use Rattle.set_rules.proofs.Valid.{valid}
+use Rattle.linking.specs.Signature.{by_sheets}
 use Rattle.linking.specs.Link.{HasTable, next_free, bad_area, Outcome}
 use Rattle.linking.specs.Ask.{hit, walk, head_place}
 use Rattle.calls.specs.Calls.{State}
@@ -42,7 +43,7 @@ module _ (abi : List ℕ) (s : State) (c i : ℕ) (stubs : List ℕ) (o : Outcom
   pub put-size : length p.entries ≡ class_slot_count ws i
   put-size =
       let l = p.interface in
-      built-size ws (text_of ws) abi (abi_text_of abi) s.area c i p.entries ((put-valid.class i (l.some, l.among)).slots l.has) p.builds
+      built-size (by_sheets ws abi) ws (text_of ws) abi (abi_text_of abi) s.area c i p.entries ((put-valid.class i (l.some, l.among)).slots l.has) p.builds
 
   pub head-below : head_place ws c < new
   head-below = let b = p.lent.below c p.class in omega arith

@@ -11,6 +11,7 @@ use Rattle.class_sheet.specs.ClassSheet.{text_of, is_packaged, is_array, method_
 use Rattle.abi_sheet.specs.AbiSheet.{abi_text_of}
 use Rattle.set_rules.specs.Valid.{Valid}
 use Rattle.set_rules.proofs.Valid.{valid}
+use Rattle.linking.specs.Signature.{by_sheets}
 use Rattle.linking.specs.Chain.{own_methods, parent_of}
 use Rattle.linking.specs.Abi.{class_abi, chain_abi}
 use Rattle.linking.specs.Vtable.{Entry, empty, built, read_entry, method_entry, slot_word, slot_words}
@@ -71,7 +72,7 @@ module _ (ws abi : List ℕ) (tables : ℕ → List ℕ) (d : ℕ) where
   abbrev Here : Entry → Type 0
   Here = From ws parent_table d
 
-  read-copy : (p j : ℕ) (t : List ℕ) → j < length t → From ws t d (read_entry ws text abi labels p j (get_or t j 0))
+  read-copy : (p j : ℕ) (t : List ℕ) → j < length t → From ws t d (read_entry (by_sheets ws abi) ws text abi labels p j (get_or t j 0))
   unfolding read_entry
   read-copy p j t h = copy j h refl refl
 
@@ -82,7 +83,7 @@ module _ (ws abi : List ℕ) (tables : ℕ → List ℕ) (d : ℕ) where
       (λ t.
       let p : ℕ = parent_of ws d in
       let n : ℕ = length (tables p) in
-      let f : ℕ → Entry = λ i. read_entry ws text abi labels p i (get_or (tables p) i 0) in
+      let f : ℕ → Entry = λ i. read_entry (by_sheets ws abi) ws text abi labels p i (get_or (tables p) i 0) in
       let l = length-list-from f 0 n in
       rw t
       (all-each (list_from f 0 n)
@@ -95,8 +96,8 @@ module _ (ws abi : List ℕ) (tables : ℕ → List ℕ) (d : ℕ) where
   unfolding start_from
   start-all =
       by-found (class_abi ws text abi labels d)
-      (λ a e. rw e (relayed-all ws text abi labels Here (hole refl) (chain_abi ws text abi labels d) inherited-all))
-      (λ e. rw e (extended-all ws text abi labels Here (hole refl) (chain_abi ws text abi labels d) inherited-all))
+      (λ a e. rw e (relayed-all (by_sheets ws abi) ws text abi Here (hole refl) (chain_abi ws text abi labels d) inherited-all))
+      (λ e. rw e (extended-all (by_sheets ws abi) ws text abi Here (hole refl) (chain_abi ws text abi labels d) inherited-all))
 
   own-entry : (m : ℕ) → Memᴰ m (own_methods ws d) → Here (method_entry ws m)
   own-entry m i = own m i refl
@@ -107,12 +108,12 @@ module _ (ws abi : List ℕ) (tables : ℕ → List ℕ) (d : ℕ) where
       by (is_packaged ws d)
       (λ t.
       subst (All Here) (built-same (rw t at e))
-      (packages-all ws text abi labels Here (hole refl) (introduced_from ws text abi labels tables (parent_of ws d)) d own-entry inherited-all))
+      (packages-all (by_sheets ws abi) ws text abi Here (hole refl) (introduced_from ws text abi labels tables (parent_of ws d)) d own-entry inherited-all))
       (λ t.
       let r = rw t at e in
       by (is_array ws d) (λ u. subst (All Here) (built-same (rw u at r)) inherited-all)
       (λ u.
-      adds-all ws text abi labels Here (hole refl) (chain_abi ws text abi labels d) (own_methods ws d) own-entry
+      adds-all (by_sheets ws abi) ws text abi Here (hole refl) (chain_abi ws text abi labels d) (own_methods ws d) own-entry
       (start_from ws text abi labels d (inherited_from ws text abi labels tables d)) T (rw u at r) start-all))
 
 -- ---- kept by every call: the entries that a linked class's table was written from

@@ -8,13 +8,15 @@ use Rattle.words.specs.Lists.{list_from, fold, some}
 use Rattle.words.proofs.Bools.{by}
 use Rattle.words.proofs.Lists.{skip}
 use Rattle.words.proofs.ListLaws.{by-found, length-list-from, get_d_list_from, not_found}
-use Rattle.linking.specs.Chain.{own_methods, same_methods}
+use Rattle.linking.specs.Signature.{Same, methods_same}
+use Rattle.linking.specs.Chain.{own_methods}
 use Rattle.linking.specs.Abi.{class_abi, chain_abi, minimum_size}
 use Rattle.linking.specs.Vtable.{Entry, empty, built, parent_entries, is_of, occurs, last_of, stays, standing, follows, following, laid_out, fixed_of, distance_of, staying_of, relayed, inherited_table, build_methods}
 use Rattle.linking.specs.Before.{builds_methods, relays_class}
 use Rattle.linking.specs.Relays.{holder}
 use Rattle.linking.specs.Link.{built_table, generated_table}
 use Rattle.linking.specs.Missing.{table_by}
+use Rattle.linking.proofs.Comparing.{Compares}
 use Rattle.linking.proofs.Relaying.{found-same, held}
 use Rattle.linking.proofs.Relayed.{occurs-same}
 use Rattle.linking.proofs.RelayLoop.{signatures, fixed-below, holder-stays}
@@ -83,125 +85,126 @@ module _ (same : ℕ → ℕ → Bool) (fixed staying : ℕ → Option ℕ) wher
 
 -- ---- of the parent's entries, which are copies of themselves
 
-module _ (ws text abi labels area : List ℕ) (c : ℕ) where
+module _ (same : Same) (compares : Compares same) (ws text abi labels area : List ℕ) (c : ℕ) where
   abbrev abis : List ℕ
   abis = chain_abi ws text abi labels c
 
   abbrev P : List Entry
-  P = parent_entries ws text abi labels area c
+  P = parent_entries same ws text abi labels area c
 
-  abbrev same : ℕ → ℕ → Bool
-  same = same_methods ws text
+  abbrev alike : ℕ → ℕ → Bool
+  alike = methods_same same
 
   abbrev fixed : ℕ → Option ℕ
-  fixed = fixed_of ws text abi labels abis
+  fixed = fixed_of same abi abis
 
   abbrev distance : ℕ → ℕ
-  distance = distance_of ws text abi labels abis
+  distance = distance_of same abi abis
 
   abbrev staying : ℕ → Option ℕ
-  staying = staying_of ws text abi labels abis P
+  staying = staying_of same abi abis P
 
   abbrev n : ℕ
   n = minimum_size abi abis
 
   abbrev R : List Entry
-  R = relayed ws text abi labels abis P
+  R = relayed same abi abis P
 
   no_copy : {X : Type 0} (e : Entry) (j : ℕ) → e ≡ empty → e.source ≡ Some j → X
   no_copy e j q s = not_found (sym (ap (λ (x : Entry). x.source) q) ∙ s)
 
   -- an entry of the parent's that is a copy of entry j is entry j
   at_place : (e : Entry) (k j : ℕ) → k < length P → e ≡ get_or P k empty → e.source ≡ Some j → k ≡ j
-  at_place e k j h q s = found-same (sym ((read-parent ws text abi labels area c k h).0) ∙ ap (λ (x : Entry). x.source) (sym q) ∙ s)
+  at_place e k j h q s = found-same (sym ((read-parent same ws text abi labels area c k h).0) ∙ ap (λ (x : Entry). x.source) (sym q) ∙ s)
 
-  below-is : (i : ℕ) → i < n → get_or R i empty ≡ standing same staying P i
+  below-is : (i : ℕ) → i < n → get_or R i empty ≡ standing alike staying P i
   unfolding relayed laid_out
   below-is i h =
       let z : 0 + i ≡ i = omega arith in
-      get_or-append (list_from (standing same staying P) 0 n) (following same fixed staying P) empty i (rw (length-list-from (standing same staying P) 0 n) h)
-      ∙ get_d_list_from (standing same staying P) 0 n i empty h ∙ ap (standing same staying P) z
+      get_or-append (list_from (standing alike staying P) 0 n) (following alike fixed staying P) empty i
+      (rw (length-list-from (standing alike staying P) 0 n) h)
+      ∙ get_d_list_from (standing alike staying P) 0 n i empty h ∙ ap (standing alike staying P) z
 
-  past-is : (i : ℕ) → n ≤ i → get_or R i empty ≡ get_or (following same fixed staying P) (i - n) empty
+  past-is : (i : ℕ) → n ≤ i → get_or R i empty ≡ get_or (following alike fixed staying P) (i - n) empty
   unfolding relayed laid_out
   past-is i h =
-      skip (list_from (standing same staying P) 0 n) (following same fixed staying P) i (i - n) empty
-      (rw (length-list-from (standing same staying P) 0 n) (omega arith))
+      skip (list_from (standing alike staying P) 0 n) (following alike fixed staying P) i (i - n) empty
+      (rw (length-list-from (standing alike staying P) 0 n) (omega arith))
 
   -- at an index
-  stands : (i h j : ℕ) → staying i ≡ Some h → (x : Entry) → Last same h P x empty → x.source ≡ Some j
-      → (x ≡ get_or P j empty) × IsRelayed ws text abi labels area c i j
+  stands : (i h j : ℕ) → staying i ≡ Some h → (x : Entry) → Last alike h P x empty → x.source ≡ Some j
+      → (x ≡ get_or P j empty) × IsRelayed same ws text abi labels area c i j
   unfolding stays is_of
   stands i h j q x (none e o) s = no_copy x j e s
   stands i h j q x (at k l e b o) s =
       let z = at_place x k j l e s in
-      subst (λ (y : ℕ). (x ≡ get_or P y empty) × IsRelayed ws text abi labels area c i y) z
+      subst (λ (y : ℕ). (x ≡ get_or P y empty) × IsRelayed same ws text abi labels area c i y) z
       (by-found (get_or P k empty).method
       (λ m r.
-      let g = signatures ws text abi labels abis in
-      let t : same m h ≡ true = rw r at b in
-      let holds : holder fixed distance P i ≡ Some h = ap (λ (f : ℕ → Option ℕ). f i) (holder-stays ws text abi labels abis P) ∙ q in
+      let g = signatures same abi compares abis in
+      let t : alike m h ≡ true = rw r at b in
+      let holds : holder fixed distance P i ≡ Some h = ap (λ (f : ℕ → Option ℕ). f i) (holder-stays same abi abis P) ∙ q in
       let index : fixed m ≡ Some i = g.same_index m h t ∙ (held fixed distance i P h holds).index in (
         e,
         at_index m r index (rw q (g.same_sym m h t))
-            (occurs-same same fixed distance P g n (fixed-below ws text abi labels abis) m h t (drop (suc k) P) ∙ o),
+            (occurs-same alike fixed distance P g n (fixed-below same abi abis) m h t (drop (suc k) P) ∙ o),
       ))
       (λ r. absurd (false≢true (rw r at b))))
 
   -- behind the indices: within what follows
-  within : (i j : ℕ) → (get_or (following same fixed staying P) i empty).source ≡ Some j → i < length (following same fixed staying P)
+  within : (i j : ℕ) → (get_or (following alike fixed staying P) i empty).source ≡ Some j → i < length (following alike fixed staying P)
   within i j s =
-      by (ltb i (length (following same fixed staying P))) (λ t. ltb-true i (length (following same fixed staying P)) t)
-      (λ t. no_copy (get_or (following same fixed staying P) i empty) j
-      (get_or-eq_default (following same fixed staying P) empty (ltb-false i (length (following same fixed staying P)) t)) s)
+      by (ltb i (length (following alike fixed staying P))) (λ t. ltb-true i (length (following alike fixed staying P)) t)
+      (λ t. no_copy (get_or (following alike fixed staying P) i empty) j
+      (get_or-eq_default (following alike fixed staying P) empty (ltb-false i (length (following alike fixed staying P)) t)) s)
 
-  copied : (i j : ℕ) → (get_or R i empty).source ≡ Some j → (get_or R i empty ≡ get_or P j empty) × IsRelayed ws text abi labels area c i j
+  copied : (i j : ℕ) → (get_or R i empty).source ≡ Some j → (get_or R i empty ≡ get_or P j empty) × IsRelayed same ws text abi labels area c i j
   unfolding standing
   copied i j s =
       by (ltb i n)
       (λ t.
       let e = below-is i (ltb-true i n t) in
       by-found (staying i)
-      (λ h q. stands i h j q (get_or R i empty) (rw (e, q) (last_at same h empty P)) s)
+      (λ h q. stands i h j q (get_or R i empty) (rw (e, q) (last_at alike h empty P)) s)
       (λ q. no_copy (get_or R i empty) j (e ∙ rw q refl) s))
       (λ t.
       let h = ltb-false i n t in
       let e = past-is i h in
-      let f = following_at same fixed staying P (i - n) (within (i - n) j (ap (λ (x : Entry). x.source) (sym e) ∙ s)) in
+      let f = following_at alike fixed staying P (i - n) (within (i - n) j (ap (λ (x : Entry). x.source) (sym e) ∙ s)) in
       let z = at_place (get_or R i empty) f.place j f.below (e ∙ f.is) s in
-      subst (λ (y : ℕ). (get_or R i empty ≡ get_or P y empty) × IsRelayed ws text abi labels area c i y) z (e ∙ f.is, behind h f.goes))
+      subst (λ (y : ℕ). (get_or R i empty ≡ get_or P y empty) × IsRelayed same ws text abi labels area c i y) z (e ∙ f.is, behind h f.goes))
 
   ordered : (i k j l : ℕ) → n ≤ i → i < k → (get_or R i empty).source ≡ Some j → (get_or R k empty).source ≡ Some l → j < l
   ordered i k j l h b s t =
-      let F : List Entry = following same fixed staying P in
+      let F : List Entry = following alike fixed staying P in
       let d : ℕ = k - n - suc (i - n) in
       let e = past-is i h in
       let g = past-is k (omega arith) in
-      let f = following_at same fixed staying P (i - n) (within (i - n) j (ap (λ (x : Entry). x.source) (sym e) ∙ s)) in
+      let f = following_at alike fixed staying P (i - n) (within (i - n) j (ap (λ (x : Entry). x.source) (sym e) ∙ s)) in
       let z = at_place (get_or R i empty) f.place j f.below (e ∙ f.is) s in
       let w = within (k - n) l (ap (λ (x : Entry). x.source) (sym g) ∙ t) in
       let y : suc (i - n) + d ≡ k - n = omega arith in
-      let u : get_or (following same fixed staying (drop (suc f.place) P)) d empty ≡ get_or F (k - n) empty =
+      let u : get_or (following alike fixed staying (drop (suc f.place) P)) d empty ≡ get_or F (k - n) empty =
       ap (λ (x : List Entry). get_or x d empty) (sym f.rest) ∙ get_or-drop (suc (i - n)) F d empty ∙ ap (λ (x : ℕ). get_or F x empty) y in
-      let v : d < length (following same fixed staying (drop (suc f.place) P)) = rw (← f.rest, length-drop (suc (i - n)) F) (omega arith) in
-      let a = following_at same fixed staying (drop (suc f.place) P) d v in
+      let v : d < length (following alike fixed staying (drop (suc f.place) P)) = rw (← f.rest, length-drop (suc (i - n)) F) (omega arith) in
+      let a = following_at alike fixed staying (drop (suc f.place) P) d v in
       let o : suc f.place + a.place < length P = let p = rw (length-drop (suc f.place) P) at a.below in omega arith in
       let q = at_place (get_or R k empty) (suc f.place + a.place) l o (g ∙ sym u ∙ a.is ∙ get_or-drop (suc f.place) P a.place empty) t in
       omega arith
 
   -- ---- own methods over it
 
-  abbrev Same : List Entry → Type 0
-  Same T = (i j : ℕ) → (get_or T i empty).source ≡ Some j → get_or T i empty ≡ get_or R i empty
+  abbrev Kept : List Entry → Type 0
+  Kept T = (i j : ℕ) → (get_or T i empty).source ≡ Some j → get_or T i empty ≡ get_or R i empty
 
-  same_one : (T : List Entry) (x e : Entry) (i j : ℕ) → NoCopy e → Same T → (x ≡ e) ⊎ (x ≡ get_or T i empty) → x.source ≡ Some j → x ≡ get_or R i empty
+  same_one : (T : List Entry) (x e : Entry) (i j : ℕ) → NoCopy e → Kept T → (x ≡ e) ⊎ (x ≡ get_or T i empty) → x.source ≡ Some j → x ≡ get_or R i empty
   same_one T x e i j n p (inl q) s = not_found (sym n ∙ ap (λ (y : Entry). y.source) (sym q) ∙ s)
   same_one T x e i j n p (inr q) s = q ∙ p i j (ap (λ (y : Entry). y.source) (sym q) ∙ s)
 
-  same_store : (e : Entry) (k : ℕ) (T : List Entry) → NoCopy e → Same T → Same (set T k e)
+  same_store : (e : Entry) (k : ℕ) (T : List Entry) → NoCopy e → Kept T → Kept (set T k e)
   same_store e k T n p i j s = same_one T (get_or (set T k e) i empty) e i j n p (set-either T k i e) s
 
-  same_last : (e : Entry) (T : List Entry) → NoCopy e → Same T → Same (T ++ (e ∷ []))
+  same_last : (e : Entry) (T : List Entry) → NoCopy e → Kept T → Kept (T ++ (e ∷ []))
   same_last e T n p i j s =
       same_one T (get_or (T ++ (e ∷ [])) i empty) e i j n p (elim (snoc_at T e i empty) [ inl q ↦ inl q.1 | inr q ↦ inr q ]) s
 
@@ -214,34 +217,24 @@ module _ (ws text abi labels area : List ℕ) (c : ℕ) where
     unfolding relays_class
     builds = let e = own-entry in rw e.1 at relays
 
-    table-is : table_by ws text abi labels area c ≡ build_methods ws text abi labels area c
+    table-is : table_by same ws text abi labels area c ≡ build_methods same ws text abi labels area c
     unfolding table_by built_table generated_table
     table-is = kind-cases ws c builds (λ k p i. rw (k, p, i) refl) (λ k g t. rw (k, g, t) refl)
 
-    own-same : (T : List Entry) → table_by ws text abi labels area c ≡ built T → Same T
+    own-same : (T : List Entry) → table_by same ws text abi labels area c ≡ built T → Kept T
     unfolding build_methods inherited_table
     own-same T e =
-        adds ws text abi labels NoCopy Same same_store same_last abis (own_methods ws c) (λ m i. refl) R T
+        adds same ws text abi NoCopy Kept same_store same_last abis (own_methods ws c) (λ m i. refl) R T
         (rw own-entry.1 at (sym table-is ∙ e)) (λ i j s. refl)
 
-    moved : (T : List Entry) → table_by ws text abi labels area c ≡ built T → (i j : ℕ) → (get_or T i empty).source ≡ Some j
+    moved : (T : List Entry) → table_by same ws text abi labels area c ≡ built T → (i j : ℕ) → (get_or T i empty).source ≡ Some j
         → (get_or R i empty).source ≡ Some j
     moved T e i j s = ap (λ (x : Entry). x.source) (sym (own-same T e i j s)) ∙ s
 
-    table-copied : (T : List Entry) → table_by ws text abi labels area c ≡ built T → (i j : ℕ) → (get_or T i empty).source ≡ Some j
-        → (get_or T i empty ≡ get_or P j empty) × IsRelayed ws text abi labels area c i j
+    pub table-copied : (T : List Entry) → table_by same ws text abi labels area c ≡ built T → (i j : ℕ) → (get_or T i empty).source ≡ Some j
+        → (get_or T i empty ≡ get_or P j empty) × IsRelayed same ws text abi labels area c i j
     table-copied T e i j s = let r = copied i j (moved T e i j s) in (own-same T e i j s ∙ r.0, r.1)
 
-    table-ordered : (T : List Entry) → table_by ws text abi labels area c ≡ built T → (i k j l : ℕ) → n ≤ i → i < k → (get_or T i empty).source ≡ Some j
-        → (get_or T k empty).source ≡ Some l → j < l
+    pub table-ordered : (T : List Entry) → table_by same ws text abi labels area c ≡ built T → (i k j l : ℕ) → n ≤ i → i < k
+        → (get_or T i empty).source ≡ Some j → (get_or T k empty).source ≡ Some l → j < l
     table-ordered T e i k j l h b s t = ordered i k j l h b (moved T e i j s) (moved T e k l t)
-
-pub relayed-copy : (ws text abi labels area : List ℕ) (c : ℕ) (T : List Entry) → relays_class ws text abi labels c ≡ true
-    → table_by ws text abi labels area c ≡ built T → (i j : ℕ) → (get_or T i empty).source ≡ Some j
-    → (get_or T i empty ≡ get_or (parent_entries ws text abi labels area c) j empty) × IsRelayed ws text abi labels area c i j
-relayed-copy ws text abi labels area c T relays e = table-copied ws text abi labels area c relays T e
-
-pub relayed-ordered : (ws text abi labels area : List ℕ) (c : ℕ) (T : List Entry) → relays_class ws text abi labels c ≡ true
-    → table_by ws text abi labels area c ≡ built T → (i k j l : ℕ) → minimum_size abi (chain_abi ws text abi labels c) ≤ i → i < k
-    → (get_or T i empty).source ≡ Some j → (get_or T k empty).source ≡ Some l → j < l
-relayed-ordered ws text abi labels area c T relays e = table-ordered ws text abi labels area c relays T e

@@ -8,12 +8,13 @@ use Rattle.text.specs.Text.{same_bytes}
 use Rattle.class_sheet.specs.ClassSheet.{class_count, text_of, class_kind, class_name, class_method_count, class_field_count, class_table_place, class_slot_count}
 use Rattle.abi_sheet.specs.AbiSheet.{abi_text_of}
 use Rattle.set_rules.specs.SetRules.{set_refusal}
+use Rattle.linking.specs.Signature.{by_sheets}
 use Rattle.linking.specs.Chain.{parent_of}
 use Rattle.linking.specs.Vtable.{Entry, Built, built, refused, table_entries}
 use Rattle.linking.specs.Packages.{bad_packages}
 use Rattle.linking.specs.Counts.{missing_width, counted_after, missing_short}
-use Rattle.linking.specs.Link.{HasTable, object_name, no_class, is_linked, bad_array, bad_class, next_free, ends_below, bad_area, Plan, Planned, planned, unplanned, plan, new_words, new_statics, lists_full, set_short, no_room, linked_area, linked_words, Outcome, refused_call, LinkOutcome, refused_link, finish_link, on_plan, link_def}
-use Rattle.linking.specs.Ask.{Walk, hit, missed, broken, walk, head_place, dispatch_entries, asked_area, on_dispatch, build_node, on_walk, bad_ask, ask_def}
+use Rattle.linking.specs.Link.{HasTable, object_name, no_class, is_linked, bad_array, bad_class, next_free, ends_below, bad_area, Plan, Planned, planned, unplanned, plan, new_words, new_statics, lists_full, set_short, no_room, linked_area, linked_words, Outcome, refused_call, LinkOutcome, refused_link, finish_link, on_plan, link_def, link_by}
+use Rattle.linking.specs.Ask.{Walk, hit, missed, broken, walk, head_place, dispatch_entries, asked_area, on_dispatch, build_node, on_walk, bad_ask, ask_def, ask_by}
 use Rattle.linking.proofs.Plans.{unplanned-number}
 use Rattle.linking.proofs.Rows.{Fits, fits, Sound, sound}
 use Rattle.calls.proofs.Dispatch.{dispatch_refused}
@@ -80,7 +81,7 @@ pub record Accepted (ws abi : List ℕ) (c : ℕ) (area stubs missing : List ℕ
   pub lent : Sound ws area
   pub packages : bad_packages ws (text_of ws) abi (abi_text_of abi) c ≡ false
   pub coming : Plan
-  pub comes : plan ws (text_of ws) abi (abi_text_of abi) area c ≡ planned coming
+  pub comes : plan (by_sheets ws abi) ws (text_of ws) abi (abi_text_of abi) area c ≡ planned coming
   pub lists : lists_full ws c coming ≡ false
   pub room : Fits area stubs (length coming.table)
   pub long : missing_width * class_count ws ≤ length missing
@@ -103,7 +104,7 @@ module _ (ws abi : List ℕ) (c : ℕ) (area stubs missing : List ℕ) where
   Either o = Refused o ws area missing ⊎ Accepted ws abi c area stubs missing o
 
   finish : set_refusal ws abi ≡ 0 → ClassOk ws c → Sound ws area → bad_packages ws (text_of ws) abi (abi_text_of abi) c ≡ false → (p : Plan)
-      → plan ws (text_of ws) abi (abi_text_of abi) area c ≡ planned p
+      → plan (by_sheets ws abi) ws (text_of ws) abi (abi_text_of abi) area c ≡ planned p
       → Either (finish_link ws abi c area stubs missing p)
   unfolding finish_link
   finish v k a f p e =
@@ -134,13 +135,13 @@ module _ (ws abi : List ℕ) (c : ℕ) (area stubs missing : List ℕ) where
       })))))
 
   go_on : set_refusal ws abi ≡ 0 → ClassOk ws c → Sound ws area → bad_packages ws (text_of ws) abi (abi_text_of abi) c ≡ false → (q : Planned)
-      → plan ws (text_of ws) abi (abi_text_of abi) area c ≡ q
+      → plan (by_sheets ws abi) ws (text_of ws) abi (abi_text_of abi) area c ≡ q
       → Either (on_plan q (finish_link ws abi c area stubs missing) (λ n. refused_link n ws area missing))
   go_on v k a f (planned p) e = finish v k a f p e
-  go_on v k a f (unplanned n) e = inl (refused-link ws area missing n (unplanned-number ws (text_of ws) abi (abi_text_of abi) area c n e))
+  go_on v k a f (unplanned n) e = inl (refused-link ws area missing n (unplanned-number (by_sheets ws abi) ws (text_of ws) abi (abi_text_of abi) area c n e))
 
   pub link-cases : Either (link_def ws abi c area stubs missing)
-  unfolding link_def
+  unfolding link_def link_by
   link-cases =
       by (eqb (set_refusal ws abi) 0)
       (λ v.
@@ -155,7 +156,7 @@ module _ (ws abi : List ℕ) (c : ℕ) (area stubs missing : List ℕ) where
       (λ k.
       rw k
       (go_on (eqb-true (set_refusal ws abi) 0 v) (class-ok ws (text_of ws) c t) (sound ws area u) k
-      (plan ws (text_of ws) abi (abi_text_of abi) area c) refl))))))))
+      (plan (by_sheets ws abi) ws (text_of ws) abi (abi_text_of abi) area c) refl))))))))
       (λ v. rw v (inl (refused-link ws area missing (set_refusal ws abi) (eqb-false (set_refusal ws abi) 0 v))))
 
 -- a call leaves the set and the area
@@ -196,7 +197,7 @@ pub record PutsNode (ws abi : List ℕ) (c i : ℕ) (area stubs : List ℕ) (o :
   pub nodes : ℕ
   pub walks : walk area i 64 0 (get_or area (head_place ws c) 0) ≡ missed nodes
   pub entries : List Entry
-  pub builds : dispatch_entries ws (text_of ws) c (table_entries ws (text_of ws) abi (abi_text_of abi) area i) ≡ built entries
+  pub builds : dispatch_entries (by_sheets ws abi) ws c (table_entries (by_sheets ws abi) ws (text_of ws) abi (abi_text_of abi) area i) ≡ built entries
   pub room : Fits area stubs (length entries)
   pub number : o.refusal ≡ 0
   pub answers-place : o.first ≡ next_free area + 1
@@ -225,7 +226,7 @@ module _ (ws abi : List ℕ) (c i : ℕ) (area stubs : List ℕ) where
 
   module _ (v : set_refusal ws abi ≡ 0) (asks : bad_ask ws c i ≡ false) (sits : bad_area ws area ≡ false) where
     put-node : (nodes : ℕ) → walk area i 64 0 (get_or area (head_place ws c) 0) ≡ missed nodes → (b : Built)
-        → dispatch_entries ws (text_of ws) c (table_entries ws (text_of ws) abi (abi_text_of abi) area i) ≡ b
+        → dispatch_entries (by_sheets ws abi) ws c (table_entries (by_sheets ws abi) ws (text_of ws) abi (abi_text_of abi) area i) ≡ b
         → Any (on_dispatch b
         (λ T. cond (no_room area stubs (length T))
         (refused_call 15 ws area)
@@ -254,12 +255,12 @@ module _ (ws abi : List ℕ) (c i : ℕ) (area stubs : List ℕ) where
           new-area = refl;
         })))
     put-node nodes w (refused n) e =
-        let m : n ≡ 16 = dispatch_refused ws (text_of ws) c (table_entries ws (text_of ws) abi (abi_text_of abi) area i) n e in
+        let m : n ≡ 16 = dispatch_refused (by_sheets ws abi) ws c (table_entries (by_sheets ws abi) ws (text_of ws) abi (abi_text_of abi) area i) n e in
         inl (untouched ws abi c i area n (λ z. omega arith))
 
     walked : (w : Walk) → walk area i 64 0 (get_or area (head_place ws c) 0) ≡ w
         → Any (on_walk w (λ n nodes. record { refusal = 0; first = n + 1; second = nodes; set = ws; area = area })
-        (build_node ws abi c i area stubs) (refused_call 7 ws area))
+        (build_node (by_sheets ws abi) ws abi c i area stubs) (refused_call 7 ws area))
     unfolding build_node
     walked (hit n nodes) e =
         inl (record {
@@ -280,11 +281,11 @@ module _ (ws abi : List ℕ) (c i : ℕ) (area stubs : List ℕ) where
           };
         })
     walked (missed nodes) e =
-        put-node nodes e (dispatch_entries ws (text_of ws) c (table_entries ws (text_of ws) abi (abi_text_of abi) area i)) refl
+        put-node nodes e (dispatch_entries (by_sheets ws abi) ws c (table_entries (by_sheets ws abi) ws (text_of ws) abi (abi_text_of abi) area i)) refl
     walked broken e = inl (untouched ws abi c i area 7 (omega arith))
 
   pub ask-cases : Any (ask_def ws abi c i area stubs)
-  unfolding ask_def
+  unfolding ask_def ask_by
   ask-cases =
       by (eqb (set_refusal ws abi) 0)
       (λ v.

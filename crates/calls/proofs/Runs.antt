@@ -11,6 +11,7 @@ use Rattle.class_sheet.specs.ClassSheet.{flags_word, kind_word, method_count_wor
 use Rattle.abi_sheet.specs.AbiSheet.{abi_text_of}
 use Rattle.set_rules.specs.Valid.{Valid}
 use Rattle.linking.proofs.ChainLaws.{parent-within, chain-none}
+use Rattle.linking.specs.Signature.{by_sheets}
 use Rattle.linking.specs.Chain.{list_count, own_methods, parent_of, chain, is_interface}
 use Rattle.linking.specs.Vtable.{Entry, built, read_entry, parent_entries}
 use Rattle.linking.specs.Packages.{topmost, unfit_for_packages, bad_packages}
@@ -178,7 +179,7 @@ module _ (ws₀ abi : List ℕ) (valid₀ : Valid ws₀) (P : ℕ → Type 0) wh
     -- the parent's entries, read at the link, are those of its table, read by the sheet at the start
     parent-entries : Plain ws₀ c
         → renumbered.Tables (Own (method_count ws₀)) (inherited_from ws₀ (text_of ws₀) abi (abi_text_of abi) (table_of s) c)
-        (parent_entries s.set (text_of s.set) abi (abi_text_of abi) s.area c)
+        (parent_entries (by_sheets s.set abi) s.set (text_of s.set) abi (abi_text_of abi) s.area c)
     unfolding parent_entries inherited_from
     parent-entries p =
         rw parent_is
@@ -207,7 +208,8 @@ module _ (ws₀ abi : List ℕ) (valid₀ : Valid ws₀) (P : ℕ → Type 0) wh
     old-from p k =
         let f = p.flags c (chain-here ws₀ c some) k in
         table_same ws₀ s.set valid₀ (alike inv.like) abi (abi_text_of abi) c among₀ (plain_still inv.like among₀ p) some here-kind
-        (inherited_from ws₀ (text_of ws₀) abi (abi_text_of abi) (table_of s) c) (parent_entries s.set (text_of s.set) abi (abi_text_of abi) s.area c)
+        (inherited_from ws₀ (text_of ws₀) abi (abi_text_of abi) (table_of s) c)
+        (parent_entries (by_sheets s.set abi) s.set (text_of s.set) abi (abi_text_of abi) s.area c)
         (parent-entries p)
         ∙ plan-table s.set (text_of s.set) abi (abi_text_of abi) s.area c acc.coming (planning abi s c stubs o acc) (rw here-kind k) (rw here-flags f)
 

@@ -5,7 +5,8 @@ use lib.ListN.{get_or-eq_default}
 use Rattle.words.specs.Lists.{keep}
 use Rattle.words.proofs.Bools.{by}
 use Rattle.class_sheet.specs.ClassSheet.{class_kind, is_built_kind, is_packaged, is_generated, class_flags, class_compiler_table, class_limit}
-use Rattle.linking.specs.Chain.{own_methods, parent_of, is_interface, eligible, same_methods}
+use Rattle.linking.specs.Signature.{Same}
+use Rattle.linking.specs.Chain.{own_methods, parent_of, is_interface, eligible}
 use Rattle.linking.specs.Abi.{class_abi, chain_abi, minimum_size}
 use Rattle.linking.specs.Vtable.{Entry, empty, built, parent_entries, extended, inherited_table, build_methods, build_interface_methods}
 use Rattle.linking.specs.Packages.{introducing, build_packages}
@@ -45,45 +46,45 @@ placed-last e T n p i j s =
 
 -- ---- kind by kind
 
-module _ (ws text abi labels area : List ℕ) (c : ℕ) where
+module _ (same : Same) (ws text abi labels area : List ℕ) (c : ℕ) where
   abbrev P : List Entry
-  P = parent_entries ws text abi labels area c
+  P = parent_entries same ws text abi labels area c
 
   parent-placed : Placed P
   parent-placed i j s =
-      by (ltb i (length P)) (λ t. found-same (sym s ∙ (read-parent ws text abi labels area c i (ltb-true i (length P) t)).0))
+      by (ltb i (length P)) (λ t. found-same (sym s ∙ (read-parent same ws text abi labels area c i (ltb-true i (length P) t)).0))
       (λ t. not_found (ap (λ (e : Entry). e.source) (sym (get_or-eq_default P empty (ltb-false i (length P) t))) ∙ s))
 
-  packages-placed : Placed (build_packages (same_methods ws text) ws text abi labels area c)
+  packages-placed : Placed (build_packages same ws text abi labels area c)
   unfolding build_packages
   packages-placed =
       by (ltb class_limit c) (λ t. rw t (λ i j s. not_found s))
       (λ t.
       rw t
-      (packages ws text abi labels NoCopy Placed placed-store placed-last (introducing ws text abi labels area (parent_of ws c)) c (λ m i. refl) P
+      (packages same ws text abi NoCopy Placed placed-store placed-last (introducing same ws text abi labels area (parent_of ws c)) c (λ m i. refl) P
       parent-placed))
 
   interface-placed : Placed (build_interface_methods ws text c)
   unfolding build_interface_methods
   interface-placed i j s =
       not_found (sym (all_get {S = NoCopy} refl
-      (interface-all ws text abi labels NoCopy refl (keep (eligible ws text) (own_methods ws c)) (λ m k. refl)) i) ∙ s)
+      (interface-all same ws text abi NoCopy refl (keep (eligible ws text) (own_methods ws c)) (λ m k. refl)) i) ∙ s)
 
   module _ (none : class_abi ws text abi labels c ≡ None) where
-    inherited-placed : Placed (inherited_table ws text abi labels area c)
+    inherited-placed : Placed (inherited_table same ws text abi labels area c)
     unfolding inherited_table extended
     inherited-placed =
         rw none (λ i j s.
         let n : ℕ = minimum_size abi (chain_abi ws text abi labels c) - length P in
         parent-placed i j (ap (λ (e : Entry). e.source) (sym (extended-at P n i empty)) ∙ s))
 
-    methods-placed : (T : List Entry) → build_methods ws text abi labels area c ≡ built T → Placed T
+    methods-placed : (T : List Entry) → build_methods same ws text abi labels area c ≡ built T → Placed T
     unfolding build_methods
     methods-placed T e =
-        adds ws text abi labels NoCopy Placed placed-store placed-last (chain_abi ws text abi labels c) (own_methods ws c) (λ m i. refl)
-        (inherited_table ws text abi labels area c) T e inherited-placed
+        adds same ws text abi NoCopy Placed placed-store placed-last (chain_abi ws text abi labels c) (own_methods ws c) (λ m i. refl)
+        (inherited_table same ws text abi labels area c) T e inherited-placed
 
-    built-placed : (T : List Entry) → built_table ws text abi labels area c ≡ built T → Placed T
+    built-placed : (T : List Entry) → built_table same ws text abi labels area c ≡ built T → Placed T
     unfolding built_table
     built-placed T e =
         by (is_packaged ws c) (λ t. subst Placed (built-same (rw t at e)) packages-placed)
@@ -91,7 +92,8 @@ module _ (ws text abi labels area : List ℕ) (c : ℕ) where
         let r = rw t at e in
         by (is_interface (class_flags ws c)) (λ u. subst Placed (built-same (rw u at r)) interface-placed) (λ u. methods-placed T (rw u at r)))
 
-    pub table-placed : (is_generated ws c ≡ true → class_compiler_table ws c ≡ 0) → (T : List Entry) → table_by ws text abi labels area c ≡ built T → Placed T
+    pub table-placed : (is_generated ws c ≡ true → class_compiler_table ws c ≡ 0) → (T : List Entry)
+        → table_by same ws text abi labels area c ≡ built T → Placed T
     unfolding table_by generated_table
     table-placed no_table T e =
         by (is_built_kind (class_kind ws c)) (λ t. built-placed T (rw t at e))

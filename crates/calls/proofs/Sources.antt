@@ -6,12 +6,13 @@ use borrow.Author.Tests.{eqb-false}
 use Rattle.words.specs.Lists.{list_from, fold, keep}
 use Rattle.words.proofs.Bools.{by}
 use Rattle.words.proofs.ListLaws.{by-found, length-list-from, get_d_list_from, numbers-within}
-use Rattle.class_sheet.specs.ClassSheet.{class_kind, is_built_kind, is_packaged, is_generated, class_flags, class_compiler_table, class_table_place, class_slot_count, method_target, method_limit, method_name, method_descriptor, class_limit}
-use Rattle.linking.specs.Chain.{on_found, own_methods, parent_of, is_interface, is_eligible, eligible, same_methods}
+use Rattle.class_sheet.specs.ClassSheet.{class_kind, is_built_kind, is_packaged, is_generated, class_flags, class_compiler_table, class_table_place, class_slot_count, method_target, method_limit, class_limit}
+use Rattle.linking.specs.Signature.{Same, of_method, methods_same}
+use Rattle.linking.specs.Chain.{on_found, own_methods, parent_of, is_interface, is_eligible, eligible}
 use Rattle.linking.specs.Abi.{class_abi, chain_abi, minimum_size}
 use Rattle.linking.specs.Vtable.{Entry, empty, built, read_entry, read_slot, table_entries, parent_entries, entry_is_other, method_entry, extended, fixed_of, slot_of, relayed, inherited_table, put_method, add_method, add_methods, build_methods, method_entries, build_interface_methods, is_of, last_of, standing, follows, following, laid_out, staying_of}
 use Rattle.linking.specs.Packages.{introducing, overridden, taken_slots, put_taken, take_slots, packages_over, build_packages}
-use Rattle.linking.specs.Compiler.{New, is_emptied, view_from, native_view, compiler_targets, added_methods, name_of, flags_of, target_of, class_methods, match_target, compiler_entry, compiler_entries, has_slot, append_from, append_entry, compiler_table}
+use Rattle.linking.specs.Compiler.{Taken, is_emptied, view_from, native_view, compiler_targets, added_methods, name_of, flags_of, target_of, class_methods, match_target, compiler_entry, compiler_entries, has_slot, append_from, append_entry, compiler_table}
 use Rattle.linking.specs.Link.{built_table, generated_table, generated_methods}
 use Rattle.linking.specs.Missing.{table_by}
 use Rattle.calls.specs.Sources.{HasCompiler, Slot, whole, appended, hole, declared, added, compiled}
@@ -81,33 +82,32 @@ fold-keeps Q f (m ∷ ms) h T a = fold-keeps Q f ms (λ U k i. h U k (mathlib.Co
 
 -- ---- methods put into a table: what a store and a new last entry keep of it, where S holds of the entry, they keep
 
-module _ (ws text abi labels : List ℕ) (S : Entry → Type 0) (Q : List Entry → Type 0)
+module _ (same : Same) (ws text abi : List ℕ) (S : Entry → Type 0) (Q : List Entry → Type 0)
     (store : (e : Entry) (i : ℕ) (T : List Entry) → S e → Q T → Q (set T i e)) (last : (e : Entry) (T : List Entry) → S e → Q T → Q (T ++ (e ∷ []))) where
-  put-method : (fixed slot : Option ℕ) (m : ℕ) (T U : List Entry) → put_method ws text fixed slot m T ≡ built U → S (method_entry ws m) → Q T → Q U
+  put-method : (fixed slot : Option ℕ) (m : ℕ) (T U : List Entry) → put_method same ws fixed slot m T ≡ built U → S (method_entry ws m) → Q T → Q U
   unfolding put_method
   put-method (Some i) slot m T U e s a =
       by (on_found slot (λ j. not (eqb j i)) false) (λ t. not-built (rw t at e))
       (λ t.
       let r = rw t at e in
-      by (entry_is_other ws text (method_name ws text m) (method_descriptor ws text m) (get_or T i empty)) (λ u. not-built (rw u at r))
+      by (entry_is_other same (of_method m) (get_or T i empty)) (λ u. not-built (rw u at r))
       (λ u. subst Q (built-same (rw u at r)) (store (method_entry ws m) i T s a)))
   put-method None (Some j) m T U e s a = subst Q (built-same e) (store (method_entry ws m) j T s a)
   put-method None None m T U e s a = subst Q (built-same e) (last (method_entry ws m) T s a)
 
-  add-one : (abis : List ℕ) (m : ℕ) (T U : List Entry) → add_method ws text abi labels abis m T ≡ built U → S (method_entry ws m) → Q T → Q U
+  add-one : (abis : List ℕ) (m : ℕ) (T U : List Entry) → add_method same ws text abi abis m T ≡ built U → S (method_entry ws m) → Q T → Q U
   unfolding add_method
   add-one abis m T U e s a =
       by (eligible ws text m)
-      (λ t.
-      put-method (fixed_of ws text abi labels abis m) (slot_of ws text (method_name ws text m) (method_descriptor ws text m) T) m T U (rw t at e) s a)
+      (λ t. put-method (fixed_of same abi abis m) (slot_of same (of_method m) T) m T U (rw t at e) s a)
       (λ t. subst Q (built-same (rw t at e)) a)
 
   pub adds : (abis ms : List ℕ) → ((m : ℕ) → Memᴰ m ms → S (method_entry ws m)) → (T U : List Entry)
-      → add_methods ws text abi labels abis ms T ≡ built U → Q T → Q U
+      → add_methods same ws text abi abis ms T ≡ built U → Q T → Q U
   unfolding add_methods
   adds abis [] h T U e a = subst Q (built-same e) a
   adds abis (m ∷ ms) h T U e a =
-      let r = built_on (add_method ws text abi labels abis m T) (add_methods ws text abi labels abis ms) U e in
+      let r = built_on (add_method same ws text abi abis m T) (add_methods same ws text abi abis ms) U e in
       adds abis ms (λ k i. h k (mathlib.Core.List.Memᴰ.tail i)) r.0 U r.2 (add-one abis m T r.0 r.1 (h m (mathlib.Core.List.Memᴰ.head refl)) a)
 
   -- kind 3
@@ -117,61 +117,61 @@ module _ (ws text abi labels : List ℕ) (S : Entry → Type 0) (Q : List Entry 
   put-taken e (i ∷ is) T s a = fold-keeps Q (λ U j. set U j e) is (λ U j k b. store e j U s b) (set T i e) (store e i T s a)
 
   pub packages : (introduced : ℕ → Option ℕ) (c : ℕ) → ((m : ℕ) → Memᴰ m (own_methods ws c) → S (method_entry ws m)) → (P : List Entry) → Q P
-      → Q (packages_over (same_methods ws text) ws text introduced c P)
+      → Q (packages_over (methods_same same) ws text introduced c P)
   unfolding packages_over take_slots
   packages introduced c h P p =
-      fold-keeps Q (take_slots (same_methods ws text) ws text introduced (length P) c) (own_methods ws c)
+      fold-keeps Q (take_slots (methods_same same) ws text introduced (length P) c) (own_methods ws c)
       (λ T m i a.
       by (eligible ws text m)
-      (λ t. rw t (put-taken (method_entry ws m) (taken_slots introduced (overridden (same_methods ws text) ws text c m) (length P)) T (h m i) a)) (λ t. rw t a))
+      (λ t. rw t (put-taken (method_entry ws m) (taken_slots introduced (overridden (methods_same same) ws text c m) (length P)) T (h m i) a)) (λ t. rw t a))
       P p
 
 -- ---- tables that are built from entries P of which S holds, over the empty entry and those of methods
 
-module _ (ws text abi labels : List ℕ) (S : Entry → Type 0) (blank : S empty) where
+module _ (same : Same) (ws text abi : List ℕ) (S : Entry → Type 0) (blank : S empty) where
   -- what stands at an index is one of them or empty, and what follows is of them
-  module _ (same : ℕ → ℕ → Bool) (fixed staying : ℕ → Option ℕ) where
-    last-all : (m : ℕ) (l : Entry) {P : List Entry} → S l → All S P → S (last_of same m l P)
+  module _ (alike : ℕ → ℕ → Bool) (fixed staying : ℕ → Option ℕ) where
+    last-all : (m : ℕ) (l : Entry) {P : List Entry} → S l → All S P → S (last_of alike m l P)
     unfolding last_of fold
     last-all m l s none = s
-    last-all m l s (more {e} t a) = by (is_of same m e) (λ q. rw q (last-all m e t a)) (λ q. rw q (last-all m l s a))
+    last-all m l s (more {e} t a) = by (is_of alike m e) (λ q. rw q (last-all m e t a)) (λ q. rw q (last-all m l s a))
 
-    standing-all : {P : List Entry} → All S P → (i : ℕ) → S (standing same staying P i)
+    standing-all : {P : List Entry} → All S P → (i : ℕ) → S (standing alike staying P i)
     unfolding standing
     standing-all a i = by-found (staying i) (λ h q. rw q (last-all h empty blank a)) (λ q. rw q blank)
 
-    following-all : {P : List Entry} → All S P → All S (following same fixed staying P)
+    following-all : {P : List Entry} → All S P → All S (following alike fixed staying P)
     unfolding following
     following-all none = none
     following-all (more {e} {T} s a) =
-        by (follows same fixed staying e T) (λ q. rw q (more s (following-all a))) (λ q. rw q (following-all a))
+        by (follows alike fixed staying e T) (λ q. rw q (more s (following-all a))) (λ q. rw q (following-all a))
 
   list_all : (f : ℕ → Entry) → ((i : ℕ) → S (f i)) → (m n : ℕ) → All S (list_from f m n)
   unfolding list_from
   list_all f h m zero = none
   list_all f h m (suc n) = more (h m) (list_all f h (m + 1) n)
 
-  pub relayed-all : (abis : List ℕ) {P : List Entry} → All S P → All S (relayed ws text abi labels abis P)
+  pub relayed-all : (abis : List ℕ) {P : List Entry} → All S P → All S (relayed same abi abis P)
   unfolding relayed laid_out
   relayed-all abis {P} p =
       all_append
-      (list_all (standing (same_methods ws text) (staying_of ws text abi labels abis P) P)
-      (standing-all (same_methods ws text) (fixed_of ws text abi labels abis) (staying_of ws text abi labels abis P) p) 0 (minimum_size abi abis))
-      (following-all (same_methods ws text) (fixed_of ws text abi labels abis) (staying_of ws text abi labels abis P) p)
+      (list_all (standing (methods_same same) (staying_of same abi abis P) P)
+      (standing-all (methods_same same) (fixed_of same abi abis) (staying_of same abi abis P) p) 0 (minimum_size abi abis))
+      (following-all (methods_same same) (fixed_of same abi abis) (staying_of same abi abis P) p)
 
   pub extended-all : (abis : List ℕ) {P : List Entry} → All S P → All S (extended abi abis P)
   unfolding extended
   extended-all abis {P} p = all_append p (all-blank blank (minimum_size abi abis - length P))
 
   pub adds-all : (abis ms : List ℕ) → ((m : ℕ) → Memᴰ m ms → S (method_entry ws m)) → (T U : List Entry)
-      → add_methods ws text abi labels abis ms T ≡ built U → All S T → All S U
-  adds-all = adds ws text abi labels S (All S) (λ e i T s a. all_set e i s a) (λ e T s a. all_append a (more s none))
+      → add_methods same ws text abi abis ms T ≡ built U → All S T → All S U
+  adds-all = adds same ws text abi S (All S) (λ e i T s a. all_set e i s a) (λ e T s a. all_append a (more s none))
 
   -- kind 3
   pub packages-all : (introduced : ℕ → Option ℕ) (c : ℕ) → ((m : ℕ) → Memᴰ m (own_methods ws c) → S (method_entry ws m)) → {P : List Entry} → All S P
-      → All S (packages_over (same_methods ws text) ws text introduced c P)
+      → All S (packages_over (methods_same same) ws text introduced c P)
   packages-all introduced c h {P} p =
-      packages ws text abi labels S (All S) (λ e i T s a. all_set e i s a) (λ e T s a. all_append a (more s none)) introduced c h P p
+      packages same ws text abi S (All S) (λ e i T s a. all_set e i s a) (λ e T s a. all_append a (more s none)) introduced c h P p
 
   pub interface-all : (ms : List ℕ) → ((m : ℕ) → Memᴰ m ms → S (method_entry ws m)) → All S (method_entries ws ms)
   unfolding method_entries
@@ -180,13 +180,13 @@ module _ (ws text abi labels : List ℕ) (S : Entry → Type 0) (blank : S empty
 
   -- the native view, and what a compiler table makes of it
 
-  view-all : (abis : List ℕ) (i : ℕ) {P : List Entry} → All S P → All S (view_from ws text abi labels abis i P)
+  view-all : (abis : List ℕ) (i : ℕ) {P : List Entry} → All S P → All S (view_from same ws abi abis i P)
   unfolding view_from
   view-all abis i none = none
   view-all abis i (more {e} s p) =
-      by (is_emptied ws text abi labels abis i e) (λ t. rw t (more blank (view-all abis (i + 1) p))) (λ t. rw t (more s (view-all abis (i + 1) p)))
+      by (is_emptied same ws abi abis i e) (λ t. rw t (more blank (view-all abis (i + 1) p))) (λ t. rw t (more s (view-all abis (i + 1) p)))
 
-  module _ (new : List New) where
+  module _ (new : List Taken) where
     entries-all : (c i : ℕ) {view : List Entry} (ts : List ℕ)
         → ((t : ℕ) → Memᴰ t ts → t ≢ 0 → S (record { word = t; method = match_target ws new c view t; source = None }))
         → All S view → All S (compiler_entries ws new c view i ts)
@@ -198,26 +198,26 @@ module _ (ws text abi labels : List ℕ) (S : Entry → Type 0) (blank : S empty
         (λ z. rw z (more (h t (mathlib.Core.List.Memᴰ.head refl) (eqb-false t 0 z)) (entries-all c (i + 1) ts (λ u k. h u (mathlib.Core.List.Memᴰ.tail k)) v)))
 
     append-one : (source : Option ℕ) {T : List Entry} (m : ℕ) → S (record { word = target_of ws new m; method = Some m; source = source }) → All S T
-        → All S (append_from ws text new source T m)
+        → All S (append_from same ws text new source T m)
     unfolding append_from
     append-one source {T} m s a =
-        by (is_eligible (flags_of ws new m) (name_of ws text new m) && not (has_slot ws text new m T)) (λ t. rw t (all_append a (more s none)))
+        by (is_eligible (flags_of ws new m) (name_of ws text new m) && not (has_slot same new m T)) (λ t. rw t (all_append a (more s none)))
         (λ t. rw t a)
 
     append-known : (f source : Option ℕ) {T : List Entry} → ((m : ℕ) → f ≡ Some m → S (record { word = target_of ws new m; method = Some m; source = source }))
-        → All S T → All S (on_found f (append_from ws text new source T) T)
+        → All S T → All S (on_found f (append_from same ws text new source T) T)
     append-known (Some m) source s a = append-one source m (s m refl) a
     append-known None source s a = a
 
 -- ---- the parent's entries: read with their own index, and their methods are of the sheet
 
-module _ (ws text abi labels : List ℕ) where
+module _ (same : Same) (ws text abi labels : List ℕ) where
   module _ (area : List ℕ) (c : ℕ) where
     abbrev P : List Entry
-    P = parent_entries ws text abi labels area c
+    P = parent_entries same ws text abi labels area c
 
-    abbrev new : List New
-    new = generated_methods ws text abi labels area c
+    abbrev new : List Taken
+    new = generated_methods same ws text abi labels area c
 
     record Parent (e : Entry) : Type 0 where
       index : ℕ
@@ -233,11 +233,11 @@ module _ (ws text abi labels : List ℕ) where
         (λ t.
         let p : ℕ = parent_of ws c in
         let n : ℕ = min (class_slot_count ws p) 1024 in
-        let f : ℕ → Entry = λ i. read_entry ws text abi labels p i (get_or area (class_table_place ws p + 1 + i) 0) in
+        let f : ℕ → Entry = λ i. read_entry same ws text abi labels p i (get_or area (class_table_place ws p + 1 + i) 0) in
         let l = length-list-from f 0 n in
         let q : get_or (list_from f 0 n) j empty ≡ f (0 + j) = get_d_list_from f 0 n j empty (omega (arith, rw t at h)) in
         let z : 0 + j ≡ j = omega arith in
-        rw (t, q, z) (unfold read_entry in refl, λ m e. entry-room ws text abi labels p j _ m e))
+        rw (t, q, z) (unfold read_entry in refl, λ m e. entry-room same ws text abi labels p j _ m e))
 
     parents : All Parent P
     parents =
@@ -262,38 +262,39 @@ module _ (ws text abi labels : List ℕ) where
 
     -- ---- kind by kind
 
-    inherited : All Here (inherited_table ws text abi labels area c)
+    inherited : All Here (inherited_table same ws text abi labels area c)
     unfolding inherited_table
     inherited =
         by-found (class_abi ws text abi labels c)
-        (λ a e. rw e (relayed-all ws text abi labels Here blank (chain_abi ws text abi labels c) copies))
-        (λ e. rw e (extended-all ws text abi labels Here blank (chain_abi ws text abi labels c) copies))
+        (λ a e. rw e (relayed-all same ws text abi Here blank (chain_abi ws text abi labels c) copies))
+        (λ e. rw e (extended-all same ws text abi Here blank (chain_abi ws text abi labels c) copies))
 
-    methods-built : (T : List Entry) → build_methods ws text abi labels area c ≡ built T → All Here T
+    methods-built : (T : List Entry) → build_methods same ws text abi labels area c ≡ built T → All Here T
     unfolding build_methods
     methods-built T e =
-        adds-all ws text abi labels Here blank (chain_abi ws text abi labels c) (own_methods ws c) own (inherited_table ws text abi labels area c) T e inherited
+        adds-all same ws text abi Here blank (chain_abi ws text abi labels c) (own_methods ws c) own
+        (inherited_table same ws text abi labels area c) T e inherited
 
-    packages-built : All Here (build_packages (same_methods ws text) ws text abi labels area c)
+    packages-built : All Here (build_packages same ws text abi labels area c)
     unfolding build_packages
     packages-built =
         by (ltb class_limit c) (λ t. rw t none)
-        (λ t. rw t (packages-all ws text abi labels Here blank (introducing ws text abi labels area (parent_of ws c)) c own copies))
+        (λ t. rw t (packages-all same ws text abi Here blank (introducing same ws text abi labels area (parent_of ws c)) c own copies))
 
     interface-built : All Here (build_interface_methods ws text c)
     unfolding build_interface_methods
     interface-built =
-        interface-all ws text abi labels Here blank (keep (eligible ws text) (own_methods ws c))
+        interface-all same ws text abi Here blank (keep (eligible ws text) (own_methods ws c))
         (λ m i. own m (keep-member (eligible ws text) (own_methods ws c) m i))
 
     -- a declared method has its own target, an added one that of its slot
-    target-of : (xs : List New) (m : ℕ) → m < method_limit → target_of ws xs m ≡ method_target ws m
+    target-of : (xs : List Taken) (m : ℕ) → m < method_limit → target_of ws xs m ≡ method_target ws m
     unfolding target_of
     target-of xs m h = rw (lt-ltb m method_limit h)
 
-    module _ (h : HasCompiler ws c) (g : new ≡ added_methods ws text abi labels area c) where
-      abbrev xs : List New
-      xs = added_methods ws text abi labels area c
+    module _ (h : HasCompiler ws c) (g : new ≡ added_methods same ws text abi labels area c) where
+      abbrev xs : List Taken
+      xs = added_methods same ws text abi labels area c
 
       class-method : (m : ℕ) → Memᴰ m (class_methods ws xs c) → Here (record { word = target_of ws xs m; method = Some m; source = None })
       unfolding class_methods
@@ -310,17 +311,17 @@ module _ (ws text abi labels : List ℕ) where
           rw (target-of xs m (p.small m q), p.source)
           (appended p.index m p.below (ap (λ (x : Entry). x.method) (sym p.is) ∙ q) refl)
 
-      compiler-built : All Here (compiler_table ws text abi labels area c)
+      compiler-built : All Here (compiler_table same ws text abi labels area c)
       unfolding compiler_table native_view append_entry
       compiler-built =
-          all-over (append_entry ws text xs) (λ T e p a. append-known ws text abi labels Here blank xs e.method e.source (parent-method e p) a) parents
-          (fold-keeps (All Here) (append_from ws text xs None) (class_methods ws xs c)
-          (λ T m i a. append-one ws text abi labels Here blank xs None m (class-method m i) a)
-          (compiler_entries ws xs c (native_view ws text abi labels area c) 0 (compiler_targets ws c))
-          (entries-all ws text abi labels Here blank xs c 0 (compiler_targets ws c) (λ t i n. compiled h i n refl)
-          (view-all ws text abi labels Here blank (chain_abi ws text abi labels (parent_of ws c)) 0 copies)))
+          all-over (append_entry same ws text xs) (λ T e p a. append-known same ws text abi Here blank xs e.method e.source (parent-method e p) a) parents
+          (fold-keeps (All Here) (append_from same ws text xs None) (class_methods ws xs c)
+          (λ T m i a. append-one same ws text abi Here blank xs None m (class-method m i) a)
+          (compiler_entries ws xs c (native_view same ws text abi labels area c) 0 (compiler_targets ws c))
+          (entries-all same ws text abi Here blank xs c 0 (compiler_targets ws c) (λ t i n. compiled h i n refl)
+          (view-all same ws text abi Here blank (chain_abi ws text abi labels (parent_of ws c)) 0 copies)))
 
-    built-built : (T : List Entry) → built_table ws text abi labels area c ≡ built T → All Here T
+    built-built : (T : List Entry) → built_table same ws text abi labels area c ≡ built T → All Here T
     unfolding built_table
     built-built T e =
         by (is_packaged ws c) (λ t. subst (All Here) (built-same (rw t at e)) packages-built)
@@ -328,13 +329,13 @@ module _ (ws text abi labels : List ℕ) where
         let r = rw t at e in
         by (is_interface (class_flags ws c)) (λ u. subst (All Here) (built-same (rw u at r)) interface-built) (λ u. methods-built T (rw u at r)))
 
-    generated-built : is_generated ws c ≡ true → (T : List Entry) → generated_table ws text abi labels area c ≡ built T → All Here T
+    generated-built : is_generated ws c ≡ true → (T : List Entry) → generated_table same ws text abi labels area c ≡ built T → All Here T
     unfolding generated_table generated_methods
     generated-built g T e =
         by (eqb (class_compiler_table ws c) 0) (λ t. methods-built T (rw t at e))
         (λ t. subst (All Here) (built-same (rw t at e)) (compiler-built (record { generated = g; table = eqb-false _ _ t }) (rw t)))
 
-    pub table-built : (T : List Entry) → table_by ws text abi labels area c ≡ built T → All Here T
+    pub table-built : (T : List Entry) → table_by same ws text abi labels area c ≡ built T → All Here T
     unfolding table_by
     table-built T e =
         by (is_built_kind (class_kind ws c)) (λ t. built-built T (rw t at e))

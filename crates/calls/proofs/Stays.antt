@@ -16,13 +16,15 @@ use Rattle.abi_sheet.specs.AbiSheet.{abi_text_length, abi_text_words, abi_text_o
 use Rattle.set_rules.specs.SetRules.{set_refusal}
 use Rattle.set_rules.specs.Valid.{IsClass, ValidClass, MethodFlags, Valid, ValidAbi}
 use Rattle.set_rules.proofs.Valid.{valid, accepted}
-use Rattle.linking.specs.Compiler.{New, no_new}
+use Rattle.linking.specs.Signature.{Same, by_sheets}
+use Rattle.linking.specs.Compiler.{New, no_new, members}
 use Rattle.linking.specs.Set.{new_text, section_full}
 use Rattle.linking.specs.Vtable.{build_methods}
 use Rattle.linking.specs.Link.{next_free, Plan, is_none, built_table, plan_built, generated_table, plan_generated, plan, plan_with, lists_full, new_words, new_statics, linked_words, LinkOutcome, link_def}
 use Rattle.linking.specs.Grown.{bytes_of, linked_sections, methods_growing, fields_growing, new_members, row_indices}
 use Rattle.linking.proofs.Grown.{length-bytes, length-row-indices}
 use Rattle.linking.proofs.Appended.{text-back, word_kept, first-is, count_is, length-all, name-front}
+use Rattle.linking.proofs.Taken.{no_members}
 use Rattle.linking.proofs.Added.{none-new}
 use Rattle.linking.proofs.Packed.{text-bytes}
 use Rattle.linking.proofs.PlansWith.{PlansWith, plans_with}
@@ -49,7 +51,7 @@ record Counts (s g : Sections) : Type 0 where
 
 -- a plan, whatever table `build_methods` made for it
 module _ (ws abi : List ℕ) (c : ℕ) (area : List ℕ) (accepts : set_refusal ws abi ≡ 0) (class : ClassOk ws c) (p : Plan)
-    (plan : PlansWith ws (text_of ws) abi (abi_text_of abi) area c p) (lists : lists_full ws c p ≡ false) where
+    (plan : PlansWith (by_sheets ws abi) ws (text_of ws) abi (abi_text_of abi) area c p) (lists : lists_full ws c p ≡ false) where
   abbrev s : Sections
   s = sections_of ws
 
@@ -95,7 +97,7 @@ module _ (ws abi : List ℕ) (c : ℕ) (area : List ℕ) (accepts : set_refusal 
   list-fields : row_word s.classes (c - 1) first_field_word + row_word s.classes (c - 1) field_count_word ≤ length s.fields
   list-fields = omega (arith, vc.fields, own-word first_field_word (omega arith), own-word field_count_word (omega arith), (lies-of ws fit).fields)
 
-  method-bytes : AreBytes (new_text p.new_methods)
+  method-bytes : AreBytes (new_text (members p.added))
   method-bytes = plan.method-bytes (text-bytes (text_words ws) (text_length ws)) (text-bytes (abi_text_words abi) (abi_text_length abi))
 
   field-bytes : AreBytes (new_text p.new_fields)
@@ -110,9 +112,12 @@ module _ (ws abi : List ℕ) (c : ℕ) (area : List ℕ) (accepts : set_refusal 
 
   -- ---- what is added is fine
 
-  methods_added : (j : ℕ) → j < length p.new_methods → FineMethod ws abi v w (get_or p.new_methods j no_new)
+  methods_added : (j : ℕ) → j < length (members p.added) → FineMethod ws abi v w (get_or (members p.added) j no_new)
   methods_added =
-      elim plan.methods [ inl e ↦ rw e (none-new (FineMethod ws abi v w)) | inr e ↦ rw e (fine_methods ws abi v w area c in_set) ]
+      elim plan.methods [
+        | inl e ↦ rw (e, no_members) (none-new (FineMethod ws abi v w))
+        | inr e ↦ rw e (fine_methods ws abi v w (by_sheets ws abi) area c in_set)
+      ]
 
   new-fields : (j : ℕ) → j < length p.new_fields → FineField ws abi v w (get_or p.new_fields j no_new)
   new-fields = elim plan.fields [ inl e ↦ rw e (none-new (FineField ws abi v w)) | inr e ↦ rw e (fine_added ws abi v w c) ]
@@ -158,9 +163,9 @@ module _ (ws abi : List ℕ) (c : ℕ) (area : List ℕ) (accepts : set_refusal 
   rows-methods =
       by (is_none p.new_fields)
       (λ t.
-      by (is_none p.new_methods) (λ u. rw (t, u) old-methods)
+      by (is_none (members p.added)) (λ u. rw (t, u) old-methods)
       (λ u.
-      let M : List New = p.new_methods in
+      let M : List New = members p.added in
       let copy : List (List ℕ) = take (row_word s.classes (c - 1) method_count_word) (drop (row_word s.classes (c - 1) first_method_word) s.methods) in
       rw (t, u, text-back s M method-bytes, first-method, own-methods)
       (rows_append ValidDescriptor MethodFlags (bytes_of s ++ new_text M) s.methods (copy ++ new_members s.bytes M)
@@ -184,10 +189,10 @@ module _ (ws abi : List ℕ) (c : ℕ) (area : List ℕ) (accepts : set_refusal 
       rows_indexed D W (bytes_of s) s.fields (row_word s.classes (c - 1) first_field_word) p.indices old-fields in
       by (is_none p.new_fields)
       (λ t.
-      by (is_none p.new_methods) (λ u. rw (t, u) numbered)
+      by (is_none (members p.added)) (λ u. rw (t, u) numbered)
       (λ u.
-      rw (t, u, text-back s p.new_methods method-bytes)
-      (rows_more D W (bytes_of s) (new_text p.new_methods) (row_indices (row_word s.classes (c - 1) first_field_word) p.indices s.fields) numbered)))
+      rw (t, u, text-back s (members p.added) method-bytes)
+      (rows_more D W (bytes_of s) (new_text (members p.added)) (row_indices (row_word s.classes (c - 1) first_field_word) p.indices s.fields) numbered)))
       (λ t.
       let F : List New = p.new_fields in
       let part : List (List ℕ) = take (row_word s.classes (c - 1) field_count_word) (drop (row_word s.classes (c - 1) first_field_word) s.fields) in
@@ -225,13 +230,13 @@ module _ (ws abi : List ℕ) (c : ℕ) (area : List ℕ) (accepts : set_refusal 
       (omega (arith, vc.words_of_instance, own-word instance_words_word (omega arith))) in
       by (is_none p.new_fields)
       (λ t.
-      by (is_none p.new_methods) (λ u. rw (t, u) h)
+      by (is_none (members p.added)) (λ u. rw (t, u) h)
       (λ u.
       rw (t, u)
       (omega (
         arith,
         h,
-        word_kept n.classes c first_method_word method_count_word (length s.methods) (row_word n.classes (c - 1) method_count_word + length p.new_methods)
+        word_kept n.classes c first_method_word method_count_word (length s.methods) (row_word n.classes (c - 1) method_count_word + length (members p.added))
             instance_words_word (omega arith) (omega arith),
       ))))
       (λ t.
@@ -263,14 +268,14 @@ module _ (ws abi : List ℕ) (c : ℕ) (area : List ℕ) (accepts : set_refusal 
       let e₆ = own-methods in
       by (is_none p.new_fields)
       (λ t.
-      by (is_none p.new_methods) (λ u. rw (t, u) (inl (e₅, e₆)))
+      by (is_none (members p.added)) (λ u. rw (t, u) (inl (e₅, e₆)))
       (λ u.
       let own : ℕ = row_word n.classes (c - 1) method_count_word in
       let first : ℕ = row_word n.classes (c - 1) first_method_word in
-      let count : ℕ = own + length p.new_methods in
+      let count : ℕ = own + length (members p.added) in
       let f = first-is n.classes c first_method_word method_count_word (length s.methods) count class_width rows-n among-n (omega arith) (omega arith) in
       let k = count_is n.classes c first_method_word method_count_word (length s.methods) count class_width rows-n among-n (omega arith) in
-      let l = length-all s.methods (take own (drop first s.methods)) s.bytes p.new_methods own
+      let l = length-all s.methods (take own (drop first s.methods)) s.bytes (members p.added) own
       (length_part s.methods first own (omega (arith, list-methods))) in
       rw (t, u) (inr (f, omega arith))))
       (λ t.
@@ -289,9 +294,9 @@ module _ (ws abi : List ℕ) (c : ℕ) (area : List ℕ) (accepts : set_refusal 
       let e₈ = own-fields in
       by (is_none p.new_fields)
       (λ t.
-      by (is_none p.new_methods) (λ u. rw (t, u) (inl (e₇, e₈)))
+      by (is_none (members p.added)) (λ u. rw (t, u) (inl (e₇, e₈)))
       (λ u.
-      let count : ℕ = row_word n.classes (c - 1) method_count_word + length p.new_methods in
+      let count : ℕ = row_word n.classes (c - 1) method_count_word + length (members p.added) in
       rw (t, u)
       (inl (
         word_kept n.classes c first_method_word method_count_word (length s.methods) count first_field_word (omega arith) (omega arith) ∙ e₇,
@@ -309,11 +314,11 @@ module _ (ws abi : List ℕ) (c : ℕ) (area : List ℕ) (accepts : set_refusal 
 
   -- ---- how much there is: row 14
 
-  full : (not (is_none p.new_methods) && section_full ws (method_count ws) (class_method_count ws c) p.new_methods ≡ false)
+  full : (not (is_none (members p.added)) && section_full ws (method_count ws) (class_method_count ws c) (members p.added) ≡ false)
       × (not (is_none p.new_fields) && section_full ws (field_count ws) (class_field_count ws c) p.new_fields ≡ false)
   unfolding lists_full
   full =
-      or-neither (not (is_none p.new_methods) && section_full ws (method_count ws) (class_method_count ws c) p.new_methods)
+      or-neither (not (is_none (members p.added)) && section_full ws (method_count ws) (class_method_count ws c) (members p.added))
       (not (is_none p.new_fields) && section_full ws (field_count ws) (class_field_count ws c) p.new_fields) lists
 
   room : (count own : ℕ) (new : List New) → section_full ws count own new ≡ false
@@ -339,14 +344,14 @@ module _ (ws abi : List ℕ) (c : ℕ) (area : List ℕ) (accepts : set_refusal 
       let i = length-row-indices (row_word s.classes (c - 1) first_field_word) p.indices s.fields in
       by (is_none p.new_fields)
       (λ t.
-      by (is_none p.new_methods)
+      by (is_none (members p.added))
       (λ u. rw (t, u) (record { methods = omega arith; fields = omega arith; more-fields = omega arith; bytes = omega arith }))
       (λ u.
       let own : ℕ = row_word n.classes (c - 1) method_count_word in
       let first : ℕ = row_word n.classes (c - 1) first_method_word in
-      let l = length-all s.methods (take own (drop first s.methods)) s.bytes p.new_methods own
+      let l = length-all s.methods (take own (drop first s.methods)) s.bytes (members p.added) own
       (length_part s.methods first own (omega (arith, list-methods))) in
-      let r = room (method_count ws) (class_method_count ws c) p.new_methods (rw u at full.0) in
+      let r = room (method_count ws) (class_method_count ws c) (members p.added) (rw u at full.0) in
       rw (t, u) (record { methods = omega arith; fields = omega arith; more-fields = omega arith; bytes = omega arith })))
       (λ t.
       let own : ℕ = row_word n.classes (c - 1) field_count_word in
@@ -575,18 +580,19 @@ module _ (ws abi : List ℕ) (c : ℕ) (area : List ℕ) (accepts : set_refusal 
       (accepted N abi stands w)
 
 -- the linker's is one
-pub plan-is : (ws text abi labels area : List ℕ) (c : ℕ)
-    → plan ws text abi labels area c ≡ plan_with ws text abi labels area (build_methods ws text abi labels area c) c
+pub plan-is : (same : Same) (ws text abi labels area : List ℕ) (c : ℕ)
+    → plan same ws text abi labels area c ≡ plan_with same ws text abi labels area (build_methods same ws text abi labels area c) c
 unfolding plan plan_with plan_built built_table plan_generated generated_table
-plan-is ws text abi labels area c = refl
+plan-is same ws text abi labels area c = refl
 
 link-stands : (ws abi : List ℕ) (c : ℕ) (area stubs missing : List ℕ) (o : LinkOutcome) → Accepted ws abi c area stubs missing o
     → set_refusal o.outcome.set abi ≡ 0
 link-stands ws abi c area stubs missing o a =
     rw a.new-set
     (plan-stands ws abi c area a.valid a.class a.coming
-    (plans_with ws (text_of ws) abi (abi_text_of abi) area c (build_methods ws (text_of ws) abi (abi_text_of abi) area c) a.coming
-    (sym (plan-is ws (text_of ws) abi (abi_text_of abi) area c) ∙ a.comes)) a.lists)
+    (plans_with (by_sheets ws abi) ws (text_of ws) abi (abi_text_of abi) area c
+    (build_methods (by_sheets ws abi) ws (text_of ws) abi (abi_text_of abi) area c) a.coming
+    (sym (plan-is (by_sheets ws abi) ws (text_of ws) abi (abi_text_of abi) area c) ∙ a.comes)) a.lists)
 
 -- ---- THE THEOREM
 

@@ -14,6 +14,7 @@ use Rattle.class_sheet.specs.ClassSheet.{class_count, text_length, text_words, t
 use Rattle.abi_sheet.specs.AbiSheet.{abi_text_length, abi_text_words, abi_text_of}
 use Rattle.set_rules.specs.Valid.{Valid}
 use Rattle.set_rules.proofs.Valid.{valid}
+use Rattle.linking.specs.Signature.{by_sheets}
 use Rattle.linking.proofs.ChainLaws.{parent_below, parent-within, chain-none}
 use Rattle.linking.specs.Chain.{parent_of, chain}
 use Rattle.linking.specs.Vtable.{Entry, slot_words}
@@ -119,8 +120,8 @@ module _ (abi : List ℕ) (s : State) (c : ℕ) (stubs : List ℕ) (o : LinkOutc
   pub valid-now : Valid s.set
   valid-now = (valid s.set abi acc.valid).0
 
-  pub planning : Plans s.set (text_of s.set) abi (abi_text_of abi) s.area c acc.coming
-  planning = plans s.set (text_of s.set) abi (abi_text_of abi) s.area c acc.coming acc.comes
+  pub planning : Plans (by_sheets s.set abi) s.set (text_of s.set) abi (abi_text_of abi) s.area c acc.coming
+  planning = plans (by_sheets s.set abi) s.set (text_of s.set) abi (abi_text_of abi) s.area c acc.coming acc.comes
 
   pub leaves : Leaves s.set o.outcome.set c (next_free s.area) (length T)
   leaves =

@@ -1,6 +1,6 @@
 -- The table of a class of kind 3 (specs/Takes.antt): of one method what it does to each slot, then of all of them in turn; and the slots that the
 -- walk gives a method are those whose introducing method it overrides. Assumes nothing.
-use Rattle.std.proofs.Common.{◌≡◌, refl, sym, ap, ◌∙◌, ◌⊎◌, inl, inr, ⊎_elim, true, false, true≢false, List, [], ◌∷◌, ◌++◌, append_assoc, append-nil, ℕ, zero, suc, ◌+◌, ◌≤◌, ◌<◌, arith, length, set, drop, length-append, drop-set-lt, Option}
+use Rattle.std.proofs.Common.{◌≡◌, refl, sym, ap, ◌∙◌, ◌⊎◌, inl, inr, ⊎_elim, Bool, true, false, true≢false, List, [], ◌∷◌, ◌++◌, append_assoc, append-nil, ℕ, zero, suc, ◌+◌, ◌≤◌, ◌<◌, arith, length, set, drop, length-append, drop-set-lt, Option}
 use mathlib.Core.List.Memᴰ
 use mathlib.Core.List.{Memᴰ}
 use Rattle.words.specs.Lists.{list_from, numbers, fold}
@@ -9,7 +9,8 @@ use Rattle.words.proofs.ListLaws.{numbers-within}
 use Rattle.class_sheet.specs.ClassSheet.{class_limit, text_of, class_kind, class_first_method, class_method_count, method_limit}
 use Rattle.abi_sheet.specs.AbiSheet.{abi_text_of}
 use Rattle.set_rules.proofs.Valid.{valid}
-use Rattle.linking.specs.Chain.{list_count, own_methods, parent_of, eligible, same_methods}
+use Rattle.linking.specs.Signature.{Same, methods_same, by_sheets}
+use Rattle.linking.specs.Chain.{list_count, own_methods, parent_of, eligible}
 use Rattle.linking.specs.Vtable.{Entry, method_entry, method_entries}
 use Rattle.linking.specs.Packages.{overridden, introducing, taken_slots, put_taken, take_slots, packages_over, build_packages}
 use Rattle.linking.specs.Link.{link_def}
@@ -54,15 +55,15 @@ picked-by (x ∷ xs) f g (skip n r) =
 
 -- ---- by the walk
 
-module _ (ws text abi labels : List ℕ) (c : ℕ) (introduced : ℕ → Option ℕ) (P : List Entry) where
+module _ (alike : ℕ → ℕ → Bool) (ws text : List ℕ) (c : ℕ) (introduced : ℕ → Option ℕ) (P : List Entry) where
   abbrev entry : ℕ → Entry
   entry m = method_entry ws m
 
   abbrev slots : ℕ → List ℕ
-  slots m = taken_slots introduced (overridden (same_methods ws text) ws text c m) (length P)
+  slots m = taken_slots introduced (overridden alike ws text c m) (length P)
 
   abbrev takes : List Entry → ℕ → List Entry
-  takes = take_slots (same_methods ws text) ws text introduced (length P) c
+  takes = take_slots alike ws text introduced (length P) c
 
   record Taker (m i : ℕ) : Type 0 where
     it_is_eligible : eligible ws text m ≡ true
@@ -73,7 +74,7 @@ module _ (ws text abi labels : List ℕ) (c : ℕ) (introduced : ℕ → Option 
     takes_none : (i : ℕ) → Taker m i → ⊥
 
   slot-below : (m j : ℕ) → Memᴰ j (slots m) → j < length P
-  slot-below m j k = (taken_of introduced (overridden (same_methods ws text) ws text c m) (length P) j k).below
+  slot-below m j k = (taken_of introduced (overridden alike ws text c m) (length P) j k).below
 
   -- one method
 
@@ -202,19 +203,25 @@ module _ (ws abi area : List ℕ) (c : ℕ) (some : 0 < c) (room : c ≤ class_l
   abbrev labels : List ℕ
   labels = abi_text_of abi
 
+  abbrev same : Same
+  same = by_sheets ws abi
+
+  abbrev alike : ℕ → ℕ → Bool
+  alike = methods_same same
+
   abbrev first : ℕ → Option ℕ
-  first = introducing ws text abi labels area (parent_of ws c)
+  first = introducing same ws text abi labels area (parent_of ws c)
 
   abbrev inherited : List Entry
   inherited = spec.inherited ws abi area c
 
   abbrev ByWalk : ℕ → ℕ → Type 0
-  ByWalk = Taker ws text abi labels c first inherited
+  ByWalk = Taker alike ws text c first inherited
 
   by_section : (m i : ℕ) → Memᴰ m (own_methods ws c) → ByWalk m i → TakesSlot ws abi area c m i
   by_section m i own t =
-      let k = taken_of first (overridden (same_methods ws text) ws text c m) (length inherited) i t.slot in
-      let o = overridden-overrides ws text c m k.method own k.among in
+      let k = taken_of first (overridden alike ws text c m) (length inherited) i t.slot in
+      let o = overridden-overrides ws text abi labels c m k.method own k.among in
       record {
         own = own;
         it_is_eligible = t.it_is_eligible;
@@ -228,17 +235,17 @@ module _ (ws abi area : List ℕ) (c : ℕ) (some : 0 < c) (room : c ≤ class_l
   by-walk : (m i : ℕ) → TakesSlot ws abi area c m i → ByWalk m i
   by-walk m i t = record {
     it_is_eligible = t.it_is_eligible;
-    slot = taken_in_lem first (overridden (same_methods ws text) ws text c m) (length inherited) i
+    slot = taken_in_lem first (overridden alike ws text c m) (length inherited) i
         (record {
           below = t.slot;
           method = t.introducer;
           introduces = t.introduced;
-          among = overrides-overridden ws text c m some t.overrides;
+          among = overrides-overridden ws text abi labels c m some t.overrides;
         });
   }
 
   stands : (T : List Entry) (a k i : ℕ) → own_methods ws c ≡ numbers a k
-      → Either ws text abi labels c first inherited a k i (at T i) (at inherited i) → Stands ws abi area c T i
+      → Either alike ws text c first inherited a k i (at T i) (at inherited i) → Stands ws abi area c T i
   stands T a k i e (inl w) =
       taken w.winner (by_section w.winner i (rw e w.among) w.taker)
       (λ n t. w.last n (rw e at t.own) (by-walk n i t)) w.is
@@ -249,11 +256,11 @@ module _ (ws abi area : List ℕ) (c : ℕ) (some : 0 < c) (room : c ≤ class_l
   own-numbers = refl
 
   abbrev build : List Entry
-  build = build_packages (same_methods ws text) ws text abi labels area c
+  build = build_packages same ws text abi labels area c
 
-  build-is : build ≡ fold (take_slots (same_methods ws text) ws text first (length inherited) c) inherited (own_methods ws c)
+  build-is : build ≡ fold (take_slots alike ws text first (length inherited) c) inherited (own_methods ws c)
   unfolding packages_over
-  build-is = packages-within (same_methods ws text) ws text abi labels area c room
+  build-is = packages-within same ws text abi labels area c room
 
   abbrev first-own : ℕ
   first-own = class_first_method ws c
@@ -262,17 +269,17 @@ module _ (ws abi area : List ℕ) (c : ℕ) (some : 0 < c) (room : c ≤ class_l
   own-count = list_count (class_first_method ws c) (class_method_count ws c) method_limit
 
   abbrev all : List ℕ → List Entry
-  all ms = fold (take_slots (same_methods ws text) ws text first (length inherited) c) inherited ms
+  all ms = fold (take_slots alike ws text first (length inherited) c) inherited ms
 
   table-takes : (T : List Entry) → build ≡ T → Takes ws abi area c T
   table-takes T e =
       let f : all (own_methods ws c) ≡ T = sym build-is ∙ e in
       let g : all (numbers first-own own-count) ≡ T = ap all (sym own-numbers) ∙ f in
-      let a = rw f at (all_new ws text abi labels c first inherited (own_methods ws c) inherited (omega arith)) in
+      let a = rw f at (all_new alike ws text c first inherited (own_methods ws c) inherited (omega arith)) in
       record {
         stands = λ i h.
             stands T first-own own-count i own-numbers
-            (rw g at (all-at ws text abi labels c first inherited own-count first-own inherited i h (omega arith)));
+            (rw g at (all-at alike ws text c first inherited own-count first-own inherited i h (omega arith)));
         new = a.new;
         methods_added = picked-by (own_methods ws c)
             (λ m own n. record { it_is_eligible = n.it_is_eligible; takes_none = λ i t. n.takes_none i (by-walk m i t) })
@@ -290,7 +297,7 @@ accepted-takes : (ws abi : List ℕ) (c : ℕ) (area stubs missing : List ℕ) �
 accepted-takes ws abi c area stubs missing kind a = record {
   table = a.coming.table;
   takes = table-takes ws abi area c a.class.some (omega (arith, a.class.among, (valid ws abi a.valid).0.number_of_classes)) a.coming.table
-      ((plans ws (text_of ws) abi (abi_text_of abi) area c a.coming a.comes).packaged kind);
+      ((plans (by_sheets ws abi) ws (text_of ws) abi (abi_text_of abi) area c a.coming a.comes).packaged kind);
   answered = a.answers-slots;
   written = a.new-area;
 }

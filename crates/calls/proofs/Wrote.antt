@@ -15,9 +15,11 @@ use Rattle.abi_sheet.specs.AbiSheet.{abi_text_length, abi_text_words, abi_text_o
 use Rattle.set_rules.specs.SetRules.{set_refusal}
 use Rattle.set_rules.specs.Valid.{IsClass, Valid}
 use Rattle.set_rules.proofs.Valid.{valid}
+use Rattle.linking.specs.Signature.{by_sheets}
 use Rattle.linking.specs.Chain.{list_count, own_fields, parent_of}
 use Rattle.words.proofs.ListLaws.{length-list-from}
 use Rattle.linking.specs.Vtable.{Built}
+use Rattle.linking.specs.Compiler.{members}
 use Rattle.linking.specs.Set.{new_text}
 use Rattle.linking.specs.Packages.{bad_packages}
 use Rattle.linking.specs.Link.{HasTable, bad_class, next_free, bad_area, Plan, Planned, planned, unplanned, is_none, plan_with, new_words, new_statics, lists_full, set_short, no_room, linked_area, linked_words, Outcome, refused_call, finish_link, link_with}
@@ -34,6 +36,10 @@ use Rattle.calls.proofs.Linked.{Leaves, link_leaves}
 use Rattle.linking.specs.Counts.{missing_short}
 use Rattle.calls.proofs.BesideLink.{finished_by}
 use Rattle.calls.proofs.Beside.{SameField}
+
+-- the plan of a link of class c, where the table that `build_methods` makes is B
+abbrev pub plan_from : List ℕ → List ℕ → List ℕ → Built → ℕ → Planned
+plan_from ws abi area B c = plan_with (by_sheets ws abi) ws (text_of ws) abi (abi_text_of abi) area B c
 
 pub record Wrote (ws abi : List ℕ) (c : ℕ) (area stubs : List ℕ) (P : Planned) (o : Outcome) : Type 0 where
   pub valid : set_refusal ws abi ≡ 0
@@ -93,7 +99,7 @@ module _ (ws abi : List ℕ) (c : ℕ) (area stubs missing : List ℕ) where
 -- ---- what it leaves
 
 module _ (ws abi : List ℕ) (c : ℕ) (area stubs : List ℕ) (B : Built) (o : Outcome)
-    (w : Wrote ws abi c area stubs (plan_with ws (text_of ws) abi (abi_text_of abi) area B c) o) where
+    (w : Wrote ws abi c area stubs (plan_from ws abi area B c) o) where
   abbrev p : Plan
   p = w.coming
 
@@ -103,13 +109,13 @@ module _ (ws abi : List ℕ) (c : ℕ) (area stubs : List ℕ) (B : Built) (o : 
   ok : Valid ws
   ok = (valid ws abi w.valid).0
 
-  planning : PlansWith ws (text_of ws) abi (abi_text_of abi) area c p
-  planning = plans_with ws (text_of ws) abi (abi_text_of abi) area c B p w.comes
+  planning : PlansWith (by_sheets ws abi) ws (text_of ws) abi (abi_text_of abi) area c p
+  planning = plans_with (by_sheets ws abi) ws (text_of ws) abi (abi_text_of abi) area c B p w.comes
 
   inside : class_first_field ws c + length p.indices ≤ field_count ws
   inside = let v = (ok.class c here).fields in let i = planning.indices in omega arith
 
-  method-bytes : AreBytes (new_text p.new_methods)
+  method-bytes : AreBytes (new_text (members p.added))
   method-bytes = planning.method-bytes (text-bytes (text_words ws) (text_length ws)) (text-bytes (abi_text_words abi) (abi_text_length abi))
 
   field-bytes : AreBytes (new_text p.new_fields)
@@ -128,7 +134,7 @@ module _ (ws abi : List ℕ) (c : ℕ) (area stubs : List ℕ) (B : Built) (o : 
       method-bytes field-bytes)
 
   -- its own record
-  pub wrote_still : is_none p.new_methods ≡ true → (k : ℕ) → k < first_field_word → class_word o.set c k ≡ class_word ws c k
+  pub wrote_still : is_none (members p.added) ≡ true → (k : ℕ) → k < first_field_word → class_word o.set c k ≡ class_word ws c k
   wrote_still t k h =
       rw w.new-set
       (link-still ws c (next_free area) words statics p here.0 here.1 ok.fits (ok.class c here).methods (ok.class c here).fields inside method-bytes
@@ -159,9 +165,9 @@ module _ (ws abi : List ℕ) (c : ℕ) (area stubs : List ℕ) (B : Built) (o : 
       field-bytes n)
 
   -- its lists
-  pub wrote_added : is_none p.new_methods ≡ false → Added ws o.set c p.new_methods
+  pub wrote_added : is_none (members p.added) ≡ false → Added ws o.set c (members p.added)
   wrote_added t =
-      subst (λ (x : List ℕ). Added ws x c w.coming.new_methods) (sym w.new-set)
+      subst (λ (x : List ℕ). Added ws x c (members w.coming.added)) (sym w.new-set)
       (link-added ws c (next_free area) words statics p here.0 here.1 ok.fits (ok.class c here).methods (ok.class c here).fields inside method-bytes
       field-bytes (rw (planning.generated t).1 refl) t)
 

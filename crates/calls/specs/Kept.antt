@@ -4,6 +4,7 @@ use Rattle.std.specs.Prelude.{ℕ, ◌+◌, ◌≤◌, ◌<◌, ◌≡◌, ◌�
 use mathlib.Core.List.{List, [], ◌∷◌, ◌++◌, map, Memᴰ}
 use Rattle.class_sheet.specs.ClassSheet.{class_count, text_of, class_slot_count}
 use Rattle.abi_sheet.specs.AbiSheet.{abi_text_of}
+use Rattle.linking.specs.Signature.{by_sheets}
 use Rattle.linking.specs.Vtable.{Entry, Built, built, table_entries, slot_words}
 use Rattle.linking.specs.Link.{HasTable, next_free}
 use Rattle.linking.specs.Ask.{hit, missed, broken, walk, head_place, dispatch_entries}
@@ -61,7 +62,7 @@ pub record Once (abi : List ℕ) (classes : ℕ) (s : State) (c : ℕ) : Type 0 
 -- are then, or row 16's refusal
 abbrev pub built_afresh : List ℕ → State → ℕ → ℕ → Built
 built_afresh abi s c i =
-    dispatch_entries s.set (text_of s.set) c (table_entries s.set (text_of s.set) abi (abi_text_of abi) s.area i)
+    dispatch_entries (by_sheets s.set abi) s.set c (table_entries (by_sheets s.set abi) s.set (text_of s.set) abi (abi_text_of abi) s.area i)
 
 -- the table of the node at this place is the one that would be built afresh of class c for interface i with this stub list, "slot for slot". Of row 15
 -- the stub list is long enough; whether the area has room for another table is not asked.

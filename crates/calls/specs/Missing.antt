@@ -4,6 +4,7 @@
 use Rattle.std.specs.Prelude.{ℕ, ◌*◌, ◌≤◌, ◌<◌, ◌≡◌, ◌≢◌, ◌⊎◌, ◌↔◌, Bool, true, false, List, length, get_or, take, drop}
 use Rattle.class_sheet.specs.ClassSheet.{text_of, class_count, class_table_place, class_slot_count, method_target}
 use Rattle.abi_sheet.specs.AbiSheet.{abi_text_of}
+use Rattle.linking.specs.Signature.{by_sheets}
 use Rattle.linking.specs.Vtable.{Entry, empty, built}
 use Rattle.linking.specs.Counts.{missing_width, missing_at, missing_bit, missing_short, bit_count, pack_bits}
 use Rattle.linking.specs.Link.{HasTable, refused_call, link_def}
@@ -15,12 +16,12 @@ use Rattle.calls.specs.Unlisted.{link_unlisted}
 
 -- "counting by the same rule over the chain", of what the calls left, set and area alone
 abbrev pub bits_now : List ℕ → State → ℕ → List Bool
-bits_now abi s c = recounted s.set (text_of s.set) abi (abi_text_of abi) s.area c
+bits_now abi s c = recounted (by_sheets s.set abi) s.set (text_of s.set) abi (abi_text_of abi) s.area c
 
 -- class c's table built anew is the table that stands: slot by slot the area's word, or 0 (where it took a stub)
 pub record Rebuilt (abi : List ℕ) (s : State) (c : ℕ) : Type 0 where
   pub entries : List Entry
-  pub anew : table_by s.set (text_of s.set) abi (abi_text_of abi) s.area c ≡ built entries
+  pub anew : table_by (by_sheets s.set abi) s.set (text_of s.set) abi (abi_text_of abi) s.area c ≡ built entries
   pub many : length entries ≡ class_slot_count s.set c
   pub words : (i : ℕ) → i < length entries
       → ((get_or entries i empty).word ≡ 0)

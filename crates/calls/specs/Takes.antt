@@ -5,6 +5,7 @@ use Rattle.std.specs.Prelude.{ℕ, ◌+◌, ◌≤◌, ◌<◌, ◌≡◌, true,
 use mathlib.Core.List.{Memᴰ}
 use Rattle.class_sheet.specs.ClassSheet.{text_of, class_kind}
 use Rattle.abi_sheet.specs.AbiSheet.{abi_text_of}
+use Rattle.linking.specs.Signature.{by_sheets}
 use Rattle.linking.specs.Chain.{own_methods, parent_of, eligible}
 use Rattle.linking.specs.Vtable.{Entry, empty, parent_entries, method_entry, method_entries}
 use Rattle.linking.specs.Packages.{introducing, Overrides}
@@ -18,7 +19,7 @@ pub data Picked (P : ℕ → Type 0) : List ℕ → List ℕ → Type 0 where
 
 module _ (ws abi area : List ℕ) (c : ℕ) where
   abbrev pub inherited : List Entry
-  inherited = parent_entries ws (text_of ws) abi (abi_text_of abi) area c
+  inherited = parent_entries (by_sheets ws abi) ws (text_of ws) abi (abi_text_of abi) area c
 
   -- the class's own method m takes inherited slot i: it is eligible, and overrides the method that introduced the slot
   pub record TakesSlot (m i : ℕ) : Type 0 where
@@ -26,7 +27,7 @@ module _ (ws abi area : List ℕ) (c : ℕ) where
     pub it_is_eligible : eligible ws (text_of ws) m ≡ true
     pub slot : i < length inherited
     pub introducer : ℕ
-    pub introduced : introducing ws (text_of ws) abi (abi_text_of abi) area (parent_of ws c) i ≡ Some introducer
+    pub introduced : introducing (by_sheets ws abi) ws (text_of ws) abi (abi_text_of abi) area (parent_of ws c) i ≡ Some introducer
     pub owner : ℕ
     pub overrides : Overrides ws (text_of ws) c m owner introducer
 

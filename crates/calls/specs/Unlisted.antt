@@ -4,6 +4,7 @@ use Rattle.std.specs.Prelude.{ℕ, cond, not, ◌||◌, List, length, eqb}
 use Rattle.class_sheet.specs.ClassSheet.{text_of}
 use Rattle.abi_sheet.specs.AbiSheet.{abi_text_of}
 use Rattle.set_rules.specs.SetRules.{set_refusal}
+use Rattle.linking.specs.Signature.{by_sheets}
 use Rattle.linking.specs.Packages.{bad_packages}
 use Rattle.linking.specs.Link.{bad_class, next_free, bad_area, Plan, Planned, planned, unplanned, plan, new_words, new_statics, lists_full, set_short, no_room, linked_area, linked_words, Outcome, refused_call}
 
@@ -36,4 +37,4 @@ link_unlisted ws abi c area stubs =
     (refused_call 7 ws area)
     (cond (bad_packages ws (text_of ws) abi (abi_text_of abi) c)
     (refused_call 26 ws area)
-    (on_planned (plan ws (text_of ws) abi (abi_text_of abi) area c) (finish_unlisted ws abi c area stubs) (λ n. refused_call n ws area)))))
+    (on_planned (plan (by_sheets ws abi) ws (text_of ws) abi (abi_text_of abi) area c) (finish_unlisted ws abi c area stubs) (λ n. refused_call n ws area)))))
