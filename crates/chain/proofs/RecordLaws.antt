@@ -10,8 +10,8 @@ use Rattle.words.proofs.Ext.{find-ext}
 use Rattle.words.proofs.Laws.{part-rest}
 use Rattle.std.specs.Prelude.{Option}
 use Rattle.words.specs.Lists.{numbers, find}
-use Rattle.class_sheet.specs.ClassSheet.{member_width, method_limit, target_word, methods_at, method_word, class_first_method, class_method_count, method_target}
-use Rattle.linking.specs.Signature.{Place, place_name, place_descriptor, by_bytes}
+use Rattle.class_sheet.specs.ClassSheet.{member_width, method_limit, target_word, methods_at, method_word, class_first_method, class_method_count, method_name, method_descriptor, method_target}
+use Rattle.linking.specs.Signature.{Place, methods_same, place_name, place_descriptor, by_bytes}
 use Rattle.linking.specs.Chain.{list_count, own_methods, own_target, own_method}
 use Rattle.chain.specs.Records.{method_records, record_word, record_is, method_is, first_target}
 
@@ -41,6 +41,12 @@ pub record_method : (ws text : List ℕ) (m : ℕ) (name descriptor : List ℕ) 
     → record_is r member_width text m name descriptor ≡ method_is ws text m name descriptor
 unfolding record_is method_is
 record_method ws text m name descriptor e = rw (e, method_record_lem ws m 0, method_record_lem ws m 1, method_record_lem ws m 2, method_record_lem ws m 3)
+
+-- method k against method m, by the bytes of m's name and descriptor
+pub method_named : (ws text abi labels : List ℕ) (k m : ℕ) {name descriptor : List ℕ} → name ≡ method_name ws text m → descriptor ≡ method_descriptor ws text m
+    → method_is ws text k name descriptor ≡ methods_same (by_bytes ws text abi labels) k m
+unfolding methods_same by_bytes place_name place_descriptor method_is
+method_named ws text abi labels k m n d = rw (n, d) refl
 
 -- a class's first method of the signature of a place, by the bytes of its name and descriptor
 pub own_named : (ws text abi labels : List ℕ) (p : Place) (c : ℕ) {name descriptor : List ℕ} {r : Option ℕ} → name ≡ place_name ws text abi labels p

@@ -9,7 +9,7 @@ use borrow.Author.Tests.{not-true, not-false}
 use Rattle.words.specs.Lists.{numbers, fold, keep, some}
 use Rattle.words.proofs.ListLaws.{rest_from, rest-start, rest-turn, rest_end}
 use Rattle.class_sheet.specs.ClassSheet.{class_limit, class_first_method, class_method_count, method_flags, method_limit}
-use Rattle.linking.specs.Chain.{list_count, own_methods, parent_of, chain, is_private, is_virtual, same_methods}
+use Rattle.linking.specs.Chain.{list_count, own_methods, parent_of, chain, is_private, is_virtual}
 use Rattle.linking.specs.Packages.{is_overridden, overridden_in, reached_with, overridden_along, overridden}
 use Rattle.linking.proofs.ChainLaws.{parent_below, parent-within, chain-none, chain_more}
 use Rattle.packages.specs.Marks.{mark, is_some}
@@ -96,41 +96,41 @@ module _ (p : ℕ → Bool) (first count : ℕ) where
   left-is-end k o h g = sym (or-false o) ∙ sym (ap (λ (l : List ℕ). o || is_some l) (left_end k h)) ∙ g
 
 -- the methods of class a that are overridden are those of its list that pass
-pub overridden-left : (ws text R : List ℕ) (m a first count : ℕ) → first ≡ class_first_method ws a
+pub overridden-left : (same : ℕ → ℕ → Bool) (ws text R : List ℕ) (m a first count : ℕ) → first ≡ class_first_method ws a
     → count ≡ list_count (class_first_method ws a) (class_method_count ws a) method_limit
-    → left (is_overridden (same_methods ws text) ws text m R a) first count first ≡ overridden_in (same_methods ws text) ws text m R a
+    → left (is_overridden same ws text m R a) first count first ≡ overridden_in same ws text m R a
 unfolding overridden_in own_methods
-overridden-left ws text R m a first count e f =
-    left-start (is_overridden (same_methods ws text) ws text m R a) first count ∙ rw (e, f)
+overridden-left same ws text R m a first count e f =
+    left-start (is_overridden same ws text m R a) first count ∙ rw (e, f)
 
 -- ---- up the chain
 
-module _ (ws text : List ℕ) (m : ℕ) where
+module _ (same : ℕ → ℕ → Bool) (ws text : List ℕ) (m : ℕ) where
   abbrev pub along : List ℕ → ℕ → List ℕ
-  along R a = overridden_along (same_methods ws text) ws text m R (chain ws a)
+  along R a = overridden_along same ws text m R (chain ws a)
 
   pub along-none : (a : ℕ) (marks : List Bool) (R : List ℕ) → a ≡ 0 → marks ≡ fold mark marks (along R a)
   unfolding overridden_along fold
   along-none a marks R e = rw (chain-none ws a e)
 
   pub along-up : (a : ℕ) (r : Bool) {p : ℕ} (marks : List Bool) (R : List ℕ) {Q S : List ℕ} {ns out : List Bool} → 0 < a → p ≡ parent_of ws a → Q ≡ R
-      → ns ≡ fold mark marks (overridden_in (same_methods ws text) ws text m Q a)
-      → r ≡ some (λ k. not (is_private (method_flags ws k))) (overridden_in (same_methods ws text) ws text m Q a)
+      → ns ≡ fold mark marks (overridden_in same ws text m Q a)
+      → r ≡ some (λ k. not (is_private (method_flags ws k))) (overridden_in same ws text m Q a)
       → S ≡ cond r (R ++ (a ∷ [])) R → out ≡ fold mark ns (along S p) → out ≡ fold mark marks (along R a)
   unfolding overridden_along reached_with
   along-up a r marks R h e l n t s o =
-      let here = overridden_in (same_methods ws text) ws text m R a in
+      let here = overridden_in same ws text m R a in
       o ∙ rw (n, s, e, l, chain_more ws a h, ← (rw l at t)) (sym (fold-append mark marks here (along (cond r (R ++ (a ∷ [])) R) (parent_of ws a))))
 
   pub marks_virtual : (c : ℕ) {p f : ℕ} {b : Bool} {R : List ℕ} (marks : List Bool) {out : List Bool} → f ≡ method_flags ws m → b ≡ is_virtual f
       → not b ≡ false → R ≡ c ∷ [] → p ≡ parent_of ws c → out ≡ fold mark marks (along R p)
-      → out ≡ fold mark marks (overridden (same_methods ws text) ws text c m)
+      → out ≡ fold mark marks (overridden same ws text c m)
   unfolding overridden
   marks_virtual c {b = b} marks f v t r e o =
       let q : is_virtual (method_flags ws m) ≡ true = sym (rw f at v) ∙ not-false b t in o ∙ rw (q, e, r)
 
   pub marks_none : (c : ℕ) {f : ℕ} {b : Bool} (marks : List Bool) → f ≡ method_flags ws m → b ≡ is_virtual f → not b ≡ true
-      → marks ≡ fold mark marks (overridden (same_methods ws text) ws text c m)
+      → marks ≡ fold mark marks (overridden same ws text c m)
   unfolding overridden fold
   marks_none c {b = b} marks f v t = let q : is_virtual (method_flags ws m) ≡ false = sym (rw f at v) ∙ not-true b t in rw q
 

@@ -14,7 +14,8 @@ use Rattle.words.specs.Lists.{list_from, numbers, fold, keep, some}
 use Rattle.std.specs.Prelude.{Option, Some, None}
 use Rattle.words.proofs.Bools.{by}
 use Rattle.class_sheet.specs.ClassSheet.{class_limit, class_first_method, class_method_count, method_flags, method_limit}
-use Rattle.linking.specs.Chain.{list_count, on_found, own_methods, parent_of, chain, is_virtual, eligible, same_methods}
+use Rattle.linking.specs.Signature.{Same, methods_same}
+use Rattle.linking.specs.Chain.{list_count, on_found, own_methods, parent_of, chain, is_virtual, eligible}
 use Rattle.linking.specs.Vtable.{Entry, method_entry, parent_entries}
 use Rattle.linking.specs.Packages.{is_overridden, overridden_in, overridden_along, reached_with, overridden, introducing, taken_slots, put_taken, take_slots, packages_over, build_packages}
 use Rattle.linking.proofs.ChainLaws.{own-method-room}
@@ -81,24 +82,24 @@ taken_is tops ks n room e =
 
 -- overridden methods are of the section
 
-here-own : (ws text : List ℕ) (m : ℕ) (R : List ℕ) (a k : ℕ) → Memᴰ k (overridden_in (same_methods ws text) ws text m R a)
+here-own : (same : ℕ → ℕ → Bool) (ws text : List ℕ) (m : ℕ) (R : List ℕ) (a k : ℕ) → Memᴰ k (overridden_in same ws text m R a)
     → Memᴰ k (own_methods ws a)
 unfolding overridden_in
-here-own ws text m R a k i = (keep-of (is_overridden (same_methods ws text) ws text m R a) (own_methods ws a) i).0
+here-own same ws text m R a k i = (keep-of (is_overridden same ws text m R a) (own_methods ws a) i).0
 
-along-room : (ws text : List ℕ) (m : ℕ) (ds R : List ℕ) (k : ℕ) → Memᴰ k (overridden_along (same_methods ws text) ws text m R ds) → k < method_limit
+along-room : (same : ℕ → ℕ → Bool) (ws text : List ℕ) (m : ℕ) (ds R : List ℕ) (k : ℕ) → Memᴰ k (overridden_along same ws text m R ds) → k < method_limit
 unfolding overridden_along
-along-room ws text m [] R k h = absurd (Memᴰ.not-nil h)
-along-room ws text m (a ∷ ds) R k h =
-    elim (Memᴰ.append_cases (overridden_in (same_methods ws text) ws text m R a) h) [
-      | inl i ↦ own-method-room ws a k (here-own ws text m R a k i)
-      | inr i ↦ along-room ws text m ds (reached_with (same_methods ws text) ws text m R a) k i
+along-room same ws text m [] R k h = absurd (Memᴰ.not-nil h)
+along-room same ws text m (a ∷ ds) R k h =
+    elim (Memᴰ.append_cases (overridden_in same ws text m R a) h) [
+      | inl i ↦ own-method-room ws a k (here-own same ws text m R a k i)
+      | inr i ↦ along-room same ws text m ds (reached_with same ws text m R a) k i
     ]
 
-pub overridden-room : (ws text : List ℕ) (c m k : ℕ) → Memᴰ k (overridden (same_methods ws text) ws text c m) → k < method_limit
+pub overridden-room : (same : ℕ → ℕ → Bool) (ws text : List ℕ) (c m k : ℕ) → Memᴰ k (overridden same ws text c m) → k < method_limit
 unfolding overridden
-overridden-room ws text c m k h =
-    by (is_virtual (method_flags ws m)) (λ t. along-room ws text m (chain ws (parent_of ws c)) (c ∷ []) k (rw t at h))
+overridden-room same ws text c m k h =
+    by (is_virtual (method_flags ws m)) (λ t. along-room same ws text m (chain ws (parent_of ws c)) (c ∷ []) k (rw t at h))
     (λ t. absurd (Memᴰ.not-nil (rw t at h)))
 
 -- ---- a method stored at the slots that are taken, or behind the last
@@ -115,31 +116,31 @@ unfolding put_taken fold
 take_new e T [] f u v h w = w ∙ rw (u, f)
 take_new e T (j ∷ js) f u v h w = absurd (true≢false (sym v ∙ h))
 
-module _ (ws text tops : List ℕ) (c m n : ℕ) where
+module _ (same : ℕ → ℕ → Bool) (ws text tops : List ℕ) (c m n : ℕ) where
   abbrev pub taking : List Entry → List Entry
-  taking T = take_slots (same_methods ws text) ws text (top_of tops) n c T m
+  taking T = take_slots same ws text (top_of tops) n c T m
 
   pub take_none : (T : List Entry) {b : Bool} → b ≡ eligible ws text m → not b ≡ true → T ≡ taking T
   unfolding take_slots
   take_none T {b} e h = let q : eligible ws text m ≡ false = sym e ∙ not-true b h in rw q
 
   pub take_yes : (T : List Entry) {b : Bool} {marks : List Bool} {U : List Entry} → b ≡ eligible ws text m → not b ≡ false
-      → marks ≡ fold mark (replicate 512 false) (overridden (same_methods ws text) ws text c m)
+      → marks ≡ fold mark (replicate 512 false) (overridden same ws text c m)
       → U ≡ put_taken (method_entry ws m) T (taken_in tops marks n) → U ≡ taking T
   unfolding take_slots
   take_yes T {b} e h marked u =
       let q : eligible ws text m ≡ true = sym e ∙ not-false b h in
-      let s = taken_is tops (overridden (same_methods ws text) ws text c m) n (overridden-room ws text c m) marked in
+      let s = taken_is tops (overridden same ws text c m) n (overridden-room same ws text c m) marked in
       u ∙ rw (q, s)
 
 -- ---- all methods
 
-module _ (ws text abi labels area : List ℕ) (c : ℕ) where
+module _ (same : Same) (ws text abi labels area : List ℕ) (c : ℕ) where
   take_ext : (f g : ℕ → Option ℕ) (n : ℕ) → ((i : ℕ) → i < n → f i ≡ g i) → (T : List Entry) (m : ℕ)
-      → take_slots (same_methods ws text) ws text f n c T m ≡ take_slots (same_methods ws text) ws text g n c T m
+      → take_slots (methods_same same) ws text f n c T m ≡ take_slots (methods_same same) ws text g n c T m
   unfolding take_slots taken_slots
   take_ext f g n h T m =
-      let ks = overridden (same_methods ws text) ws text c m in
+      let ks = overridden (methods_same same) ws text c m in
       let q : keep (λ i. on_found (f i) (λ k. some (λ j. eqb j k) ks) false) (numbers 0 n)
       ≡ keep (λ i. on_found (g i) (λ k. some (λ j. eqb j k) ks) false) (numbers 0 n) =
       keep-along (λ i. on_found (f i) (λ k. some (λ j. eqb j k) ks) false) (λ i. on_found (g i) (λ k. some (λ j. eqb j k) ks) false) 0 n
@@ -147,25 +148,25 @@ module _ (ws text abi labels area : List ℕ) (c : ℕ) where
       rw q
 
   takes-ext : (f g : ℕ → Option ℕ) (n : ℕ) → ((i : ℕ) → i < n → f i ≡ g i) → (ms : List ℕ) (T : List Entry)
-      → fold (take_slots (same_methods ws text) ws text f n c) T ms ≡ fold (take_slots (same_methods ws text) ws text g n c) T ms
+      → fold (take_slots (methods_same same) ws text f n c) T ms ≡ fold (take_slots (methods_same same) ws text g n c) T ms
   unfolding fold
   takes-ext f g n h [] T = refl
   takes-ext f g n h (m ∷ ms) T =
-      rw (take_ext f g n h T m) (takes-ext f g n h ms (take_slots (same_methods ws text) ws text g n c T m))
+      rw (take_ext f g n h T m) (takes-ext f g n h ms (take_slots (methods_same same) ws text g n c T m))
 
-  pub no_table : {U : List Entry} → class_limit < c → U ≡ [] → U ≡ build_packages (same_methods ws text) ws text abi labels area c
-  no_table h e = e ∙ sym (packages-beyond (same_methods ws text) ws text abi labels area c h)
+  pub no_table : {U : List Entry} → class_limit < c → U ≡ [] → U ≡ build_packages same ws text abi labels area c
+  no_table h e = e ∙ sym (packages-beyond same ws text abi labels area c h)
 
-  pub packages_are : (ts ms tops : List ℕ) (n p : ℕ) {U : List Entry} → entries_of ts ms n ≡ parent_entries ws text abi labels area c → n ≤ 1024
-      → p ≡ parent_of ws c → Tops ws text abi labels area p tops
-      → U ≡ fold (take_slots (same_methods ws text) ws text (top_of tops) n c) (entries_of ts ms n) (own_methods ws c)
-      → c ≤ class_limit → U ≡ build_packages (same_methods ws text) ws text abi labels area c
+  pub packages_are : (ts ms tops : List ℕ) (n p : ℕ) {U : List Entry} → entries_of ts ms n ≡ parent_entries same ws text abi labels area c → n ≤ 1024
+      → p ≡ parent_of ws c → Tops same ws text abi labels area p tops
+      → U ≡ fold (take_slots (methods_same same) ws text (top_of tops) n c) (entries_of ts ms n) (own_methods ws c)
+      → c ≤ class_limit → U ≡ build_packages same ws text abi labels area c
   unfolding packages_over
   packages_are ts ms tops n p e l q tells u room =
-      let k : n ≡ length (parent_entries ws text abi labels area c) = sym (length-entries ts ms n) ∙ ap length e in
+      let k : n ≡ length (parent_entries same ws text abi labels area c) = sym (length-entries ts ms n) ∙ ap length e in
       u
-      ∙ takes-ext (top_of tops) (introducing ws text abi labels area p) n (λ i h. tells i (omega arith)) (own_methods ws c) (entries_of ts ms n)
-      ∙ rw (packages-within (same_methods ws text) ws text abi labels area c room, q, e, ← k)
+      ∙ takes-ext (top_of tops) (introducing same ws text abi labels area p) n (λ i h. tells i (omega arith)) (own_methods ws c) (entries_of ts ms n)
+      ∙ rw (packages-within same ws text abi labels area c room, q, e, ← k)
 
 -- what the methods from m on make of the table so far
 unfoldable pub takes : ℕ → ℕ → (List Entry → ℕ → List Entry) → List Entry → ℕ → List Entry

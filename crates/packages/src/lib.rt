@@ -6,13 +6,13 @@ ghost use Rattle.std.specs.Prelude.{◌≡◌, cond, not, Bool, List, [], ◌∷
 ghost use Rattle.words.specs.Lists.{fold, some};
 ghost use Rattle.text.specs.Text.{same_bytes};
 ghost use Rattle.class_sheet.specs.ClassSheet.{class_limit, method_limit, method_flags, is_packaged};
-ghost use Rattle.linking.specs.Chain.{is_private, chain, own_methods, same_methods};
+ghost use Rattle.linking.specs.Chain.{is_private, chain, own_methods};
 ghost use Rattle.linking.specs.Vtable.{read_slot, method_entry};
 ghost use Rattle.linking.specs.Packages.{package_of, package_at, open_to, is_overridden, overridden_in, overridden_along, overridden, table_has, put_taken, take_slots, build_packages, unfit_for_packages, bad_packages};
 ghost use Rattle.reading.specs.Arrays.{method_of};
 ghost use Rattle.reading.specs.Tables.{entry, entries};
-ghost use Rattle.packages.specs.Marks.{mark, is_some, taken_by, taken_in, top_of, Laid, LaidUp, Tops};
-ghost use Rattle.linking.specs.Sheets.{of_sheets};
+ghost use Rattle.packages.specs.Marks.{of_walk, mark, is_some, taken_by, taken_in, top_of, Laid, LaidUp, Tops};
+ghost use Rattle.linking.specs.Sheets.{of_sheets, of_bytes};
 
 use class_sheet::Kind;
 use linking::Sheets;
@@ -66,13 +66,18 @@ fn open_to(ws: &[u32], text: &[u8], k: u32, a: u32, c: u32) -> bool
 // ---- what a method overrides
 
 // Whether method k of class a is overridden by method m, which has reached the classes of the list.
-#[tactic(auto, unfolding(linking::specs::Packages::is_overridden, linking::specs::Chain::same_methods))]
-fn is_overridden(ws: &[u32], text: &[u8], m: u32, reached: &[u32], a: u32, k: u32) -> bool
-    ensures { result ≡ is_overridden (same_methods ws.now text.now) ws.now text.now m reached.now a k }
+#[tactic(auto, using(chain::proofs::RecordLaws::method_named), unfolding(linking::specs::Packages::is_overridden))]
+fn is_overridden(sheets: Sheets, m: u32, reached: &[u32], a: u32, k: u32) -> bool
+    ensures { result ≡ of_walk is_overridden sheets.entry m reached.now a k }
 {
-    !class_sheet::is_static(class_sheet::method_flags(ws, k))
-        && chain::method_is(ws, text, k, class_sheet::method_signature(ws, text, m))
-        && open_to_some(ws, text, k, a, reached)
+    !class_sheet::is_static(class_sheet::method_flags(sheets.set, k))
+        && chain::method_is(
+            sheets.set,
+            sheets.text,
+            k,
+            class_sheet::method_signature(sheets.set, sheets.text, m),
+        )
+        && open_to_some(sheets.set, sheets.text, k, a, reached)
 }
 
 // Whether it is open to one of the classes.
@@ -83,61 +88,53 @@ fn open_to_some(ws: &[u32], text: &[u8], k: u32, a: u32, classes: &[u32]) -> boo
 }
 
 // Marks the methods of class a that are overridden, and answers whether one of them is not private.
-fn mark_class(
-    ws: &[u32],
-    text: &[u8],
-    m: u32,
-    reached: &[u32],
-    a: u32,
-    marks: &mut [bool; METHODS],
-) -> bool
-    ensures marked { marks.new ≡ fold mark marks.old (overridden_in (same_methods ws.now text.now) ws.now text.now m reached.now a) }
-    ensures is { result ≡ some (λ k. not (is_private (method_flags ws.now k))) (overridden_in (same_methods ws.now text.now) ws.now text.now m reached.now a) }
+fn mark_class(sheets: Sheets, m: u32, reached: &[u32], a: u32, marks: &mut [bool; METHODS]) -> bool
+    ensures marked { marks.new ≡ fold mark marks.old (of_walk overridden_in sheets.entry m reached.now a) }
+    ensures is { result ≡ some (λ k. not (is_private (method_flags sheets.entry.set.now k))) (of_walk overridden_in sheets.entry m reached.now a) }
 {
-    let first = class_sheet::class_first_method(ws, a);
-    let count = chain::method_count(ws, a);
+    let first = class_sheet::class_first_method(sheets.set, a);
+    let count = chain::method_count(sheets.set, a);
     let mut open = false;
     for k in first..first + count {
-        if is_overridden(ws, text, m, reached, a, k) {
+        if is_overridden(sheets, m, reached, a, k) {
             words::put(marks, k as usize, true);
-            open |= !class_sheet::is_private(class_sheet::method_flags(ws, k));
+            open |= !class_sheet::is_private(class_sheet::method_flags(sheets.set, k));
         }
     }
     open
 }
 
 // Marks the methods of a's chain that method m overrides, which has reached these classes.
-fn mark_above(
-    ws: &[u32],
-    text: &[u8],
-    m: u32,
-    reached: &mut Reached,
-    a: u32,
-    marks: &mut [bool; METHODS],
-)
+fn mark_above(sheets: Sheets, m: u32, reached: &mut Reached, a: u32, marks: &mut [bool; METHODS])
     requires { length reached.old + a ≤ class_limit }
-    ensures { marks.new ≡ fold mark marks.old (overridden_along (same_methods ws.now text.now) ws.now text.now m reached.old (chain ws.now a)) }
+    ensures { marks.new ≡ fold mark marks.old (of_walk overridden_along sheets.entry m reached.old (chain sheets.entry.set.now a)) }
 {
     if a == 0 {
         return;
     }
-    if mark_class(ws, text, m, reached.as_slice(), a, marks) {
+    if mark_class(sheets, m, reached.as_slice(), a, marks) {
         reached.push(a);
     }
-    mark_above(ws, text, m, reached, chain::parent_of(ws, a), marks);
+    mark_above(sheets, m, reached, chain::parent_of(sheets.set, a), marks);
 }
 
 // Marks the methods that method m of class c overrides; what is marked before stays so.
-fn mark_overridden(ws: &[u32], text: &[u8], c: u32, m: u32, marks: &mut [bool; METHODS])
+fn mark_overridden(sheets: Sheets, c: u32, m: u32, marks: &mut [bool; METHODS])
     requires { c ≤ class_limit }
-    ensures { marks.new ≡ fold mark marks.old (overridden (same_methods ws.now text.now) ws.now text.now c m) }
+    ensures { marks.new ≡ fold mark marks.old (of_walk overridden sheets.entry c m) }
 {
-    if !chain::is_virtual(class_sheet::method_flags(ws, m)) {
+    if !chain::is_virtual(class_sheet::method_flags(sheets.set, m)) {
         return;
     }
     let mut reached = Reached::new();
     reached.push(c);
-    mark_above(ws, text, m, &mut reached, chain::parent_of(ws, c), marks);
+    mark_above(
+        sheets,
+        m,
+        &mut reached,
+        chain::parent_of(sheets.set, c),
+        marks,
+    );
 }
 
 // ---- the introducing methods
@@ -151,7 +148,7 @@ fn lay_class(
     classes: &mut [u32; TABLE_LIMIT],
     tops: &mut [u32; TABLE_LIMIT],
 )
-    ensures { of_sheets Laid sheets.entry area.now d tops.old tops.new }
+    ensures { of_bytes Laid sheets.entry area.now d tops.old tops.new }
 {
     if class_sheet::class_table_place(sheets.set, d) == 0 {
         return;
@@ -170,7 +167,7 @@ fn lay_chain(
     classes: &mut [u32; TABLE_LIMIT],
     tops: &mut [u32; TABLE_LIMIT],
 )
-    ensures { of_sheets LaidUp sheets.entry area.now d tops.old tops.new }
+    ensures { of_bytes LaidUp sheets.entry area.now d tops.old tops.new }
 {
     if d == 0 {
         return;
@@ -183,7 +180,7 @@ fn lay_chain(
 // The marks of the methods that introduced the slots of class p's table: those of the tables of its chain, laid over nothing.
 fn introducing_marks(sheets: Sheets, area: &[u32], p: u32, tops: &mut [u32; TABLE_LIMIT])
     requires { tops.old ≡ replicate 1024 0 }
-    ensures { of_sheets Tops sheets.entry area.now p tops.new }
+    ensures { of_bytes Tops sheets.entry area.now p tops.new }
 {
     let mut read = Table::for_reading();
     let mut classes = [0u32; TABLE_LIMIT];
@@ -245,8 +242,7 @@ fn put_taken(
 
 // Gives method m its slots, if it is eligible: those of the n inherited ones that it takes, or a new one after the last.
 fn take_slots(
-    ws: &[u32],
-    text: &[u8],
+    sheets: Sheets,
     tops: &[u32; TABLE_LIMIT],
     c: u32,
     m: u32,
@@ -254,36 +250,36 @@ fn take_slots(
     table: &mut BuiltTable,
 )
     requires { (c ≤ class_limit) × (m < method_limit) × (table.old.len < 3584) }
-    ensures is { entries table.new ≡ take_slots (same_methods ws.now text.now) ws.now text.now (top_of tops.now) n c (entries table.old) m }
+    ensures is { entries table.new ≡ of_walk take_slots sheets.entry (top_of tops.now) n c (entries table.old) m }
     ensures count { (table.old.len ≤ table.new.len) × (table.new.len ≤ table.old.len + 1) }
 {
-    if !chain::eligible(ws, text, m) {
+    if !chain::eligible(sheets.set, sheets.text, m) {
         return;
     }
     let mut marks = [false; METHODS];
-    mark_overridden(ws, text, c, m, &mut marks);
-    put_taken(ws, tops, &marks, m, n, table);
+    mark_overridden(sheets, c, m, &mut marks);
+    put_taken(sheets.set, tops, &marks, m, n, table);
 }
 
 // Gives each of class c's own methods its slots, in their order: the table holds the inherited ones.
-fn take_all(ws: &[u32], text: &[u8], tops: &[u32; TABLE_LIMIT], c: u32, table: &mut BuiltTable)
+fn take_all(sheets: Sheets, tops: &[u32; TABLE_LIMIT], c: u32, table: &mut BuiltTable)
     requires { (c ≤ class_limit) × (table.old.len ≤ 1024) }
     ensures is { entries table.new
-        ≡ fold (take_slots (same_methods ws.now text.now) ws.now text.now (top_of tops.now) table.old.len c) (entries table.old) (own_methods ws.now c) }
+        ≡ fold (of_walk take_slots sheets.entry (top_of tops.now) table.old.len c) (entries table.old) (own_methods sheets.entry.set.now c) }
     ensures count { table.new.len ≤ 1536 }
 {
     let inherited = table.len;
-    let first = class_sheet::class_first_method(ws, c);
-    let count = chain::method_count(ws, c);
+    let first = class_sheet::class_first_method(sheets.set, c);
+    let count = chain::method_count(sheets.set, c);
     for m in first..first + count {
-        take_slots(ws, text, tops, c, m, inherited, table);
+        take_slots(sheets, tops, c, m, inherited, table);
     }
 }
 
 // Fills the table with class c's: the parent's entries, and its own methods. None for a number above the limit, which rows 3 and 6 refuse. What
 // the table's arrays hold past its slots is the program's choice and means nothing.
 pub fn build_packages(sheets: Sheets, area: &[u32], c: u32, table: &mut BuiltTable)
-    ensures is { entries table.new ≡ of_sheets (build_packages (same_methods sheets.entry.set.now sheets.entry.text.now)) sheets.entry area.now c }
+    ensures is { entries table.new ≡ of_bytes build_packages sheets.entry area.now c }
     ensures count { table.new.len ≤ 1536 }
 {
     if class_sheet::CLASS_LIMIT < c {
@@ -293,7 +289,7 @@ pub fn build_packages(sheets: Sheets, area: &[u32], c: u32, table: &mut BuiltTab
     reading::parent_entries(sheets, area, c, table);
     let mut tops = [0u32; TABLE_LIMIT];
     introducing_marks(sheets, area, chain::parent_of(sheets.set, c), &mut tops);
-    take_all(sheets.set, sheets.text, &tops, c, table);
+    take_all(sheets, &tops, c, table);
 }
 
 // ---- row 26

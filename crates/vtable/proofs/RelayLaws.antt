@@ -142,10 +142,6 @@ same_self same k m compares e = rw e (sym (compares.self (of_method m)))
 -- by the bytes of a method's name and descriptor
 module _ (ws text abi labels : List ℕ) (m : ℕ) {name descriptor : List ℕ} (n : name ≡ method_name ws text m)
     (d : descriptor ≡ method_descriptor ws text m) where
-  pub method_named : (k : ℕ) → method_is ws text k name descriptor ≡ methods_same (by_bytes ws text abi labels) k m
-  unfolding methods_same by_bytes place_name place_descriptor method_is
-  method_named k = rw (n, d) refl
-
   pub slot_named : (e : Entry) {s : Entry} {r : Bool} → s ≡ e → r ≡ on_found s.method (λ k. method_is ws text k name descriptor) false
       → r ≡ entry_is (by_bytes ws text abi labels) (of_method m) e
   unfolding entry_is by_bytes place_name place_descriptor method_is

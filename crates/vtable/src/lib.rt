@@ -126,7 +126,7 @@ fn hold_entries(
 }
 
 // Whether methods k and m have one signature.
-#[tactic(auto, using(crate::proofs::RelayLaws::same_self, linking::proofs::Comparing::bytes_compare, crate::proofs::RelayLaws::method_named))]
+#[tactic(auto, using(crate::proofs::RelayLaws::same_self, linking::proofs::Comparing::bytes_compare, chain::proofs::RecordLaws::method_named))]
 fn same_methods(sheets: Sheets, k: u32, m: u32) -> bool
     ensures { result ≡ methods_same (of_sheets by_bytes sheets.entry) k m }
 {

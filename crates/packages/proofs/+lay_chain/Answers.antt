@@ -6,11 +6,11 @@ use Rattle.packages.proofs.TopLaws.{laid_none, laid-up}
 use Rattle.packages.proofs.+lay_chain.Goals as goal
 
 pub returns-then-d-eq0 : goal.returns-then-d-eq0
-returns-then-d-eq0 t c = laid_none _ _ _ _ _ _ _ c.if-d-eq0.true
+returns-then-d-eq0 t c = laid_none _ _ _ _ _ _ _ _ c.if-d-eq0.true
 
 pub lay_chain-requires : goal.lay_chain-requires
 lay_chain-requires t c = (omega (arith, parent_less _ _ c.parent_of-e.ensures (pos_of_ne-zero c.if-d-eq0.false)), tt)
 
 pub returns : goal.returns
 returns t c =
-    laid-up _ _ _ _ _ _ _ _ _ (pos_of_ne-zero c.if-d-eq0.false) c.parent_of-e.ensures c.lay_class.ensures c.lay_chain.ensures
+    laid-up _ _ _ _ _ _ _ _ _ _ (pos_of_ne-zero c.if-d-eq0.false) c.parent_of-e.ensures c.lay_class.ensures c.lay_chain.ensures

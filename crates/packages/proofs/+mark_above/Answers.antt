@@ -8,7 +8,7 @@ use Rattle.packages.proofs.+mark_above.Goals as goal
 use Rattle.packages.proofs.+mark_above.Goals.{then-mark_class, else-mark_class}
 
 pub returns-then-a-eq0 : goal.returns-then-a-eq0
-returns-then-a-eq0 t c = along-none _ _ _ _ _ _ c.if-a-eq0.true
+returns-then-a-eq0 t c = along-none _ _ _ _ _ _ _ c.if-a-eq0.true
 
 pub mark_above-requires : goal.mark_above-requires
 mark_above-requires t c =
@@ -27,10 +27,10 @@ returns t c =
     let own = c.mark_class.ensures in
     elim c.if-mark_class.branch [
       | then-mark_class w ↦
-          along-up _ _ _ _ c.mark_class.result _ _ some c.parent_of.ensures c.as_slice.ensures.is own.marked own.is
+          along-up _ _ _ _ _ c.mark_class.result _ _ some c.parent_of.ensures c.as_slice.ensures.is own.marked own.is
           (rw w.reached-is (reached_yes _ _ w.if-mark_class.true (w.push.ensures ∙ push_room class_limit _ _ (omega (arith, c.requires, some)))))
           c.mark_above.ensures
       | else-mark_class w ↦
-          along-up _ _ _ _ c.mark_class.result _ _ some c.parent_of.ensures c.as_slice.ensures.is own.marked own.is
+          along-up _ _ _ _ _ c.mark_class.result _ _ some c.parent_of.ensures c.as_slice.ensures.is own.marked own.is
           (rw w.reached-is (reached_no _ _ w.if-mark_class.false)) c.mark_above.ensures
     ]

@@ -5,10 +5,10 @@ use Rattle.packages.proofs.lay_class.Goals as goal
 
 pub returns-then-class_table_place-eq0 : goal.returns-then-class_table_place-eq0
 returns-then-class_table_place-eq0 c =
-    laid-unlinked _ _ _ _ _ _ c.args.tops.now c.class_table_place.ensures c.if-class_table_place-eq0.true
+    laid-unlinked _ _ _ _ _ _ _ c.args.tops.now c.class_table_place.ensures c.if-class_table_place-eq0.true
 
 pub returns : goal.returns
 returns c =
     let read = c.table_entries.new.table in
-    laid-linked _ _ _ _ _ _ read.words read.marks c.args.tops.now read.len c.class_table_place.ensures
+    laid-linked _ _ _ _ _ _ _ read.words read.marks c.args.tops.now read.len c.class_table_place.ensures
     c.if-class_table_place-eq0.false c.table_entries.ensures.is (omega arith) (search rules) (c.store_each.ensures _ (λ i r l post. search rules))

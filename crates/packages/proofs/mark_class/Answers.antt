@@ -11,9 +11,10 @@ use Rattle.packages.proofs.mark_class.Goals.{then-is_overridden, else-is_overrid
 pub loop-k-init : goal.loop-k-init
 loop-k-init c =
     let a = c.args in
-    let e = overridden-left a.ws.now a.text.now a.reached.now a.m a.a _ _ c.class_first_method-first.ensures c.method_count-count.ensures in record {
+    let s = a.sheets in
+    let e = overridden-left _ s.set.now s.text.now a.reached.now a.m a.a _ _ c.class_first_method-first.ensures c.method_count-count.ensures in record {
       marked = ap (fold mark a.marks.now) e;
-      is = ap (some (λ k. not (is_private (method_flags a.ws.now k)))) e;
+      is = ap (some (λ k. not (is_private (method_flags a.sheets.set.now k)))) e;
     }
 
 pub loop-k-preserved : goal.loop-k-preserved

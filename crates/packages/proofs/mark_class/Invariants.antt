@@ -2,18 +2,18 @@
 use Rattle.std.proofs.Common.{◌≡◌, not, ◌||◌}
 use Rattle.words.specs.Lists.{fold, some}
 use Rattle.class_sheet.specs.ClassSheet.{method_flags}
-use Rattle.linking.specs.Chain.{is_private, same_methods}
+use Rattle.linking.specs.Chain.{is_private}
 use Rattle.linking.specs.Packages.{is_overridden, overridden_in}
-use Rattle.packages.specs.Marks.{mark}
+use Rattle.packages.specs.Marks.{of_walk, mark}
 use Rattle.packages.proofs.OverLaws.{left}
 use Rattle.packages.proofs.mark_class.Given as goal
 
 abbrev pub invariant-loop-k : goal.invariant-loop-k
 invariant-loop-k l = record {
-  marked : fold mark l.marks (left (is_overridden (same_methods l.ws l.text) l.ws l.text l.m l.reached l.a) l.first l.count l.k)
-      ≡ fold mark l.initial.marks (overridden_in (same_methods l.ws l.text) l.ws l.text l.m l.reached l.a);
+  marked : fold mark l.marks (left (of_walk is_overridden l.sheets l.m l.reached l.a) l.first l.count l.k)
+      ≡ fold mark l.initial.marks (of_walk overridden_in l.sheets l.m l.reached l.a);
   is : (l.open
-      || some (λ k. not (is_private (method_flags l.ws k)))
-      (left (is_overridden (same_methods l.ws l.text) l.ws l.text l.m l.reached l.a) l.first l.count l.k))
-      ≡ some (λ k. not (is_private (method_flags l.ws k))) (overridden_in (same_methods l.ws l.text) l.ws l.text l.m l.reached l.a);
+      || some (λ k. not (is_private (method_flags l.sheets.set.now k)))
+      (left (of_walk is_overridden l.sheets l.m l.reached l.a) l.first l.count l.k))
+      ≡ some (λ k. not (is_private (method_flags l.sheets.set.now k))) (of_walk overridden_in l.sheets l.m l.reached l.a);
 }
