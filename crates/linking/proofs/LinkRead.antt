@@ -144,6 +144,14 @@ module _ (ws : List ℕ) (c place words statics : ℕ) (p : Plan) (some : 1 ≤ 
   link-still t k h =
       rw laid (class-here c k some among (omega arith) (linked-still s (formed-of ws fits) c place words statics p some within t k h))
 
+  -- nor has the section a method more
+  methods-of : is_none (members p.added) ≡ true → g.methods ≡ s.methods
+  unfolding linked_sections fields_growing
+  methods-of t = by (is_none p.new_fields) (λ u. rw (u, t)) (λ u. rw u)
+
+  pub link-count : is_none (members p.added) ≡ true → method_count (linked_words ws c place words statics p) ≡ method_count ws
+  link-count t = rw laid (number_of_methods g ∙ ap length (methods-of t) ∙ sym (lies-of ws fits).methods)
+
   -- ---- the class's own record
 
   abbrev recorded : List (List ℕ)

@@ -4,11 +4,10 @@ use mathlib.Core.Path.{◌≡◌, refl, sym, ap, ◌∙◌}
 use mathlib.Core.Logic.{◌≢◌}
 use mathlib.Core.Bool.{Bool, true, false}
 use mathlib.Core.List.{List, [], ◌∷◌, append-nil}
-use Prim.Native.Nat.{ℕ, zero, suc, ◌+◌, ◌*◌, ◌-◌, ◌/◌, ◌%◌, ◌^◌, ◌≤◌, ◌<◌}
+use Prim.Native.Nat.{ℕ, zero, suc, ◌+◌, ◌*◌, ◌/◌, ◌%◌, ◌^◌, ◌≤◌, ◌<◌}
 use native.Mathlib.Nat.{pow-succ', div-div-eq-div-mul, div-one}
 use native.Mathlib.Omega.{arith}
 use lib.ListN.{length, get_or, take, drop, get_or-eq_default}
-use lib.Seq.{get_or-drop, drop_at}
 use lib.Dec.{eqb, ltb}
 use borrow.Author.Tests.{ne_eqb, ltb-true, ltb-false}
 use Rattle.std.specs.Prelude.{Option, Some, None}
@@ -24,7 +23,7 @@ use Rattle.linking.proofs.Pairs.{none, pair}
 use Rattle.linking.proofs.Plans.{built-same, not-built}
 use Rattle.linking.proofs.Renumbered.{Tables, SameBuilt, both-built, both-refused}
 use Rattle.linking.proofs.Rebuilt.{Any}
-use Rattle.linking.proofs.Writes.{length-write, write-before, write-drop, part-again}
+use Rattle.linking.proofs.Writes.{length-write, write-before, part-again, write-after}
 
 -- ---- tables with the same words from the same slots
 
@@ -116,16 +115,6 @@ packed-bit bs j h =
     (bit_is (get_or bs j false))
 
 -- ---- a class's words in the list
-
--- past the words that were written
-write-after : (l : List ℕ) (k : ℕ) (xs : List ℕ) → k ≤ length l → (i : ℕ) → k + length xs ≤ i → get_or (write_at l k xs) i 0 ≡ get_or l i 0
-write-after l k xs h i b =
-    let n : ℕ = length xs in
-    let e : k + n + (i - (k + n)) ≡ i = omega arith in
-    let f : drop (k + n) (write_at l k xs) ≡ drop (k + n) l = write-drop l k xs h n ∙ drop_at xs (drop (k + n) l) n refl in
-    ap (λ (j : ℕ). get_or (write_at l k xs) j 0) (sym e)
-    ∙ sym (get_or-drop (k + n) (write_at l k xs) (i - (k + n)) 0) ∙ ap (λ (x : List ℕ). get_or x (i - (k + n)) 0) f
-    ∙ get_or-drop (k + n) l (i - (k + n)) 0 ∙ ap (λ (j : ℕ). get_or l j 0) e
 
 module _ (list xs : List ℕ) (c : ℕ) (many : length xs ≡ missing_width) (room : missing_at c + missing_width ≤ length list) where
   pub own-words : take missing_width (drop (missing_at c) (write_at list (missing_at c) xs)) ≡ xs

@@ -1,12 +1,13 @@
 -- Laws of what is written into a list from a place on: `write_at` and `overlaid`. Assumes nothing.
 use mathlib.Core.Path.{◌≡◌, sym, ap, ◌∙◌}
 use mathlib.Core.List.{List, [], ◌∷◌, ◌++◌, append_assoc}
-use Prim.Native.Nat.{ℕ, ◌+◌, ◌≤◌, ◌<◌}
+use Prim.Native.Nat.{ℕ, ◌+◌, ◌-◌, ◌≤◌, ◌<◌}
 use native.Mathlib.Omega.{arith}
 use native.Mathlib.Numerals.{add-one}
 use lib.ListN.{length, get_or, set, take, drop, length-append, length-take, length-drop, take-append-drop, get_or-append}
-use lib.Seq.{take_at, drop_at, drop-drop, length-take-le, get_or-take, set_split, take-suc, take_all, drop-append-add}
+use lib.Seq.{take_at, drop_at, drop-drop, length-take-le, get_or-take, get_or-drop, set_split, take-suc, take_all, drop-append-add}
 use Rattle.words.specs.Words.{pasted}
+use Rattle.words.proofs.Lists.{skip}
 use Rattle.linking.specs.Set.{write_at, overlaid}
 
 -- ---- nothing written, and what is written next to it
@@ -126,3 +127,17 @@ module _ (l : List ℕ) (k : ℕ) (xs : List ℕ) (h : k ≤ length l) where
   write-drop n =
       ap (λ (j : ℕ). drop (j + n) (take k l ++ (xs ++ drop (k + length xs) l))) (sym (length-take-le k l h))
       ∙ drop-append-add (take k l) (xs ++ drop (k + length xs) l) n
+
+  pub write-inside : (j : ℕ) → j < length xs → get_or (write_at l k xs) (k + j) 0 ≡ get_or xs j 0
+  unfolding write_at
+  write-inside j b =
+      skip (take k l) (xs ++ drop (k + length xs) l) (k + j) j 0 (omega (arith, length-take-le k l h))
+      ∙ get_or-append xs (drop (k + length xs) l) 0 j b
+
+  pub write-after : (i : ℕ) → k + length xs ≤ i → get_or (write_at l k xs) i 0 ≡ get_or l i 0
+  unfolding write_at
+  write-after i b =
+      let e : k + length xs + (i - (k + length xs)) ≡ i = omega arith in
+      skip (take k l) (xs ++ drop (k + length xs) l) i (i - k) 0 (omega (arith, length-take-le k l h))
+      ∙ skip xs (drop (k + length xs) l) (i - k) (i - (k + length xs)) 0 (omega arith)
+      ∙ get_or-drop (k + length xs) l (i - (k + length xs)) 0 ∙ ap (λ (j : ℕ). get_or l j 0) e

@@ -6,8 +6,8 @@ use mathlib.Core.List.{List, [], ◌∷◌, Memᴰ}
 use Prim.Native.Nat.{ℕ, ◌+◌, ◌-◌, ◌≤◌, ◌<◌}
 use native.Mathlib.Omega.{arith}
 use lib.ListN.{length, get_or}
-use lib.Dec.{eqb, ltb}
-use borrow.Author.Tests.{eqb-true, eqb-false, ltb-false}
+use lib.Dec.{eqb}
+use borrow.Author.Tests.{eqb-true}
 use Rattle.std.specs.Prelude.{Option}
 use Rattle.words.specs.Lists.{numbers}
 use Rattle.words.proofs.Bools.{by, or-neither}
@@ -33,10 +33,11 @@ use Rattle.linking.proofs.RenumberedAsk.{dispatch_same}
 use Rattle.linking.proofs.RenumberedCompiler.{SameTaken, native_same, added-from, Signed, of-sheet, tables_by}
 use Rattle.linking.proofs.RenumberedPackages.{packages-same}
 use Rattle.linking.proofs.Rebuilt.{added-signed}
-use Rattle.matching.specs.Agree.{Agree}
+use Rattle.matching.specs.Matching.{Agree}
 use Rattle.matching.specs.Filling.{Used}
 use Rattle.matching.proofs.Equal.{found_equal, entry_equal, tables_equal, built_equal, added_equal}
-use Rattle.matching.proofs.Theorem.{filling}
+use Rattle.matching.proofs.Rows.{in-set, class-ok}
+use Rattle.matching.proofs.Filling.{filling}
 
 -- the same place, and it is used
 pub record OnePlace (ws abi : List ℕ) (p q : Place) : Type 0 where
@@ -221,18 +222,6 @@ module _ (same other : Same) (ws abi : List ℕ) (agree : Agree ws abi same othe
 
 -- ---- row 6 leaves classes of the set
 
-in-set : (ws : List ℕ) (c : ℕ) → no_class ws c ≡ false → IsClass ws c
-unfolding no_class
-in-set ws c e =
-    let p = or-neither (eqb c 0) (ltb (class_count ws) c) e in
-    let n = eqb-false c 0 p.0 in
-    let l = ltb-false (class_count ws) c p.1 in
-    (omega arith, omega arith)
-
-linked-class : (ws letters : List ℕ) (c : ℕ) → bad_class ws letters c ≡ false → IsClass ws c
-unfolding bad_class
-linked-class ws letters c e = in-set ws c (or-neither (no_class ws c) _ (or-neither _ _ (or-neither _ _ e).0).0).0
-
 asked-classes : (ws : List ℕ) (c i : ℕ) → bad_ask ws c i ≡ false → IsClass ws c × IsClass ws i
 unfolding bad_ask
 asked-classes ws c i e =
@@ -248,7 +237,8 @@ module _ (same other : Same) (ws abi : List ℕ) (agree : Agree ws abi same othe
       (λ t.
       by (bad_class ws (text_of ws) c) (λ u. rw (t, u) refl)
       (λ u.
-      rw (t, u, plan-agrees same other ws abi agree (eqb-true (set_refusal ws abi) 0 t) area c (linked-class ws (text_of ws) c u)) refl))
+      let k = class-ok ws (text_of ws) c u in
+      rw (t, u, plan-agrees same other ws abi agree (eqb-true (set_refusal ws abi) 0 t) area c (k.some, k.among)) refl))
       (λ t. rw t refl)
 
   nodes-agree : (c i : ℕ) (area stubs : List ℕ) → set_refusal ws abi ≡ 0 → c ≤ class_count ws → i ≤ class_count ws → (nodes : ℕ)

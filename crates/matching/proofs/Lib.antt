@@ -1,6 +1,12 @@
 pub mod Agrees
+pub mod Carried
 pub mod Equal
 pub mod Examples
+pub mod Faithful
 pub mod Filled
+pub mod Filling
+pub mod Numbered
+pub mod Origins
 pub mod Parts
+pub mod Rows
 pub mod Theorem

@@ -1,5 +1,5 @@
 -- What a filling of the list of numbers gives: "place m for method m, 512 + s for ABI slot s, both from 0, each holding the first place whose record has equal
--- bytes of both parts; unused places 0." `filling` of proofs/Theorem.antt proves it. Assumes nothing.
+-- bytes of both parts; unused places 0." `filling` of proofs/Filling.antt proves it. Assumes nothing.
 use Rattle.std.specs.Prelude.{ℕ, ◌≤◌, ◌<◌, ◌≡◌, true, false, List, length, get_or, drop}
 use Rattle.class_sheet.specs.ClassSheet.{method_count, text_of}
 use Rattle.abi_sheet.specs.AbiSheet.{abi_slot_count, abi_text_of}

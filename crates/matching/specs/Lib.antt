@@ -1,2 +1,2 @@
-pub mod Agree
 pub mod Filling
+pub mod Matching
