@@ -12,8 +12,8 @@ use Rattle.set_rules.specs.SetRules.{set_fits, class_descriptors, abi_descriptor
 use Rattle.set_rules.proofs.Valid.{valid_exactly}
 use Rattle.convert.proofs.Few.{at_most}
 use Rattle.linking.specs.Chain.{parent_of, chain}
-use Rattle.linking.specs.Link.{no_class, is_linked, bad_array, bad_class, Outcome, refused_call, LinkOutcome, refused_link, link_def}
-use Rattle.linking.specs.Ask.{bad_ask, ask_def}
+use Rattle.linking.specs.Link.{no_class, is_linked, bad_array, bad_class, Outcome, refused_call, LinkOutcome, refused_link, link_by, link_def}
+use Rattle.linking.specs.Ask.{bad_ask, ask_by, ask_def}
 use Rattle.linking.proofs.ChainLaws.{chain_length}
 use Rattle.linking.proofs.Opened.{opened}
 use Rattle.harmless.specs.Depth.{Passed, Short, Shallow}
@@ -46,7 +46,7 @@ both-passed number R tells row true false o e l p = (eqb-true row 0 e, refl)
 both-passed number R tells row false bad o e l p = absurd (refused row (eqb-false row 0 e) (omega arith) (rw (tells row) at p))
 
 link-short : (ws abi : List ℕ) (c : ℕ) (area stubs missing : List ℕ) → Passed (link_def ws abi c area stubs missing).outcome.refusal → Short ws c
-unfolding link_def bad_class
+unfolding link_def link_by bad_class
 link-short ws abi c area stubs missing p =
     let number : LinkOutcome → ℕ = λ o. o.outcome.refusal in
     let q = both-passed number (λ n. refused_link n ws area missing) (λ n. refl)
@@ -57,7 +57,7 @@ link-short ws abi c area stubs missing p =
     class-short ws c (((valid_exactly ws abi).0 q.0).0.number_of_classes) (or-neither (no_class ws c) (is_linked ws c) b.0).0
 
 ask-short : (ws abi : List ℕ) (c i : ℕ) (area stubs : List ℕ) → Passed (ask_def ws abi c i area stubs).refusal → Short ws c × Short ws i
-unfolding ask_def bad_ask
+unfolding ask_def ask_by bad_ask
 ask-short ws abi c i area stubs p =
     let number : Outcome → ℕ = λ o. o.refusal in
     let q = both-passed number (λ n. refused_call n ws area) (λ n. refl) (set_refusal ws abi) _ (bad_ask ws c i) _ refl (set-rows ws abi) p in

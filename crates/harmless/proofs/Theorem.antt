@@ -2,7 +2,7 @@
 use Rattle.std.proofs.Common.{◌≡◌, refl, sym, ap, subst, ◌≢◌, ◌⊎◌, inl, inr, Bool, true, false, cond, not, ◌&&◌, ◌||◌, List, [], ◌∷◌, ◌++◌, ℕ, ◌+◌, ◌*◌, ◌≤◌, arith, length, get_or, drop, eqb, ltb, Option, Some, None}
 use Rattle.words.specs.Folds.{all_of}
 use Rattle.block.specs.Block.{block_count, check_ok, shape_ok, sheet_words}
-use Rattle.class_sheet.specs.ClassSheet.{block_limit, is_built_kind, is_generated, is_packaged, class_kind, class_flags, class_compiler_table, text_of, method_name, method_descriptor}
+use Rattle.class_sheet.specs.ClassSheet.{block_limit, is_built_kind, is_generated, is_packaged, class_kind, class_flags, class_compiler_table, text_of}
 use Rattle.abi_sheet.specs.AbiSheet.{abi_block_limit, abi_text_of}
 use Rattle.class_rules.specs.ClassRules.{class_form, class_records}
 use Rattle.abi_rules.specs.AbiRules.{abi_form, abi_records}
@@ -19,15 +19,16 @@ use Rattle.renumber.specs.Renumber as renumber
 use Rattle.renumber.specs.Renumber.{renumber_refusal, renumber_def}
 use Rattle.convert.proofs.Few.{at_most, class-few}
 use Rattle.convert.specs.Convert.{blocks_or_row, forward, narrowed, widen_refusal, widen_sheet, narrow_refusal, narrow_sheet}
+use Rattle.linking.specs.Signature.{Same, of_method, by_sheets}
 use Rattle.linking.specs.Chain.{is_interface, eligible, on_found, own_fields}
 use Rattle.linking.specs.Abi.{class_abi}
 use Rattle.linking.specs.Packages.{bad_packages}
 use Rattle.linking.specs.Fields.{too_many_words, stand_from, generated_base, generated_refusal, instance_words, declared_words}
 use Rattle.linking.specs.Vtable.{Entry, Built, built, refused, on_built, entry_is_other, empty, put_method, add_method, add_methods, build_methods, table_entries}
-use Rattle.linking.specs.Link.{Plan, Planned, planned, unplanned, within_slots, plan_built, plan_generated, plan_array, plan, built_table, generated_table, lists_full, set_short, no_room, refused_call, finish_link, on_plan, on_table, bad_class, bad_area, link_def, Outcome, LinkOutcome, refused_link, no_class, is_linked}
+use Rattle.linking.specs.Link.{Plan, Planned, planned, unplanned, within_slots, plan_built, plan_generated, plan_array, plan, built_table, generated_table, lists_full, set_short, no_room, refused_call, finish_link, on_plan, on_table, bad_class, bad_area, link_by, link_def, Outcome, LinkOutcome, refused_link, no_class, is_linked}
 use Rattle.linking.specs.Counts.{missing_short}
 use Rattle.linking.specs.Missing.{Missing, turned_away, missing_def}
-use Rattle.linking.specs.Ask.{Walk, hit, missed, broken, walk, head_place, implementation, dispatch_entry, cons_entry, dispatch_entries, on_dispatch, build_node, on_walk, bad_ask, ask_def}
+use Rattle.linking.specs.Ask.{Walk, hit, missed, broken, walk, head_place, implementation, dispatch_entry, cons_entry, dispatch_entries, on_dispatch, build_node, on_walk, bad_ask, ask_by, ask_def}
 use Rattle.class_members.specs.Members.{FileOutcome, refused_by, read_refusal, file_refusal, read_class_file, class_file_head}
 use Rattle.harmless.specs.Harmless.{Refused, refused_reading, refused_writing, refused_renumbering, refused_bitmap, refused_count, Harmless}
 
@@ -162,17 +163,17 @@ within-set Q three four five ws abi =
 
 -- ---- rows 8 to 13, of a plan
 
-module _ (Q : ℕ → Type 0) (all : (n : ℕ) → 3 ≤ n → n ≤ 15 → Q n) (ws text abi labels area : List ℕ) where
-  put-row : (fixed slot : Option ℕ) (m : ℕ) (T : List Entry) → Table Q (put_method ws text fixed slot m T)
+module _ (Q : ℕ → Type 0) (all : (n : ℕ) → 3 ≤ n → n ≤ 15 → Q n) (same : Same) (ws text abi labels area : List ℕ) where
+  put-row : (fixed slot : Option ℕ) (m : ℕ) (T : List Entry) → Table Q (put_method same ws fixed slot m T)
   unfolding put_method
   put-row (Some i) slot m T =
       table-either Q (on_found slot (λ j. not (eqb j i)) false) (refused 11) _ (no_table 11 (λ h. all 11 (omega arith) (omega arith)))
-      (table-either Q (entry_is_other ws text (method_name ws text m) (method_descriptor ws text m) (get_or T i empty)) (refused 12) _
+      (table-either Q (entry_is_other same (of_method m) (get_or T i empty)) (refused 12) _
       (no_table 12 (λ h. all 12 (omega arith) (omega arith))) (a-table _))
   put-row None (Some j) m T = a-table _
   put-row None None m T = a-table _
 
-  add_row : (abis : List ℕ) (m : ℕ) (T : List Entry) → Table Q (add_method ws text abi labels abis m T)
+  add_row : (abis : List ℕ) (m : ℕ) (T : List Entry) → Table Q (add_method same ws text abi abis m T)
   unfolding add_method
   add_row abis m T = table-either Q (eligible ws text m) _ _ (put-row _ _ m T) (a-table T)
 
@@ -180,12 +181,12 @@ module _ (Q : ℕ → Type 0) (all : (n : ℕ) → 3 ≤ n → n ≤ 15 → Q n)
   on_built_lem (a-table T) q = q T
   on_built_lem (no_table n h) q = no_table n h
 
-  adds-row : (abis ms : List ℕ) (T : List Entry) → Table Q (add_methods ws text abi labels abis ms T)
+  adds-row : (abis ms : List ℕ) (T : List Entry) → Table Q (add_methods same ws text abi abis ms T)
   unfolding add_methods
   adds-row abis [] T = a-table T
   adds-row abis (m ∷ ms) T = on_built_lem (add_row abis m T) (adds-row abis ms)
 
-  build-row : (c : ℕ) → Table Q (build_methods ws text abi labels area c)
+  build-row : (c : ℕ) → Table Q (build_methods same ws text abi labels area c)
   unfolding build_methods
   build-row c = adds-row _ _ _
 
@@ -193,7 +194,7 @@ module _ (Q : ℕ → Type 0) (all : (n : ℕ) → 3 ≤ n → n ≤ 15 → Q n)
   unfolding within_slots
   slots-row p = plans-either Q (ltb 1024 (length p.table)) (unplanned 13) (planned p) (no_plan_lem 13 (λ h. all 13 (omega arith) (omega arith))) (a-plan p)
 
-  built-row : (c : ℕ) → Plans Q (plan_built ws text abi labels area c)
+  built-row : (c : ℕ) → Plans Q (plan_built same ws text abi labels area c)
   unfolding plan_built built_table
   built-row c =
       plans-either Q (too_many_words ws text abi labels (class_abi ws text abi labels c) c)
@@ -208,20 +209,21 @@ module _ (Q : ℕ → Type 0) (all : (n : ℕ) → 3 ≤ n → n ≤ 15 → Q n)
       (num-either Q (stand_from ws text (generated_base ws text c) (own_fields ws c) || stand_from ws text 0 (own_fields ws c)) 0 9
       (none Q) (λ h. all 9 (omega arith) (omega arith)))
 
-  generated-row : (c : ℕ) → Plans Q (plan_generated ws text abi labels area c)
+  generated-row : (c : ℕ) → Plans Q (plan_generated same ws text abi labels area c)
   unfolding plan_generated generated_table
   generated-row c =
       plans-either Q (eqb (generated_refusal ws text c) 0) _ (unplanned (generated_refusal ws text c))
       (on_table_lem Q (table-either Q (eqb (class_compiler_table ws c) 0) _ _ (build-row c) (a-table _)) (λ T. slots-row _)) (no_plan_lem _ (fields-row c))
 
-  plan-row : (c : ℕ) → Plans Q (plan ws text abi labels area c)
+  plan-row : (c : ℕ) → Plans Q (plan same ws text abi labels area c)
   unfolding plan plan_array
   plan-row c =
       plans-either Q (is_built_kind (class_kind ws c)) _ _ (built-row c) (plans-either Q (is_generated ws c) _ _ (generated-row c) (slots-row _))
 
 -- ---- a link
 
-module _ (Q : ℕ → Type 0) (all : (n : ℕ) → 3 ≤ n → n ≤ 15 → Q n) (packages : Q 26) (ws abi : List ℕ) (c : ℕ) (area stubs missing : List ℕ) where
+module _ (Q : ℕ → Type 0) (all : (n : ℕ) → 3 ≤ n → n ≤ 15 → Q n) (packages : Q 26) (same : Same) (ws abi : List ℕ) (c : ℕ)
+    (area stubs missing : List ℕ) where
   abbrev link_row : LinkOutcome → ℕ
   link_row o = o.outcome.refusal
 
@@ -245,15 +247,15 @@ module _ (Q : ℕ → Type 0) (all : (n : ℕ) → 3 ≤ n → n ≤ 15 → Q n)
   on_plan_lem (a-plan p) = finish-ends p
   on_plan_lem (no_plan_lem n h) = ends-refused Q link_row turned (λ n. refl) n h
 
-  link-ends : LinkEnds (link_def ws abi c area stubs missing)
-  unfolding link_def
+  link-ends : LinkEnds (link_by same ws abi c area stubs missing)
+  unfolding link_by
   link-ends =
       or-refused (not (eqb (set_refusal ws abi) 0)) (set_refusal ws abi) _
       (within-set Q (all 3 (omega arith) (omega arith)) (all 4 (omega arith) (omega arith)) (all 5 (omega arith) (omega arith)) ws abi)
       (or-refused (bad_class ws (text_of ws) c) 6 _ (λ h. all 6 (omega arith) (omega arith))
       (or-refused (bad_area ws area) 7 _ (λ h. all 7 (omega arith) (omega arith))
       (or-refused (bad_packages ws (text_of ws) abi (abi_text_of abi) c) 26 _ (λ h. packages)
-      (on_plan_lem (plan-row Q all ws (text_of ws) abi (abi_text_of abi) area c)))))
+      (on_plan_lem (plan-row Q all same ws (text_of ws) abi (abi_text_of abi) area c)))))
 
 -- ---- asking for a count
 
@@ -274,7 +276,7 @@ module _ (Q : ℕ → Type 0) (three : Q 3) (four : Q 4) (five : Q 5) (six : Q 6
 
 -- ---- an ask
 
-module _ (Q : ℕ → Type 0) (three : Q 3) (four : Q 4) (five : Q 5) (six : Q 6) (seven : Q 7) (fifteen : Q 15) (sixteen : Q 16)
+module _ (Q : ℕ → Type 0) (three : Q 3) (four : Q 4) (five : Q 5) (six : Q 6) (seven : Q 7) (fifteen : Q 15) (sixteen : Q 16) (same : Same)
     (ws abi : List ℕ) (c i : ℕ) (area stubs : List ℕ) where
   entry_row : (e : Entry) (m k : Option ℕ) (b : Built) → Table Q b → Table Q (cons_entry (dispatch_entry ws e m k) b)
   entry_row e (Some m) (Some k) (built T) p = a-table _
@@ -283,11 +285,11 @@ module _ (Q : ℕ → Type 0) (three : Q 3) (four : Q 4) (five : Q 5) (six : Q 6
   entry_row e None k (built T) p = a-table _
   entry_row e None k (refused n) p = p
 
-  entries-row : (T : List Entry) → Table Q (dispatch_entries ws (text_of ws) c T)
+  entries-row : (T : List Entry) → Table Q (dispatch_entries same ws c T)
   unfolding dispatch_entries
   entries-row [] = a-table _
   entries-row (e ∷ T) =
-      entry_row e e.method (on_found e.method (implementation ws (text_of ws) c) None) (dispatch_entries ws (text_of ws) c T) (entries-row T)
+      entry_row e e.method (on_found e.method (implementation same ws c) None) (dispatch_entries same ws c T) (entries-row T)
 
   abbrev ask_row : Outcome → ℕ
   ask_row o = o.refusal
@@ -309,21 +311,21 @@ module _ (Q : ℕ → Type 0) (three : Q 3) (four : Q 4) (five : Q 5) (six : Q 6
   on_dispatch_lem (a-table T) k = k T
   on_dispatch_lem (no_table n h) k = refused-ask n h
 
-  node-ends : (nodes : ℕ) → AskEnds (build_node ws abi c i area stubs nodes)
+  node-ends : (nodes : ℕ) → AskEnds (build_node same ws abi c i area stubs nodes)
   unfolding build_node
   node-ends nodes =
-      on_dispatch_lem (entries-row (table_entries ws (text_of ws) abi (abi_text_of abi) area i))
+      on_dispatch_lem (entries-row (table_entries same ws (text_of ws) abi (abi_text_of abi) area i))
       (λ T. or-none (no_room area stubs (length T)) 15 _ (λ h. fifteen) (ends-accepted Q ask_row away (λ n. refl) _ refl))
 
   walk_ends : (w : Walk)
-      → AskEnds (on_walk w (λ n nodes. record { refusal = 0; first = n + 1; second = nodes; set = ws; area = area }) (build_node ws abi c i area stubs)
-      (refused_call 7 ws area))
+      → AskEnds (on_walk w (λ n nodes. record { refusal = 0; first = n + 1; second = nodes; set = ws; area = area })
+      (build_node same ws abi c i area stubs) (refused_call 7 ws area))
   walk_ends (hit n nodes) = ends-accepted Q ask_row away (λ n. refl) _ refl
   walk_ends (missed nodes) = node-ends nodes
   walk_ends broken = refused-ask 7 (λ h. seven)
 
-  ask-ends : AskEnds (ask_def ws abi c i area stubs)
-  unfolding ask_def
+  ask-ends : AskEnds (ask_by same ws abi c i area stubs)
+  unfolding ask_by
   ask-ends =
       or-none (not (eqb (set_refusal ws abi) 0)) (set_refusal ws abi) _ (within-set Q three four five ws abi)
       (or-none (bad_ask ws c i) 6 _ (λ h. six)
@@ -372,7 +374,8 @@ OfCount n = ((3 ≤ n) × (n ≤ 6)) ⊎ (n ≡ 15)
 
 of-link : (ws abi : List ℕ) (c : ℕ) (area stubs missing : List ℕ)
     → Ends OfLink {O = LinkOutcome} (λ o. o.outcome.refusal) (λ n. refused_link n ws area missing) (λ n. refl) (link_def ws abi c area stubs missing)
-of-link ws abi c area stubs missing = link-ends OfLink (λ n h k. inl (h, k)) (inr refl) ws abi c area stubs missing
+unfolding link_def
+of-link ws abi c area stubs missing = link-ends OfLink (λ n h k. inl (h, k)) (inr refl) (by_sheets ws abi) ws abi c area stubs missing
 
 of-count : (ws abi missing : List ℕ) (c : ℕ) → Ends OfCount {O = Missing} (λ o. o.refusal) turned_away (λ n. refl) (missing_def ws abi missing c)
 of-count ws abi missing c =
@@ -381,9 +384,11 @@ of-count ws abi missing c =
 
 of-ask : (ws abi : List ℕ) (c i : ℕ) (area stubs : List ℕ)
     → Ends OfAsk {O = Outcome} (λ o. o.refusal) (λ n. refused_call n ws area) (λ n. refl) (ask_def ws abi c i area stubs)
+unfolding ask_def
 of-ask ws abi c i area stubs =
     ask-ends OfAsk (inl (omega arith, omega arith)) (inl (omega arith, omega arith)) (inl (omega arith, omega arith)) (inl (omega arith, omega arith))
-    (inl (omega arith, omega arith)) (inr (omega arith, omega arith)) (inr (omega arith, omega arith)) ws abi c i area stubs
+    (inl (omega arith, omega arith)) (inr (omega arith, omega arith)) (inr (omega arith, omega arith)) (by_sheets ws abi)
+    ws abi c i area stubs
 
 pub harmless : Harmless
 unfolding read_class_sheet read_unordered_sheet read_abi_sheet class_sheet_refusal unordered_sheet_refusal abi_sheet_refusal widen_sheet narrow_sheet

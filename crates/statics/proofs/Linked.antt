@@ -11,6 +11,8 @@ use Rattle.class_sheet.proofs.Sections.{number_of_fields, class-word, field-word
 use Rattle.abi_sheet.specs.AbiSheet.{abi_text_length, abi_text_words, abi_text_of}
 use Rattle.set_rules.specs.Valid.{Valid}
 use Rattle.set_rules.proofs.Valid.{valid}
+use Rattle.linking.specs.Signature.{by_sheets}
+use Rattle.linking.specs.Compiler.{members}
 use Rattle.linking.specs.Fields.{static_words}
 use Rattle.linking.specs.Set.{new_text}
 use Rattle.linking.specs.Link.{Plan, is_none, next_free, new_words, new_statics, LinkOutcome, link_def}
@@ -44,7 +46,7 @@ module _ (s : Sections) (f : Formed class_width s) (c place words statics : ℕ)
   record_left =
       by (is_none p.new_fields)
       (λ t.
-      by (is_none p.new_methods) (λ u. rw (t, u))
+      by (is_none (members p.added)) (λ u. rw (t, u))
       (λ u. rw (t, u) (word_kept rows c first_method_word method_count_word _ _ static_words_word (omega arith) (omega arith))))
       (λ t. rw t (word_kept rows c first_field_word field_count_word _ _ static_words_word (omega arith) (omega arith)))
 
@@ -62,7 +64,7 @@ module _ (s : Sections) (f : Formed class_width s) (c place words statics : ℕ)
       let first : ℕ = row_word s.classes (c - 1) first_field_word in
       let e = length-row-indices first p.indices s.fields in
       by (is_none p.new_fields)
-      (λ t. by (is_none p.new_methods) (λ u. rw (t, u) (omega arith)) (λ u. rw (t, u) (omega arith)))
+      (λ t. by (is_none (members p.added)) (λ u. rw (t, u) (omega arith)) (λ u. rw (t, u) (omega arith)))
       (λ t. rw t (more_rows s.fields _))
 
   -- the records that were there, but for their indices
@@ -72,7 +74,7 @@ module _ (s : Sections) (f : Formed class_width s) (c place words statics : ℕ)
       let first : ℕ = row_word s.classes (c - 1) first_field_word in
       let e = index-other first p.indices s.fields i k n in
       by (is_none p.new_fields)
-      (λ t. by (is_none p.new_methods) (λ u. rw (t, u) e) (λ u. rw (t, u) e))
+      (λ t. by (is_none (members p.added)) (λ u. rw (t, u) e) (λ u. rw (t, u) e))
       (λ t. rw t (ap (λ (r : List ℕ). get_or r k 0) (get_or-append s.fields _ [] i h)))
 
 -- ---- on the words of an accepted link
@@ -102,10 +104,10 @@ module _ (ws abi : List ℕ) (c : ℕ) (area stubs missing : List ℕ) (o : Link
   pub ok : Valid ws
   ok = (valid ws abi acc.valid).0
 
-  planning : Plans ws (text_of ws) abi (abi_text_of abi) area c p
-  planning = plans ws (text_of ws) abi (abi_text_of abi) area c p acc.comes
+  planning : Plans (by_sheets ws abi) ws (text_of ws) abi (abi_text_of abi) area c p
+  planning = plans (by_sheets ws abi) ws (text_of ws) abi (abi_text_of abi) area c p acc.comes
 
-  method-bytes : AreBytes (new_text p.new_methods)
+  method-bytes : AreBytes (new_text (members p.added))
   method-bytes = planning.method-bytes (text-bytes (text_words ws) (text_length ws)) (text-bytes (abi_text_words abi) (abi_text_length abi))
 
   field-bytes : AreBytes (new_text p.new_fields)

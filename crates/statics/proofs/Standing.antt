@@ -10,11 +10,12 @@ use Rattle.class_sheet.proofs.Sections.{class-word, field-word, field_of}
 use Rattle.descriptor.specs.Words.{width}
 use Rattle.abi_sheet.specs.AbiSheet.{abi_text_of}
 use Rattle.set_rules.specs.Valid.{Valid}
+use Rattle.linking.specs.Signature.{Same, by_sheets}
 use Rattle.linking.specs.Chain.{is_static, own_fields}
 use Rattle.linking.specs.Abi.{class_abi}
 use Rattle.linking.specs.Vtable.{Entry, Built, built, refused}
 use Rattle.linking.specs.Fields.{field_width, number_fields, added_fields, too_many_words}
-use Rattle.linking.specs.Compiler.{no_new}
+use Rattle.linking.specs.Compiler.{no_new, members}
 use Rattle.linking.specs.Link.{Plan, planned, is_none, on_table, within_slots, new_fields_of, built_table, plan_built, plan, next_free, LinkOutcome, link_def}
 use Rattle.linking.specs.Grown.{row_indices, fields_growing, record_rows, linked_sections}
 use Rattle.linking.proofs.ChainLaws.{own-fields-length, own-field-at}
@@ -38,19 +39,19 @@ module _ (ws text abi labels area : List ℕ) (c : ℕ) (p : Plan) where
   -- what it gives and adds
   pub record BuiltPlan : Type 0 where
     pub indices : p.indices ≡ (number_fields ws text abi labels own c).indices
-    pub no_methods : is_none p.new_methods ≡ true
+    pub no_methods : is_none (members p.added) ≡ true
     pub new-fields : p.new_fields ≡ new_fields_of abi labels (added_fields ws text abi labels own c)
 
   abbrev plan_of : List Entry → Plan
   plan_of T = record {
     table = T;
     indices = (number_fields ws text abi labels own c).indices;
-    new_methods = [];
+    added = [];
     new_fields = new_fields_of abi labels (added_fields ws text abi labels own c);
   }
 
   within : (T : List Entry) → within_slots (plan_of T) ≡ planned p → BuiltPlan
-  unfolding within_slots
+  unfolding within_slots members
   within T e =
       by (ltb 1024 (length T)) (λ t. not-planned (rw t at e))
       (λ t.
@@ -61,11 +62,11 @@ module _ (ws text abi labels area : List ℕ) (c : ℕ) (p : Plan) where
   by-table (built T) e = within T e
   by-table (refused n) e = not-planned e
 
-  pub built-plan : IsBuilt ws c → plan ws text abi labels area c ≡ planned p → BuiltPlan
+  pub built-plan : (same : Same) → IsBuilt ws c → plan same ws text abi labels area c ≡ planned p → BuiltPlan
   unfolding plan plan_built
-  built-plan k e =
-      let f : plan_built ws text abi labels area c ≡ planned p = rw k at e in
-      by (too_many_words ws text abi labels own c) (λ t. not-planned (rw t at f)) (λ t. by-table (built_table ws text abi labels area c) (rw t at f))
+  built-plan same k e =
+      let f : plan_built same ws text abi labels area c ≡ planned p = rw k at e in
+      by (too_many_words ws text abi labels own c) (λ t. not-planned (rw t at f)) (λ t. by-table (built_table same ws text abi labels area c) (rw t at f))
 
 -- ABI fields have flags 0x0002
 new-flags : (abi labels gs : List ℕ) (j : ℕ) → j < length (new_fields_of abi labels gs) → (get_or (new_fields_of abi labels gs) j no_new).flags ≡ 2
@@ -166,7 +167,7 @@ module _ (s : Sections) (f : Formed class_width s) (c place words statics : ℕ)
         );
       }
 
-  pub stand : is_none p.new_methods ≡ true → Stand (laid_out (linked_sections s c place words statics p))
+  pub stand : is_none (members p.added) ≡ true → Stand (laid_out (linked_sections s c place words statics p))
   unfolding linked_sections
   stand m = by (is_none p.new_fields) (λ t. rw (t, m) (stand-num t)) (λ t. rw t stand-grown)
 
@@ -183,7 +184,7 @@ module _ (ws abi : List ℕ) (c : ℕ) (area stubs missing : List ℕ) (o : Link
   ok = one.ok ws abi c area stubs missing o acc
 
   comes : BuiltPlan ws text abi labels area c acc.coming
-  comes = built-plan ws text abi labels area c acc.coming kind acc.comes
+  comes = built-plan ws text abi labels area c acc.coming (by_sheets ws abi) kind acc.comes
 
   fields_in : class_first_field ws c + class_field_count ws c ≤ field_count ws
   fields_in = (ok.class c (acc.class.some, acc.class.among)).fields
