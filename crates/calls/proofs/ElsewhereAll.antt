@@ -22,7 +22,7 @@ use Rattle.linking.proofs.Rows.{sound}
 use Rattle.calls.specs.Calls.{Call, link, ask, State, step}
 use Rattle.calls.specs.OldRun.{step_before}
 use Rattle.calls.specs.Elsewhere.{takes, Made, Clear, IsElsewhere, AllRoomy, Elsewhere}
-use Rattle.calls.proofs.Stays.{plan-stands}
+use Rattle.matching.proofs.Stays.{plan-stands}
 use Rattle.calls.proofs.BesideLink.{SamePlan, SamePlanned, both-planned, both-unplanned, plan-same}
 use Rattle.calls.proofs.Area.{linked-free}
 use Rattle.calls.proofs.Wrote.{plan_from, Wrote, with_cases, wrote_after}
@@ -46,7 +46,7 @@ stays abi E s c stubs B v =
       | inl u ↦ ap (λ (x : List ℕ). set_refusal x abi) u.same_set ∙ v
       | inr w ↦
           rw w.new-set
-          (plan-stands s.set abi c s.area w.valid w.class w.coming
+          (plan-stands (by_sheets s.set abi) s.set abi c s.area w.valid w.class w.coming
           (plans_with (by_sheets s.set abi) s.set (text_of s.set) abi (abi_text_of abi) s.area c B w.coming w.comes) w.lists)
     ]
 

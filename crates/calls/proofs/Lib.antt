@@ -14,8 +14,6 @@ pub mod Rows
 pub mod Sources
 pub mod SameIndex
 pub mod CompilerSlots
-pub mod Members
-pub mod Fine
 pub mod Stays
 pub mod Tables
 pub mod Runs

@@ -32,7 +32,7 @@ use Rattle.linking.proofs.Comparing.{Compares, bytes_compare}
 use Rattle.linking.proofs.Before.{link_as_before}
 use Rattle.slots.proofs.EntryFacts.{known-below}
 use Rattle.calls.specs.OneSlot.{Refused}
-use Rattle.calls.proofs.Stays.{plan-is}
+use Rattle.matching.proofs.Stays.{plan-is}
 use Rattle.slots.proofs.MovedRows.{Turned, eleven-moved, twelve-before, before-rows, relayed-stands, moved-refused, displaced_refused}
 
 abbrev bytes : (ws abi : List ℕ) → Compares (by_sheets ws abi)

@@ -5,8 +5,11 @@ pub mod Examples
 pub mod Faithful
 pub mod Filled
 pub mod Filling
+pub mod Fine
+pub mod Members
 pub mod Numbered
 pub mod Origins
 pub mod Parts
 pub mod Rows
+pub mod Stays
 pub mod Theorem

@@ -23,6 +23,7 @@ use Rattle.matching.specs.Filling.{Faithful}
 use Rattle.matching.specs.Matching.{Agree, Carries}
 use Rattle.matching.proofs.Parts.{faithful-agrees}
 use Rattle.matching.proofs.Rows.{Accepted, link-cases}
+use Rattle.matching.proofs.Stays.{link-stands}
 use Rattle.matching.proofs.Origins as origins
 use Rattle.matching.proofs.Carried.{none_added, carries}
 use Rattle.matching.proofs.Faithful.{linked_faithful}
@@ -113,6 +114,13 @@ module _ (ws abi ns : List ℕ) (c : ℕ) (area stubs missing : List ℕ) where
 
   pub link_refused : done.outcome.refusal ≢ 0 → done.numbers ≡ ns
   link_refused n = elim ends [ inl r ↦ r.same_numbers | inr a ↦ absurd (n a.accepted.number) ]
+
+  pub numbered_stays : done.outcome.refusal ≡ 0 → set_refusal done.outcome.set abi ≡ 0
+  numbered_stays z =
+      elim ends [
+        | inl r ↦ absurd (r.number z)
+        | inr a ↦ link-stands (by_numbers ns) ws abi c area stubs missing (but_numbers done) a.accepted
+      ]
 
 -- an ask leaves the set, whatever the list holds
 

@@ -24,7 +24,7 @@ in-set ws c e =
     let n : c ≢ 0 = eqb-false c 0 p.0 in
     (omega arith, ltb-false (class_count ws) c p.1)
 
-is-linked : (ws : List ℕ) (c : ℕ) → is_linked ws c ≡ true → class_table_place ws c ≢ 0
+pub is-linked : (ws : List ℕ) (c : ℕ) → is_linked ws c ≡ true → class_table_place ws c ≢ 0
 is-linked ws c e = eqb-false (class_table_place ws c) 0 (not-true (eqb (class_table_place ws c) 0) e)
 
 not-linked : (ws : List ℕ) (c : ℕ) → is_linked ws c ≡ false → class_table_place ws c ≡ 0

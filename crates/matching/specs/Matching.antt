@@ -55,5 +55,10 @@ pub record Matching : Type 0 where
       ⊎ Carries ws c p.added numbers (link_numbered ws abi numbers c area stubs missing).numbers
   pub link_refused : (ws abi numbers : List ℕ) (c : ℕ) (area stubs missing : List ℕ)
       → (link_numbered ws abi numbers c area stubs missing).outcome.refusal ≢ 0 → (link_numbered ws abi numbers c area stubs missing).numbers ≡ numbers
-  -- ---- an ask leaves the set
+  -- ---- no accepted link, by whatever comparison and with whatever list, leaves a set that rows 3 to 5 refuse; an ask leaves the set
+  pub link_stays : (same : Same) (ws abi : List ℕ) (c : ℕ) (area stubs missing : List ℕ) → (link_by same ws abi c area stubs missing).outcome.refusal ≡ 0
+      → set_refusal (link_by same ws abi c area stubs missing).outcome.set abi ≡ 0
+  pub numbered_stays : (ws abi numbers : List ℕ) (c : ℕ) (area stubs missing : List ℕ)
+      → (link_numbered ws abi numbers c area stubs missing).outcome.refusal ≡ 0
+      → set_refusal (link_numbered ws abi numbers c area stubs missing).outcome.set abi ≡ 0
   pub ask_leaves : (ws abi numbers : List ℕ) (c i : ℕ) (area stubs : List ℕ) → (ask_numbered ws abi numbers c i area stubs).set ≡ ws

@@ -18,8 +18,8 @@ use Rattle.linking.specs.Compiler.{New, members, without_abstract, from_method, 
 use Rattle.linking.specs.Link.{new_fields_of, generated_methods}
 use Rattle.linking.proofs.AbiLaws.{class-abi-room}
 use Rattle.linking.proofs.Added.{EachNew, generated-each, same_receiver, abstract_receiver}
-use Rattle.calls.proofs.Sources.{keep-member}
-use Rattle.calls.proofs.Members.{part-word, Fine}
+use Rattle.linking.proofs.Overriding.{keep-of}
+use Rattle.matching.proofs.Members.{part-word, Fine}
 
 -- ---- flags without 0x0400 are flags of a method
 
@@ -87,7 +87,7 @@ module _ (ws abi : List ℕ) (v : Valid ws) (w : ValidAbi abi) where
   added-room c g i =
       by-found (class_abi ws text abi labels c)
       (λ a e.
-      let j = keep-member (λ f. not (declares_field ws text abi labels c f)) (abi_fields abi a) g (rw e at i) in
+      let j = (keep-of (λ f. not (declares_field ws text abi labels c f)) (abi_fields abi a) (rw e at i)).0 in
       let n = numbers-within (abi_class_first_field abi a) (list_count (abi_class_first_field abi a) (abi_class_field_count abi a) abi_field_limit) g j in
       let r = (w.class a (class-abi-room ws text abi labels c a e)).fields in
       omega arith)
