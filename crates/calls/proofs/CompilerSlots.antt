@@ -267,7 +267,7 @@ module _ (same : Same) (compares : Compares same) (ws text abi labels area : Lis
       (λ m g. no_source of_parent (new_entry same ws text methods None m) refl) (past (First of_parent) z))
       (λ k m l g. absurd (omega arith)) i (omega arith)
 
-  copies : Copies same ws text abi labels area c
+  pub copies : Copies same ws text abi labels area c
   copies = record {
     slots = λ T e i h. all-at (table-built same ws text abi labels area c T e) i h;
     same_index = λ T e none no_table. table-placed same ws text abi labels area c none no_table T e;

@@ -40,7 +40,7 @@ pub data Relayed (same : ℕ → ℕ → Bool) (fixed staying : ℕ → Option �
   -- "The last entry of each other follows after the minimum size, .. with the entries without a fixed index"
   behind : n ≤ i → follows same fixed staying (get_or P j empty) (drop (suc j) P) ≡ true → Relayed same fixed staying P n i j
 
--- of class c's table, where signatures are compared so
+-- what is said of class c's table, whichever way signatures are compared
 module _ (same : Same) (ws text abi labels area : List ℕ) (c : ℕ) where
   abbrev pub IsRelayed : ℕ → ℕ → Type 0
   IsRelayed i j =
@@ -77,6 +77,6 @@ module _ (same : Same) (ws text abi labels area : List ℕ) (c : ℕ) where
         → (get_or (compiler_table same ws text abi labels area c) i empty).method ≡ Some m
         → k < j → (get_or (parent_entries same ws text abi labels area c) k empty).method ≢ Some m
 
--- by their bytes
+-- and where they are compared by their bytes, of every class
 abbrev pub Sources : Type 0
 Sources = (ws text abi labels area : List ℕ) (c : ℕ) → Copies (by_bytes ws text abi labels) ws text abi labels area c
