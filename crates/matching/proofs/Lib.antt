@@ -6,6 +6,7 @@ pub mod Faithful
 pub mod Filled
 pub mod Filling
 pub mod Fine
+pub mod LinkRows
 pub mod Members
 pub mod Numbered
 pub mod Origins

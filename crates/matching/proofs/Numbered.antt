@@ -37,7 +37,8 @@ module _ (ws abi ns : List ℕ) (f : Faithful ws abi ns) where
   by-bytes : Agree ws abi (by_numbers ns) (by_sheets ws abi)
   by-bytes = faithful-agrees ws abi ns f
 
-  pub link_numbered_agrees : (c : ℕ) (area stubs missing : List ℕ) → but_numbers (link_numbered ws abi ns c area stubs missing) ≡ link_def ws abi c area stubs missing
+  pub link_numbered_agrees : (c : ℕ) (area stubs missing : List ℕ)
+      → but_numbers (link_numbered ws abi ns c area stubs missing) ≡ link_def ws abi c area stubs missing
   unfolding link_numbered link_def
   link_numbered_agrees c area stubs missing =
       rw (long-enough ns f.long) (link_agrees (by_numbers ns) (by_sheets ws abi) ws abi by-bytes c area stubs missing)
