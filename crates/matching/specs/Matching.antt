@@ -32,7 +32,7 @@ pub record Matching : Type 0 where
       → link_by same ws abi c area stubs missing ≡ link_by other ws abi c area stubs missing
   pub ask_agrees : (same other : Same) (ws abi : List ℕ) → Agree ws abi same other → (c i : ℕ) (area stubs : List ℕ)
       → ask_by same ws abi c i area stubs ≡ ask_by other ws abi c i area stubs
-  -- so are, of accepted sheets, the readings of each table, and whose each method is that they find
+  -- so are, of accepted sheets, the readings of each table, and the class that declares the method which each finds
   pub entries_agree : (same other : Same) (ws abi : List ℕ) → Agree ws abi same other → set_refusal ws abi ≡ 0 → (area : List ℕ) (c : ℕ) → c ≤ class_count ws
       → table_entries same ws (text_of ws) abi (abi_text_of abi) area c ≡ table_entries other ws (text_of ws) abi (abi_text_of abi) area c
   pub declared_agrees : (same other : Same) (ws abi : List ℕ) → Agree ws abi same other → set_refusal ws abi ≡ 0 → (c i w : ℕ) → c ≤ class_count ws
