@@ -11,9 +11,10 @@ use Rattle.words.proofs.Bools.{by, passed}
 use Rattle.class_sheet.specs.ClassSheet.{text_of}
 use Rattle.abi_sheet.specs.AbiSheet.{abi_text_of}
 use Rattle.set_rules.specs.SetRules.{set_refusal}
+use Rattle.linking.specs.Signature.{Same}
 use Rattle.linking.specs.Vtable.{Built, built, refused, table_entries}
 use Rattle.linking.specs.Link.{next_free, bad_area, no_room, Outcome, refused_call}
-use Rattle.linking.specs.Ask.{Walk, hit, missed, broken, walk, head_place, dispatch_entries, build_node, bad_ask, ask_def}
+use Rattle.linking.specs.Ask.{Walk, hit, missed, broken, walk, head_place, dispatch_entries, build_node, bad_ask, ask_by}
 use Rattle.reading.specs.declared.table.Table.{Table}
 use Rattle.reading.specs.Tables.{entries}
 use Rattle.reading.proofs.ArrayLaws.{length-entries}
@@ -71,17 +72,17 @@ module _ (ws : List ℕ) (c i : ℕ) (area stubs : List ℕ) (nodes : ℕ) (t : 
         rw (room-is, free, g, k, next)
 
 -- the node's table, as `build_node` has it, or row 16
-pub node-built : (ws abi : List ℕ) (c i : ℕ) (area stubs : List ℕ) (nodes : ℕ) {B : Built} {o : Outcome}
-    → B ≡ dispatch_entries ws (text_of ws) c (table_entries ws (text_of ws) abi (abi_text_of abi) area i)
-    → o ≡ finish_ask ws c i area stubs nodes B → o ≡ build_node ws abi c i area stubs nodes
+pub node-built : (same : Same) (ws abi : List ℕ) (c i : ℕ) (area stubs : List ℕ) (nodes : ℕ) {B : Built} {o : Outcome}
+    → B ≡ dispatch_entries same ws c (table_entries same ws (text_of ws) abi (abi_text_of abi) area i)
+    → o ≡ finish_ask ws c i area stubs nodes B → o ≡ build_node same ws abi c i area stubs nodes
 unfolding build_node finish_ask
-node-built ws abi c i area stubs nodes e f = f ∙ rw e
+node-built same ws abi c i area stubs nodes e f = f ∙ rw e
 
-pub node-refused : (ws abi : List ℕ) (c i : ℕ) (area stubs : List ℕ) (nodes n : ℕ)
-    → refused n ≡ dispatch_entries ws (text_of ws) c (table_entries ws (text_of ws) abi (abi_text_of abi) area i)
-    → refused_call n ws area ≡ build_node ws abi c i area stubs nodes
+pub node-refused : (same : Same) (ws abi : List ℕ) (c i : ℕ) (area stubs : List ℕ) (nodes n : ℕ)
+    → refused n ≡ dispatch_entries same ws c (table_entries same ws (text_of ws) abi (abi_text_of abi) area i)
+    → refused_call n ws area ≡ build_node same ws abi c i area stubs nodes
 unfolding build_node
-node-refused ws abi c i area stubs nodes n e = rw (← e) refl
+node-refused same ws abi c i area stubs nodes n e = rw (← e) refl
 
 -- ---- the call
 
@@ -96,9 +97,9 @@ module _ (ws abi : List ℕ) (c i : ℕ) (area : List ℕ) (rows : 0 ≡ ask_ref
       let s = sound ws area code-asks.tables in
       omega (arith, (hit-is area i 64 0 head n nodes (sym walked ∙ e)).0, s.within, s.short)
 
-module _ (ws abi : List ℕ) (c i : ℕ) (area stubs : List ℕ) where
-  refused-by : (x : ℕ) → ask_refusal ws abi c i area ≡ x → (x ≡ 0 → ⊥) → refused_call x ws area ≡ ask_def ws abi c i area stubs
-  unfolding ask_refusal ask_def
+module _ (same : Same) (ws abi : List ℕ) (c i : ℕ) (area stubs : List ℕ) where
+  refused-by : (x : ℕ) → ask_refusal ws abi c i area ≡ x → (x ≡ 0 → ⊥) → refused_call x ws area ≡ ask_by same ws abi c i area stubs
+  unfolding ask_refusal ask_by
   refused-by x e h =
       by (eqb (set_refusal ws abi) 0)
       (λ t.
@@ -110,7 +111,7 @@ module _ (ws abi : List ℕ) (c i : ℕ) (area stubs : List ℕ) where
       (λ v. let p : 0 ≡ x = rw (t, u, v) at e in absurd (h (sym p)))))
       (λ f. let p : set_refusal ws abi ≡ x = rw f at e in rw (f, p))
 
-  pub ask-refused : (k : Refusal) → row k ≡ ask_refusal ws abi c i area → refused_call (row k) ws area ≡ ask_def ws abi c i area stubs
+  pub ask-refused : (k : Refusal) → row k ≡ ask_refusal ws abi c i area → refused_call (row k) ws area ≡ ask_by same ws abi c i area stubs
   ask-refused k rows = refused-by (row k) (sym rows) (λ z. omega (arith, z, row_above k))
 
   module _ (rows : 0 ≡ ask_refusal ws abi c i area) {place head : ℕ} {u : Walk} (at : place ≡ head_place ws c) (from : head ≡ get_or area place 0)
@@ -118,20 +119,20 @@ module _ (ws abi : List ℕ) (c i : ℕ) (area stubs : List ℕ) where
     head_is : walk area i 64 0 (get_or area (head_place ws c) 0) ≡ u
     head_is = rw (← at, ← from) (sym walked)
 
-    pub ask-hit : (n nodes : ℕ) → u ≡ hit n nodes → outcome (Ok (record { first = n + 1; second = nodes })) ws area ≡ ask_def ws abi c i area stubs
-    unfolding ask_def
+    pub ask-hit : (n nodes : ℕ) → u ≡ hit n nodes → outcome (Ok (record { first = n + 1; second = nodes })) ws area ≡ ask_by same ws abi c i area stubs
+    unfolding ask_by
     ask-hit n nodes e =
         let a = code-asks ws abi c i area rows in
         rw (eq-eqb (set_refusal ws abi) 0 a.accepted, a.classes, a.tables, head_is, e)
 
-    pub ask-built : (nodes : ℕ) {o : Outcome} → u ≡ missed nodes → o ≡ build_node ws abi c i area stubs nodes → o ≡ ask_def ws abi c i area stubs
-    unfolding ask_def
+    pub ask-built : (nodes : ℕ) {o : Outcome} → u ≡ missed nodes → o ≡ build_node same ws abi c i area stubs nodes → o ≡ ask_by same ws abi c i area stubs
+    unfolding ask_by
     ask-built nodes e f =
         let a = code-asks ws abi c i area rows in
         f ∙ rw (eq-eqb (set_refusal ws abi) 0 a.accepted, a.classes, a.tables, head_is, e)
 
-    pub ask-broken : u ≡ broken → refused_call 7 ws area ≡ ask_def ws abi c i area stubs
-    unfolding ask_def
+    pub ask-broken : u ≡ broken → refused_call 7 ws area ≡ ask_by same ws abi c i area stubs
+    unfolding ask_by
     ask-broken e =
         let a = code-asks ws abi c i area rows in
         rw (eq-eqb (set_refusal ws abi) 0 a.accepted, a.classes, a.tables, head_is, e)

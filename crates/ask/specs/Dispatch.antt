@@ -3,6 +3,7 @@ use Rattle.std.specs.Prelude.{ℕ, ◌+◌, cond, not, List, [], ◌∷◌, leng
 use Rattle.refusal.specs.declared.Refusal.{Refusal}
 use Rattle.refusal.specs.Rows.{row}
 use Rattle.set_rules.specs.SetRules.{set_refusal}
+use Rattle.linking.specs.Signature.{Same}
 use Rattle.linking.specs.Chain.{on_found}
 use Rattle.linking.specs.Vtable.{Entry, Built, built, refused}
 use Rattle.linking.specs.Link.{next_free, bad_area, no_room, Outcome, refused_call}
@@ -17,8 +18,8 @@ slot_built None = refused 16
 
 -- "each known interface entry takes the first non-static, non-private method of its signature, class first, an unknown one keeps its
 -- target": one entry
-unfoldable pub dispatched : List ℕ → List ℕ → ℕ → Entry → Built
-dispatched ws text c e = dispatch_entry ws e e.method (on_found e.method (implementation ws text c) None)
+unfoldable pub dispatched : Same → List ℕ → ℕ → Entry → Built
+dispatched same ws c e = dispatch_entry ws e e.method (on_found e.method (implementation same ws c) None)
 
 -- the table of these entries, unless a row refuses it
 abbrev pub table_built : {A : Type 0} → List Entry → Result A Refusal → Built

@@ -5,7 +5,8 @@ ghost use Rattle.std.specs.Prelude.{◌≡◌, ◌&&◌, false, ◌≤◌};
 ghost use Rattle.class_sheet.specs.ClassSheet.{method_flags, text_length, text_of, text_limit};
 ghost use Rattle.abi_sheet.specs.AbiSheet.{abi_text_length, abi_text_of, abi_text_limit};
 ghost use Rattle.set_rules.specs.SetRules.{set_refusal};
-ghost use Rattle.linking.specs.Chain.{is_virtual, method_is};
+ghost use Rattle.linking.specs.Signature.{of_method, by_bytes, by_sheets};
+ghost use Rattle.linking.specs.Chain.{is_virtual};
 ghost use Rattle.linking.specs.Vtable.{table_entries, built};
 ghost use Rattle.linking.specs.Link.{bad_area};
 ghost use Rattle.linking.specs.Ask.{head_place, own_implementation, dispatch_entries, build_node, ask_def};
@@ -13,7 +14,8 @@ ghost use Rattle.linking.specs.Whose.{declared_implementation};
 ghost use Rattle.reading.specs.Tables.{entry, entries};
 ghost use Rattle.area.specs.Area.{outcome};
 ghost use Rattle.refusal.specs.Rows.{row_of};
-ghost use Rattle.linking.specs.Sheets.{of_sheets};
+ghost use Rattle.linking.specs.Sheets.{of_sheets, of_bytes};
+ghost use Rattle.chain.specs.Records.{method_is};
 ghost use Rattle.ask.specs.Dispatch.{slot_built, dispatched, table_built, ask_refusal, finish_ask};
 ghost use Rattle.text.specs.Signatures.{of_signature};
 
@@ -30,53 +32,56 @@ fn implements(ws: &[u32], text: &[u8], m: u32, signature: Signature) -> bool
     chain::is_virtual(class_sheet::method_flags(ws, m)) & chain::method_is(ws, text, m, signature)
 }
 
-// Class c's first such method.
-fn own_implementation(ws: &[u32], text: &[u8], signature: Signature, c: u32) -> Option<u32>
-    ensures { result ≡ of_signature (own_implementation ws.now text.now) signature.entry c }
+// Class c's first method of method m's signature that is neither static nor private.
+fn own_implementation(sheets: Sheets, m: u32, c: u32) -> Option<u32>
+    ensures { result ≡ own_implementation (of_sheets by_bytes sheets.entry) sheets.entry.set.now (of_method m) c }
 {
-    let first = class_sheet::class_first_method(ws, c);
-    let end = first + chain::method_count(ws, c);
-    words::find_in(first, end, |m| implements(ws, text, m, signature))
+    let signature = class_sheet::method_signature(sheets.set, sheets.text, m);
+    let first = class_sheet::class_first_method(sheets.set, c);
+    let end = first + chain::method_count(sheets.set, c);
+    words::find_in(
+        first,
+        end,
+        |k| implements(sheets.set, sheets.text, k, signature),
+    )
 }
 
-// The first such method of method m's signature, with its class: class c's, then its ancestors'.
-fn implementation(ws: &[u32], text: &[u8], c: u32, m: u32) -> Option<Declared>
-    ensures { result ≡ declared_implementation ws.now text.now c m }
+// The first such method, with its class: class c's, then its ancestors'.
+fn implementation(sheets: Sheets, c: u32, m: u32) -> Option<Declared>
+    ensures { result ≡ declared_implementation (of_sheets by_bytes sheets.entry) sheets.entry.set.now c m }
 {
     if c == 0 {
         return None;
     }
-    let signature = class_sheet::method_signature(ws, text, m);
-    match own_implementation(ws, text, signature, c) {
+    match own_implementation(sheets, m, c) {
         Some(method) => Some(Declared { class: c, method }),
-        None => implementation(ws, text, chain::parent_of(ws, c), m),
+        None => implementation(sheets, chain::parent_of(sheets.set, c), m),
     }
 }
 
 // Class c's slot for an interface's: none where no class of its chain implements the method.
-fn dispatch_slot(ws: &[u32], text: &[u8], c: u32, slot: Slot) -> Option<Slot>
-    ensures { slot_built result ≡ dispatched ws.now text.now c (entry slot) }
+fn dispatch_slot(sheets: Sheets, c: u32, slot: Slot) -> Option<Slot>
+    ensures { slot_built result ≡ dispatched (of_sheets by_bytes sheets.entry) sheets.entry.set.now c (entry slot) }
 {
     let Some(j) = slot.method() else {
         return Some(slot);
     };
-    let d = implementation(ws, text, c, j)?;
-    Some(Slot::of_method(ws, d.method))
+    let d = implementation(sheets, c, j)?;
+    Some(Slot::of_method(sheets.set, d.method))
 }
 
 // Fills the table with class c's slots for those of an interface's, or row 16.
 fn dispatch_slots(
-    ws: &[u32],
-    text: &[u8],
+    sheets: Sheets,
     c: u32,
     from: &ReadTable,
     to: &mut ReadTable,
 ) -> Result<(), Refusal>
-    ensures { table_built (entries to.new) result ≡ dispatch_entries ws.now text.now c (entries from.now) }
+    ensures { table_built (entries to.new) result ≡ dispatch_entries (of_sheets by_bytes sheets.entry) sheets.entry.set.now c (entries from.now) }
 {
     to.clear();
     for slot in from.slots() {
-        to.push(dispatch_slot(ws, text, c, slot).ok_or(Refusal::Unimplemented)?);
+        to.push(dispatch_slot(sheets, c, slot).ok_or(Refusal::Unimplemented)?);
     }
     Ok(())
 }
@@ -90,12 +95,12 @@ fn dispatch_table(
     to: &mut ReadTable,
 ) -> Result<(), Refusal>
     ensures { table_built (entries to.new) result
-        ≡ dispatch_entries sheets.entry.set.now sheets.entry.text.now c (of_sheets table_entries sheets.entry area.now i) }
+        ≡ dispatch_entries (of_sheets by_bytes sheets.entry) sheets.entry.set.now c (of_bytes table_entries sheets.entry area.now i) }
 {
     let mut from = Table::for_reading();
     let mut classes = [0u32; TABLE_LIMIT];
     reading::table_entries(sheets, area, i, &mut from, &mut classes);
-    dispatch_slots(sheets.set, sheets.text, c, &from, to)
+    dispatch_slots(sheets, c, &from, to)
 }
 
 // The same, with the sheets' texts unpacked.
@@ -109,7 +114,8 @@ fn dispatch_unpacked<'a>(
 ) -> Result<(), Refusal>
     requires { (text_length ws.now ≤ text_limit) × (abi_text_length abi.now ≤ abi_text_limit) }
     ensures { table_built (entries to.new) result
-        ≡ dispatch_entries ws.now (text_of ws.now) c (table_entries ws.now (text_of ws.now) abi.now (abi_text_of abi.now) area.now i) }
+        ≡ dispatch_entries (by_sheets ws.now abi.now) ws.now c
+        (table_entries (by_sheets ws.now abi.now) ws.now (text_of ws.now) abi.now (abi_text_of abi.now) area.now i) }
 {
     let mut room = [0u8; class_sheet::TEXT_LIMIT as usize];
     let mut label_room = [0u8; abi_sheet::TEXT_LIMIT as usize];
@@ -168,7 +174,7 @@ fn build_node<'a>(
     nodes: u32,
 ) -> Result<Answer, Refusal>
     requires { (set_refusal ws.now abi.now ≡ 0) × (bad_area ws.now area.old ≡ false) }
-    ensures { outcome result ws.now area.new ≡ build_node ws.now abi.now c i area.old stubs.now nodes }
+    ensures { outcome result ws.now area.new ≡ build_node (by_sheets ws.now abi.now) ws.now abi.now c i area.old stubs.now nodes }
 {
     let mut table = Table::for_reading();
     dispatch_unpacked(ws, abi, area, c, i, &mut table)?;

@@ -13,9 +13,10 @@ use Rattle.std.specs.Prelude.{Option, Some, None, find as first_of}
 use Rattle.words.proofs.Bools.{by}
 use Rattle.words.proofs.ListLaws.{find-within, by-found}
 use Rattle.class_sheet.specs.ClassSheet.{class_first_method, class_method_count, class_compiler_table, class_compiler_slots, compiler_word, method_limit}
+use Rattle.linking.specs.Signature.{Same}
 use Rattle.linking.specs.Chain.{list_count, own_methods}
 use Rattle.linking.specs.Vtable.{Entry, empty, parent_entries}
-use Rattle.linking.specs.Compiler.{New, target_of, class_methods, entry_target, match_target, compiler_entry, compiler_entries, compiler_targets, append_from, append_entry, native_view, added_methods, compiler_table}
+use Rattle.linking.specs.Compiler.{Taken, target_of, class_methods, entry_target, match_target, compiler_entry, compiler_entries, compiler_targets, append_from, append_entry, native_view, added_methods, compiler_table}
 use Rattle.reading.specs.declared.table.Slot.{Slot}
 use Rattle.reading.specs.Arrays.{mark_of, method_of, source_of}
 use Rattle.reading.specs.Tables.{entry}
@@ -37,7 +38,7 @@ find-append p (x ∷ xs) ys = by (p x) (λ q. rw q) (λ q. rw q (find-append p x
 
 -- ---- by target
 
-module _ (ws : List ℕ) (new : List New) where
+module _ (ws : List ℕ) (new : List Taken) where
   module _ (t : ℕ) (e : Entry) where
     pub target_unknown : {o : Option ℕ} → o ≡ e.method → o ≡ None → false ≡ has_target ws new t e
     unfolding has_target
@@ -134,10 +135,11 @@ module _ (ws : List ℕ) (new : List New) where
 
 -- ---- the whole table
 
-pub prepared_is : (ws text abi labels area : List ℕ) (c : ℕ) {new : List New} {view parent T : List Entry}
-    → parent ≡ parent_entries ws text abi labels area c → view ≡ native_view ws text abi labels area c → new ≡ added_methods ws text abi labels area c
-    → T ≡ fold (append_entry ws text new)
-    (fold (append_from ws text new None) (compiler_entries ws new c view 0 (compiler_targets ws c)) (class_methods ws new c)) parent
-    → T ≡ compiler_table ws text abi labels area c
+pub prepared_is : (same : Same) (ws text abi labels area : List ℕ) (c : ℕ) {new : List Taken} {view parent T : List Entry}
+    → parent ≡ parent_entries same ws text abi labels area c → view ≡ native_view same ws text abi labels area c
+    → new ≡ added_methods same ws text abi labels area c
+    → T ≡ fold (append_entry same ws text new)
+    (fold (append_from same ws text new None) (compiler_entries ws new c view 0 (compiler_targets ws c)) (class_methods ws new c)) parent
+    → T ≡ compiler_table same ws text abi labels area c
 unfolding compiler_table
-prepared_is ws text abi labels area c p v n e = e ∙ rw (p, v, n)
+prepared_is same ws text abi labels area c p v n e = e ∙ rw (p, v, n)

@@ -6,88 +6,98 @@ use Prim.Native.Nat.{ℕ, ◌-◌, ◌≤◌, ◌<◌}
 use lib.ListN.{get_or, take, drop}
 use borrow.Author.Tests.{lt-ltb, le-ltb}
 use Rattle.std.specs.Prelude.{Option, Some, None, slice_get}
+use Rattle.words.specs.Lists.{some}
 use Rattle.text.specs.Text.{same_bytes}
-use Rattle.class_sheet.specs.ClassSheet.{method_name, method_descriptor, method_flags, method_target, method_limit}
+use Rattle.class_sheet.specs.ClassSheet.{method_name, method_flags, method_target, method_limit}
+use Rattle.linking.specs.Signature.{place_name, place_descriptor, by_bytes}
 use Rattle.linking.specs.Vtable.{Entry}
-use Rattle.linking.specs.Compiler.{New, no_new, name_of, descriptor_of, flags_of, target_of}
+use Rattle.linking.specs.Compiler.{Taken, none_taken, place_of, name_of, flags_of, target_of, same_signature, has_slot}
 use Rattle.growth.specs.declared.news.Member.{Member}
-use Rattle.growth.specs.News.{ref_name, ref_descriptor, new_of, news_of}
-use Rattle.growth.proofs.NewsLaws.{news_got, news_out}
+use Rattle.growth.specs.declared.news.Named.TheVariants.{Method}
+use Rattle.growth.specs.News.{ref_place, ref_name, new_of, taken_of, added_of}
+use Rattle.growth.proofs.NewsLaws.{added_got, added_out}
 use Rattle.compiler.specs.Methods.{same_method}
 
 -- ---- a method of the sheet
 
-module _ (ws text : List ℕ) (new : List New) (m : ℕ) (h : m < method_limit) where
-  module _ {p : List ℕ} where
-    pub name_own : p ≡ method_name ws text m → p ≡ name_of ws text new m
-    unfolding name_of
-    name_own e = simp (lt-ltb m method_limit h) e
+module _ (ws text : List ℕ) (new : List Taken) (m : ℕ) (h : m < method_limit) where
+  pub name_own : {p : List ℕ} → p ≡ method_name ws text m → p ≡ name_of ws text new m
+  unfolding name_of
+  name_own e = simp (lt-ltb m method_limit h) e
 
-    pub descriptor_own : p ≡ method_descriptor ws text m → p ≡ descriptor_of ws text new m
-    unfolding descriptor_of
-    descriptor_own e = simp (lt-ltb m method_limit h) e
+module _ (ws : List ℕ) (new : List Taken) (m : ℕ) (h : m < method_limit) {x : ℕ} where
+  pub flags_own : x ≡ method_flags ws m → x ≡ flags_of ws new m
+  unfolding flags_of
+  flags_own e = simp (lt-ltb m method_limit h) e
 
-  module _ {x : ℕ} where
-    pub flags_own : x ≡ method_flags ws m → x ≡ flags_of ws new m
-    unfolding flags_of
-    flags_own e = simp (lt-ltb m method_limit h) e
+  pub target_own : x ≡ method_target ws m → x ≡ target_of ws new m
+  unfolding target_of
+  target_own e = simp (lt-ltb m method_limit h) e
 
-    pub target_own : x ≡ method_target ws m → x ≡ target_of ws new m
-    unfolding target_of
-    target_own e = simp (lt-ltb m method_limit h) e
+pub place_own : (new : List Taken) (m : ℕ) → m < method_limit → ref_place (Method m) ≡ place_of new m
+unfolding ref_place place_of
+place_own new m h = simp (lt-ltb m method_limit h)
 
 -- ---- an added one, or none
 
 module _ (ws text abi labels : List ℕ) (members : List Member) (m : ℕ)
     (h : method_limit ≤ m) {o : Option Member} (e : o ≡ slice_get members (m - method_limit)) where
   module _ {x : Member} (f : o ≡ Some x) where
-    got : get_or (news_of ws text abi labels members) (m - method_limit) no_new ≡ new_of ws text abi labels x
-    got = news_got ws text abi labels members (m - method_limit) no_new e f
+    got : get_or (added_of ws text abi labels members) (m - method_limit) none_taken ≡ taken_of ws text abi labels x
+    got = added_got ws text abi labels members (m - method_limit) none_taken e f
 
-    pub name_added : {p : List ℕ} → p ≡ ref_name ws text abi labels x.names → p ≡ name_of ws text (news_of ws text abi labels members) m
-    unfolding name_of new_of
+    pub place_added : ref_place x.names ≡ place_of (added_of ws text abi labels members) m
+    unfolding place_of taken_of
+    place_added = simp (le-ltb m method_limit h) (rw got)
+
+    pub name_added : {p : List ℕ} → p ≡ ref_name ws text abi labels x.names → p ≡ name_of ws text (added_of ws text abi labels members) m
+    unfolding name_of taken_of new_of
     name_added g = simp (le-ltb m method_limit h) (rw got g)
 
-    pub descriptor_added : {p : List ℕ} → p ≡ ref_descriptor ws text abi labels x.names → p ≡ descriptor_of ws text (news_of ws text abi labels members) m
-    unfolding descriptor_of new_of
-    descriptor_added g = simp (le-ltb m method_limit h) (rw got g)
-
-    pub flags_added : x.flags ≡ flags_of ws (news_of ws text abi labels members) m
-    unfolding flags_of new_of
+    pub flags_added : x.flags ≡ flags_of ws (added_of ws text abi labels members) m
+    unfolding flags_of taken_of new_of
     flags_added = simp (le-ltb m method_limit h) (rw got)
 
-    pub target_added : x.last ≡ target_of ws (news_of ws text abi labels members) m
-    unfolding target_of new_of
+    pub target_added : x.last ≡ target_of ws (added_of ws text abi labels members) m
+    unfolding target_of taken_of new_of
     target_added = simp (le-ltb m method_limit h) (rw got)
 
   module _ (f : o ≡ None) where
-    none : get_or (news_of ws text abi labels members) (m - method_limit) no_new ≡ no_new
-    none = news_out ws text abi labels members (m - method_limit) no_new e f
+    none : get_or (added_of ws text abi labels members) (m - method_limit) none_taken ≡ none_taken
+    none = added_out ws text abi labels members (m - method_limit) none_taken e f
 
-    pub name_none : {p : List ℕ} → p ≡ take 0 (drop 0 text) → p ≡ name_of ws text (news_of ws text abi labels members) m
+    pub place_none : ref_place (Method 0) ≡ place_of (added_of ws text abi labels members) m
+    unfolding ref_place place_of
+    place_none = simp (le-ltb m method_limit h) (rw none)
+
+    pub name_none : {p : List ℕ} → p ≡ take 0 (drop 0 text) → p ≡ name_of ws text (added_of ws text abi labels members) m
     unfolding name_of
     name_none g = simp (le-ltb m method_limit h) (rw none g)
 
-    pub descriptor_none : {p : List ℕ} → p ≡ take 0 (drop 0 text) → p ≡ descriptor_of ws text (news_of ws text abi labels members) m
-    unfolding descriptor_of
-    descriptor_none g = simp (le-ltb m method_limit h) (rw none g)
-
-    pub flags_none : 0 ≡ flags_of ws (news_of ws text abi labels members) m
+    pub flags_none : 0 ≡ flags_of ws (added_of ws text abi labels members) m
     unfolding flags_of
     flags_none = simp (le-ltb m method_limit h) (rw none)
 
-    pub target_none : 0 ≡ target_of ws (news_of ws text abi labels members) m
+    pub target_none : 0 ≡ target_of ws (added_of ws text abi labels members) m
     unfolding target_of
     target_none = simp (le-ltb m method_limit h) (rw none)
 
--- ---- a signature, as the code compares it
+-- ---- a signature, as the code compares it: by its bytes
 
-module _ (ws text : List ℕ) (new : List New) (name descriptor : List ℕ) (e : Entry) {o : Option ℕ} (h : o ≡ e.method) where
-  pub same_none : o ≡ None → false ≡ same_method ws text new name descriptor e
-  unfolding same_method
-  same_none f = rw (← h, f)
+module _ (ws text abi labels : List ℕ) (new : List Taken) where
+  module _ (name descriptor : List ℕ) (e : Entry) {o : Option ℕ} (h : o ≡ e.method) where
+    pub same_none : o ≡ None → false ≡ same_method ws text abi labels new name descriptor e
+    unfolding same_method
+    same_none f = rw (← h, f)
 
-  pub same_known : {j : ℕ} {a d : List ℕ} {b b' : Bool} → o ≡ Some j → a ≡ name_of ws text new j → b ≡ same_bytes name a
-      → d ≡ descriptor_of ws text new j → b' ≡ same_bytes descriptor d → (b && b') ≡ same_method ws text new name descriptor e
-  unfolding same_method
-  same_known f g g' k k' = rw (g', g, k', k) (rw (← h, f))
+    pub same_known : {j : ℕ} {a d : List ℕ} {b b' : Bool} → o ≡ Some j → a ≡ place_name ws text abi labels (place_of new j) → b ≡ same_bytes name a
+        → d ≡ place_descriptor ws text abi labels (place_of new j) → b' ≡ same_bytes descriptor d
+        → (b && b') ≡ same_method ws text abi labels new name descriptor e
+    unfolding same_method
+    same_known f g g' k k' = rw (g', g, k', k) (rw (← h, f))
+
+  pub has_is : (m : ℕ) (es : List Entry) {name descriptor : List ℕ} {b : Bool} → name ≡ place_name ws text abi labels (place_of new m)
+      → descriptor ≡ place_descriptor ws text abi labels (place_of new m) → b ≡ some (same_method ws text abi labels new name descriptor) es
+      → b ≡ has_slot (by_bytes ws text abi labels) new m es
+  unfolding has_slot same_signature same_method by_bytes
+  has_is m es e f g = rw (g, f, e)

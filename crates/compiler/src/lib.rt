@@ -6,15 +6,16 @@ ghost use Rattle.std.specs.Prelude.{◌≡◌, None, ◌++◌, ◌+◌, ◌-◌,
 ghost use Rattle.words.specs.Lists.{numbers, find, first_found, fold, some};
 ghost use Rattle.class_sheet.specs.ClassSheet.{method_limit};
 ghost use Rattle.linking.specs.Vtable.{empty};
-ghost use Rattle.linking.specs.Compiler.{name_of, descriptor_of, flags_of, target_of, class_methods, entry_target, match_target, compiler_entry, compiler_entries, compiler_targets, append_from, append_entry, compiler_table, added_methods};
+ghost use Rattle.linking.specs.Signature.{place_name, place_descriptor};
+ghost use Rattle.linking.specs.Compiler.{place_of, name_of, flags_of, target_of, class_methods, entry_target, match_target, compiler_entry, compiler_entries, compiler_targets, has_slot, append_from, append_entry, compiler_table, added_methods};
 ghost use Rattle.reading.specs.Arrays.{mark_of, method_of};
 ghost use Rattle.reading.specs.Tables.{entry, entries};
-ghost use Rattle.growth.specs.News.{news_of};
-ghost use Rattle.compiler.specs.Methods.{of_members, of_methods, has_target, same_method, takes_slot};
-ghost use Rattle.linking.specs.Sheets.{of_sheets};
+ghost use Rattle.growth.specs.News.{ref_place, added_of};
+ghost use Rattle.compiler.specs.Methods.{of_added, of_members, of_methods, compared, has_target, same_method, takes_slot};
+ghost use Rattle.linking.specs.Sheets.{of_sheets, of_bytes};
 ghost use Rattle.text.specs.Signatures.{of_signature};
 
-use growth::News;
+use growth::{Named, News};
 use linking::Sheets;
 use reading::{BuiltTable, ReadTable, Slot, Table};
 use text::Signature;
@@ -27,22 +28,39 @@ struct Members<'a> {
 }
 
 impl<'a> Members<'a> {
-    // The name and descriptor of method m, of the sheet or an added one.
-    fn signature_of(self, m: u32) -> Signature<'a>
-        ensures name { result.name.now ≡ of_members name_of self.entry m }
-        ensures descriptor { result.descriptor.now ≡ of_members descriptor_of self.entry m }
+    // What method m, of the sheet or an added one, takes its signature from; method 0 where there is none.
+    #[tactic(auto, using(crate::proofs::MethodLaws::place_own, crate::proofs::MethodLaws::place_added, crate::proofs::MethodLaws::place_none))]
+    fn ref_of(self, m: u32) -> Named
+        ensures { ref_place result ≡ of_added place_of self.entry m }
     {
         if m < class_sheet::METHOD_LIMIT {
-            return class_sheet::method_signature(self.sheets.set, self.sheets.text, m);
+            return Named::Method(m);
+        }
+        self.news
+            .get((m - class_sheet::METHOD_LIMIT) as usize)
+            .map_or(Named::Method(0), |new| new.names)
+    }
+
+    // The name and descriptor of method m.
+    fn signature_of(self, m: u32) -> Signature<'a>
+        ensures name { result.name.now ≡ of_sheets place_name self.entry.sheets (of_added place_of self.entry m) }
+        ensures descriptor { result.descriptor.now ≡ of_sheets place_descriptor self.entry.sheets (of_added place_of self.entry m) }
+    {
+        growth::taken_signature(self.sheets, self.ref_of(m))
+    }
+
+    // The name of method m; empty where there is none.
+    #[tactic(auto, using(crate::proofs::MethodLaws::name_own, crate::proofs::MethodLaws::name_added, crate::proofs::MethodLaws::name_none))]
+    fn name_of(self, m: u32) -> &'a [u8]
+        ensures { result.now ≡ of_members name_of self.entry m }
+    {
+        if m < class_sheet::METHOD_LIMIT {
+            return class_sheet::method_name(self.sheets.set, self.sheets.text, m);
         }
         if let Some(new) = self.news.get((m - class_sheet::METHOD_LIMIT) as usize) {
-            return growth::ref_signature(self.sheets, new.names);
+            return growth::ref_signature(self.sheets, new.names).name;
         }
-        let name = words::part(self.sheets.text, 0, 0);
-        Signature {
-            name,
-            descriptor: name,
-        }
+        words::part(self.sheets.text, 0, 0)
     }
 
     // The flags of method m.
@@ -157,7 +175,7 @@ impl<'a> Members<'a> {
     // Whether the slot's method has this name and descriptor.
     #[tactic(auto, using(crate::proofs::MethodLaws::same_known, crate::proofs::MethodLaws::same_none))]
     fn same_method(self, signature: Signature, slot: Slot) -> bool
-        ensures { result ≡ of_signature (of_members same_method self.entry) signature.entry (entry slot) }
+        ensures { result ≡ of_signature (of_added (of_sheets same_method self.entry.sheets) self.entry) signature.entry (entry slot) }
     {
         match slot.method() {
             Some(m) => {
@@ -169,29 +187,29 @@ impl<'a> Members<'a> {
         }
     }
 
-    // Whether a slot of the table has this name and descriptor.
-    fn has_slot(self, signature: Signature, table: &BuiltTable) -> bool
-        ensures { result ≡ some (of_signature (of_members same_method self.entry) signature.entry) (entries table.now) }
+    // Whether a slot of the table has method m's signature.
+    fn has_slot(self, m: u32, table: &BuiltTable) -> bool
+        ensures { result ≡ of_added (has_slot (compared self.entry)) self.entry m (entries table.now) }
     {
+        let signature = self.signature_of(m);
         table.slots().any(|slot| self.same_method(signature, slot))
     }
 
     // Whether method m takes a slot behind those of the table: it is eligible, and none of them has its signature.
     #[tactic(auto, using(crate::proofs::AppendLaws::takes_none, crate::proofs::AppendLaws::takes_new))]
     fn takes_slot(self, table: &BuiltTable, m: u32) -> bool
-        ensures { result ≡ of_members takes_slot self.entry (entries table.now) m }
+        ensures { result ≡ of_members (takes_slot (compared self.entry)) self.entry (entries table.now) m }
     {
-        let signature = self.signature_of(m);
-        if !chain::is_eligible(self.flags_of(m), signature.name) {
+        if !chain::is_eligible(self.flags_of(m), self.name_of(m)) {
             return false;
         }
-        !self.has_slot(signature, table)
+        !self.has_slot(m, table)
     }
 
     // Appends the slot's method, if it has one that takes a slot.
     fn append(self, slot: Slot, table: &mut BuiltTable)
         requires { table.old.len < 3584 }
-        ensures is { entries table.new ≡ of_members append_entry self.entry (entries table.old) (entry slot) }
+        ensures is { entries table.new ≡ of_members (append_entry (compared self.entry)) self.entry (entries table.old) (entry slot) }
         ensures count { table.new.len ≤ table.old.len + 1 }
     {
         let Some(m) = slot.method() else {
@@ -208,7 +226,7 @@ impl<'a> Members<'a> {
     // Appends each of `count` methods from `first` on that takes a slot.
     fn append_from(self, first: u32, count: u32, table: &mut BuiltTable)
         requires { (count ≤ 4095 - first) × (table.old.len + count ≤ 3584) }
-        ensures is { entries table.new ≡ fold (of_members append_from self.entry None) (entries table.old) (numbers first count) }
+        ensures is { entries table.new ≡ fold (of_members (append_from (compared self.entry)) self.entry None) (entries table.old) (numbers first count) }
         ensures count { table.new.len ≤ table.old.len + count }
     {
         for m in first..first + count {
@@ -220,7 +238,8 @@ impl<'a> Members<'a> {
     // Appends class c's declared methods and the added ones.
     fn append_methods(self, c: u32, table: &mut BuiltTable)
         requires { table.old.len ≤ 1024 }
-        ensures is { entries table.new ≡ fold (of_members append_from self.entry None) (entries table.old) (of_methods class_methods self.entry c) }
+        ensures is { entries table.new
+            ≡ fold (of_members (append_from (compared self.entry)) self.entry None) (entries table.old) (of_methods class_methods self.entry c) }
         ensures count { table.new.len ≤ 2560 }
     {
         let first = class_sheet::class_first_method(self.sheets.set, c);
@@ -232,7 +251,7 @@ impl<'a> Members<'a> {
     // Appends the methods of the parent's slots.
     fn append_parent(self, parent: &ReadTable, table: &mut BuiltTable)
         requires { table.old.len ≤ 2560 }
-        ensures { entries table.new ≡ fold (of_members append_entry self.entry) (entries table.old) (entries parent.now) }
+        ensures { entries table.new ≡ fold (of_members (append_entry (compared self.entry)) self.entry) (entries table.old) (entries parent.now) }
     {
         for slot in parent.slots() {
             self.append(slot, table);
@@ -241,7 +260,8 @@ impl<'a> Members<'a> {
 
     // Fills the table with class c's, by the added methods, the parent's slots and the native view of them.
     fn compiler_table(self, c: u32, parent: &ReadTable, view: &ReadTable, table: &mut BuiltTable)
-        ensures { entries table.new ≡ fold (of_members append_entry self.entry) (fold (of_members append_from self.entry None)
+        ensures { entries table.new
+            ≡ fold (of_members (append_entry (compared self.entry)) self.entry) (fold (of_members (append_from (compared self.entry)) self.entry None)
             (of_methods compiler_entries self.entry c (entries view.now) 0 (compiler_targets self.entry.sheets.set.now c))
             (of_methods class_methods self.entry c)) (entries parent.now) }
     {
@@ -259,8 +279,8 @@ pub fn prepare_generated(
     table: &mut BuiltTable,
     news: &mut News,
 )
-    ensures table { entries table.new ≡ of_sheets compiler_table sheets.entry area.now c }
-    ensures members { of_sheets news_of sheets.entry news.new ≡ of_sheets added_methods sheets.entry area.now c }
+    ensures table { entries table.new ≡ of_bytes compiler_table sheets.entry area.now c }
+    ensures members { of_sheets added_of sheets.entry news.new ≡ of_bytes added_methods sheets.entry area.now c }
     ensures count { length news.new ≤ 1024 }
 {
     let mut parent = Table::for_reading();

@@ -18,10 +18,11 @@ use Rattle.class_sheet.specs.Sections.{Sections, Formed, laid_out, sections_of, 
 use Rattle.class_sheet.proofs.Sections.{formed-of, class_of, method-of, number_of_classes, number_of_methods, class-word, method-word}
 use Rattle.abi_sheet.specs.AbiSheet.{abi_slot_count, abi_slot_name_length, abi_slot_descriptor_length}
 use Rattle.set_rules.specs.Valid.{IsClass, Valid, ValidAbi}
+use Rattle.linking.specs.Signature.{Same}
 use Rattle.linking.specs.Chain.{chain}
 use Rattle.linking.specs.Abi.{slot_at, class_abi}
 use Rattle.linking.specs.Vtable.{read_entry}
-use Rattle.linking.specs.Compiler.{New}
+use Rattle.linking.specs.Compiler.{New, members}
 use Rattle.linking.specs.Link.{Plan, is_none, generated_methods, linked_words}
 use Rattle.linking.specs.Grown.{methods_growing, fields_growing, record_rows, row_indices, linked_sections}
 use Rattle.linking.proofs.Added.{EachNew, read-room, slot-room, generated-each}
@@ -60,37 +61,38 @@ valid-bounded ws v = record {
 
 -- ---- what Reading finds, and what an ABI entry fixes, is short
 
-module _ (ws text abi labels : List ℕ) (b : Bounded ws) (v : ValidAbi abi) where
-  pub read_short : (c i w m : ℕ) → c ≤ class_count ws → (read_entry ws text abi labels c i w).method ≡ Some m → ShortMethod ws m
-  read_short c i w m h e = b.method m (read-room ws text abi labels b.list c i w m h e)
+short-slot : (abi : List ℕ) → ValidAbi abi → (s : ℕ) → s < abi_slot_count abi → ShortSlot abi s
+short-slot abi v s h = let x = v.slot s h in (x.name.short, x.descriptor.short)
 
-  short-slot : (s : ℕ) → s < abi_slot_count abi → ShortSlot abi s
-  short-slot s h = let x = v.slot s h in (x.name.short, x.descriptor.short)
-
+module _ (ws text abi labels : List ℕ) (v : ValidAbi abi) where
   slot-short : (i a s d : ℕ) → class_abi ws text abi labels d ≡ Some a → slot_at abi i a ≡ Some s → ShortSlot abi s
-  slot-short i a s d e f = short-slot s (slot-room ws text abi labels (λ a k. (v.class a k).slots) i a s d e f)
+  slot-short i a s d e f = short-slot abi v s (slot-room ws text abi labels (λ a k. (v.class a k).slots) i a s d e f)
 
   own-slot-short : (i d s : ℕ) → own_slot ws text abi labels i d ≡ Some s → ShortSlot abi s
   unfolding own_slot
   own-slot-short i d s e =
       by-found (class_abi ws text abi labels d) (λ a q. slot-short i a s d q (rw q at e)) (λ q. not_found (rw q at e))
 
+module _ (same : Same) (ws text abi labels : List ℕ) (b : Bounded ws) where
+  pub read_short : (c i w m : ℕ) → c ≤ class_count ws → (read_entry same ws text abi labels c i w).method ≡ Some m → ShortMethod ws m
+  read_short c i w m h e = b.method m (read-room same ws text abi labels b.list c i w m h e)
+
   -- the lines of a class of the set
-  pub class-short : (c : ℕ) → IsClass ws c → Short ws text abi labels c
+  pub class-short : ValidAbi abi → (c : ℕ) → IsClass ws c → Short same ws text abi labels c
   unfolding fixed_slot
-  class-short c k = record {
+  class-short v c k = record {
     name = b.name c k;
     method = λ i w m e. read_short c i w m k.1 e;
-    slot = λ i s e. found-by (own_slot ws text abi labels i) (chain ws c) s (λ d t r. own-slot-short i d s r) e;
+    slot = λ i s e. found-by (own_slot ws text abi labels i) (chain ws c) s (λ d t r. own-slot-short ws text abi labels v i d s r) e;
   }
 
   -- ---- the methods that a link adds
 
-  pub news-short : (area : List ℕ) (c : ℕ) → c ≤ class_count ws → ShortNews (generated_methods ws text abi labels area c)
-  news-short =
-      generated-each ws text abi labels b.list (λ a k. (v.class a k).slots) ShortNew
+  pub news-short : ValidAbi abi → (area : List ℕ) (c : ℕ) → c ≤ class_count ws → ShortNews (members (generated_methods same ws text abi labels area c))
+  news-short v =
+      generated-each same ws text abi labels b.list (λ a k. (v.class a k).slots) ShortNew
       (λ m target h. let p = b.method m h in (name-few text _ _ p.0, name-few text _ _ p.1))
-      (λ s target h. let p = short-slot s h in (name-few labels _ _ p.0, name-few labels _ _ p.1))
+      (λ s target h. let p = short-slot abi v s h in (name-few labels _ _ p.0, name-few labels _ _ p.1))
 
 -- ---- the same on sections
 
@@ -249,7 +251,7 @@ relisted-row rs c k l first count i j m n =
 -- ---- an accepted link
 
 module _ (s : Sections) (f : Formed class_width s) (c place words statics : ℕ) (p : Plan) (some : 1 ≤ c) (among : c ≤ length s.classes) (b : BoundedIn s)
-    (methods : ShortNews p.new_methods)
+    (methods : ShortNews (members p.added))
     (fields : row_word s.classes (c - 1) first_field_word + row_word s.classes (c - 1) field_count_word ≤ length s.fields) where
   abbrev rows : List (List ℕ)
   rows = record_rows s.classes c place (length p.table) words statics
@@ -301,10 +303,10 @@ module _ (s : Sections) (f : Formed class_width s) (c place words statics : ℕ)
   linked-bounded =
       by (is_none p.new_fields)
       (λ t.
-      by (is_none p.new_methods) (λ u. rw (t, u) (bounded-laid num num-formed num-bounded))
+      by (is_none (members p.added)) (λ u. rw (t, u) (bounded-laid num num-formed num-bounded))
       (λ u.
       rw (t, u)
-      (bounded-methods num num-formed c some (omega (arith, length_record s.classes c place (length p.table) words statics)) p.new_methods methods
+      (bounded-methods num num-formed c some (omega (arith, length_record s.classes c place (length p.table) words statics)) (members p.added) methods
       num-bounded)))
       (λ t.
       rw t
@@ -324,8 +326,8 @@ module _ (s : Sections) (f : Formed class_width s) (c place words statics : ℕ)
   after-formed =
       by (is_none p.new_fields)
       (λ t.
-      by (is_none p.new_methods) (λ u. rw (t, u) num-formed)
-      (λ u. rw (t, u) (formed-methods_growing num num-formed c p.new_methods methods-inside)))
+      by (is_none (members p.added)) (λ u. rw (t, u) num-formed)
+      (λ u. rw (t, u) (formed-methods_growing num num-formed c (members p.added) methods-inside)))
       (λ t. rw t (formed-fields_growing rec rec-formed c p.new_fields p.indices inside₇))
 
   -- the class records but for where lists begin
@@ -335,12 +337,12 @@ module _ (s : Sections) (f : Formed class_width s) (c place words statics : ℕ)
       let l = length_record s.classes c place (length p.table) words statics in
       by (is_none p.new_fields)
       (λ t.
-      by (is_none p.new_methods) (λ u. rw (t, u) (l, λ i. refl))
+      by (is_none (members p.added)) (λ u. rw (t, u) (l, λ i. refl))
       (λ u.
       rw (t, u) (
-        length-relisting rows c first_method_word method_count_word (length s.methods) (row_word rows (c - 1) method_count_word + length p.new_methods) ∙ l,
+        length-relisting rows c first_method_word method_count_word (length s.methods) (row_word rows (c - 1) method_count_word + length (members p.added)) ∙ l,
         λ i. relisted-row rows c first_method_word method_count_word (length s.methods)
-            (row_word rows (c - 1) method_count_word + length p.new_methods) i slot_count_word (omega arith) (omega arith),
+            (row_word rows (c - 1) method_count_word + length (members p.added)) i slot_count_word (omega arith) (omega arith),
       )))
       (λ t.
       rw t (
@@ -359,7 +361,7 @@ pub record Leaves (ws new : List ℕ) (c slots : ℕ) : Type 0 where
   pub own : class_slot_count new c ≡ slots
   pub others : (d : ℕ) → IsClass ws d → d ≢ c → class_slot_count new d ≡ class_slot_count ws d
 
-pub link_leaves : (ws : List ℕ) → Valid ws → (c place words statics : ℕ) (p : Plan) → IsClass ws c → ShortNews p.new_methods
+pub link_leaves : (ws : List ℕ) → Valid ws → (c place words statics : ℕ) (p : Plan) → IsClass ws c → ShortNews (members p.added)
     → class_first_field ws c + length p.indices ≤ field_count ws → Leaves ws (linked_words ws c place words statics p) c (length p.table)
 link_leaves ws v c place words statics p k short inside =
     let l = lies-of ws v.fits in

@@ -14,19 +14,20 @@ use Rattle.words.specs.Lists.{list_from}
 use Rattle.words.proofs.ListLaws.{length-list-from, get_d_list_from}
 use Rattle.class_sheet.specs.ClassSheet.{class_count, text_length, class_table_place, class_slot_count, class_limit, text_limit}
 use Rattle.abi_sheet.specs.AbiSheet.{abi_text_length, abi_text_limit}
+use Rattle.linking.specs.Signature.{Same}
 use Rattle.linking.specs.Vtable.{Entry, empty, read_entry, read_slot, table_entries}
 use Rattle.linking.specs.Link.{no_class}
 use Rattle.linking.specs.Whose.{declaring_class, read_declared, slot_class}
 use Rattle.lines.specs.Lines.{entry_line, slot_text, slot_texts, is_unlisted}
 
-module _ (ws text abi labels : List ℕ) (c : ℕ) where
+module _ (same : Same) (ws text abi labels : List ℕ) (c : ℕ) where
   -- the lines that are left at turn i of a table's slots
   unfoldable pub slots_from : List Entry → ℕ → List ℕ
-  slots_from T i = slot_texts ws text abi labels c i (drop i T)
+  slots_from T i = slot_texts same ws text abi labels c i (drop i T)
 
-  module _ (area : List ℕ) (T : List Entry) (cs : List ℕ) (n : ℕ) (count : length T ≡ n) (table : T ≡ table_entries ws text abi labels area c)
-      (classes : take n cs ≡ list_from (slot_class ws text abi labels area c) 0 n) where
-    pub slots-start : slot_texts ws text abi labels c 0 (table_entries ws text abi labels area c) ≡ slots_from T 0
+  module _ (area : List ℕ) (T : List Entry) (cs : List ℕ) (n : ℕ) (count : length T ≡ n) (table : T ≡ table_entries same ws text abi labels area c)
+      (classes : take n cs ≡ list_from (slot_class same ws text abi labels area c) 0 n) where
+    pub slots-start : slot_texts same ws text abi labels c 0 (table_entries same ws text abi labels area c) ≡ slots_from T 0
     unfolding slots_from
     slots-start = rw (← table)
 
@@ -37,17 +38,17 @@ module _ (ws text abi labels : List ℕ) (c : ℕ) where
         let z : 0 + i ≡ i = omega arith in
         let slots : ℕ = min (class_slot_count ws c) 1024 in
         let l = ap length table in
-        let k = length-list-from (read_slot ws text abi labels area c) 0 slots in
-        let e : get_or T i empty ≡ read_slot ws text abi labels area c (0 + i) =
-        ap (λ (U : List Entry). get_or U i empty) table ∙ get_d_list_from (read_slot ws text abi labels area c) 0 slots i empty (omega arith) in
+        let k = length-list-from (read_slot same ws text abi labels area c) 0 slots in
+        let e : get_or T i empty ≡ read_slot same ws text abi labels area c (0 + i) =
+        ap (λ (U : List Entry). get_or U i empty) table ∙ get_d_list_from (read_slot same ws text abi labels area c) 0 slots i empty (omega arith) in
         rw z at (ap (λ (x : Entry). x.word) e)
 
     -- and its class is the one that declares what Reading finds there
-    slot-class : (i : ℕ) → i < n → get_or cs i 0 ≡ declaring_class (read_declared ws text abi labels c i (get_or T i empty).word)
+    slot-class : (i : ℕ) → i < n → get_or cs i 0 ≡ declaring_class (read_declared same ws text abi labels c i (get_or T i empty).word)
     unfolding slot_class
     slot-class i h =
         let z : 0 + i ≡ i = omega arith in
-        let e = get_d_list_from (slot_class ws text abi labels area c) 0 n i 0 h in
+        let e = get_d_list_from (slot_class same ws text abi labels area c) 0 n i 0 h in
         sym (get_or-take n cs i 0 h) ∙ ap (λ (l : List ℕ). get_or l i 0) classes ∙ e ∙ rw (z, slot-word i h)
 
     -- the line of slot i, and then those that are left

@@ -7,6 +7,7 @@ use Rattle.std.specs.Option.{option_and_then}
 use Rattle.descriptor.specs.Bytes.{text}
 use Rattle.class_sheet.specs.ClassSheet.{class_count, text_of, text_length, class_name, class_instance_words, class_slot_count, method_name, method_descriptor, class_limit, text_limit}
 use Rattle.abi_sheet.specs.AbiSheet.{abi_text_of, abi_text_length, abi_slot_name, abi_slot_descriptor, abi_text_limit}
+use Rattle.linking.specs.Signature.{Same, by_sheets}
 use Rattle.linking.specs.Chain.{chain}
 use Rattle.linking.specs.Abi.{class_abi, slot_at}
 use Rattle.linking.specs.Vtable.{Entry, table_entries}
@@ -82,15 +83,16 @@ module _ (ws text abi labels : List ℕ) where
   unfoldable pub slot_descriptor : ℕ → ℕ → Option ℕ → List ℕ
   slot_descriptor c i method = descriptor_of method (fixed_slot c i)
 
-  -- ---- a linked class
-
   -- the line of slot i, which holds this entry, whose method this class declares
   abbrev pub entry_line : ℕ → ℕ → Entry → ℕ → List ℕ
   entry_line c i e class = slot_line i (slot_name c i e.method) (slot_descriptor c i e.method) e.word class
 
+-- ---- a linked class
+
+module _ (same : Same) (ws text abi labels : List ℕ) where
   -- the class is the one that declares the method that Reading finds at the slot's word
   unfoldable pub slot_text : ℕ → ℕ → Entry → List ℕ
-  slot_text c i e = entry_line c i e (declaring_class (read_declared ws text abi labels c i e.word))
+  slot_text c i e = entry_line ws text abi labels c i e (declaring_class (read_declared same ws text abi labels c i e.word))
 
   -- the lines of a table's slots from index i on
   unfoldable pub slot_texts : ℕ → ℕ → List Entry → List ℕ
@@ -100,12 +102,16 @@ module _ (ws text abi labels : List ℕ) where
   unfoldable pub lines_of : List ℕ → ℕ → List ℕ
   lines_of area c =
       class_line c (class_name ws text c) (class_instance_words ws c) (class_slot_count ws c)
-      ++ slot_texts c 0 (table_entries ws text abi labels area c)
+      ++ slot_texts c 0 (table_entries same ws text abi labels area c)
 
 -- a class has no lines where there is none of this number, or row 3 refuses the words: more than 64 classes, or 8,192 bytes of text
 unfoldable pub is_unlisted : List ℕ → List ℕ → ℕ → Bool
 is_unlisted ws abi c = no_class ws c || ltb class_limit (class_count ws) || ltb text_limit (text_length ws) || ltb abi_text_limit (abi_text_length abi)
 
--- a linked class's lines
+-- a linked class's lines, over a comparison
+unfoldable pub class_lines_by : Same → List ℕ → List ℕ → List ℕ → ℕ → List ℕ
+class_lines_by same ws abi area c = cond (is_unlisted ws abi c) [] (lines_of same ws (text_of ws) abi (abi_text_of abi) area c)
+
+-- and by the bytes of the signatures
 unfoldable pub class_lines : List ℕ → List ℕ → List ℕ → ℕ → List ℕ
-class_lines ws abi area c = cond (is_unlisted ws abi c) [] (lines_of ws (text_of ws) abi (abi_text_of abi) area c)
+class_lines ws abi area c = class_lines_by (by_sheets ws abi) ws abi area c

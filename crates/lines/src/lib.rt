@@ -4,7 +4,8 @@
 ghost use Rattle.std.specs.Prelude.{◌≡◌, ◌+◌, ◌<◌, ◌≤◌, ◌∷◌, [], ◌++◌};
 ghost use Rattle.class_sheet.specs.ClassSheet.{text_of, text_length, text_limit};
 ghost use Rattle.abi_sheet.specs.AbiSheet.{abi_text_of, abi_text_length, abi_text_limit};
-ghost use Rattle.linking.specs.Sheets.{of_sheets};
+ghost use Rattle.linking.specs.Sheets.{of_sheets, of_bytes};
+ghost use Rattle.linking.specs.Signature.{by_sheets};
 ghost use Rattle.linking.specs.Vtable.{table_entries};
 ghost use Rattle.reading.specs.Tables.{entry, entries};
 ghost use Rattle.lines.specs.Bytes.{decimal};
@@ -188,7 +189,7 @@ fn list_slot(sheets: Sheets, c: u32, s: Slot, out: &mut Out)
 
 // Puts the lines of class c's slots, each as Reading finds it.
 fn list_slots(sheets: Sheets, area: &[u32], c: u32, out: &mut Out)
-    ensures { Puts out.old out.new (of_sheets slot_texts sheets.entry c 0 (of_sheets table_entries sheets.entry area.now c)) }
+    ensures { Puts out.old out.new (of_bytes slot_texts sheets.entry c 0 (of_bytes table_entries sheets.entry area.now c)) }
 {
     let mut table = Table::for_reading();
     let mut classes = [0u32; TABLE_LIMIT];
@@ -205,7 +206,7 @@ fn list_slots(sheets: Sheets, area: &[u32], c: u32, out: &mut Out)
 
 // Puts class c's lines, with the sheets' texts unpacked.
 fn list_with(sheets: Sheets, area: &[u32], c: u32, out: &mut Out)
-    ensures { Puts out.old out.new (of_sheets lines_of sheets.entry area.now c) }
+    ensures { Puts out.old out.new (of_bytes lines_of sheets.entry area.now c) }
 {
     let name = class_sheet::class_name(sheets.set, sheets.text, c);
     let words = class_sheet::class_instance_words(sheets.set, c);
@@ -217,7 +218,7 @@ fn list_with(sheets: Sheets, area: &[u32], c: u32, out: &mut Out)
 // Unpacks the texts, and puts class c's lines.
 fn list_unpacked(ws: &[u32], abi: &[u32], area: &[u32], c: u32, out: &mut Out)
     requires { (text_length ws.now ≤ text_limit) × (abi_text_length abi.now ≤ abi_text_limit) }
-    ensures { Puts out.old out.new (lines_of ws.now (text_of ws.now) abi.now (abi_text_of abi.now) area.now c) }
+    ensures { Puts out.old out.new (lines_of (by_sheets ws.now abi.now) ws.now (text_of ws.now) abi.now (abi_text_of abi.now) area.now c) }
 {
     let mut room = [0u8; class_sheet::TEXT_LIMIT as usize];
     let mut label_room = [0u8; abi_sheet::TEXT_LIMIT as usize];

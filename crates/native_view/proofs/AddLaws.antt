@@ -13,15 +13,16 @@ use Rattle.std.specs.Prelude.{Option, Some, None}
 use Rattle.words.proofs.Bools.{by}
 use Rattle.words.proofs.ListLaws.{by-found, found_from, found-start, rest_from, rest-start, rest-turn, rest_end}
 use Rattle.class_sheet.specs.ClassSheet.{class_first_interface, class_interface_count, class_compiler_table, class_compiler_slots, compiler_word, interface_word, method_flags, interface_limit}
-use Rattle.linking.specs.Chain.{list_count, own_methods, own_interfaces, method_is}
+use Rattle.linking.specs.Signature.{Same, of_method}
+use Rattle.linking.specs.Chain.{list_count, own_methods, own_interfaces}
 use Rattle.linking.specs.Abi.{slot_at, class_abi}
 use Rattle.linking.specs.Vtable.{Entry, empty}
-use Rattle.linking.specs.Compiler.{New, signature_sources, from_method, from_slot, is_declared, add_named, add_from, added_from, compiler_targets, native_view, added_methods}
+use Rattle.linking.specs.Compiler.{Taken, signature_sources, from_method, from_slot, is_declared, add_named, add_from, added_from, compiler_targets, native_view, added_methods}
 use Rattle.linking.proofs.ChainLaws.{own-interfaces-length, own-interface-at}
 use Rattle.growth.specs.declared.news.Member.{Member}
 use Rattle.growth.specs.declared.news.Named.{Named}
 use Rattle.growth.specs.declared.news.Named.TheVariants.{Method, Slot, Field}
-use Rattle.growth.specs.News.{ref_name, ref_descriptor, new_of}
+use Rattle.growth.specs.News.{ref_place, ref_name, ref_descriptor, new_of, taken_of}
 use Rattle.native_view.specs.Native.{interface_slot, source_ref, ref_flags, member_of, added_at}
 use Rattle.native_view.proofs.FoundLaws.{found-cons, found_all}
 
@@ -53,6 +54,9 @@ module _ (ws : List ℕ) {r : Named} where
   pub flags_same : (m : ℕ) {f : ℕ} → r ≡ Method m → f ≡ method_flags ws m → (f / 1024 % 2 ≡ 1 → ⊥) → f ≡ ref_flags ws r
   unfolding ref_flags
   flags_same m {f = f} h e a = rw h (rw (← e) (simp (ne_eqb (f / 1024 % 2) 1 a)))
+
+abbrev pub target_at : List ℕ → ℕ → ℕ → ℕ
+target_at ws c i = compiler_word ws (class_compiler_table ws c - 1 + i)
 
 module _ (ws text abi labels : List ℕ) where
   -- ---- what a target takes its signature from
@@ -108,113 +112,117 @@ module _ (ws text abi labels : List ℕ) where
         unfolding source_ref
         ref_none t = rw (← h, z) (rw (← e, t))
 
-  -- ---- a method that is added, unless it is declared
+  -- ---- a method that is added, by what names it
 
-  module _ (c : ℕ) (r : Named) (t : ℕ) (xs : List New) {name descriptor : List ℕ} {b : Bool} (e : name ≡ ref_name ws text abi labels r)
-      (f : descriptor ≡ ref_descriptor ws text abi labels r) (g : b ≡ some (λ m. method_is ws text m name descriptor) (own_methods ws c)) where
-    declared-is : b ≡ is_declared ws text c (new_of ws text abi labels (member_of ws r t))
-    unfolding is_declared new_of
-    declared-is = rw (← e, ← f) g
+  abbrev pub taken_by : Named → ℕ → Taken
+  taken_by r t = taken_of ws text abi labels (member_of ws r t)
 
-    pub named-old : b ≡ true → xs ≡ xs ++ add_named ws text c (new_of ws text abi labels (member_of ws r t)) []
+  of-method : (m t : ℕ) → taken_by (Method m) t ≡ from_method ws text m t
+  unfolding taken_of new_of ref_place ref_name ref_descriptor ref_flags
+  of-method m t = refl
+
+  of-slot : (s t : ℕ) → taken_by (Slot s) t ≡ from_slot abi labels s t
+  unfolding taken_of new_of ref_place ref_name ref_descriptor ref_flags
+  of-slot s t = refl
+
+module _ (same : Same) (ws text abi labels : List ℕ) where
+  -- ---- it is added unless it is declared
+
+  module _ (c : ℕ) (r : Named) (t : ℕ) (xs : List Taken) {b : Bool} (e : b ≡ some (λ m. same (of_method m) (ref_place r)) (own_methods ws c)) where
+    declared-is : b ≡ is_declared same ws c (taken_by ws text abi labels r t)
+    unfolding is_declared taken_of
+    declared-is = e
+
+    pub named-old : b ≡ true → xs ≡ xs ++ add_named same ws c (taken_by ws text abi labels r t) []
     unfolding add_named
     named-old h = rw (← declared-is, h) (sym (append-nil xs))
 
-    pub named_new : {ys : List New} {fl : ℕ} → b ≡ false → fl ≡ ref_flags ws r
-        → ys ≡ xs ++ (new_of ws text abi labels (record { names = r; flags = fl; last = t }) ∷ [])
-        → ys ≡ xs ++ add_named ws text c (new_of ws text abi labels (member_of ws r t)) []
+    pub named_new : {ys : List Taken} {fl : ℕ} → b ≡ false → fl ≡ ref_flags ws r
+        → ys ≡ xs ++ (taken_of ws text abi labels (record { names = r; flags = fl; last = t }) ∷ [])
+        → ys ≡ xs ++ add_named same ws c (taken_by ws text abi labels r t) []
     unfolding add_named
     named_new h k m = rw (← declared-is, h) (m ∙ rw k)
 
   -- ---- what one target adds
 
-  of-method : (m t : ℕ) → new_of ws text abi labels (member_of ws (Method m) t) ≡ from_method ws text m t
-  unfolding new_of ref_name ref_descriptor ref_flags
-  of-method m t = refl
-
-  of-slot : (s t : ℕ) → new_of ws text abi labels (member_of ws (Slot s) t) ≡ from_slot abi labels s t
-  unfolding new_of ref_name ref_descriptor ref_flags
-  of-slot s t = refl
-
-  abbrev named_by : ℕ → ℕ → Option Named → List New
-  named_by c t (Some r) = add_named ws text c (new_of ws text abi labels (member_of ws r t)) []
+  abbrev named_by : ℕ → ℕ → Option Named → List Taken
+  named_by c t (Some r) = add_named same ws c (taken_by ws text abi labels r t) []
   named_by c t None = []
 
-  add-from : (c i t : ℕ) (e : Entry) → add_from ws text abi labels c i t e.method [] ≡ named_by c t (source_ref ws text abi labels c i e.method)
+  add-from : (c i t : ℕ) (e : Entry) → add_from same ws text abi labels c i t e.method [] ≡ named_by c t (source_ref ws text abi labels c i e.method)
   unfolding source_ref
   add-from c i t e =
       by-found e.method
-      (λ m q. rw q (ap (λ (x : New). add_named ws text c x []) (sym (of-method m t))))
+      (λ m q. rw q (ap (λ (x : Taken). add_named same ws c x []) (sym (of-method ws text abi labels m t))))
       (λ q.
       rw q
       (by-found (first_found (slot_at abi i) (signature_sources ws text abi labels c))
-      (λ s p. rw p (ap (λ (x : New). add_named ws text c x []) (sym (of-slot s t))))
+      (λ s p. rw p (ap (λ (x : Taken). add_named same ws c x []) (sym (of-slot ws text abi labels s t))))
       (λ p. rw p)))
 
-  module _ (c i t : ℕ) (e : Entry) (xs : List New) where
-    pub add_skip : (eqb t 0 || eqb t e.word) ≡ true → xs ≡ xs ++ added_at ws text abi labels c i t e
+  module _ (c i t : ℕ) (e : Entry) (xs : List Taken) where
+    pub add_skip : (eqb t 0 || eqb t e.word) ≡ true → xs ≡ xs ++ added_at same ws text abi labels c i t e
     unfolding added_at
     add_skip h = rw h (sym (append-nil xs))
 
     module _ (h : (eqb t 0 || eqb t e.word) ≡ false) {q : Option Named} (f : q ≡ source_ref ws text abi labels c i e.method) where
-      pub add_at : (r : Named) {ys : List New} → q ≡ Some r → ys ≡ xs ++ add_named ws text c (new_of ws text abi labels (member_of ws r t)) []
-          → ys ≡ xs ++ added_at ws text abi labels c i t e
+      pub add_at : (r : Named) {ys : List Taken} → q ≡ Some r → ys ≡ xs ++ add_named same ws c (taken_by ws text abi labels r t) []
+          → ys ≡ xs ++ added_at same ws text abi labels c i t e
       unfolding added_at
       add_at r g m = rw (h, add-from c i t e, ← f, g) m
 
-      pub add_none : q ≡ None → xs ≡ xs ++ added_at ws text abi labels c i t e
+      pub add_none : q ≡ None → xs ≡ xs ++ added_at same ws text abi labels c i t e
       unfolding added_at
       add_none g = rw (h, add-from c i t e, ← f, g) (sym (append-nil xs))
 
   -- ---- the loop along the targets
 
-  abbrev pub target_at : ℕ → ℕ → ℕ
-  target_at c i = compiler_word ws (class_compiler_table ws c - 1 + i)
+  unfoldable pub add_rest : ℕ → List Entry → ℕ → ℕ → List Taken
+  add_rest c view count i = added_from same ws text abi labels c view i (rest_from (target_at ws c) 0 count i)
 
-  unfoldable pub add_rest : ℕ → List Entry → ℕ → ℕ → List New
-  add_rest c view count i = added_from ws text abi labels c view i (rest_from (target_at c) 0 count i)
-
-  add-cons : (c : ℕ) (view : List Entry) (i t : ℕ) (ts : List ℕ) → added_from ws text abi labels c view i (t ∷ ts)
-      ≡ added_at ws text abi labels c i t (get_or view i empty) ++ added_from ws text abi labels c view (i + 1) ts
+  add-cons : (c : ℕ) (view : List Entry) (i t : ℕ) (ts : List ℕ) → added_from same ws text abi labels c view i (t ∷ ts)
+      ≡ added_at same ws text abi labels c i t (get_or view i empty) ++ added_from same ws text abi labels c view (i + 1) ts
   unfolding added_from added_at add_named
   add-cons c view i t ts =
       by (eqb t 0 || eqb t (get_or view i empty).word) (λ q. rw q)
       (λ q.
       rw q
       (by-found (get_or view i empty).method
-      (λ m p. rw p (by (is_declared ws text c (from_method ws text m t)) (λ d. rw d) (λ d. rw d)))
+      (λ m p. rw p (by (is_declared same ws c (from_method ws text m t)) (λ d. rw d) (λ d. rw d)))
       (λ p.
       rw p
       (by-found (first_found (slot_at abi i) (signature_sources ws text abi labels c))
-      (λ s o. rw o (by (is_declared ws text c (from_slot abi labels s t)) (λ d. rw d) (λ d. rw d)))
+      (λ s o. rw o (by (is_declared same ws c (from_slot abi labels s t)) (λ d. rw d) (λ d. rw d)))
       (λ o. rw o)))))
 
   module _ (c : ℕ) (view : List Entry) where
     -- the loop's entry, where there are none
-    pub rest_begin : (count : ℕ) {xs : List New} → xs ≡ [] → count ≡ min (class_compiler_slots ws c) 1024
-        → xs ++ add_rest c view count 0 ≡ added_from ws text abi labels c view 0 (compiler_targets ws c)
+    pub rest_begin : (count : ℕ) {xs : List Taken} → xs ≡ [] → count ≡ min (class_compiler_slots ws c) 1024
+        → xs ++ add_rest c view count 0 ≡ added_from same ws text abi labels c view 0 (compiler_targets ws c)
     unfolding add_rest compiler_targets
-    rest_begin count f e = rw (f, rest-start (target_at c) 0 count, e)
+    rest_begin count f e = rw (f, rest-start (target_at ws c) 0 count, e)
 
     -- a turn, by what the callees ensure: the members before and after
-    pub rest-turned : (count i : ℕ) (A xs : List New) {ys : List New} {t : ℕ} {e : Entry} → i < count → t ≡ target_at c i → e ≡ get_or view i empty
-        → ys ≡ xs ++ added_at ws text abi labels c i t e → xs ++ add_rest c view count i ≡ A → ys ++ add_rest c view count (i + 1) ≡ A
+    pub rest-turned : (count i : ℕ) (A xs : List Taken) {ys : List Taken} {t : ℕ} {e : Entry} → i < count → t ≡ target_at ws c i → e ≡ get_or view i empty
+        → ys ≡ xs ++ added_at same ws text abi labels c i t e → xs ++ add_rest c view count i ≡ A → ys ++ add_rest c view count (i + 1) ≡ A
     unfolding add_rest
     rest-turned count i A xs {t = t} {e = e} h et ee f g =
         let z : 0 + i ≡ i = omega arith in
-        let r : rest_from (target_at c) 0 count i ≡ t ∷ rest_from (target_at c) 0 count (i + 1) =
-        rw et (rest-turn (target_at c) 0 count i h ∙ rw z) in
-        let o : added_from ws text abi labels c view i (rest_from (target_at c) 0 count i)
-        ≡ added_at ws text abi labels c i t e ++ added_from ws text abi labels c view (i + 1) (rest_from (target_at c) 0 count (i + 1)) =
-        rw (r, ee) (add-cons c view i t (rest_from (target_at c) 0 count (i + 1))) in
-        rw f (append_assoc xs (added_at ws text abi labels c i t e) (added_from ws text abi labels c view (i + 1) (rest_from (target_at c) 0 count (i + 1))))
-        ∙ ap (λ (l : List New). xs ++ l) (sym o) ∙ g
+        let r : rest_from (target_at ws c) 0 count i ≡ t ∷ rest_from (target_at ws c) 0 count (i + 1) =
+        rw et (rest-turn (target_at ws c) 0 count i h ∙ rw z) in
+        let o : added_from same ws text abi labels c view i (rest_from (target_at ws c) 0 count i)
+        ≡ added_at same ws text abi labels c i t e ++ added_from same ws text abi labels c view (i + 1) (rest_from (target_at ws c) 0 count (i + 1)) =
+        rw (r, ee) (add-cons c view i t (rest_from (target_at ws c) 0 count (i + 1))) in
+        rw f
+        (append_assoc xs (added_at same ws text abi labels c i t e)
+        (added_from same ws text abi labels c view (i + 1) (rest_from (target_at ws c) 0 count (i + 1))))
+        ∙ ap (λ (l : List Taken). xs ++ l) (sym o) ∙ g
 
-    pub rest-none : (count i : ℕ) (A : List New) {xs : List New} → count ≤ i → xs ++ add_rest c view count i ≡ A → xs ≡ A
+    pub rest-none : (count i : ℕ) (A : List Taken) {xs : List Taken} → count ≤ i → xs ++ add_rest c view count i ≡ A → xs ≡ A
     unfolding add_rest added_from
-    rest-none count i A {xs = xs} h g = sym (append-nil xs) ∙ (rw (rest_end (target_at c) 0 count i h) at g)
+    rest-none count i A {xs = xs} h g = sym (append-nil xs) ∙ (rw (rest_end (target_at ws c) 0 count i h) at g)
 
-    pub added_are : (area : List ℕ) {xs : List New} → view ≡ native_view ws text abi labels area c
-        → xs ≡ added_from ws text abi labels c view 0 (compiler_targets ws c) → xs ≡ added_methods ws text abi labels area c
+    pub added_are : (area : List ℕ) {xs : List Taken} → view ≡ native_view same ws text abi labels area c
+        → xs ≡ added_from same ws text abi labels c view 0 (compiler_targets ws c) → xs ≡ added_methods same ws text abi labels area c
     unfolding added_methods
     added_are area e g = g ∙ rw e

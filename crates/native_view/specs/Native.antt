@@ -3,9 +3,10 @@ use Rattle.std.specs.Prelude.{ℕ, cond, ◌||◌, List, [], eqb, Option}
 use Rattle.words.specs.Lists.{first_found}
 use Rattle.std.specs.Option.{option_or, option_and_then, option_map}
 use Rattle.class_sheet.specs.ClassSheet.{method_flags, interface_word}
+use Rattle.linking.specs.Signature.{Same}
 use Rattle.linking.specs.Abi.{slot_at, class_abi}
 use Rattle.linking.specs.Vtable.{Entry}
-use Rattle.linking.specs.Compiler.{New, without_abstract, signature_sources, add_from}
+use Rattle.linking.specs.Compiler.{Taken, without_abstract, signature_sources, add_from}
 use Rattle.growth.specs.declared.news.Member.{Member}
 use Rattle.growth.specs.declared.news.Named.{Named}
 use Rattle.growth.specs.declared.news.Named.TheVariants.{Method, Slot, Field}
@@ -29,6 +30,7 @@ module _ (ws text abi labels : List ℕ) where
   unfoldable pub source_ref : ℕ → ℕ → Option ℕ → Option Named
   source_ref c i method = option_or (option_map Method method) (option_map Slot (first_found (slot_at abi i) (signature_sources ws text abi labels c)))
 
-  -- what target t at index i adds, where the native view has entry e
-  unfoldable pub added_at : ℕ → ℕ → ℕ → Entry → List New
-  added_at c i t e = cond (eqb t 0 || eqb t e.word) [] (add_from ws text abi labels c i t e.method [])
+-- what target t at index i adds, where the native view has entry e
+module _ (same : Same) (ws text abi labels : List ℕ) where
+  unfoldable pub added_at : ℕ → ℕ → ℕ → Entry → List Taken
+  added_at c i t e = cond (eqb t 0 || eqb t e.word) [] (add_from same ws text abi labels c i t e.method [])

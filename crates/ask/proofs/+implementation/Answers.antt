@@ -13,19 +13,12 @@ returns-then-c-eq0 t c = implementation-none _ _ _ _ c.if-c-eq0.true
 pub implementation-requires : goal.implementation-requires
 implementation-requires t c =
     let a = c.args in
-    (omega (arith, parent_below a.ws.now a.c (pos_of_ne-zero c.if-c-eq0.false)), tt)
+    (omega (arith, parent_below a.sheets.set.now a.c (pos_of_ne-zero c.if-c-eq0.false)), tt)
 
 -- the class's own method
 pub returns-in-Some : goal.returns-in-Some
-returns-in-Some t c =
-    implementation-hit _ _ _ _ (pos_of_ne-zero c.if-c-eq0.false) c.method_signature-signature.ensures.name
-    c.method_signature-signature.ensures.descriptor
-    c.own_implementation.ensures _ c.in-Some.is
+returns-in-Some t c = implementation-hit _ _ _ _ (pos_of_ne-zero c.if-c-eq0.false) c.own_implementation.ensures _ c.in-Some.is
 
 -- its parent's
 pub returns-in-None : goal.returns-in-None
-returns-in-None t c =
-    let a = c.args in
-    cc (implementation-up a.ws.now a.text.now a.c a.m (pos_of_ne-zero c.if-c-eq0.false)
-    c.method_signature-signature.ensures.name c.method_signature-signature.ensures.descriptor
-    c.own_implementation.ensures c.in-None.is)
+returns-in-None t c = cc (implementation-up _ _ c.args.c c.args.m (pos_of_ne-zero c.if-c-eq0.false) c.own_implementation.ensures c.in-None.is)

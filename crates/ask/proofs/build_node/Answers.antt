@@ -11,9 +11,9 @@ dispatch_unpacked-requires c =
 pub returns-in_err-dispatch_unpacked : goal.returns-in_err-dispatch_unpacked
 returns-in_err-dispatch_unpacked c =
     let p = err_from_is_err_and c.from_residual.result c.from_residual.ensures.1 in
-    rw (p.1, p.2) (node-refused _ _ _ _ _ _ _ _ c.in_err-dispatch_unpacked.ensures)
+    rw (p.1, p.2) (node-refused _ _ _ _ _ _ _ _ _ c.in_err-dispatch_unpacked.ensures)
 
 pub returns : goal.returns
 returns c =
     let a = c.args in
-    node-built a.ws.now a.abi.now a.c a.i a.area.now a.stubs.now a.nodes c.in_ok-dispatch_unpacked.ensures c.finish_ask.ensures
+    node-built _ a.ws.now a.abi.now a.c a.i a.area.now a.stubs.now a.nodes c.in_ok-dispatch_unpacked.ensures c.finish_ask.ensures

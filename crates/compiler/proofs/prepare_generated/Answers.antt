@@ -4,4 +4,4 @@ use Rattle.compiler.proofs.prepare_generated.Goals as goal
 
 pub returns-clause-table : goal.returns-clause-table
 returns-clause-table c =
-    let v = c.native_view.ensures in prepared_is _ _ _ _ _ _ v.parent v.view v.members c.compiler_table.ensures
+    let v = c.native_view.ensures in prepared_is _ _ _ _ _ _ _ v.parent v.view v.members c.compiler_table.ensures

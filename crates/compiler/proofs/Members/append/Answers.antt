@@ -10,7 +10,7 @@ returns-in_default c = record { is = search append_none; count = omega arith }
 -- behind the last slot
 pub returns-then-takes_slot : goal.returns-then-takes_slot
 returns-then-takes_slot c = record {
-  is = append_new _ _ _ _ _ c.method.ensures c.in-Some.is c.takes_slot.ensures c.if-takes_slot.true c.target_of.ensures (c.push.ensures.is (omega arith));
+  is = append_new _ _ _ _ _ _ c.method.ensures c.in-Some.is c.takes_slot.ensures c.if-takes_slot.true c.target_of.ensures (c.push.ensures.is (omega arith));
   count = c.push.ensures.count;
 }
 

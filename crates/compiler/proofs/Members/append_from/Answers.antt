@@ -9,7 +9,7 @@ loop-m-init c = record { end = omega arith; table = range-start _ _ _ _ }
 pub loop-m-preserved : goal.loop-m-preserved
 loop-m-preserved c = record {
   end = omega arith;
-  table = range-turn _ _ _ c.loop-m.m (omega arith) (omega arith) (append_own _ _ _ _ _ _ (omega arith) c.mark_of-mark.ensures c.append.ensures.is)
+  table = range-turn _ _ _ c.loop-m.m (omega arith) (omega arith) (append_own _ _ _ _ _ _ _ (omega arith) c.mark_of-mark.ensures c.append.ensures.is)
       ∙ c.loop-m.invariant.table;
 }
 
