@@ -1,6 +1,6 @@
 -- Laws of the plans of each kind of class: what the code has of its fields and its table is what the definition says. Assumes nothing.
 use mathlib.Core.Path.{◌≡◌, refl, ap, ◌∙◌}
-use mathlib.Core.Bool.{Bool, true, false, cond}
+use mathlib.Core.Bool.{Bool, true, false}
 use mathlib.Core.Logic.{◌≢◌}
 use mathlib.Core.List.{List, []}
 use Prim.Native.Nat.{ℕ, ◌≤◌, ◌<◌}
@@ -10,9 +10,10 @@ use lib.Dec.{eqb, ltb}
 use borrow.Author.Tests.{lt-ltb, le-ltb, ne_eqb}
 use Rattle.words.proofs.Bools.{by}
 use Rattle.class_sheet.specs.ClassSheet.{class_kind, is_built_kind}
+use Rattle.linking.specs.Signature.{Same}
 use Rattle.linking.specs.Vtable.{Entry, Built, built, refused, parent_entries}
 use Rattle.linking.specs.Abi.{class_abi}
-use Rattle.linking.specs.Compiler.{New}
+use Rattle.linking.specs.Compiler.{New, Taken, members}
 use Rattle.linking.specs.Fields.{number_fields, built_words, generated_refusal, generated_indices}
 use Rattle.linking.specs.Link as L
 use Rattle.reading.specs.Arrays.{entries_of}
@@ -22,8 +23,8 @@ use Rattle.field.specs.declared.Numbered.{Numbered}
 use Rattle.field.proofs.OutcomeLaws.{built-accepted, built-refused, generated-accepted, generated-refused}
 use Rattle.field.proofs.AddedLaws.{members_are}
 use Rattle.growth.specs.declared.news.Member.{Member}
-use Rattle.growth.specs.News.{news_of}
-use Rattle.growth.proofs.NewsLaws.{news_none}
+use Rattle.growth.specs.News.{added_of}
+use Rattle.growth.proofs.NewsLaws.{added_none, members-added}
 use Rattle.std.specs.Prelude.{Result, Ok, Err}
 use Rattle.refusal.specs.declared.Refusal.{Refusal}
 use Rattle.refusal.specs.Rows.{row}
@@ -47,8 +48,8 @@ few-passes T e =
     (λ l. l)
 
 -- a table that it refuses, or that has a row of its own
-table-stops : (m : ℕ) (B : Built) (is : List ℕ) (ms fs : List New) → refused m ≡ few_slots B
-    → L.on_table B (λ T. L.within_slots (record { table = T; indices = is; new_methods = ms; new_fields = fs })) ≡ L.unplanned m
+table-stops : (m : ℕ) (B : Built) (is : List ℕ) (ms : List Taken) (fs : List New) → refused m ≡ few_slots B
+    → L.on_table B (λ T. L.within_slots (record { table = T; indices = is; added = ms; new_fields = fs })) ≡ L.unplanned m
 unfolding L.within_slots
 table-stops m (built T) is ms fs e =
     by (ltb 1024 (length T))
@@ -64,20 +65,20 @@ row_then {T = T} {B = B} e h = h ∙ ap (λ (x : Built). few_slots x) {x = built
 
 -- ---- the answer, the table and the new members of a plan
 
-module _ (ws : List ℕ) (c words : ℕ) (T : List Entry) (new : List New) where
+module _ (ws : List ℕ) (c words : ℕ) (T : List Entry) (new : List Taken) where
   refused-plan : (refusal : Refusal) {P : L.Planned} → P ≡ L.unplanned (row refusal) → Planning ws c words P (Err refusal) T new
   refused-plan refusal f = rw f (record { answer = refl; filled = (let a = row_above refusal in λ z. omega arith) })
 
   accepted-plan : (p : L.Plan) (f : Numbered) {P : L.Planned} → P ≡ L.planned p → f ≡ numbering_of p.indices words → T ≡ p.table
-      → p.new_methods ≡ methods_of ws c new → p.new_fields ≡ fields_of ws c new → Planning ws c words P (Ok f) T new
+      → p.added ≡ methods_of ws c new → p.new_fields ≡ fields_of ws c new → Planning ws c words P (Ok f) T new
   accepted-plan p f e k t m l = rw e (record { answer = rw k; filled = (t, m, l) })
 
-module _ (ws text abi labels area : List ℕ) (c : ℕ) where
+module _ (same : Same) (ws text abi labels area : List ℕ) (c : ℕ) where
   -- ---- a built class
 
-  pub built-row : (words : ℕ) (T : List Entry) (new : List New) (refusal : Refusal)
+  pub built-row : (words : ℕ) (T : List Entry) (new : List Taken) (refusal : Refusal)
       → ◌≡◌ {A = Result Numbered ℕ} (Err (row refusal)) (built_fields ws text abi labels c)
-      → Planning ws c words (L.plan_built ws text abi labels area c) (Err refusal) T new
+      → Planning ws c words (L.plan_built same ws text abi labels area c) (Err refusal) T new
   unfolding L.plan_built
   built-row words T new refusal numbers =
       let p = built-refused ws text abi labels c numbers in
@@ -87,25 +88,25 @@ module _ (ws text abi labels area : List ℕ) (c : ℕ) where
     abbrev gs : List ℕ
     gs = added_to ws text abi labels c
 
-    pub built-stops : (words : ℕ) (T : List Entry) (new : List New) (refusal : Refusal)
-        → refused (row refusal) ≡ few_slots (L.built_table ws text abi labels area c)
-        → Planning ws c words (L.plan_built ws text abi labels area c) (Err refusal) T new
+    pub built-stops : (words : ℕ) (T : List Entry) (new : List Taken) (refusal : Refusal)
+        → refused (row refusal) ≡ few_slots (L.built_table same ws text abi labels area c)
+        → Planning ws c words (L.plan_built same ws text abi labels area c) (Err refusal) T new
     unfolding L.plan_built
     built-stops words T new refusal table =
         refused-plan ws c words T new refusal
-        (rw (built-accepted ws text abi labels c numbers).0 (table-stops (row refusal) (L.built_table ws text abi labels area c) _ _ _ table))
+        (rw (built-accepted ws text abi labels c numbers).0 (table-stops (row refusal) (L.built_table same ws text abi labels area c) _ _ _ table))
 
-    module _ (T : List Entry) (table : built T ≡ L.built_table ws text abi labels area c) (few : built T ≡ few_slots (built T)) where
+    module _ (T : List Entry) (table : built T ≡ L.built_table same ws text abi labels area c) (few : built T ≡ few_slots (built T)) where
       abbrev plan-of : L.Plan
       plan-of =
           record {
             table = T;
             indices = (number_fields ws text abi labels (class_abi ws text abi labels c) c).indices;
-            new_methods = [];
+            added = [];
             new_fields = L.new_fields_of abi labels gs;
           }
 
-      built-passes : L.plan_built ws text abi labels area c ≡ L.planned plan-of
+      built-passes : L.plan_built same ws text abi labels area c ≡ L.planned plan-of
       unfolding L.plan_built L.within_slots
       built-passes = rw ((built-accepted ws text abi labels c numbers).0, ← table, few-passes T few)
 
@@ -115,16 +116,17 @@ module _ (ws text abi labels area : List ℕ) (c : ℕ) where
       built-words k = rw k
 
       pub built-plan : {ms : List Member} → is_built_kind (class_kind ws c) ≡ true → ms ≡ members_of abi gs
-          → Planning ws c (L.new_words ws text abi labels c) (L.plan_built ws text abi labels area c) (Ok f) T (news_of ws text abi labels ms)
+          → Planning ws c (L.new_words ws text abi labels c) (L.plan_built same ws text abi labels area c) (Ok f) T (added_of ws text abi labels ms)
       built-plan {ms = ms} kind e =
-          let m : news_of ws text abi labels ms ≡ L.new_fields_of abi labels gs = rw e (members_are ws text abi labels gs) in
-          accepted-plan ws c (L.new_words ws text abi labels c) T (news_of ws text abi labels ms) plan-of f built-passes
+          let m : members (added_of ws text abi labels ms) ≡ L.new_fields_of abi labels gs =
+          members-added ws text abi labels ms ∙ rw e (members_are ws text abi labels gs) in
+          accepted-plan ws c (L.new_words ws text abi labels c) T (added_of ws text abi labels ms) plan-of f built-passes
           (rw (built-words kind) (built-accepted ws text abi labels c numbers).1) refl (rw kind) (rw (kind, m))
 
     -- row 13 of its table refuses, or the plan stands
-    pub built-done : (T : List Entry) (r : Result (Unit {0}) Refusal) {ms : List Member} → built T ≡ L.built_table ws text abi labels area c
+    pub built-done : (T : List Entry) (r : Result (Unit {0}) Refusal) {ms : List Member} → built T ≡ L.built_table same ws text abi labels area c
         → step_of r T ≡ few_slots (built T) → is_built_kind (class_kind ws c) ≡ true → ms ≡ members_of abi gs
-        → Planning ws c (L.new_words ws text abi labels c) (L.plan_built ws text abi labels area c) (with_fields r f) T (news_of ws text abi labels ms)
+        → Planning ws c (L.new_words ws text abi labels c) (L.plan_built same ws text abi labels area c) (with_fields r f) T (added_of ws text abi labels ms)
     built-done T (Ok u) table few kind e = built-plan T table few kind e
     built-done T (Err refusal) table few kind e = built-stops _ T _ refusal (row_then table few)
 
@@ -137,28 +139,23 @@ module _ (ws text abi labels area : List ℕ) (c : ℕ) where
   -- ---- an array class
 
   pub array_plan : (ps qs : List ℕ) (n : ℕ) {ms : List Member} → is_built_kind (class_kind ws c) ≡ false → n ≤ 1024
-      → entries_of ps qs n ≡ parent_entries ws text abi labels area c → ms ≡ []
-      → Planning ws c (L.new_words ws text abi labels c) (L.plan_array ws text abi labels area c)
-      (Ok no_fields) (entries_of ps qs n) (news_of ws text abi labels ms)
+      → entries_of ps qs n ≡ parent_entries same ws text abi labels area c → ms ≡ []
+      → Planning ws c (L.new_words ws text abi labels c) (L.plan_array same ws text abi labels area c)
+      (Ok no_fields) (entries_of ps qs n) (added_of ws text abi labels ms)
   unfolding L.plan_array L.within_slots
   array_plan ps qs n {ms = ms} kind few table none =
-      let m : news_of ws text abi labels ms ≡ [] = rw none (news_none ws text abi labels) in
+      let m : added_of ws text abi labels ms ≡ [] = rw none (added_none ws text abi labels) in
       rw (no_words kind, m)
       (accepted-plan ws c 0 (entries_of ps qs n) []
-      (record { table = parent_entries ws text abi labels area c; indices = []; new_methods = []; new_fields = [] })
+      (record { table = parent_entries same ws text abi labels area c; indices = []; added = []; new_fields = [] })
       no_fields
-      (rw (← table, length-entries ps qs n, le-ltb 1024 n few)) refl table (either (is_built_kind (class_kind ws c)))
-      (either (is_built_kind (class_kind ws c))))
-    where
-      either : (b : Bool) → [] ≡ cond {A = List New} b [] []
-      either true = refl
-      either false = refl
+      (rw (← table, length-entries ps qs n, le-ltb 1024 n few)) refl table (rw kind) (rw kind))
 
   -- ---- a generated class
 
-  pub generated-row : (words : ℕ) (T : List Entry) (new : List New) (refusal : Refusal)
+  pub generated-row : (words : ℕ) (T : List Entry) (new : List Taken) (refusal : Refusal)
       → ◌≡◌ {A = Result Numbered ℕ} (Err (row refusal)) (generated_fields ws text c)
-      → Planning ws c words (L.plan_generated ws text abi labels area c) (Err refusal) T new
+      → Planning ws c words (L.plan_generated same ws text abi labels area c) (Err refusal) T new
   unfolding L.plan_generated
   generated-row words T new refusal numbers =
       let p = generated-refused ws text c numbers in
@@ -167,57 +164,57 @@ module _ (ws text abi labels area : List ℕ) (c : ℕ) where
       refused-plan ws c words T new refusal (rw p (simp (ne_eqb (generated_refusal ws text c) 0 n)))
 
   module _ (f : Numbered) (numbers : ◌≡◌ {A = Result Numbered ℕ} (Ok f) (generated_fields ws text c)) where
-    pub generated-stops : (words : ℕ) (T : List Entry) (new : List New) (refusal : Refusal)
-        → refused (row refusal) ≡ few_slots (L.generated_table ws text abi labels area c)
-        → Planning ws c words (L.plan_generated ws text abi labels area c) (Err refusal) T new
+    pub generated-stops : (words : ℕ) (T : List Entry) (new : List Taken) (refusal : Refusal)
+        → refused (row refusal) ≡ few_slots (L.generated_table same ws text abi labels area c)
+        → Planning ws c words (L.plan_generated same ws text abi labels area c) (Err refusal) T new
     unfolding L.plan_generated
     generated-stops words T new refusal table =
         refused-plan ws c words T new refusal
-        (rw (generated-accepted ws text c numbers).0 (table-stops (row refusal) (L.generated_table ws text abi labels area c) _ _ _ table))
+        (rw (generated-accepted ws text c numbers).0 (table-stops (row refusal) (L.generated_table same ws text abi labels area c) _ _ _ table))
 
-    module _ (T : List Entry) (table : built T ≡ L.generated_table ws text abi labels area c) (few : built T ≡ few_slots (built T)) where
+    module _ (T : List Entry) (table : built T ≡ L.generated_table same ws text abi labels area c) (few : built T ≡ few_slots (built T)) where
       abbrev made_of : L.Plan
       made_of =
           record {
             table = T;
             indices = generated_indices ws text c;
-            new_methods = L.generated_methods ws text abi labels area c;
+            added = L.generated_methods same ws text abi labels area c;
             new_fields = [];
           }
 
-      generated-passes : L.plan_generated ws text abi labels area c ≡ L.planned made_of
+      generated-passes : L.plan_generated same ws text abi labels area c ≡ L.planned made_of
       unfolding L.plan_generated L.within_slots
       generated-passes = rw ((generated-accepted ws text c numbers).0, ← table, few-passes T few)
 
-      pub generated-plan : {new : List New} → is_built_kind (class_kind ws c) ≡ false → new ≡ L.generated_methods ws text abi labels area c
-          → Planning ws c (L.new_words ws text abi labels c) (L.plan_generated ws text abi labels area c) (Ok f) T new
+      pub generated-plan : {new : List Taken} → is_built_kind (class_kind ws c) ≡ false → new ≡ L.generated_methods same ws text abi labels area c
+          → Planning ws c (L.new_words ws text abi labels c) (L.plan_generated same ws text abi labels area c) (Ok f) T new
       generated-plan {new = new} kind e =
           rw (no_words kind)
           (accepted-plan ws c 0 T new made_of f generated-passes (generated-accepted ws text c numbers).1 refl
           (rw (kind, e)) (rw kind))
 
     -- row 13 of its table refuses, or the plan stands
-    pub generated-done : (T : List Entry) (r : Result (Unit {0}) Refusal) {new : List New} → built T ≡ L.generated_table ws text abi labels area c
-        → step_of r T ≡ few_slots (built T) → is_built_kind (class_kind ws c) ≡ false → new ≡ L.generated_methods ws text abi labels area c
-        → Planning ws c (L.new_words ws text abi labels c) (L.plan_generated ws text abi labels area c) (with_fields r f) T new
+    pub generated-done : (T : List Entry) (r : Result (Unit {0}) Refusal) {new : List Taken} → built T ≡ L.generated_table same ws text abi labels area c
+        → step_of r T ≡ few_slots (built T) → is_built_kind (class_kind ws c) ≡ false → new ≡ L.generated_methods same ws text abi labels area c
+        → Planning ws c (L.new_words ws text abi labels c) (L.plan_generated same ws text abi labels area c) (with_fields r f) T new
     generated-done T (Ok u) table few kind e = generated-plan T table few kind e
     generated-done T (Err refusal) table few kind e = generated-stops _ T _ refusal (row_then table few)
 
   -- ---- by the kind
 
-  pub kind_built : {b : Bool} {r : Result Numbered Refusal} {T : List Entry} {new : List New} {words : ℕ} → b ≡ is_built_kind (class_kind ws c) → b ≡ true
-      → Planning ws c words (L.plan_built ws text abi labels area c) r T new → Planning ws c words (L.plan ws text abi labels area c) r T new
+  pub kind_built : {b : Bool} {r : Result Numbered Refusal} {T : List Entry} {new : List Taken} {words : ℕ} → b ≡ is_built_kind (class_kind ws c) → b ≡ true
+      → Planning ws c words (L.plan_built same ws text abi labels area c) r T new → Planning ws c words (L.plan same ws text abi labels area c) r T new
   unfolding L.plan
   kind_built e h p = rw (← e, h) p
 
-  pub kind_generated : {b d : Bool} {r : Result Numbered Refusal} {T : List Entry} {new : List New} {words : ℕ} → b ≡ is_built_kind (class_kind ws c)
+  pub kind_generated : {b d : Bool} {r : Result Numbered Refusal} {T : List Entry} {new : List Taken} {words : ℕ} → b ≡ is_built_kind (class_kind ws c)
       → b ≡ false → d ≡ eqb (class_kind ws c) 1 → d ≡ true
-      → Planning ws c words (L.plan_generated ws text abi labels area c) r T new → Planning ws c words (L.plan ws text abi labels area c) r T new
+      → Planning ws c words (L.plan_generated same ws text abi labels area c) r T new → Planning ws c words (L.plan same ws text abi labels area c) r T new
   unfolding L.plan
   kind_generated e h f k p = rw (← e, h, ← f, k) p
 
-  pub kind_array : {b d : Bool} {r : Result Numbered Refusal} {T : List Entry} {new : List New} {words : ℕ} → b ≡ is_built_kind (class_kind ws c)
+  pub kind_array : {b d : Bool} {r : Result Numbered Refusal} {T : List Entry} {new : List Taken} {words : ℕ} → b ≡ is_built_kind (class_kind ws c)
       → b ≡ false → d ≡ eqb (class_kind ws c) 1 → d ≡ false
-      → Planning ws c words (L.plan_array ws text abi labels area c) r T new → Planning ws c words (L.plan ws text abi labels area c) r T new
+      → Planning ws c words (L.plan_array same ws text abi labels area c) r T new → Planning ws c words (L.plan same ws text abi labels area c) r T new
   unfolding L.plan
   kind_array e h f k p = rw (← e, h, ← f, k) p

@@ -5,4 +5,4 @@ use Rattle.plan.proofs.plan_array.Goals as goal
 pub returns : goal.returns
 returns c =
     let p = c.parent_entries.ensures in
-    rw c.clear.ensures (array_plan _ _ _ _ _ _ _ _ _ c.requires p.count p.is c.clear-2.ensures)
+    rw c.clear.ensures (array_plan _ _ _ _ _ _ _ _ _ _ c.requires p.count p.is c.clear-2.ensures)
