@@ -9,7 +9,7 @@ use Rattle.words.proofs.Bools.{by, or-neither}
 use Rattle.class_sheet.specs.ClassSheet.{class_count, method_count, field_count, text_of, class_method_count, class_first_method, class_first_field, class_field_count}
 use Rattle.abi_sheet.specs.AbiSheet.{abi_text_of}
 use Rattle.set_rules.specs.Valid.{Valid}
-use Rattle.linking.specs.Compiler.{New}
+use Rattle.linking.specs.Compiler.{Taken, members}
 use Rattle.linking.specs.Chain.{parent_of}
 use Rattle.linking.specs.Counts.{missing_short}
 use Rattle.linking.specs.Link.{Plan, is_none, next_free, lists_full, set_short, no_room, linked_words, new_words, new_statics, finish_link, LinkOutcome, refused_link}
@@ -28,7 +28,7 @@ use Rattle.link.proofs.FinishLaws.{room-is}
 neither : (m n a b : Bool) → ((not m && a) || (not n && b)) ≡ false → (m ≡ false → a ≡ false) × (n ≡ false → b ≡ false)
 neither m n a b h = let o = or-neither (not m && a) (not n && b) h in (λ e. rw e at o.0, λ e. rw e at o.1)
 
-module _ (ws : List ℕ) (c : ℕ) (p : Plan) (new : List New) (methods : p.new_methods ≡ methods_of ws c new) (fields : p.new_fields ≡ fields_of ws c new) where
+module _ (ws : List ℕ) (c : ℕ) (p : Plan) (new : List Taken) (methods : p.added ≡ methods_of ws c new) (fields : p.new_fields ≡ fields_of ws c new) where
   -- ---- rows 14 and 15
 
   pub full-plan : lists_full ws c (members_plan ws c new) ≡ lists_full ws c p
@@ -45,40 +45,40 @@ module _ (ws : List ℕ) (c : ℕ) (p : Plan) (new : List New) (methods : p.new_
     room_fields : is_none p.new_fields ≡ false → can_grow ws (field_count ws) (class_first_field ws c) (class_field_count ws c) p.new_fields ≡ true
     unfolding lists_full set_short
     room_fields n =
-        let a = (neither (is_none p.new_methods) (is_none p.new_fields) _ _ full).1 n in
+        let a = (neither (is_none (members p.added)) (is_none p.new_fields) _ _ full).1 n in
         can_grow_lem ws p.new_fields (field_count ws) (class_first_field ws c) (class_field_count ws c) (valid.class c (some, among)).fields a
         (fields-end ws p.new_fields valid.number_of_classes valid.number_of_interfaces valid.number_of_compilers
         (class_field_count ws c) valid.number_of_methods a)
-        ((neither (is_none p.new_methods) (is_none p.new_fields) _ _ short).1 n)
+        ((neither (is_none (members p.added)) (is_none p.new_fields) _ _ short).1 n)
 
-    room-methods : is_none p.new_methods ≡ false
-        → can_grow ws (method_count ws) (class_first_method ws c) (class_method_count ws c) p.new_methods ≡ true
+    room-methods : is_none (members p.added) ≡ false
+        → can_grow ws (method_count ws) (class_first_method ws c) (class_method_count ws c) (members p.added) ≡ true
     unfolding lists_full set_short
     room-methods n =
-        let a = (neither (is_none p.new_methods) (is_none p.new_fields) _ _ full).0 n in
-        can_grow_lem ws p.new_methods (method_count ws) (class_first_method ws c) (class_method_count ws c) (valid.class c (some, among)).methods a
-        (methods-end ws p.new_methods valid.number_of_classes valid.number_of_interfaces valid.number_of_compilers
+        let a = (neither (is_none (members p.added)) (is_none p.new_fields) _ _ full).0 n in
+        can_grow_lem ws (members p.added) (method_count ws) (class_first_method ws c) (class_method_count ws c) (valid.class c (some, among)).methods a
+        (methods-end ws (members p.added) valid.number_of_classes valid.number_of_interfaces valid.number_of_compilers
         (class_method_count ws c) valid.number_of_fields a)
-        ((neither (is_none p.new_methods) (is_none p.new_fields) _ _ short).0 n)
+        ((neither (is_none (members p.added)) (is_none p.new_fields) _ _ short).0 n)
 
     -- ---- the class words
 
     module _ (place words statics : ℕ) (indices : class_first_field ws c + length p.indices ≤ field_count ws) where
-      numbered-none : is_none p.new_fields ≡ true → is_none p.new_methods ≡ true
-          → numbered (with_methods ws c p.new_methods) c place (length p.table) words statics p.indices ≡ linked_words ws c place words statics p
+      numbered-none : is_none p.new_fields ≡ true → is_none (members p.added) ≡ true
+          → numbered (with_methods ws c (members p.added)) c place (length p.table) words statics p.indices ≡ linked_words ws c place words statics p
       unfolding linked_words with_methods numbered
       numbered-none n q = rw (n, q)
 
-      numbered-some : is_none p.new_fields ≡ true → is_none p.new_methods ≡ false
-          → numbered (with_methods ws c p.new_methods) c place (length p.table) words statics p.indices ≡ linked_words ws c place words statics p
+      numbered-some : is_none p.new_fields ≡ true → is_none (members p.added) ≡ false
+          → numbered (with_methods ws c (members p.added)) c place (length p.table) words statics p.indices ≡ linked_words ws c place words statics p
       unfolding with_methods numbered
       numbered-some n q = rw q (sym (linked-methods ws c place words statics p some among n q (room-methods q) indices refl))
 
-      stored-linked : stored ws c place (length p.table) words statics p.indices p.new_methods p.new_fields ≡ linked_words ws c place words statics p
+      stored-linked : stored ws c place (length p.table) words statics p.indices (members p.added) p.new_fields ≡ linked_words ws c place words statics p
       unfolding stored
       stored-linked =
           by (is_none p.new_fields)
-          (λ q. rw q (by (is_none p.new_methods) (numbered-none q) (numbered-some q)))
+          (λ q. rw q (by (is_none (members p.added)) (numbered-none q) (numbered-some q)))
           (λ q. rw q (sym (linked-fields ws c place words statics p some among q (room_fields q) refl)))
 
       pub words-linked : stored_news ws c place (length p.table) words statics p.indices new ≡ linked_words ws c place words statics p
@@ -87,12 +87,12 @@ module _ (ws : List ℕ) (c : ℕ) (p : Plan) (new : List New) (methods : p.new_
 -- ---- the whole
 
 -- what the code has at a link's end, and what it stands for
-pub record Finish (ws abi : List ℕ) (c : ℕ) (area slots marks : List ℕ) (n words statics : ℕ) (new : List New) (p : Plan) : Type 0 where
+pub record Finish (ws abi : List ℕ) (c : ℕ) (area slots marks : List ℕ) (n words statics : ℕ) (new : List Taken) (p : Plan) : Type 0 where
   pub valid : Valid ws
   pub some : 1 ≤ c
   pub among : c ≤ class_count ws
   pub short-area : length area ≤ 4294967295
-  pub methods : p.new_methods ≡ methods_of ws c new
+  pub methods : p.added ≡ methods_of ws c new
   pub fields : p.new_fields ≡ fields_of ws c new
   pub slot_count : length p.table ≡ n
   pub table_is : entries_of slots marks n ≡ p.table
@@ -100,7 +100,7 @@ pub record Finish (ws abi : List ℕ) (c : ℕ) (area slots marks : List ℕ) (n
   pub statics_are : statics ≡ new_statics ws (text_of ws) c
   pub indices-fit : class_first_field ws c + length p.indices ≤ field_count ws
 
-module _ (ws abi : List ℕ) (c : ℕ) (area stubs slots marks missing : List ℕ) (n words statics : ℕ) (new : List New) (p : Plan)
+module _ (ws abi : List ℕ) (c : ℕ) (area stubs slots marks missing : List ℕ) (n words statics : ℕ) (new : List Taken) (p : Plan)
     (f : Finish ws abi c area slots marks n words statics new p) where
   room-plan : room_row ws c (members_plan ws c new) area stubs missing n ≡ room_row ws c p area stubs missing (length p.table)
   unfolding room_row

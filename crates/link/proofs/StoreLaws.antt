@@ -10,16 +10,16 @@ use lib.Dec.{eqb, ltb}
 use borrow.Author.Tests.{eq-eqb, eqb-true, not-false}
 use Rattle.words.proofs.Bools.{by}
 use Rattle.class_sheet.specs.ClassSheet.{method_count, field_count, class_kind, is_built_kind, class_method_count, class_first_field, class_field_count, fields_at, put_class_instance_words, put_class_table_place, put_class_slot_count, put_class_static_words}
-use Rattle.linking.specs.Compiler.{New}
+use Rattle.linking.specs.Compiler.{New, Taken, members}
 use Rattle.linking.specs.Set.{put_indices, section_full, grown_end}
 use Rattle.linking.specs.Fields.{static_words}
 use Rattle.linking.specs.Link.{is_none, new_statics, linked_record, lists_full, set_short}
 use Rattle.growth.specs.declared.news.Member.{Member}
-use Rattle.growth.specs.News.{news_of}
+use Rattle.growth.specs.News.{news_of, added_of}
 use Rattle.growth.specs.declared.Section.{Section}
 use Rattle.growth.specs.Growth.{methods_grown, fields_grown, growing}
 use Rattle.growth.specs.Growth as lists
-use Rattle.growth.proofs.NewsLaws.{length-news}
+use Rattle.growth.proofs.NewsLaws.{length-news, members-added}
 use Rattle.link.specs.Stored.{members_plan, numbered, with_methods, stored, stored_news}
 
 -- ---- the static words
@@ -64,24 +64,26 @@ some_more [] h = absurd (h refl)
 some_more (x ∷ xs) h = refl
 
 module _ (ws text abi labels : List ℕ) (ms : List Member) {n : ℕ} (size : n ≡ length ms) where
-  news_empty : n ≡ 0 → is_none (news_of ws text abi labels ms) ≡ true
-  news_empty h = none-zero (news_of ws text abi labels ms) (omega (arith, length-news ws text abi labels ms))
+  abbrev new : List New
+  new = news_of ws text abi labels ms
 
-  news_some : n ≢ 0 → is_none (news_of ws text abi labels ms) ≡ false
-  news_some h = some_more (news_of ws text abi labels ms) (λ z. h (omega (arith, length-news ws text abi labels ms)))
+  news_empty : n ≡ 0 → is_none new ≡ true
+  news_empty h = none-zero new (omega (arith, length-news ws text abi labels ms))
 
-  pub news-is : is_none (news_of ws text abi labels ms) ≡ eqb n 0
+  news_some : n ≢ 0 → is_none new ≡ false
+  news_some h = some_more new (λ z. h (omega (arith, length-news ws text abi labels ms)))
+
+  pub news-is : is_none new ≡ eqb n 0
   news-is =
       by (eqb n 0)
       (λ q. news_empty (eqb-true n 0 q) ∙ sym q)
       (λ q. news_some (λ z. true≢false (sym (eq-eqb n 0 z) ∙ q)) ∙ sym q)
 
-  pub methods_none : (c : ℕ) → n ≡ 0 → ws ≡ with_methods ws c (news_of ws text abi labels ms)
+  pub methods_none : (c : ℕ) → n ≡ 0 → ws ≡ with_methods ws c new
   unfolding with_methods
   methods_none c h = rw (news_empty h)
 
-  pub methods_some : (c : ℕ) {s : List ℕ} → n ≢ 0 → s ≡ methods_grown ws c (news_of ws text abi labels ms)
-      → s ≡ with_methods ws c (news_of ws text abi labels ms)
+  pub methods_some : (c : ℕ) {s : List ℕ} → n ≢ 0 → s ≡ methods_grown ws c new → s ≡ with_methods ws c new
   unfolding with_methods
   methods_some c h e = e ∙ rw (news_some h)
 
@@ -92,57 +94,56 @@ module _ (ws text abi labels : List ℕ) (ms : List Member) {n : ℕ} (size : n 
     or-last true = refl
     or-last false = refl
 
-    pub full_is : {b : Bool} → b ≡ section_full ws g.count g.own (news_of ws text abi labels ms)
-        → (not (eqb n 0) && b) ≡ lists_full ws c (members_plan ws c (news_of ws text abi labels ms))
-    unfolding lists_full growing
+    pub full_is : {b : Bool} → b ≡ section_full ws g.count g.own new
+        → (not (eqb n 0) && b) ≡ lists_full ws c (members_plan ws c (added_of ws text abi labels ms))
+    unfolding lists_full growing members
     full_is {b = b} e =
         by (is_built_kind (class_kind ws c))
         (λ q.
         let k : g ≡ lists.fields_of ws c = rw q at list in
-        let f : b ≡ section_full ws (field_count ws) (class_field_count ws c) (news_of ws text abi labels ms) = rw k at e in
-        rw q (rw (f, ← news-is)))
+        let f : b ≡ section_full ws (field_count ws) (class_field_count ws c) new = rw k at e in
+        rw q (rw (members-added ws text abi labels ms, f, ← news-is)))
         (λ q.
         let k : g ≡ lists.methods_of ws c = rw q at list in
-        let f : b ≡ section_full ws (method_count ws) (class_method_count ws c) (news_of ws text abi labels ms) = rw k at e in
-        rw q (rw (f, ← news-is)
-        (sym (or-last (not (is_none (news_of ws text abi labels ms))
-        && section_full ws (method_count ws) (class_method_count ws c) (news_of ws text abi labels ms))))))
+        let f : b ≡ section_full ws (method_count ws) (class_method_count ws c) new = rw k at e in
+        rw q (rw (members-added ws text abi labels ms, f, ← news-is)
+        (sym (or-last (not (is_none new) && section_full ws (method_count ws) (class_method_count ws c) new)))))
 
-    pub short_is : {m : ℕ} → m ≡ grown_end ws g.own (news_of ws text abi labels ms)
-        → (not (eqb n 0) && ltb (length ws) m) ≡ set_short ws c (members_plan ws c (news_of ws text abi labels ms))
-    unfolding set_short growing
+    pub short_is : {m : ℕ} → m ≡ grown_end ws g.own new
+        → (not (eqb n 0) && ltb (length ws) m) ≡ set_short ws c (members_plan ws c (added_of ws text abi labels ms))
+    unfolding set_short growing members
     short_is {m = m} e =
         by (is_built_kind (class_kind ws c))
         (λ q.
         let k : g ≡ lists.fields_of ws c = rw q at list in
-        let f : m ≡ grown_end ws (class_field_count ws c) (news_of ws text abi labels ms) = rw k at e in
-        rw q (rw (f, ← news-is)))
+        let f : m ≡ grown_end ws (class_field_count ws c) new = rw k at e in
+        rw q (rw (members-added ws text abi labels ms, f, ← news-is)))
         (λ q.
         let k : g ≡ lists.methods_of ws c = rw q at list in
-        let f : m ≡ grown_end ws (class_method_count ws c) (news_of ws text abi labels ms) = rw k at e in
-        rw q (rw (f, ← news-is)
-        (sym (or-last (not (is_none (news_of ws text abi labels ms))
-        && ltb (length ws) (grown_end ws (class_method_count ws c) (news_of ws text abi labels ms)))))))
+        let f : m ≡ grown_end ws (class_method_count ws c) new = rw k at e in
+        rw q (rw (members-added ws text abi labels ms, f, ← news-is)
+        (sym (or-last (not (is_none new) && ltb (length ws) (grown_end ws (class_method_count ws c) new))))))
 
 -- ---- what a link stores
 
-module _ (ws : List ℕ) (c place slots words statics : ℕ) (indices : List ℕ) (l : List New) {x : Bool} (test : x ≡ is_built_kind (class_kind ws c)) where
-  pub stored-fields : {s t : List ℕ} → x ≡ true → is_none l ≡ false → s ≡ fields_grown ws c indices l
+module _ (ws : List ℕ) (c place slots words statics : ℕ) (indices : List ℕ) (l : List Taken) {new : List New} (are : members l ≡ new) {x : Bool}
+    (test : x ≡ is_built_kind (class_kind ws c)) where
+  pub stored-fields : {s t : List ℕ} → x ≡ true → is_none new ≡ false → s ≡ fields_grown ws c indices new
       → t ≡ linked_record s c place slots words statics → t ≡ stored_news ws c place slots words statics indices l
   unfolding stored
-  stored-fields e h f g = g ∙ rw (f, ← test, e, h)
+  stored-fields e h f g = g ∙ rw (f, ← test, e, are, h)
 
-  stored-built : {s t : List ℕ} → x ≡ true → is_none l ≡ true → s ≡ with_methods ws c l → t ≡ numbered s c place slots words statics indices
+  stored-built : {s t : List ℕ} → x ≡ true → is_none new ≡ true → s ≡ with_methods ws c new → t ≡ numbered s c place slots words statics indices
+      → t ≡ stored_news ws c place slots words statics indices l
+  unfolding stored with_methods members
+  stored-built e h f g = g ∙ rw (f, ← test, e, are, h)
+
+  stored_other : {s t : List ℕ} → x ≡ false → s ≡ with_methods ws c new → t ≡ numbered s c place slots words statics indices
       → t ≡ stored_news ws c place slots words statics indices l
   unfolding stored with_methods
-  stored-built e h f g = g ∙ rw (f, ← test, e, h)
+  stored_other e f g = g ∙ rw (f, ← test, e, are)
 
-  stored_other : {s t : List ℕ} → x ≡ false → s ≡ with_methods ws c l → t ≡ numbered s c place slots words statics indices
-      → t ≡ stored_news ws c place slots words statics indices l
-  unfolding stored with_methods
-  stored_other e f g = g ∙ rw (f, ← test, e)
-
-  pub stored-methods : {s t : List ℕ} {z : Bool} → is_none l ≡ z → (x && not z) ≡ false → s ≡ with_methods ws c l
+  pub stored-methods : {s t : List ℕ} {z : Bool} → is_none new ≡ z → (x && not z) ≡ false → s ≡ with_methods ws c new
       → t ≡ numbered s c place slots words statics indices → t ≡ stored_news ws c place slots words statics indices l
   stored-methods {z = z} e h f g =
       by x

@@ -4,29 +4,30 @@ use Rattle.std.specs.Prelude.{ℕ, ◌≡◌, true, false, cond, ◌||◌, List,
 use Rattle.class_sheet.specs.ClassSheet.{text_of, class_first_field, fields_at}
 use Rattle.abi_sheet.specs.AbiSheet.{abi_text_of}
 use Rattle.set_rules.specs.SetRules.{set_fits, set_refusal}
-use Rattle.linking.specs.Compiler.{New}
+use Rattle.linking.specs.Signature.{Same}
+use Rattle.linking.specs.Compiler.{New, Taken, members}
 use Rattle.linking.specs.Set.{put_indices}
 use Rattle.linking.specs.Packages.{bad_packages}
 use Rattle.linking.specs.Counts.{missing_short}
-use Rattle.linking.specs.Link.{Plan, is_none, linked_record, lists_full, set_short, no_room, bad_class, bad_area, plan, link_def, refused_link, LinkOutcome}
+use Rattle.linking.specs.Link.{Plan, is_none, linked_record, lists_full, set_short, no_room, bad_class, bad_area, plan, link_by, refused_link, LinkOutcome}
 use Rattle.growth.specs.Growth.{methods_grown, fields_grown}
 use Rattle.area.specs.Area.{outcome}
 use Rattle.area.specs.declared.Answer.{Answer}
 use Rattle.plan.specs.Plans.{methods_of, fields_of, Leaves}
 use Rattle.plan.specs.declared.Plan as P
-use Rattle.growth.specs.News.{news_of}
+use Rattle.growth.specs.News.{added_of}
 use Rattle.linking.specs.Sheets.{of_sheets}
 use Rattle.link.specs.declared.Growing.{Growing}
 use Rattle.refusal.specs.declared.Refusal.{Refusal}
 use Rattle.refusal.specs.Rows.{row}
 
 -- a plan by its new members alone: what row 14 and the set's part of row 15 ask for
-abbrev pub members_plan : List ℕ → ℕ → List New → Plan
-members_plan ws c new = record { table = []; indices = []; new_methods = methods_of ws c new; new_fields = fields_of ws c new }
+abbrev pub members_plan : List ℕ → ℕ → List Taken → Plan
+members_plan ws c new = record { table = []; indices = []; added = methods_of ws c new; new_fields = fields_of ws c new }
 
 -- what f says of class words, a class and that plan, where the code has the class and its new members
 abbrev pub of_growing {ℓ} : {A : Type ℓ} → (List ℕ → ℕ → Plan → A) → Growing → A
-of_growing f g = f g.sheets.set.now g.c (members_plan g.sheets.set.now g.c (of_sheets news_of g.sheets g.news.now))
+of_growing f g = f g.sheets.set.now g.c (members_plan g.sheets.set.now g.c (of_sheets added_of g.sheets g.news.now))
 
 -- ---- the class words
 
@@ -44,8 +45,9 @@ stored ws c place slots words statics indices methods fields =
     (numbered (with_methods ws c methods) c place slots words statics indices)
     (linked_record (fields_grown ws c indices fields) c place slots words statics)
 
-abbrev pub stored_news : List ℕ → ℕ → ℕ → ℕ → ℕ → ℕ → List ℕ → List New → List ℕ
-stored_news ws c place slots words statics indices new = stored ws c place slots words statics indices (methods_of ws c new) (fields_of ws c new)
+abbrev pub stored_news : List ℕ → ℕ → ℕ → ℕ → ℕ → ℕ → List ℕ → List Taken → List ℕ
+stored_news ws c place slots words statics indices new =
+    stored ws c place slots words statics indices (members (methods_of ws c new)) (fields_of ws c new)
 
 -- ---- rows 14 and 15 of a plan whose table has n slots: the number that refuses it, or 0
 
@@ -78,11 +80,11 @@ pub record Accepted (ws abi : List ℕ) (c : ℕ) (area text labels : List ℕ) 
   pub packages : bad_packages ws (text_of ws) abi (abi_text_of abi) c ≡ false
 
 -- a plan that rows 14 and 15 do not refuse
-pub record Roomy (ws text abi labels : List ℕ) (c : ℕ) (area stubs missing : List ℕ) (p : P.Plan) : Type 0 where
-  pub planned : Leaves plan ws text abi labels area c (Ok p.fields) p
-  pub room : 0 ≡ room_row ws c (members_plan ws c (news_of ws text abi labels p.news)) area stubs missing p.table.len
+pub record Roomy (same : Same) (ws text abi labels : List ℕ) (c : ℕ) (area stubs missing : List ℕ) (p : P.Plan) : Type 0 where
+  pub planned : Leaves plan same ws text abi labels area c (Ok p.fields) p
+  pub room : 0 ≡ room_row ws c (members_plan ws c (added_of ws text abi labels p.news)) area stubs missing p.table.len
 
 -- what rows 8 to 15 say: a plan, or a row that refuses the link
-abbrev pub Judged : List ℕ → List ℕ → List ℕ → List ℕ → ℕ → List ℕ → List ℕ → List ℕ → Result (Unit {0}) Refusal → P.Plan → Type 0
-Judged ws text abi labels c area stubs missing (Ok u) p = Roomy ws text abi labels c area stubs missing p
-Judged ws text abi labels c area stubs missing (Err r) p = refused_link (row r) ws area missing ≡ link_def ws abi c area stubs missing
+abbrev pub Judged : Same → List ℕ → List ℕ → List ℕ → List ℕ → ℕ → List ℕ → List ℕ → List ℕ → Result (Unit {0}) Refusal → P.Plan → Type 0
+Judged same ws text abi labels c area stubs missing (Ok u) p = Roomy same ws text abi labels c area stubs missing p
+Judged same ws text abi labels c area stubs missing (Err r) p = refused_link (row r) ws area missing ≡ link_by same ws abi c area stubs missing

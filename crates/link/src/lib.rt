@@ -2,11 +2,12 @@
 #![tactic(auto)]
 
 ghost use Rattle.std.specs.Prelude.{◌≡◌};
-ghost use Rattle.linking.specs.Link.{new_statics, linked_record, lists_full, set_short, link_def};
-ghost use Rattle.growth.specs.News.{news_of};
+ghost use Rattle.linking.specs.Signature.{by_bytes};
+ghost use Rattle.linking.specs.Link.{new_statics, linked_record, lists_full, set_short, link_by, link_def};
+ghost use Rattle.growth.specs.News.{news_of, added_of};
 ghost use Rattle.refusal.specs.Rows.{row_of};
 ghost use Rattle.link.specs.Stored.{link_outcome, of_growing, numbered, with_methods, stored_news, room_row, Fitting, Texts, Accepted, Judged};
-ghost use Rattle.linking.specs.Sheets.{of_sheets, of_lent};
+ghost use Rattle.linking.specs.Sheets.{of_bytes, of_lent};
 
 use area::Answer;
 use class_sheet::Kind;
@@ -72,7 +73,7 @@ fn store_methods(set: &mut [u32], c: u32, lent: Lent, news: &News)
 // indices of the class's own fields.
 fn store_link(set: &mut [u32], c: u32, linked: Linked, indices: &[u32], lent: Lent, news: &News)
     ensures { set.new ≡ stored_news set.old c linked.place linked.slots linked.words linked.statics indices.now
-        (of_lent news_of set.old lent.entry news.now) }
+        (of_lent added_of set.old lent.entry news.now) }
 {
     if class_sheet::is_built(set, c) & (news.len() != 0) {
         growth::grow_fields(set, c, indices, lent, news);
@@ -136,7 +137,7 @@ fn judge(
     made: &mut Plan,
 ) -> Result<(), Refusal>
     requires { Accepted sheets.set.now sheets.abi.now c area.now sheets.text.now sheets.labels.now }
-    ensures { of_sheets Judged sheets.entry c area.now stubs.now missing.now result made.new }
+    ensures { of_bytes Judged sheets.entry c area.now stubs.now missing.now result made.new }
 {
     plan::plan_link(sheets, area, c, made)?;
     let growing = Growing {
@@ -157,7 +158,8 @@ fn link_planned(
     missing: &mut [u32],
 ) -> Result<Answer, Refusal>
     requires { Accepted set.old lent.abi.now c area.old lent.text.now lent.labels.now }
-    ensures { link_outcome result set.new area.new missing.new ≡ link_def set.old lent.entry.abi.now c area.old stubs.now missing.old }
+    ensures { link_outcome result set.new area.new missing.new
+        ≡ link_by (of_lent by_bytes set.old lent.entry) set.old lent.entry.abi.now c area.old stubs.now missing.old }
 {
     let mut made = Plan::new();
     let sheets = Sheets {
@@ -195,7 +197,8 @@ fn link_read(
     missing: &mut [u32],
 ) -> Result<Answer, Refusal>
     requires { Texts set.old lent.abi.now lent.text.now lent.labels.now }
-    ensures { link_outcome result set.new area.new missing.new ≡ link_def set.old lent.entry.abi.now c area.old stubs.now missing.old }
+    ensures { link_outcome result set.new area.new missing.new
+        ≡ link_by (of_lent by_bytes set.old lent.entry) set.old lent.entry.abi.now c area.old stubs.now missing.old }
 {
     if call_rules::bad_class(set, lent.text, c) {
         return Err(Refusal::Class);
@@ -227,7 +230,8 @@ fn link_fitting(
     missing: &mut [u32],
 ) -> Result<Answer, Refusal>
     requires { Fitting set.old lent.abi.now lent.text.now lent.labels.now }
-    ensures { link_outcome result set.new area.new missing.new ≡ link_def set.old lent.entry.abi.now c area.old stubs.now missing.old }
+    ensures { link_outcome result set.new area.new missing.new
+        ≡ link_by (of_lent by_bytes set.old lent.entry) set.old lent.entry.abi.now c area.old stubs.now missing.old }
 {
     set_rules::records_refusal(set, lent.text, lent.abi, lent.labels)?;
     link_read(set, c, lent, area, stubs, missing)

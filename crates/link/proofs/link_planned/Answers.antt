@@ -11,6 +11,6 @@ returns-in_err-judge c =
 pub returns : goal.returns
 returns c =
     let e = c.in_ok-judge.ensures in
-    link-finished _ _ _ _ _ _ _ _ c.requires _ _ _ _ _ e.planned e.room
+    link-finished _ _ _ _ _ _ _ _ _ c.requires _ _ _ _ _ e.planned e.room
     c.as_slice-indices.ensures.is c.parent_of-parent.ensures c.count_class.ensures c.get_or.ensures c.write_table.ensures
     c.new_statics.ensures c.store_link.ensures

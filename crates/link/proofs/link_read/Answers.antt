@@ -7,17 +7,14 @@ returns-then-bad_class c = search link_6
 
 pub returns-then-bad_area : goal.returns-then-bad_area
 returns-then-bad_area c =
-    let a = c.args in link_7 a.set.now a.lent.abi.now a.c a.area.now a.stubs.now a.missing.now a.lent.text.now a.lent.labels.now
-    c.requires c.bad_class.ensures c.if-bad_class.false c.bad_area.ensures c.if-bad_area.true
+    link_7 _ _ _ _ _ _ _ _ _ c.requires c.bad_class.ensures c.if-bad_class.false c.bad_area.ensures c.if-bad_area.true
 
 pub returns-then-bad_packages : goal.returns-then-bad_packages
 returns-then-bad_packages c =
-    let a = c.args in link_26 a.set.now a.lent.abi.now a.c a.area.now a.stubs.now a.missing.now a.lent.text.now a.lent.labels.now
-    c.requires c.bad_class.ensures c.if-bad_class.false c.bad_area.ensures c.if-bad_area.false
+    link_26 _ _ _ _ _ _ _ _ _ c.requires c.bad_class.ensures c.if-bad_class.false c.bad_area.ensures c.if-bad_area.false
     c.bad_packages.ensures c.if-bad_packages.true
 
 pub link_planned-requires : goal.link_planned-requires
 link_planned-requires c =
-    let a = c.args in link-accepted a.set.now a.lent.abi.now a.c a.area.now a.stubs.now a.missing.now a.lent.text.now a.lent.labels.now
-    c.requires c.bad_class.ensures c.if-bad_class.false c.bad_area.ensures c.if-bad_area.false
+    link-accepted _ _ _ _ _ _ c.requires c.bad_class.ensures c.if-bad_class.false c.bad_area.ensures c.if-bad_area.false
     c.bad_packages.ensures c.if-bad_packages.false
