@@ -1,29 +1,29 @@
 -- The longest listing. Each accepted link takes its slots and two words of the area, so all tables of an area of 4,096 words have 4,093 slots at
 -- most; a slot's line has 531 bytes at most, and a class's 293. Assumes nothing.
-use mathlib.Core.Path.{◌≡◌, refl, sym, ap, ◌∙◌}
-use mathlib.Core.Logic.{◌≢◌, ◌⊎◌, inl, inr}
+use mathlib.Core.Path.{◌≡◌, refl, ap, ◌∙◌}
+use mathlib.Core.Logic.{◌≢◌, inl, inr}
 use mathlib.Core.Bool.{cond}
 use mathlib.Core.List.{List, [], ◌∷◌, ◌++◌}
 use Prim.Native.Nat.{ℕ, zero, suc, ◌+◌, ◌*◌, ◌^◌, ◌≤◌, ◌<◌, min}
 use native.Mathlib.Omega.{arith}
 use lib.ListN.{length, get_or, take, length-append, length-set, length-take, length-replicate, get_or-map}
 use lib.Seq.{get_or-set_same}
-use lib.Dec.{eqb, ltb}
+use lib.Dec.{eqb}
 use borrow.Author.Tests.{eqb-true, eqb-false, eq-eqb}
 use Rattle.words.proofs.Bools.{by}
-use Rattle.class_sheet.specs.ClassSheet.{class_count, class_kind, is_built_kind, class_word, class_instance_words, class_slot_count, text_of, class_limit}
+use Rattle.class_sheet.specs.ClassSheet.{class_count, class_word, class_instance_words, class_slot_count, text_of, class_limit}
 use Rattle.abi_sheet.specs.AbiSheet.{abi_text_of}
 use Rattle.set_rules.specs.SetRules.{set_refusal}
 use Rattle.set_rules.specs.Valid.{IsClass, ValidAbi}
 use Rattle.set_rules.proofs.Valid.{valid}
-use Rattle.linking.specs.Vtable.{Entry, Built, built, refused, slot_words, parent_entries}
-use Rattle.linking.specs.Compiler.{New}
-use Rattle.linking.specs.Abi.{class_abi}
-use Rattle.linking.specs.Fields.{number_fields, added_fields, too_many_words, generated_refusal, generated_indices}
-use Rattle.linking.specs.Link.{next_free, Plan, planned, on_table, within_slots, new_fields_of, built_table, generated_table, plan_built, plan_generated, plan_array, plan, generated_methods, linked_area, new_words, new_statics, LinkOutcome, link_def}
+use Rattle.linking.specs.Signature.{by_sheets}
+use Rattle.linking.specs.Vtable.{Entry, slot_words}
+use Rattle.linking.specs.Compiler.{members}
+use Rattle.linking.specs.Link.{next_free, Plan, linked_area, new_words, new_statics, LinkOutcome, link_def}
 use Rattle.linking.specs.Set.{write_at}
 use Rattle.calls.proofs.Area.{linked-length}
-use Rattle.linking.proofs.Plans.{plans, planned-same, not-planned, built_plan, generated_plan}
+use Rattle.linking.proofs.Plans.{plans}
+use Rattle.linking.proofs.Taken.{no_members}
 use Rattle.calls.proofs.Rows.{Refused, Accepted, link-cases}
 use Rattle.lines.proofs.Lengths.{limit, decimal-few, class-refused-few, class_lines_few}
 use Rattle.lines.proofs.Bounded.{Bounded, valid-bounded, class-short, ShortNews, news-short, link_leaves}
@@ -34,48 +34,9 @@ use Rattle.std.specs.Prelude.{map, Option, Some, None, Ok}
 use Rattle.refusal.specs.declared.Refusal.{Refusal}
 use Rattle.refusal.specs.Rows.{row}
 use Rattle.sheet.proofs.Valid.{read-accepted}
-use Rattle.lines.specs.Lines.{numbered, sheet_refused}
+use Rattle.lines.specs.Lines.{numbered, sheet_refused, class_lines}
 use Rattle.listing.specs.Listing.{link_row, fresh_area, fresh_counts, stub_words, Linked, linked, link_one, Links, links, link_all, class_text, class_texts, set_text}
 use Rattle.listing.specs.Small.{Small, Accepts}
-
--- ---- the methods that a plan adds
-
-within-news : (q p : Plan) → within_slots q ≡ planned p → q.new_methods ≡ p.new_methods
-unfolding within_slots
-within-news q p e =
-    by (ltb 1024 (length q.table)) (λ t. not-planned (rw t at e)) (λ t. ap (λ (x : Plan). x.new_methods) (planned-same (rw t at e)))
-
-table-news : (b : Built) (f : List Entry → Plan) (p : Plan) (news : List New) → ((T : List Entry) → (f T).new_methods ≡ news)
-    → on_table b (λ T. within_slots (f T)) ≡ planned p → news ≡ p.new_methods
-table-news (built T) f p news h e = sym (h T) ∙ within-news (f T) p e
-table-news (refused n) f p news h e = not-planned e
-
-module _ (ws text abi labels area : List ℕ) (c : ℕ) (p : Plan) where
-  abbrev News : Type 0
-  News = ([] ≡ p.new_methods) ⊎ (generated_methods ws text abi labels area c ≡ p.new_methods)
-
-  built-news : plan_built ws text abi labels area c ≡ planned p → News
-  unfolding plan_built
-  built-news e =
-      by (too_many_words ws text abi labels (class_abi ws text abi labels c) c) (λ t. not-planned (rw t at e))
-      (λ t. inl (table-news (built_table ws text abi labels area c) (built_plan ws text abi labels area c) p [] (λ T. refl) (rw t at e)))
-
-  generated-news : plan_generated ws text abi labels area c ≡ planned p → News
-  unfolding plan_generated
-  generated-news e =
-      by (eqb (generated_refusal ws text c) 0)
-      (λ t.
-      inr (table-news (generated_table ws text abi labels area c) (generated_plan ws text abi labels area c) p (generated_methods ws text abi labels area c) (λ T. refl) (rw t at e)))
-      (λ t. not-planned (rw t at e))
-
-  plan-news : plan ws text abi labels area c ≡ planned p → News
-  unfolding plan plan_array
-  plan-news e =
-      by (is_built_kind (class_kind ws c)) (λ t. built-news (rw t at e))
-      (λ t.
-      let r = rw t at e in
-      by (eqb (class_kind ws c) 1) (λ u. generated-news (rw u at r))
-      (λ u. inl (within-news (record { table = parent_entries ws text abi labels area c; indices = []; new_methods = []; new_fields = [] }) p (rw u at r))))
 
 none-short : ShortNews []
 none-short j h = absurd (omega arith)
@@ -117,11 +78,12 @@ module _ (ws abi : List ℕ) (b : Bounded ws) (c : ℕ) (area stubs missing : Li
       let v = valid ws abi a.valid in
       let k : IsClass ws c = (a.class.some, a.class.among) in
       let p : Plan = a.coming in
-      let q = (plans ws (text_of ws) abi (abi_text_of abi) area c p a.comes).indices in
-      let short : ShortNews p.new_methods =
-      elim (plan-news ws (text_of ws) abi (abi_text_of abi) area c p a.comes) [
-        | inl e ↦ rw (← e) none-short
-        | inr e ↦ rw (← e) (news-short ws (text_of ws) abi (abi_text_of abi) (valid-bounded ws v.0) v.1 area c k.1)
+      let q = plans (by_sheets ws abi) ws (text_of ws) abi (abi_text_of abi) area c p a.comes in
+      let i = q.indices in
+      let short : ShortNews (members p.added) =
+      elim q.methods [
+        | inl e ↦ rw (e, no_members) none-short
+        | inr e ↦ rw e (news-short (by_sheets ws abi) ws (text_of ws) abi (abi_text_of abi) (valid-bounded ws v.0) v.1 area c k.1)
       ] in
       let l = link_leaves ws v.0 c (next_free area) (new_words ws (text_of ws) abi (abi_text_of abi) c) (new_statics ws (text_of ws) c)
       p k short (omega (arith, (v.0.class c k).fields)) in
@@ -210,13 +172,13 @@ module _ (ws abi area : List ℕ) (b : Bounded ws) (v : ValidAbi abi) (few : cla
 
   text-few : (c row : ℕ) → IsClass ws c → row < limit 9 → (row ≡ 0 → class_slot_count ws c < limit 3)
       → length (class_text ws abi area c row) ≤ 293 + 531 * cond (eqb row 0) (class_slot_count ws c) 0
-  unfolding class_text
+  unfolding class_text class_lines
   text-few c row k h s =
       by (eqb row 0)
       (λ t.
       rw t
-      (class_lines_few ws abi area c (class-short ws (text_of ws) abi (abi_text_of abi) b v c k) area-words (omega (arith, k.1)) (instance-few c)
-      (s (eqb-true row 0 t))))
+      (class_lines_few (by_sheets ws abi) ws abi area c (class-short (by_sheets ws abi) ws (text_of ws) abi (abi_text_of abi) b v c k) area-words
+      (omega (arith, k.1)) (instance-few c) (s (eqb-true row 0 t))))
       (λ t. rw t (omega (arith, class-refused-few c row (omega (arith, k.1)) h)))
 
   texts-few : (c : ℕ) (rows : List ℕ) → 1 ≤ c → c + length rows ≤ class_count ws + 1 → ((i : ℕ) → get_or rows i 0 < limit 9)
