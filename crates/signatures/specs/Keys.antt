@@ -23,9 +23,9 @@ factor = 2654435761
 unfoldable pub mix : ℕ → ℕ → ℕ
 mix key w = (key * factor % 2 ^ 32 + w) % 2 ^ 32
 
--- with a part's length, and its bytes at both ends
+-- with a part's length, and its bytes in front, in the middle and at the end
 unfoldable pub mix_part : ℕ → List ℕ → ℕ
-mix_part key s = mix (mix (mix key (length s % 256)) (le_word s 0)) (le_word s (length s - 4))
+mix_part key s = mix (mix (mix (mix key (length s % 256)) (le_word s 0)) (le_word s (length s / 2 - 2))) (le_word s (length s - 4))
 
 unfoldable pub key_of : List ℕ → List ℕ → ℕ
 key_of name descriptor = mix_part (mix_part 0 name) descriptor

@@ -35,7 +35,7 @@ fn mix(key: u32, w: u32) -> u32
     key.wrapping_mul(FACTOR).wrapping_add(w)
 }
 
-// The key with a part more: its length and its bytes at both ends.
+// The key with a part more: its length, and its bytes in front, in the middle and at the end.
 #[tactic(auto, unfolding(crate::specs::Keys::mix_part))]
 fn mix_part(key: u32, s: &[u8]) -> u32
     ensures { result ≡ mix_part key s.now }
@@ -43,6 +43,7 @@ fn mix_part(key: u32, s: &[u8]) -> u32
     let n = s.len();
     let key = mix(key, (n % 256) as u32);
     let key = mix(key, words::le_word(s, 0));
+    let key = mix(key, words::le_word(s, (n / 2).saturating_sub(2)));
     mix(key, words::le_word(s, n.saturating_sub(4)))
 }
 
