@@ -28,6 +28,7 @@ use Rattle.linking.specs.Vtable.{Entry, Built, built, refused, on_built, entry_i
 use Rattle.linking.specs.Link.{Plan, Planned, planned, unplanned, within_slots, plan_built, plan_generated, plan_array, plan, built_table, generated_table, lists_full, set_short, no_room, refused_call, finish_link, on_plan, on_table, bad_class, bad_area, link_by, link_def, Outcome, LinkOutcome, refused_link, no_class, is_linked}
 use Rattle.linking.specs.Counts.{missing_short}
 use Rattle.linking.specs.Missing.{Missing, turned_away, missing_def}
+use Rattle.linking.specs.Numbers.{numbers_short, FillOutcome, refused_filling, fill_def}
 use Rattle.linking.specs.Ask.{Walk, hit, missed, broken, walk, head_place, implementation, dispatch_entry, cons_entry, dispatch_entries, on_dispatch, build_node, on_walk, bad_ask, ask_by, ask_def}
 use Rattle.class_members.specs.Members.{FileOutcome, refused_by, read_refusal, file_refusal, read_class_file, class_file_head}
 use Rattle.harmless.specs.Harmless.{Refused, refused_reading, refused_writing, refused_renumbering, refused_bitmap, refused_count, Harmless}
@@ -274,6 +275,28 @@ module _ (Q : ℕ → Type 0) (three : Q 3) (four : Q 4) (five : Q 5) (six : Q 6
       (or-away (no_class ws c || not (is_linked ws c)) 6 _ (λ h. six)
       (or-away (missing_short ws missing) 15 _ (λ h. fifteen) (ends-accepted Q count_row turned_away (λ n. refl) _ refl)))
 
+-- ---- a filling of the list of numbers
+
+abbrev OfFill : ℕ → Type 0
+OfFill n = (3 ≤ n) × (n ≤ 5)
+
+module _ (ws abi ns : List ℕ) where
+  abbrev FillEnds : FillOutcome → Type 0
+  FillEnds = Ends OfFill {O = FillOutcome} (λ o. o.refusal) (λ n. refused_filling n ns) (λ n. refl)
+
+  fill-turned : (b : Bool) (n : ℕ) (o : FillOutcome) → Num OfFill n → FillEnds o → FillEnds (cond b (refused_filling n ns) o)
+  fill-turned b n o h e =
+      ends-either OfFill {O = FillOutcome} (λ o. o.refusal) (λ n. refused_filling n ns) (λ n. refl) b (refused_filling n ns) o
+      (ends-refused OfFill {O = FillOutcome} (λ o. o.refusal) (λ n. refused_filling n ns) (λ n. refl) n h) e
+
+  of-fill : FillEnds (fill_def ws abi ns)
+  unfolding fill_def
+  of-fill =
+      fill-turned (numbers_short ns) 3 _ (λ h. (omega arith, omega arith))
+      (fill-turned (not (eqb (set_refusal ws abi) 0)) (set_refusal ws abi) _
+      (within-set OfFill (omega arith, omega arith) (omega arith, omega arith) (omega arith, omega arith) ws abi)
+      (ends-accepted OfFill {O = FillOutcome} (λ o. o.refusal) (λ n. refused_filling n ns) (λ n. refl) _ refl))
+
 -- ---- an ask
 
 module _ (Q : ℕ → Type 0) (three : Q 3) (four : Q 4) (five : Q 5) (six : Q 6) (seven : Q 7) (fifteen : Q 15) (sixteen : Q 16) (same : Same)
@@ -402,6 +425,7 @@ harmless = record {
   renumber = renumber-harmless;
   link = λ ws abi c area stubs missing. (of-link ws abi c area stubs missing).same;
   missing = λ ws abi missing c. (of-count ws abi missing c).same;
+  fill = λ ws abi ns. (of-fill ws abi ns).same;
   ask = λ ws abi c i area stubs. (of-ask ws abi c i area stubs).same;
   references = references-harmless;
   count = count-harmless;
@@ -410,6 +434,7 @@ harmless = record {
   file_head = head-harmless;
   rows_of_link = λ ws abi c area stubs missing. (of-link ws abi c area stubs missing).number;
   missing_rows = λ ws abi missing c. (of-count ws abi missing c).number;
+  fill_rows = λ ws abi ns. (of-fill ws abi ns).number;
   ask_rows = λ ws abi c i area stubs. (of-ask ws abi c i area stubs).number;
   rows_of_classes = λ bs ws. read-few 5 class_sheet_refusal bs ws (sheet-few 5 block_limit class_rows bs (length ws) (omega arith) class-few);
   rows_of_abi = λ bs ws. read-few 5 abi_sheet_refusal bs ws (sheet-few 5 abi_block_limit abi_rows bs (length ws) (omega arith) abi-few);

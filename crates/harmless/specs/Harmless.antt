@@ -1,6 +1,6 @@
 -- DEMAND 1, of what is refused: "An accepted call gives 0 and its result; a refused one gives its number, zero in every other answer word, and
 -- unchanged lent memory." For every exported call that can refuse: where its number is not 0, its outcome is that number, zeros, and all memory as it was
--- lent; and which numbers a link, an ask, asking for a count and a reading have. `harmless` of proofs/Theorem.antt proves it. Assumes nothing.
+-- lent; and which numbers a link, an ask, asking for a count, a filling of the list of numbers and a reading have. `harmless` of proofs/Theorem.antt proves it. Assumes nothing.
 use Rattle.std.specs.Prelude.{ℕ, ◌≤◌, ◌≡◌, ◌≢◌, ◌⊎◌, List, []}
 use Rattle.descriptor.specs.Words as descriptor
 use Rattle.descriptor.specs.Words.{argument_answer}
@@ -15,6 +15,7 @@ use Rattle.renumber.specs.Renumber.{renumber_def}
 use Rattle.convert.specs.Convert.{widen_sheet, narrow_sheet}
 use Rattle.linking.specs.Link.{refused_call, refused_link, link_def}
 use Rattle.linking.specs.Missing.{turned_away, missing_def}
+use Rattle.linking.specs.Numbers.{refused_filling, fill_def}
 use Rattle.linking.specs.Ask.{ask_def}
 use Rattle.class_members.specs.Members.{refused_by, read_class_file, class_file_head}
 
@@ -50,6 +51,7 @@ pub record Harmless : Type 0 where
   pub link : (ws abi : List ℕ) (c : ℕ) (area stubs missing : List ℕ)
       → Refused (λ o. o.outcome.refusal) (λ n. refused_link n ws area missing) (link_def ws abi c area stubs missing)
   pub missing : (ws abi missing : List ℕ) (c : ℕ) → Refused (λ o. o.refusal) turned_away (missing_def ws abi missing c)
+  pub fill : (ws abi ns : List ℕ) → Refused (λ o. o.refusal) (λ n. refused_filling n ns) (fill_def ws abi ns)
   pub ask : (ws abi : List ℕ) (c i : ℕ) (area stubs : List ℕ) → Refused (λ o. o.refusal) (λ n. refused_call n ws area) (ask_def ws abi c i area stubs)
   pub references : (bitmap : List ℕ) (n : ℕ) (list : List ℕ) → Refused (λ o. o.refusal) (refused_bitmap list) (read_references bitmap n list)
   pub count : (bitmap : List ℕ) (n : ℕ) → Refused (λ o. o.refusal) (refused_bitmap []) (count_references bitmap n)
@@ -57,12 +59,13 @@ pub record Harmless : Type 0 where
   pub class_file : (bs targets fields methods text : List ℕ)
       → Refused (λ o. o.refusal) (λ n. refused_by n fields methods text) (read_class_file bs targets fields methods text)
   pub file_head : (bs : List ℕ) → Refused (λ o. o.refusal) (λ n. refused_by n [] [] []) (class_file_head bs)
-  -- 2. and which: a link 3 to 15 and 26, an ask 3 to 7, 15 and 16, asking for a count 3 to 6 and 15, a reading 1 to 5, one in any order 1 to 3
+  -- 2. and which: a link 3 to 15 and 26, an ask 3 to 7, 15 and 16, asking for a count 3 to 6 and 15, a filling 3 to 5, a reading 1 to 5, one in any order 1 to 3
   pub rows_of_link : (ws abi : List ℕ) (c : ℕ) (area stubs missing : List ℕ) → (link_def ws abi c area stubs missing).outcome.refusal ≢ 0
       → ((3 ≤ (link_def ws abi c area stubs missing).outcome.refusal) × ((link_def ws abi c area stubs missing).outcome.refusal ≤ 15))
       ⊎ ((link_def ws abi c area stubs missing).outcome.refusal ≡ 26)
   pub missing_rows : (ws abi missing : List ℕ) (c : ℕ) → (missing_def ws abi missing c).refusal ≢ 0
       → ((3 ≤ (missing_def ws abi missing c).refusal) × ((missing_def ws abi missing c).refusal ≤ 6)) ⊎ ((missing_def ws abi missing c).refusal ≡ 15)
+  pub fill_rows : (ws abi ns : List ℕ) → (fill_def ws abi ns).refusal ≢ 0 → (3 ≤ (fill_def ws abi ns).refusal) × ((fill_def ws abi ns).refusal ≤ 5)
   pub ask_rows : (ws abi : List ℕ) (c i : ℕ) (area stubs : List ℕ) → (ask_def ws abi c i area stubs).refusal ≢ 0
       → ((3 ≤ (ask_def ws abi c i area stubs).refusal) × ((ask_def ws abi c i area stubs).refusal ≤ 7))
       ⊎ ((15 ≤ (ask_def ws abi c i area stubs).refusal) × ((ask_def ws abi c i area stubs).refusal ≤ 16))
