@@ -8,9 +8,9 @@
  * and not in other memory.
  *
  * What every function answers. The returned number is 0 (LGT_ACCEPTED) if the call is accepted, else that of its refusal
- * (LGT_REFUSED_.. below; lgt_refusal_text says what to mend). The other answer words go into the array `answer`, which is always
- * written: the results if the call is accepted, zeros if it is refused. A refused call leaves all other lent memory as it was.
- * Any words and bytes of any length may be lent: no content makes a call undefined, and every call ends.
+ * (LGT_REFUSED_.. below; lgt_refusal_text says what to mend). The other answer words, where there are any, go into the array
+ * `answer`, which is always written: the results if the call is accepted, zeros if it is refused. A refused call leaves all other
+ * lent memory as it was. Any words and bytes of any length may be lent: no content makes a call undefined, and every call ends.
  *
  * What a caller owes. A slice is a pointer to its first element and the number of its elements, all of which are there and have
  * been written; its pointer is aligned for the element. With length 0 the pointer may be anything, NULL too. `answer` is never
@@ -44,7 +44,7 @@
 /* a block's check */
 #define LGT_REFUSED_BLOCK_CHECK 2u
 /* a count above its limit, content that does not fit its blocks or its words, an unclean end, a table place in a sheet, or static
-   words of a built or array class in it */
+   words of a built or array class in it; of a filling of the list of numbers also a list that is too short */
 #define LGT_REFUSED_SHEET_COUNTS 3u
 /* a record; of a class file a name, a descriptor or a method's flags */
 #define LGT_REFUSED_RECORD 4u
@@ -122,6 +122,9 @@
 /* Words of the list of missing slots: of each class its count, then a bit for each of LGT_MOST_SLOTS slots, and enough for every set. */
 #define LGT_MISSING_CLASS_WORDS 33
 #define LGT_MISSING_WORDS 2112
+
+/* Words of the list of numbers: one for each of LGT_MOST_METHODS methods, then one for each of LGT_MOST_ABI_SLOTS ABI slots. */
+#define LGT_NUMBERS 1024
 
 /* Stack for a thread that calls the library; the gate holds every call to it. */
 #define LGT_STACK_BYTES 262144
@@ -306,8 +309,9 @@ static inline const char *lgt_refusal_text(uint32_t refusal)
                "content, and store only an unlinked set: every table place and slot count 0, and the static words of "
                "every built or array class. A link, an interface table or a write asks, of each sheet, only that its "
                "counts keep their limits and that the lent words hold all of its content: lend as many words as the "
-               "counts and their sections take. A renumbering asks the same of the class sheet, and every table place "
-               "and slot count 0, and those static words.";
+               "counts and their sections take. A filling of the list of numbers asks the same of both sheets, and a "
+               "list of 1,024 words. A renumbering asks the same of the class sheet, and every table place and slot "
+               "count 0, and those static words.";
     case LGT_REFUSED_RECORD:
         return "Mend the record named: lists and text parts lie inside their sections, two classes share no method or "
                "field record, names and descriptors have 1 to 255 bytes from 0x21 to 0x7E, a parent comes before its "
@@ -468,6 +472,20 @@ uint32_t lgt_read_unordered_sheet(const uint8_t *bytes, size_t bytes_len, uint32
  */
 LGT_MUST_USE
 uint32_t lgt_renumber_classes(uint32_t *set, size_t set_len, uint32_t *order, size_t order_len, uint32_t answer[1]);
+
+/*
+ * Fills the list of numbers, by which signatures (name and descriptor) are told apart: word m is of method m, word 512 + s of ABI slot s,
+ * both from 0. Each holds the place in the list of the first record whose name and whose descriptor are the same, each part for itself, in
+ * whichever sheet it stands; so two records have one number exactly if both parts are the same. A word without a record holds 0, which is also
+ * the number of method 0. Fill the list after reading, and again after the set was changed by anything but a link. Set and ABI words are only
+ * read.
+ * Answers nothing but the returned number.
+ * Leaves: the first LGT_NUMBERS words of the list, whatever they were, and every word after them as it was.
+ * Refuses by 3 to 5 as a link; by 3 also a list of fewer than LGT_NUMBERS words.
+ */
+LGT_MUST_USE
+uint32_t lgt_number_signatures(const uint32_t *set, size_t set_len, const uint32_t *abi, size_t abi_len, uint32_t *numbers,
+                               size_t numbers_len);
 
 /*
  * Links a class. `set` is the class words as read, or as earlier links left them; `abi` the ABI words. `area` is as the last

@@ -86,7 +86,8 @@ class Header(unittest.TestCase):
                 ("MOST_ABI_INDEX", most(ABI_SHEET, "slot", "index")), ("MOST_ABI_FIELD_INDEX", most(ABI_SHEET, "field", "index")),
                 ("MOST_ABI_INSTANCE_WORDS", most(ABI_SHEET, "class", "instance words plus 1") - 1),
                 ("MISSING_CLASS_WORDS", 1 + most(CLASS_SHEET, "class", "compiler slots") // 32),
-                ("MISSING_WORDS", self.numbers["LGT_MISSING_CLASS_WORDS"] * CLASS_SHEET.section("class").limit)):
+                ("MISSING_WORDS", self.numbers["LGT_MISSING_CLASS_WORDS"] * CLASS_SHEET.section("class").limit),
+                ("NUMBERS", CLASS_SHEET.section("method").limit + ABI_SHEET.section("slot").limit)):
             self.assertEqual(self.numbers["LGT_" + name], value, name)
 
     def test_kinds(self):

@@ -3,7 +3,7 @@
 use alloc::vec;
 use alloc::vec::Vec;
 
-use crate::layout::{ABI_BLOCKS, BLOCK_BYTES, BLOCK_WORDS, CLASS_BLOCKS, missing, set};
+use crate::layout::{ABI_BLOCKS, BLOCK_BYTES, BLOCK_WORDS, CLASS_BLOCKS, abi, missing, set};
 use crate::refusal::{Refusal, accepted};
 use crate::sys;
 
@@ -18,6 +18,9 @@ pub const ABI_WORDS: usize = ABI_BLOCKS * BLOCK_WORDS;
 
 /// Words of a list of missing slots that is long enough for every set.
 pub const MISSING_WORDS: usize = missing::WIDTH * set::LIMITS[set::CLASSES];
+
+/// Words of a list of numbers: one for each method that there may be, then one for each ABI slot.
+pub const NUMBERS: usize = set::LIMITS[set::METHODS] + abi::LIMITS[abi::SLOTS];
 
 /// Where a link has put a class's table: the class number stands at `place`, `slots` slot words follow, then the head of the class's list
 /// of interface tables.
@@ -230,6 +233,33 @@ pub fn renumber_classes(set: &mut [u32], order: &mut [u32]) -> Result<u32, Refus
     // SAFETY: both slices are whole and lent exclusively, and the answer has its word.
     let row = unsafe { sys::lgt_renumber_classes(set.as_mut_ptr(), set.len(), order.as_mut_ptr(), order.len(), &mut answer) };
     accepted(row, answer[0])
+}
+
+/// Fills a list with the numbers of the signatures, name and descriptor, of both sheets: word m is of method m, word 512 + s of ABI slot s.
+/// Each holds the place of the first record whose name and whose descriptor are the same, a word without a record 0, so that two
+/// records have one number exactly if both parts are the same. Words after the first [`NUMBERS`] stay as they were. Fill the list after
+/// reading, and again after the set was changed by anything but a link.
+///
+/// # Errors
+///
+/// Refusals 3 to 5 as of a [`link`], and 3 where the list has fewer than [`NUMBERS`] words; the list is then as it was.
+///
+/// ```
+/// # use lgt_linker::*;
+/// # let mut set = [0; CLASS_WORDS];
+/// # let mut abi = [0; ABI_WORDS];
+/// # read_class_sheet(&std::fs::read("../../examples/card/classes.bin").unwrap(), &mut set).unwrap();
+/// # read_abi_sheet(&std::fs::read("../../examples/card/abi.bin").unwrap(), &mut abi).unwrap();
+/// // Card has open and close, VipCard close and mark.
+/// let mut numbers = [7; NUMBERS];
+/// assert_eq!(number_signatures(&set, &abi, &mut numbers), Ok(()));
+/// assert_eq!(numbers[..5], [0, 1, 1, 3, 0]);
+/// assert_eq!(number_signatures(&set, &abi, &mut numbers[1..]), Err(Refusal::SheetCounts));
+/// ```
+pub fn number_signatures(set: &[u32], abi: &[u32], numbers: &mut [u32]) -> Result<(), Refusal> {
+    // SAFETY: the slices are whole, and the written one is lent exclusively.
+    let row = unsafe { sys::lgt_number_signatures(set.as_ptr(), set.len(), abi.as_ptr(), abi.len(), numbers.as_mut_ptr(), numbers.len()) };
+    accepted(row, ())
 }
 
 /// Links a class of the set: its table goes to the area's next free word (word 0 of the area), its record and fields into the set, and the

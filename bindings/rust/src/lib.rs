@@ -1,8 +1,8 @@
 //! The proved class linker of Dautzeki, for Rust programs.
 //!
 //! Two ways to use it. Lend memory yourself: [`read_class_sheet`], [`read_abi_sheet`], [`write_class_sheet`], [`read_unordered_sheet`],
-//! [`renumber_classes`], [`widen_class_sheet`], [`narrow_class_sheet`], [`link`], [`missing_slots`], [`interface_dispatch_table`], [`argument_words`],
-//! [`compare_names`], [`reference_count`], [`read_class_file`] and [`class_file_head`] take slices and allocate nothing; [`layout`] names
+//! [`renumber_classes`], [`widen_class_sheet`], [`narrow_class_sheet`], [`number_signatures`], [`link`], [`missing_slots`],
+//! [`interface_dispatch_table`], [`argument_words`], [`compare_names`], [`reference_count`], [`read_class_file`] and [`class_file_head`] take slices and allocate nothing; [`layout`] names
 //! their words. Or let [`ClassSet`], [`AbiSheet`], [`Area`] and [`ClassFile`] own it, read from sheets and class files or made of Rust
 //! values by [`SetBuilder`] and [`AbiBuilder`]:
 //!
@@ -55,9 +55,9 @@ mod view;
 
 pub use build::{AbiBuilder, AbiClassBuilder, BuildError, ClassBuilder, SetBuilder};
 pub use calls::{
-    ABI_WORDS, Asked, CLASS_BYTES, CLASS_WORDS, Compared, FileHead, Linked, MISSING_WORDS, argument_words, class_file_head, compare_names,
-    interface_dispatch_table, link, missing_slots, narrow_class_sheet, read_abi_sheet, read_class_file, read_class_sheet,
-    read_unordered_sheet, reference_count, reference_words, renumber_classes, widen_class_sheet, write_class_sheet,
+    ABI_WORDS, Asked, CLASS_BYTES, CLASS_WORDS, Compared, FileHead, Linked, MISSING_WORDS, NUMBERS, argument_words, class_file_head,
+    compare_names, interface_dispatch_table, link, missing_slots, narrow_class_sheet, number_signatures, read_abi_sheet, read_class_file,
+    read_class_sheet, read_unordered_sheet, reference_count, reference_words, renumber_classes, widen_class_sheet, write_class_sheet,
 };
 pub use file::{ClassFile, FileField, FileMethod};
 pub use forms::{narrow, widen};

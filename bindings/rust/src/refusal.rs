@@ -106,8 +106,9 @@ const REFUSALS: &[Row] = &[
         mend: "Keep the counts within their limits and the file as short as its content allows, with zeros after the content, and store \
          only an unlinked set: every table place and slot count 0, and the static words of every built or array class. A link, an \
          interface table or a write asks, of each sheet, only that its counts keep their limits and that the lent words hold all \
-         of its content: lend as many words as the counts and their sections take. A renumbering asks the same of the class \
-         sheet, and every table place and slot count 0, and those static words.",
+         of its content: lend as many words as the counts and their sections take. A filling of the list of numbers asks the same \
+         of both sheets, and a list of 1,024 words. A renumbering asks the same of the class sheet, and every table place and slot \
+         count 0, and those static words.",
     },
     Row {
         number: 4,

@@ -15,6 +15,15 @@ unsafe extern "C" {
 
     pub fn lgt_renumber_classes(set: *mut u32, set_len: usize, order: *mut u32, order_len: usize, answer: *mut [u32; 1]) -> u32;
 
+    pub fn lgt_number_signatures(
+        set: *const u32,
+        set_len: usize,
+        abi: *const u32,
+        abi_len: usize,
+        numbers: *mut u32,
+        numbers_len: usize,
+    ) -> u32;
+
     pub fn lgt_link(
         set: *mut u32,
         set_len: usize,

@@ -52,6 +52,7 @@ fn counts_and_limits() {
     assert_eq!([defined("CLASS_WORDS"), defined("ABI_WORDS")], [lgt_linker::CLASS_WORDS, lgt_linker::ABI_WORDS]);
     assert_eq!(defined("CLASS_BYTES"), lgt_linker::CLASS_BYTES);
     assert_eq!([defined("MISSING_CLASS_WORDS"), defined("MISSING_WORDS")], [missing::WIDTH, lgt_linker::MISSING_WORDS]);
+    assert_eq!(defined("NUMBERS"), lgt_linker::NUMBERS);
     assert!(HEADER.contains(&format!("#define LGT_TABLE_WORDS(slots) ((slots) + {TABLE_EXTRA})")));
     assert!(HEADER.contains(&format!("#define LGT_LINKER_VERSION \"{}\"", lgt_linker::VERSION)));
 }

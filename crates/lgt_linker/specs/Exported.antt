@@ -3,6 +3,7 @@ use Rattle.std.specs.Prelude.{ℕ, cond, List, get_or}
 use Rattle.text.specs.Text.{same_bytes, pairs_read}
 use Rattle.linking.specs.Link.{Outcome, LinkOutcome}
 use Rattle.linking.specs.Missing as asking
+use Rattle.linking.specs.Numbers.{FillOutcome}
 use Rattle.sheet.specs.Sheet as sheet
 use Rattle.writer.specs.Writer as writer
 use Rattle.renumber.specs.Renumber as renumber
@@ -23,6 +24,10 @@ linked_by row answer ws area missing = record { outcome = called row answer ws a
 -- a question for missing slots that returns `row` and leaves the answer word
 abbrev pub counted_by : ℕ → List ℕ → asking.Missing
 counted_by row answer = record { refusal = row; count = get_or answer 0 0 }
+
+-- a filling of the list of numbers that returns `row` and leaves the list
+abbrev pub filled_by : ℕ → List ℕ → FillOutcome
+filled_by row ns = record { refusal = row; numbers = ns }
 
 -- a reading that returns `row` and leaves the answer word and the lent words
 abbrev pub read_by : ℕ → List ℕ → List ℕ → sheet.Outcome

@@ -1,6 +1,6 @@
 // The linker for C and Rust programs (include/lgt_linker.h): each function is thin over the proved one that it exports, and leaves the
-// set, the area or the words as that one does. What it returns is the refusal's number, 0 if the call is accepted; the other answer words
-// go into a small lent array, which is always written: zeros if the call is refused.
+// set, the area or the words as that one does. What it returns is the refusal's number, 0 if the call is accepted; the other answer words, where a
+// call has any, go into a small lent array, which is always written: zeros if the call is refused.
 #![tactic(auto)]
 
 ghost use Rattle.std.specs.Prelude.{◌≡◌, [], ◌∷◌, MatchResult, replicate};
@@ -8,6 +8,7 @@ ghost use Rattle.refusal.specs.Rows.{row_of};
 ghost use Rattle.linking.specs.Link.{link_def};
 ghost use Rattle.linking.specs.Ask.{ask_def};
 ghost use Rattle.linking.specs.Missing.{missing_def};
+ghost use Rattle.linking.specs.Numbers.{fill_def};
 ghost use Rattle.sheet.specs.Sheet.{read_class_sheet, read_abi_sheet, read_unordered_sheet};
 ghost use Rattle.renumber.specs.Renumber.{renumber_def};
 ghost use Rattle.writer.specs.Writer.{write_class_sheet};
@@ -15,7 +16,7 @@ ghost use Rattle.convert.specs.Convert.{widen_sheet, narrow_sheet};
 ghost use Rattle.descriptor.specs.Words.{argument_answer};
 ghost use Rattle.references.specs.References.{read_references, count_references};
 ghost use Rattle.class_members.specs.Members.{read_class_file, class_file_head};
-ghost use Rattle.lgt_linker.specs.Exported.{called, linked_by, counted_by, read_by, written_by, renumbered_by, arguments_by, compared_by, compare_names, references_by, file_by};
+ghost use Rattle.lgt_linker.specs.Exported.{called, linked_by, counted_by, filled_by, read_by, written_by, renumbered_by, arguments_by, compared_by, compare_names, references_by, file_by};
 
 use area::Answer;
 use class_members::FileHead;
@@ -121,6 +122,17 @@ pub extern "C" fn lgt_renumber_classes(
     ensures { renumbered_by result answer.new set.new order.new ≡ renumber_def set.old order.old }
 {
     give(renumber::renumber_classes(set, order).map(word), 0, answer)
+}
+
+// `signatures::number_signatures`: there is no answer word; the set is only read.
+#[unsafe(no_mangle)]
+pub extern "C" fn lgt_number_signatures(set: &[u32], abi: &[u32], numbers: &mut [u32]) -> u32
+    ensures { filled_by result numbers.new ≡ fill_def set.now abi.now numbers.old }
+{
+    match signatures::number_signatures(set, abi, numbers) {
+        Ok(()) => 0,
+        Err(refusal) => u32::from(refusal),
+    }
 }
 
 // `link::link`: the answer words are the table's place and its slots.

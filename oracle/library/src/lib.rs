@@ -23,6 +23,15 @@ unsafe extern "C" {
 
     fn lgt_renumber_classes(set: *mut u32, set_len: usize, order: *mut u32, order_len: usize, answer: *mut u32) -> u32;
 
+    fn lgt_number_signatures(
+        set: *const u32,
+        set_len: usize,
+        abi: *const u32,
+        abi_len: usize,
+        numbers: *mut u32,
+        numbers_len: usize,
+    ) -> u32;
+
     fn lgt_link(
         set: *mut u32,
         set_len: usize,
@@ -105,6 +114,15 @@ impl Library {
 
     fn lent<T>(self, slice: &mut [T]) -> *mut T {
         if slice.is_empty() && self.null_where_empty { ptr::null_mut() } else { slice.as_mut_ptr() }
+    }
+}
+
+impl Library {
+    /// Fills the list of numbers; the answer has no words.
+    pub fn number_signatures(&mut self, set: &[u32], abi: &[u32], numbers: &mut [u32]) -> Answer {
+        let (set_words, abi_words, numbers_len) = (self.read_only(set), self.read_only(abi), numbers.len());
+        let refusal = unsafe { lgt_number_signatures(set_words, set.len(), abi_words, abi.len(), self.lent(numbers), numbers_len) };
+        Answer::refused(refusal)
     }
 }
 

@@ -359,6 +359,11 @@ impl<'a> AbiSheet<'a> {
         (class.first_slot..class.first_slot + class.slot_count).map(move |slot| sheet.record(sheet.slot_at(slot)))
     }
 
+    pub fn slots(&self) -> impl Iterator<Item = AbiRecord<'a>> + use<'a> {
+        let sheet = *self;
+        (0..self.words[1]).map(move |slot| sheet.record(sheet.slot_at(slot)))
+    }
+
     pub fn fields_of(&self, class: AbiClass) -> impl Iterator<Item = AbiRecord<'a>> + use<'a> {
         let sheet = *self;
         (class.first_field..class.first_field + class.field_count).map(move |field| sheet.record(sheet.field_at(field)))

@@ -163,6 +163,10 @@ pub enum Why {
         words: usize,
         lent: usize,
     },
+    FewNumbers {
+        words: usize,
+        lent: usize,
+    },
 }
 
 /// Names of classes, methods and fields as the sentences have them.
@@ -291,6 +295,7 @@ impl Refused {
             Why::FewMissingWords { words, lent } => {
                 format!("the list of missing slots takes {words} words, 33 for each class, and {} lent", were(*lent, "word"))
             }
+            Why::FewNumbers { words, lent } => format!("the list of numbers takes {words} words, and {} lent", were(*lent, "word")),
         }
     }
 }
