@@ -134,7 +134,7 @@ impl<'a> Signatures<'a> {
     }
 
     // The number of place p: the search goes from the place kept for its key's bucket on, as no place before that has its signature.
-    fn number_at(self, keys: &[u32; PLACES], firsts: &[u32; BUCKETS], p: u32) -> u32
+    fn number_at(self, keys: &[u32; PLACES], firsts: &[u16; BUCKETS], p: u32) -> u32
         requires { Keyed self keys.now × Least keys.now firsts.now × (p < number_limit) }
         ensures { result ≡ of_signatures number_at self.entry p }
     {
@@ -142,7 +142,7 @@ impl<'a> Signatures<'a> {
             return 0;
         }
         let key = keys[p as usize];
-        let first = firsts[bucket_of(key)];
+        let first = u32::from(firsts[bucket_of(key)]);
         let signature = self.signature_at(p);
         words::find_in(first, p, |q| {
             words::get_or(keys, q as usize, 0) == key && self.has_signature(q, signature)
@@ -156,7 +156,7 @@ impl<'a> Signatures<'a> {
     {
         let mut keys = [0u32; PLACES];
         self.put_keys(&mut keys);
-        let mut firsts = [0u32; BUCKETS];
+        let mut firsts = [0u16; BUCKETS];
         put_firsts(&keys, &mut firsts);
         for p in 0..PLACES {
             words::put(numbers, p, self.number_at(&keys, &firsts, p as u32));
@@ -165,11 +165,11 @@ impl<'a> Signatures<'a> {
 }
 
 // Stores for each bucket the first place whose key falls into it.
-fn put_firsts(keys: &[u32; PLACES], firsts: &mut [u32; BUCKETS])
+fn put_firsts(keys: &[u32; PLACES], firsts: &mut [u16; BUCKETS])
     ensures { Least keys.now firsts.new }
 {
     for p in (0..PLACES).rev() {
-        firsts[bucket_of(keys[p])] = p as u32;
+        firsts[bucket_of(keys[p])] = p as u16;
     }
 }
 

@@ -10,6 +10,6 @@ returns-then-not-is_used c = search number_none
 pub returns : goal.returns
 returns c =
     let u = sym c.is_used.ensures ∙ c.if-not-is_used.false in
-    number-found _ _ _ c.requires.0 c.requires.1 _ u c.requires.2 (ap (λ (b : ℕ). get_or c.args.firsts.now b 0) c.bucket_of.ensures.is)
+    number-found _ _ _ c.requires.0 c.requires.1 _ u c.requires.2 (c.from-first.ensures ∙ ap (λ (b : ℕ). get_or c.args.firsts.now b 0) c.bucket_of.ensures.is)
     (c.find_in.ensures _ _ (omega arith) (λ i r l post. search (rules, other_key _ _ c.requires.0 _ u c.requires.2, by_parts)))
     c.unwrap_or.ensures
