@@ -126,7 +126,7 @@
 /* Words of the list of numbers: one for each of LGT_MOST_METHODS methods, then one for each of LGT_MOST_ABI_SLOTS ABI slots. */
 #define LGT_NUMBERS 1024
 
-/* Stack for a thread that calls the library; the gate holds every call to it. */
+/* Stack for a thread that calls the library; the gate holds every call to it but a filling of the list of numbers, which takes less than a link. */
 #define LGT_STACK_BYTES 262144
 
 /* Words that hold the fields, the methods and the text of every class file that is read. */
@@ -477,10 +477,10 @@ uint32_t lgt_renumber_classes(uint32_t *set, size_t set_len, uint32_t *order, si
  * Fills the list of numbers, by which signatures (name and descriptor) are told apart: word m is of method m, word 512 + s of ABI slot s,
  * both from 0. Each holds the place in the list of the first record whose name and whose descriptor are the same, each part for itself, in
  * whichever sheet it stands; so two records have one number exactly if both parts are the same. A word without a record holds 0, which is also
- * the number of method 0. Fill the list after reading, and again after the set was changed by anything but a link. Set and ABI words are only
- * read.
+ * the number of method 0. Fill the list after reading, and again whenever set or ABI words have changed, by a link too: links do not go by
+ * the list yet. Set and ABI words are only read.
  * Answers nothing but the returned number.
- * Leaves: the first LGT_NUMBERS words of the list, whatever they were, and every word after them as it was.
+ * Leaves: the first LGT_NUMBERS words of the list written, whatever they held, and every word after them as it was.
  * Refuses by 3 to 5 as a link; by 3 also a list of fewer than LGT_NUMBERS words.
  */
 LGT_MUST_USE

@@ -238,7 +238,7 @@ pub fn renumber_classes(set: &mut [u32], order: &mut [u32]) -> Result<u32, Refus
 /// Fills a list with the numbers of the signatures, name and descriptor, of both sheets: word m is of method m, word 512 + s of ABI slot s.
 /// Each holds the place of the first record whose name and whose descriptor are the same, a word without a record 0, so that two
 /// records have one number exactly if both parts are the same. Words after the first [`NUMBERS`] stay as they were. Fill the list after
-/// reading, and again after the set was changed by anything but a link.
+/// reading, and again whenever set or ABI words have changed, by a link too: links do not go by the list yet.
 ///
 /// # Errors
 ///

@@ -1,5 +1,6 @@
 -- The theorem of specs/Filling.antt. Assumes nothing.
-use mathlib.Core.Path.{◌≡◌}
+use mathlib.Core.Path.{◌≡◌, sym}
+use mathlib.Core.Bool.{cond}
 use mathlib.Core.List.{List}
 use Prim.Native.Nat.{ℕ, ◌<◌}
 use native.Mathlib.Omega.{arith}
@@ -29,6 +30,12 @@ unfolding is_used
 slots-used ws abi e s h =
     let v = valid ws abi e in let n = v.1.slot_count in rw (lt-ltb s (abi_slot_count abi) h) (lt-ltb s abi_slot_limit (omega arith))
 
+row : (ws abi ns : List ℕ) → (fill_def ws abi ns).refusal ≡ cond (numbers_short ns) 3 (set_refusal ws abi)
+unfolding fill_def
+row ws abi ns =
+    by (numbers_short ns) (λ t. rw t)
+    (λ t. by (eqb (set_refusal ws abi) 0) (λ v. rw (t, v) (sym (eqb-true (set_refusal ws abi) 0 v))) (λ v. rw (t, v)))
+
 filled : (ws abi ns : List ℕ) → (fill_def ws abi ns).refusal ≡ 0
     → (set_refusal ws abi ≡ 0) × Filled ws abi (fill_def ws abi ns).numbers × (drop number_limit (fill_def ws abi ns).numbers ≡ drop number_limit ns)
 unfolding fill_def numbers_of
@@ -50,6 +57,7 @@ pub filling : Filling
 filling = record {
   methods = methods-used;
   slots = slots-used;
+  row = row;
   filled = filled;
   fill_first = fill-first;
   fill_unused = fill-unused;

@@ -1,13 +1,13 @@
 -- Links and asks by a faithful list are those by bytes; what a link leaves of the list, faithful or not. Assumes nothing.
 use mathlib.Core.Path.{◌≡◌, refl, sym, ap, ◌∙◌}
 use mathlib.Core.Logic.{◌≢◌, ◌⊎◌, inl, inr}
-use mathlib.Core.Bool.{false}
+use mathlib.Core.Bool.{true, false, true≢false}
 use mathlib.Core.List.{List, []}
-use Prim.Native.Nat.{ℕ, ◌≤◌}
+use Prim.Native.Nat.{ℕ, ◌≤◌, ◌<◌}
 use native.Mathlib.Omega.{arith}
 use lib.ListN.{length, get_or}
 use lib.Dec.{eqb, ltb}
-use borrow.Author.Tests.{ne_eqb, le-ltb, ltb-false}
+use borrow.Author.Tests.{ne_eqb, le-ltb, lt-ltb, ltb-false}
 use Rattle.words.proofs.Bools.{by}
 use Rattle.class_sheet.specs.ClassSheet.{text_of}
 use Rattle.abi_sheet.specs.AbiSheet.{abi_text_of}
@@ -15,10 +15,10 @@ use Rattle.set_rules.specs.SetRules.{set_refusal}
 use Rattle.linking.specs.Signature.{Same, by_sheets, by_numbers}
 use Rattle.linking.specs.Numbers.{number_limit, numbers_short}
 use Rattle.linking.specs.Compiler.{Taken, members}
-use Rattle.linking.specs.Link.{Plan, Planned, planned, unplanned, plan, is_none, bad_area, no_room, Outcome, LinkOutcome, link_by, link_def}
+use Rattle.linking.specs.Link.{Plan, Planned, planned, unplanned, plan, is_none, bad_area, no_room, Outcome, LinkOutcome, refused_call, refused_link, link_by, link_def}
 use Rattle.linking.specs.Vtable.{Entry, Built, built, refused, table_entries}
 use Rattle.linking.specs.Ask.{Walk, hit, missed, broken, walk, head_place, dispatch_entries, on_dispatch, build_node, on_walk, bad_ask, ask_by, ask_def}
-use Rattle.linking.specs.Numbered.{numbers_after, NumberedOutcome, but_numbers, link_numbered, ask_numbered}
+use Rattle.linking.specs.Numbered.{numbers_after, NumberedOutcome, leaving, but_numbers, link_numbered, ask_numbered}
 use Rattle.matching.specs.Filling.{Faithful}
 use Rattle.matching.specs.Matching.{Agree, Carries}
 use Rattle.matching.proofs.Parts.{faithful-agrees}
@@ -32,6 +32,33 @@ use Rattle.matching.proofs.Agrees.{link_agrees, ask_agrees}
 pub long-enough : (ns : List ℕ) → number_limit ≤ length ns → numbers_short ns ≡ false
 unfolding numbers_short
 long-enough ns h = le-ltb (length ns) number_limit h
+
+too-short : (ns : List ℕ) → length ns < number_limit → numbers_short ns ≡ true
+unfolding numbers_short
+too-short ns h = lt-ltb (length ns) number_limit h
+
+-- a list that is short is row 3's, and by a longer one signatures are matched by their numbers
+
+module _ (ws abi ns : List ℕ) where
+  module _ (long : number_limit ≤ length ns) where
+    pub link_matched : (c : ℕ) (area stubs missing : List ℕ)
+        → but_numbers (link_numbered ws abi ns c area stubs missing) ≡ link_by (by_numbers ns) ws abi c area stubs missing
+    unfolding link_numbered
+    link_matched c area stubs missing = rw (long-enough ns long)
+
+    pub ask_matched : (c i : ℕ) (area stubs : List ℕ) → ask_numbered ws abi ns c i area stubs ≡ ask_by (by_numbers ns) ws abi c i area stubs
+    unfolding ask_numbered
+    ask_matched c i area stubs = rw (long-enough ns long)
+
+  module _ (short : length ns < number_limit) where
+    pub link_short : (c : ℕ) (area stubs missing : List ℕ)
+        → link_numbered ws abi ns c area stubs missing ≡ leaving (refused_link 3 ws area missing) ns
+    unfolding link_numbered
+    link_short c area stubs missing = rw (too-short ns short)
+
+    pub ask_short : (c i : ℕ) (area stubs : List ℕ) → ask_numbered ws abi ns c i area stubs ≡ refused_call 3 ws area
+    unfolding ask_numbered
+    ask_short c i area stubs = rw (too-short ns short)
 
 module _ (ws abi ns : List ℕ) (f : Faithful ws abi ns) where
   by-bytes : Agree ws abi (by_numbers ns) (by_sheets ws abi)
@@ -91,8 +118,15 @@ module _ (ws abi ns : List ℕ) (c : ℕ) (area stubs missing : List ℕ) where
         | inr a ↦ rw a.new_numbers (linked_faithful (by_numbers ns) ws abi c area stubs missing (but_numbers done) a.accepted ns f)
       ]
 
+  -- an accepted one adds nothing and leaves the list, or adds some
+  abbrev Kept : List Taken → Type 0
+  Kept xs = (xs ≡ []) × (done.numbers ≡ ns)
+
+  abbrev Grown : List Taken → Type 0
+  Grown xs = (is_none (members xs) ≡ false) × Carries ws c xs ns done.numbers
+
   carries_by : number_limit ≤ length ns → (acc : Accepted (by_numbers ns) ws abi c area stubs missing (but_numbers done)) → (xs : List Taken)
-      → acc.coming.added ≡ xs → done.numbers ≡ numbers_after ws ns c xs → ((xs ≡ []) × (done.numbers ≡ ns)) ⊎ Carries ws c xs ns done.numbers
+      → acc.coming.added ≡ xs → done.numbers ≡ numbers_after ws ns c xs → Kept xs ⊎ Grown xs
   unfolding numbers_after
   carries_by l acc xs e g =
       by (is_none (members xs)) (λ t. inl (none_added xs t, g ∙ rw t))
@@ -101,17 +135,30 @@ module _ (ws abi ns : List ℕ) (c : ℕ) (area stubs missing : List ℕ) where
       let m = origins.listed (by_numbers ns) ws abi c area stubs missing (but_numbers done) acc in
       let r = origins.room (by_numbers ns) ws abi c area stubs missing (but_numbers done) acc u in
       let n : length acc.coming.added ≡ length xs = ap (λ (ys : List Taken). length ys) e in
-      inr (rw g (carries ws ns c xs t (omega (arith, l, m, r)) (omega (arith, l, r, n)))))
+      inr (t, rw g (carries ws ns c xs t (omega (arith, l, m, r)) (omega (arith, l, r, n)))))
 
-  pub link_carries : (p : Plan) → plan (by_numbers ns) ws (text_of ws) abi (abi_text_of abi) area c ≡ planned p → done.outcome.refusal ≡ 0
-      → ((p.added ≡ []) × (done.numbers ≡ ns)) ⊎ Carries ws c p.added ns done.numbers
-  link_carries p e z =
+  kept_or-grown : (p : Plan) → plan (by_numbers ns) ws (text_of ws) abi (abi_text_of abi) area c ≡ planned p → done.outcome.refusal ≡ 0
+      → Kept p.added ⊎ Grown p.added
+  kept_or-grown p e z =
       elim ends [
         | inl r ↦ absurd (r.number z)
         | inr a ↦
             let r : a.accepted.coming.added ≡ p.added = ap (λ (x : Plan). x.added) (ap (plan_of p) (sym a.accepted.comes ∙ e)) in
             carries_by a.long a.accepted p.added r (a.new_numbers ∙ ap (numbers_after ws ns c) r)
       ]
+
+  pub link_leaves : (p : Plan) → plan (by_numbers ns) ws (text_of ws) abi (abi_text_of abi) area c ≡ planned p → done.outcome.refusal ≡ 0
+      → p.added ≡ [] → done.numbers ≡ ns
+  unfolding members
+  link_leaves p e z none =
+      elim (kept_or-grown p e z) [
+        | inl k ↦ k.1
+        | inr g ↦ absurd (true≢false (rw none at g.0))
+      ]
+
+  pub link_carries : (p : Plan) → plan (by_numbers ns) ws (text_of ws) abi (abi_text_of abi) area c ≡ planned p → done.outcome.refusal ≡ 0
+      → p.added ≢ [] → Carries ws c p.added ns done.numbers
+  link_carries p e z some = elim (kept_or-grown p e z) [ inl k ↦ absurd (some k.0) | inr g ↦ g.1 ]
 
   pub link_refused : done.outcome.refusal ≢ 0 → done.numbers ≡ ns
   link_refused n = elim ends [ inl r ↦ r.same_numbers | inr a ↦ absurd (n a.accepted.number) ]

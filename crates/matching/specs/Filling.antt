@@ -1,11 +1,11 @@
 -- What a filling of the list of numbers gives: "place m for method m, 512 + s for ABI slot s, both from 0, each holding the first place whose record has equal
 -- bytes of both parts; unused places 0." `filling` of proofs/Filling.antt proves it. Assumes nothing.
-use Rattle.std.specs.Prelude.{ℕ, ◌≤◌, ◌<◌, ◌≡◌, true, false, List, length, get_or, drop}
+use Rattle.std.specs.Prelude.{ℕ, ◌≤◌, ◌<◌, ◌≡◌, true, false, cond, List, length, get_or, drop}
 use Rattle.class_sheet.specs.ClassSheet.{method_count, text_of}
 use Rattle.abi_sheet.specs.AbiSheet.{abi_slot_count, abi_text_of}
 use Rattle.set_rules.specs.SetRules.{set_refusal}
 use Rattle.linking.specs.Signature.{Place, of_method, of_abi_slot, place_name, place_descriptor, place_number, place_at, by_numbers}
-use Rattle.linking.specs.Numbers.{number_limit, is_used, fill_def, Filled}
+use Rattle.linking.specs.Numbers.{number_limit, is_used, numbers_short, fill_def, Filled}
 
 -- "equal bytes of both parts": each part for itself, whichever text it lies in
 pub record EqualParts (ws abi : List ℕ) (p q : Place) : Type 0 where
@@ -32,6 +32,8 @@ pub record Filling : Type 0 where
   -- of accepted sheets each method and each ABI slot has a used place
   pub methods : (ws abi : List ℕ) → set_refusal ws abi ≡ 0 → (m : ℕ) → m < method_count ws → Used ws abi (of_method m)
   pub slots : (ws abi : List ℕ) → set_refusal ws abi ≡ 0 → (s : ℕ) → s < abi_slot_count abi → Used ws abi (of_abi_slot s)
+  -- row 3 "also takes a shorter list", before all else, and 3 to 5 are as for a link
+  pub row : (ws abi ns : List ℕ) → (fill_def ws abi ns).refusal ≡ cond (numbers_short ns) 3 (set_refusal ws abi)
   -- an accepted filling leaves the list filled, and the rest of a longer one as it was
   pub filled : (ws abi ns : List ℕ) → (fill_def ws abi ns).refusal ≡ 0
       → (set_refusal ws abi ≡ 0) × Filled ws abi (fill_def ws abi ns).numbers × (drop number_limit (fill_def ws abi ns).numbers ≡ drop number_limit ns)

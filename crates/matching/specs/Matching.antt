@@ -6,10 +6,11 @@ use Rattle.set_rules.specs.SetRules.{set_refusal}
 use Rattle.linking.specs.Signature.{Place, Same, place_number, by_numbers}
 use Rattle.linking.specs.Vtable.{table_entries}
 use Rattle.linking.specs.Compiler.{Taken, none_taken}
-use Rattle.linking.specs.Link.{Plan, planned, plan, link_by, link_def}
+use Rattle.linking.specs.Link.{Plan, planned, plan, refused_call, refused_link, link_by, link_def}
 use Rattle.linking.specs.Ask.{ask_by, ask_def}
 use Rattle.linking.specs.Whose.{read_declared, slot_class}
-use Rattle.linking.specs.Numbered.{but_numbers, link_numbered, ask_numbered}
+use Rattle.linking.specs.Numbers.{number_limit}
+use Rattle.linking.specs.Numbered.{leaving, but_numbers, link_numbered, ask_numbered}
 use Rattle.matching.specs.Filling.{Used, Faithful}
 
 -- two comparisons give the same on all places used in the two sheets
@@ -47,12 +48,24 @@ pub record Matching : Type 0 where
   -- ---- a link leaves such a list so, of the set that it leaves; it need not be what a filling of that set gives
   pub link_faithful : (ws abi numbers : List ℕ) → Faithful ws abi numbers → (c : ℕ) (area stubs missing : List ℕ)
       → Faithful (link_numbered ws abi numbers c area stubs missing).outcome.set abi (link_numbered ws abi numbers c area stubs missing).numbers
-  -- ---- whatever the list holds: an accepted link adds the methods of its plan; without any it leaves the list. A refused one leaves it
+  -- ---- whatever the list holds: "Slots are matched by these numbers.", and "row 3, there, at links and at asks, also takes a shorter list"
+  pub link_matched : (ws abi numbers : List ℕ) → number_limit ≤ length numbers → (c : ℕ) (area stubs missing : List ℕ)
+      → but_numbers (link_numbered ws abi numbers c area stubs missing) ≡ link_by (by_numbers numbers) ws abi c area stubs missing
+  pub ask_matched : (ws abi numbers : List ℕ) → number_limit ≤ length numbers → (c i : ℕ) (area stubs : List ℕ)
+      → ask_numbered ws abi numbers c i area stubs ≡ ask_by (by_numbers numbers) ws abi c i area stubs
+  pub link_short : (ws abi numbers : List ℕ) → length numbers < number_limit → (c : ℕ) (area stubs missing : List ℕ)
+      → link_numbered ws abi numbers c area stubs missing ≡ leaving (refused_link 3 ws area missing) numbers
+  pub ask_short : (ws abi numbers : List ℕ) → length numbers < number_limit → (c i : ℕ) (area stubs : List ℕ)
+      → ask_numbered ws abi numbers c i area stubs ≡ refused_call 3 ws area
+  -- an accepted link adds the methods of its plan; without any it leaves the list. A refused one leaves it
+  pub link_leaves : (ws abi numbers : List ℕ) (c : ℕ) (area stubs missing : List ℕ) (p : Plan)
+      → plan (by_numbers numbers) ws (text_of ws) abi (abi_text_of abi) area c ≡ planned p
+      → (link_numbered ws abi numbers c area stubs missing).outcome.refusal ≡ 0
+      → p.added ≡ [] → (link_numbered ws abi numbers c area stubs missing).numbers ≡ numbers
   pub link_carries : (ws abi numbers : List ℕ) (c : ℕ) (area stubs missing : List ℕ) (p : Plan)
       → plan (by_numbers numbers) ws (text_of ws) abi (abi_text_of abi) area c ≡ planned p
       → (link_numbered ws abi numbers c area stubs missing).outcome.refusal ≡ 0
-      → ((p.added ≡ []) × ((link_numbered ws abi numbers c area stubs missing).numbers ≡ numbers))
-      ⊎ Carries ws c p.added numbers (link_numbered ws abi numbers c area stubs missing).numbers
+      → p.added ≢ [] → Carries ws c p.added numbers (link_numbered ws abi numbers c area stubs missing).numbers
   pub link_refused : (ws abi numbers : List ℕ) (c : ℕ) (area stubs missing : List ℕ)
       → (link_numbered ws abi numbers c area stubs missing).outcome.refusal ≢ 0 → (link_numbered ws abi numbers c area stubs missing).numbers ≡ numbers
   -- ---- no accepted link, by whatever comparison and with whatever list, leaves a set that rows 3 to 5 refuse; an ask leaves the set
