@@ -2,10 +2,10 @@
  * The LGT class linker, proved in Rattle (crates/lgt_linker). Link with liblgt_linker.a: `tools/library` makes it in
  * target/staticlib, `make install PREFIX=..` installs it with this header and a pkg-config file.
  *
- * What it needs. x86-64 Linux; memcpy and memset, and nothing else: no allocation, no system call. Of the stack at most 165,272
- * bytes were measured (docs/PERFORMANCE.md): give a thread that calls it LGT_STACK_BYTES. A thread of musl's default size,
- * 128 KiB, is too small for a link or a conversion back. Frames are probed page by page, so a stack that is too short ends in its guard page
- * and not in other memory.
+ * What it needs. x86-64 Linux; memcpy and memset, and nothing else: no allocation, no system call. Of the stack at most 126,328
+ * bytes were measured (docs/PERFORMANCE.md): let LGT_STACK_BYTES be free at a call, beside the frames of the thread that calls.
+ * A thread of musl's default size has LGT_STACK_BYTES in all, of which its own frames may take what the measured call leaves.
+ * Frames are probed page by page, so a stack that is too short ends in its guard page and not in other memory.
  *
  * What every function answers. The returned number is 0 (LGT_ACCEPTED) if the call is accepted, else that of its refusal
  * (LGT_REFUSED_.. below; lgt_refusal_text says what to mend). The other answer words, where there are any, go into the array
@@ -44,7 +44,7 @@
 /* a block's check */
 #define LGT_REFUSED_BLOCK_CHECK 2u
 /* a count above its limit, content that does not fit its blocks or its words, an unclean end, a table place in a sheet, or static
-   words of a built or array class in it; of a filling of the list of numbers also a list that is too short */
+   words of a built or array class in it; of a filling of the list of numbers, a link and an ask also a list that is too short */
 #define LGT_REFUSED_SHEET_COUNTS 3u
 /* a record; of a class file a name, a descriptor or a method's flags */
 #define LGT_REFUSED_RECORD 4u
@@ -126,8 +126,8 @@
 /* Words of the list of numbers: one for each of LGT_MOST_METHODS methods, then one for each of LGT_MOST_ABI_SLOTS ABI slots. */
 #define LGT_NUMBERS 1024
 
-/* Stack for a thread that calls the library; the gate holds every call to it but a filling of the list of numbers, which takes less than a link. */
-#define LGT_STACK_BYTES 262144
+/* Stack for a call, beside the frames of the thread that calls; the gate holds every call to it. */
+#define LGT_STACK_BYTES 131072
 
 /* Words that hold the fields, the methods and the text of every class file that is read. */
 #define LGT_FILE_FIELD_WORDS 3072
@@ -309,9 +309,9 @@ static inline const char *lgt_refusal_text(uint32_t refusal)
                "content, and store only an unlinked set: every table place and slot count 0, and the static words of "
                "every built or array class. A link, an interface table or a write asks, of each sheet, only that its "
                "counts keep their limits and that the lent words hold all of its content: lend as many words as the "
-               "counts and their sections take. A filling of the list of numbers asks the same of both sheets, and a "
-               "list of 1,024 words. A renumbering asks the same of the class sheet, and every table place and slot "
-               "count 0, and those static words.";
+               "counts and their sections take. A filling of the list of numbers asks the same of both sheets. A filling, a "
+               "link and an interface table ask for a list of 1,024 words. A renumbering asks the same of the class sheet, "
+               "and every table place and slot count 0, and those static words.";
     case LGT_REFUSED_RECORD:
         return "Mend the record named: lists and text parts lie inside their sections, two classes share no method or "
                "field record, names and descriptors have 1 to 255 bytes from 0x21 to 0x7E, a parent comes before its "
@@ -474,11 +474,11 @@ LGT_MUST_USE
 uint32_t lgt_renumber_classes(uint32_t *set, size_t set_len, uint32_t *order, size_t order_len, uint32_t answer[1]);
 
 /*
- * Fills the list of numbers, by which signatures (name and descriptor) are told apart: word m is of method m, word 512 + s of ABI slot s,
- * both from 0. Each holds the place in the list of the first record whose name and whose descriptor are the same, each part for itself, in
- * whichever sheet it stands; so two records have one number exactly if both parts are the same. A word without a record holds 0, which is also
- * the number of method 0. Fill the list after reading, and again whenever set or ABI words have changed, by a link too: links do not go by
- * the list yet. Set and ABI words are only read.
+ * Fills the list of numbers, by which links and asks tell signatures (name and descriptor) apart: word m is of method m, word 512 + s of
+ * ABI slot s, both from 0. Each holds the place in the list of the first record whose name and whose descriptor are the same, each part for
+ * itself, in whichever sheet it stands; so two records have one number exactly if both parts are the same. A word without a record holds 0,
+ * which is also the number of method 0.
+ * Fill the list after reading, and again after the set was changed by anything but a link. Set and ABI words are only read.
  * Answers nothing but the returned number.
  * Leaves: the first LGT_NUMBERS words of the list written, whatever they held, and every word after them as it was.
  * Refuses by 3 to 5 as a link; by 3 also a list of fewer than LGT_NUMBERS words.
@@ -488,8 +488,9 @@ uint32_t lgt_number_signatures(const uint32_t *set, size_t set_len, const uint32
                                size_t numbers_len);
 
 /*
- * Links a class. `set` is the class words as read, or as earlier links left them; `abi` the ABI words. `area` is as the last
- * call left it, or fresh: word 0 is the next free place, 1 in a fresh area. `stubs` are the words for slots without a target.
+ * Links a class. `set` is the class words as read, or as earlier links left them; `abi` the ABI words. `numbers` is the list of numbers,
+ * filled from this very set and these ABI words, and as the last link left it; nobody else writes it. `area` is as the last call left it,
+ * or fresh: word 0 is the next free place, 1 in a fresh area. `stubs` are the words for slots without a target.
  * `missing` is the list of missing slots, LGT_MISSING_CLASS_WORDS words for each class of the set or more: lend one list, which nobody
  * else writes, from the first link on; it may hold anything before.
  * Classes count from 1, and a parent is linked before its child. The chain of a class, itself included, is of kind 3
@@ -499,19 +500,21 @@ uint32_t lgt_number_signatures(const uint32_t *set, size_t set_len, const uint32
  * Leaves in the set: the class's table place and slot count; unless it is generated, its instance words and static words, the
  * latter where the indices of its own static fields end and 0 for an array class; the indices of its fields. A built class gets the ABI's fields that it lacks, a generated one the methods of its compiler table that it
  * lacks: its list is then copied to the end of its section, and the sections behind move up. The class's link state stays.
- * Leaves in the list, from word LGT_MISSING_CLASS_WORDS * (class_number - 1) on: the number of slots that took a stub word or are copies of
- * slots that the parent's count includes, then a bit for each slot, set if it is counted, the first slot's lowest in the first word, and
- * zeros. All other words of the list stay.
+ * Leaves in `numbers`, where methods are added: at the place of each copied method its number, at that of each added one the number of the
+ * signature that it took; all other words stay, and of a link that adds none all words.
+ * Leaves in `missing`, from word LGT_MISSING_CLASS_WORDS * (class_number - 1) on: the number of slots that took a stub word or are copies
+ * of slots that the parent's count includes, then a bit for each slot, set if it is counted, the first slot's lowest in the first word,
+ * and zeros. All other words of that list stay.
  * Refuses by 3 to 7, 26, 8 to 15.
  */
 LGT_MUST_USE
-uint32_t lgt_link(uint32_t *set, size_t set_len, const uint32_t *abi, size_t abi_len, uint32_t class_number,
-                  uint32_t *area, size_t area_len, const uint32_t *stubs, size_t stubs_len, uint32_t *missing,
-                  size_t missing_len, uint32_t answer[2]);
+uint32_t lgt_link(uint32_t *set, size_t set_len, const uint32_t *abi, size_t abi_len, uint32_t *numbers,
+                  size_t numbers_len, uint32_t class_number, uint32_t *area, size_t area_len, const uint32_t *stubs,
+                  size_t stubs_len, uint32_t *missing, size_t missing_len, uint32_t answer[2]);
 
 /*
  * How many slots of a linked class hold no real method: the count that its link left in the list of missing slots. Set and ABI words are
- * lent as to a link, and the list as the last link left it; all are only read, and no area is asked for.
+ * lent as to a link, and the list as the last link left it; all are only read, and neither an area nor the list of numbers is asked for.
  * Answers: answer[0], the number, which is the word of the list, whatever it is. Leaves nothing else written.
  * Refuses by 3 to 5 as a link, by 6 a class that is not linked, by 15 a list of fewer than LGT_MISSING_CLASS_WORDS words for each class.
  */
@@ -520,21 +523,24 @@ uint32_t lgt_missing_slots(const uint32_t *set, size_t set_len, const uint32_t *
                            size_t missing_len, uint32_t class_number, uint32_t answer[1]);
 
 /*
- * Asks for a class's table of an interface; both are linked classes. The rest is lent as to a link, without the list of missing slots.
+ * Asks for a class's table of an interface; both are linked classes. The rest is lent as to a link, without the list of missing slots; the
+ * list of numbers is only read.
  * Answers: answer[0], the place after the node's link word, where the interface number and then the slots stand, as many as
  * the interface's table has; answer[1], how many nodes of the class's list were read on the way: at most 64, and at most as many as
  * there are classes where set, area and ABI words are kept as below (the stubs may differ).
  * Leaves: nothing changed if the class's list has a node of the interface. Else, from the next free place on, a node: the
  * old list head, the interface number, the slots; the class's list head and word 0 of the area change. The set is only read.
  * Keeps: a table once answered stays at its place, and stays right: after any links and asks, accepted or refused, its slots are those
- * that an ask would build at that moment. So a caller may keep the place, as long as all calls began with an unlinked set, each gets set
- * and area as the last one left them, and all lend the same ABI words and the same stubs; a link's list of missing slots may be any.
+ * that an ask would build at that moment. So a caller may keep the place, as long as all calls began with an unlinked set and a list of
+ * numbers filled from it, each gets set, numbers and area as the last one left them, and all lend the same ABI words and the same stubs;
+ * a link's list of missing slots may be any.
  * Refuses by 3 to 7, 16, 15.
  */
 LGT_MUST_USE
 uint32_t lgt_interface_dispatch_table(const uint32_t *set, size_t set_len, const uint32_t *abi, size_t abi_len,
-                                      uint32_t class_number, uint32_t interface_number, uint32_t *area,
-                                      size_t area_len, const uint32_t *stubs, size_t stubs_len, uint32_t answer[2]);
+                                      const uint32_t *numbers, size_t numbers_len, uint32_t class_number,
+                                      uint32_t interface_number, uint32_t *area, size_t area_len, const uint32_t *stubs,
+                                      size_t stubs_len, uint32_t answer[2]);
 
 /*
  * Counts the words of a method's arguments by its descriptor. Of the flags only 0x0008, static, counts: without it the

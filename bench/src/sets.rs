@@ -10,6 +10,7 @@ use library::Library;
 /// Words that hold every set, as include/lgt_linker.h has them.
 const CLASS_WORDS: usize = 11684;
 const ABI_WORDS: usize = 6477;
+const NUMBERS: usize = 1024;
 const STUBS: u32 = 1024;
 const MISSING_WORDS: usize = 2112;
 /// Room for 64 tables of 1,024 slots, and nodes.
@@ -22,8 +23,8 @@ const OBJECT: &str = "java/lang/Object";
 /// A set, its sheets, and the ask that is measured on it.
 pub struct ClassSet {
     pub name: String,
-    /// Unlinked words, a fresh area, stubs, a list of missing slots; links of all classes in number order, then the asks, then the
-    /// first ask again, then a question for the class's missing slots.
+    /// Unlinked words, a list of numbers, a fresh area, stubs, a list of missing slots; a filling of the list of numbers, links of all
+    /// classes in number order, then the asks, then the first ask again, then a question for the class's missing slots.
     pub case: Case,
     pub class_sheet: Vec<u8>,
     pub abi_sheet: Vec<u8>,
@@ -123,9 +124,10 @@ fn class_set(
     let mut area = vec![0; AREA_WORDS];
     area[0] = 1;
     let case = Case {
-        calls: links.chain(asks).chain([Call::Missing { class }]).collect(),
+        calls: std::iter::once(Call::Fill).chain(links).chain(asks).chain([Call::Missing { class }]).collect(),
         set,
         abi,
+        numbers: vec![0; NUMBERS],
         area,
         missing: vec![0; MISSING_WORDS],
         stubs: vec![(0..STUBS).map(|index| 0xF000_0000 + index).collect()],

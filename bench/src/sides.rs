@@ -1,7 +1,7 @@
 //! The jobs that are measured, on both sides.
 
 use harness::oracle::{Oracle, Watch};
-use harness::side::Linker;
+use harness::side::{Linker, Sheets, SheetsMut};
 use library::Library;
 
 use crate::sets::ClassSet;
@@ -17,10 +17,12 @@ pub enum Job {
     Built,
     ReadClasses,
     ReadAbi,
+    /// The list of the signatures' numbers filled from the unlinked set.
+    Fill,
 }
 
 impl Job {
-    pub const ALL: [Self; 5] = [Self::Link, Self::Found, Self::Built, Self::ReadClasses, Self::ReadAbi];
+    pub const ALL: [Self; 6] = [Self::Link, Self::Found, Self::Built, Self::ReadClasses, Self::ReadAbi, Self::Fill];
 
     pub fn name(self) -> &'static str {
         match self {
@@ -29,6 +31,7 @@ impl Job {
             Self::Built => "ask built",
             Self::ReadClasses => "read classes",
             Self::ReadAbi => "read ABI",
+            Self::Fill => "fill numbers",
         }
     }
 
@@ -48,8 +51,11 @@ pub struct Ours<'a> {
     set: &'a ClassSet,
     /// The memory of the links.
     words: Vec<u32>,
+    numbers: Vec<u32>,
     area: Vec<u32>,
     missing: Vec<u32>,
+    /// The list of numbers as it is filled; no link of these sets adds a method, so links leave it.
+    filled: Vec<u32>,
     /// Linked words, the area before any ask and after all asks.
     linked: Vec<u32>,
     unasked: Vec<u32>,
@@ -66,20 +72,23 @@ impl<'a> Ours<'a> {
         let mut ours = Self {
             set,
             words: case.set.clone(),
+            numbers: case.numbers.clone(),
             area: case.area.clone(),
             missing: case.missing.clone(),
+            filled: case.numbers.clone(),
             linked: Vec::new(),
             unasked: Vec::new(),
             asked: Vec::new(),
             head: 0,
             read: vec![0; case.set.len()],
         };
+        ours.fill(plain);
         ours.link(plain);
         ours.linked = ours.words.clone();
         ours.unasked = ours.area.clone();
         ours.asked = ours.area.clone();
         for &interface in &set.interfaces {
-            ask(set, interface, &mut ours.linked, &mut ours.asked, plain);
+            ours.ask_found(interface, plain);
         }
         let below = ours.unasked[0] as usize;
         let changed = |place: &usize| ours.asked[*place] != ours.unasked[*place];
@@ -90,15 +99,30 @@ impl<'a> Ours<'a> {
     fn link(&mut self, watch: Watch) {
         let (case, words, area, missing) = (&self.set.case, &mut self.words, &mut self.area, &mut self.missing);
         words.copy_from_slice(&case.set);
+        self.numbers.copy_from_slice(&self.filled);
         area[0] = 1;
         for class in 1..=words[0] {
-            watch(&mut || assert_eq!(Library::default().link(words, &case.abi, class, area, &case.stubs[0], missing).refusal, 0));
+            watch(&mut || {
+                let sheets = SheetsMut { set: words, abi: &case.abi, numbers: &mut self.numbers };
+                assert_eq!(Library::default().link(sheets, class, area, &case.stubs[0], missing).refusal, 0);
+            });
         }
+    }
+
+    fn fill(&mut self, watch: Watch) {
+        let (case, filled) = (&self.set.case, &mut self.filled);
+        watch(&mut || assert_eq!(Library::default().number_signatures(&case.set, &case.abi, filled).refusal, 0));
+    }
+
+    fn ask_found(&mut self, interface: u32, watch: Watch) {
+        let sheets = Sheets { set: &self.linked, abi: &self.set.case.abi, numbers: &self.filled };
+        ask(self.set, interface, sheets, &mut self.asked, watch);
     }
 
     fn ask_built(&mut self, watch: Watch) {
         let (next, list) = (self.unasked[0], self.unasked[self.head]);
-        ask(self.set, self.set.interfaces[0], &mut self.linked, &mut self.unasked, watch);
+        let sheets = Sheets { set: &self.linked, abi: &self.set.case.abi, numbers: &self.filled };
+        ask(self.set, self.set.interfaces[0], sheets, &mut self.unasked, watch);
         assert_ne!(self.unasked[0], next, "a table is built");
         self.unasked[0] = next;
         self.unasked[self.head] = list;
@@ -118,19 +142,19 @@ impl<'a> Ours<'a> {
 }
 
 /// Asks the set's class for an interface.
-fn ask(set: &ClassSet, interface: u32, words: &mut [u32], area: &mut [u32], watch: Watch) {
-    let case = &set.case;
-    watch(&mut || assert_eq!(Library::default().ask(words, &case.abi, set.class, interface, area, &case.stubs[0]).refusal, 0));
+fn ask(set: &ClassSet, interface: u32, sheets: Sheets, area: &mut [u32], watch: Watch) {
+    watch(&mut || assert_eq!(Library::default().ask(sheets, set.class, interface, area, &set.case.stubs[0]).refusal, 0));
 }
 
 impl Side for Ours<'_> {
     fn run(&mut self, job: Job, watch: Watch) {
         match job {
             Job::Link => self.link(watch),
-            Job::Found => ask(self.set, self.set.interfaces[0], &mut self.linked, &mut self.asked, watch),
+            Job::Found => self.ask_found(self.set.interfaces[0], watch),
             Job::Built => self.ask_built(watch),
             Job::ReadClasses => self.read(true, watch),
             Job::ReadAbi => self.read(false, watch),
+            Job::Fill => self.fill(watch),
         }
     }
 }
@@ -169,7 +193,7 @@ impl Side for Original<'_> {
             Job::Link => drop(link(&mut self.linking, self.set, watch)),
             Job::Found => assert!(!self.asked.ask_alone(class, interface, false, watch), "the table is found"),
             Job::Built => assert!(self.unasked.ask_alone(class, interface, false, watch), "a table is built"),
-            Job::ReadClasses | Job::ReadAbi => unreachable!("the original has no sheets"),
+            Job::ReadClasses | Job::ReadAbi | Job::Fill => unreachable!("the original has neither sheets nor numbers"),
         }
     }
 }

@@ -8,7 +8,7 @@ use harness::generate;
 use harness::oracle::Oracle;
 use harness::random::Random;
 use harness::readings::{self, ReadingCounts};
-use harness::side::{Answer, FileAnswer, Linker};
+use harness::side::{Answer, FileAnswer, Linker, Sheets, SheetsMut};
 use library::Library;
 use library::guarded::Pages;
 
@@ -19,7 +19,7 @@ const SIZE: usize = 1 << 20;
 const PAINT: u8 = 0xA5;
 
 /// The exported functions, in the order of `Painted`'s stacks.
-const FUNCTIONS: [&str; 16] = [
+const FUNCTIONS: [&str; 17] = [
     "lgt_read_class_sheet",
     "lgt_read_abi_sheet",
     "lgt_link",
@@ -36,6 +36,7 @@ const FUNCTIONS: [&str; 16] = [
     "lgt_read_class_file",
     "lgt_class_file_head",
     "lgt_missing_slots",
+    "lgt_number_signatures",
 ];
 
 /// A stack whose touched bytes show.
@@ -106,16 +107,20 @@ impl Linker for Painted {
         self.stacks[1].run(|| self.library.read_abi_sheet(bytes, words))
     }
 
-    fn link(&mut self, set: &mut [u32], abi: &[u32], class: u32, area: &mut [u32], stubs: &[u32], missing: &mut [u32]) -> Answer {
-        self.stacks[2].run(|| self.library.link(set, abi, class, area, stubs, missing))
+    fn number_signatures(&mut self, set: &[u32], abi: &[u32], numbers: &mut [u32]) -> Answer {
+        self.stacks[16].run(|| self.library.number_signatures(set, abi, numbers))
+    }
+
+    fn link(&mut self, sheets: SheetsMut, class: u32, area: &mut [u32], stubs: &[u32], missing: &mut [u32]) -> Answer {
+        self.stacks[2].run(|| self.library.link(sheets, class, area, stubs, missing))
     }
 
     fn missing_slots(&mut self, set: &[u32], abi: &[u32], missing: &[u32], class: u32) -> Answer {
         self.stacks[15].run(|| self.library.missing_slots(set, abi, missing, class))
     }
 
-    fn ask(&mut self, set: &mut [u32], abi: &[u32], class: u32, interface: u32, area: &mut [u32], stubs: &[u32]) -> Answer {
-        self.stacks[3].run(|| self.library.ask(set, abi, class, interface, area, stubs))
+    fn ask(&mut self, sheets: Sheets, class: u32, interface: u32, area: &mut [u32], stubs: &[u32]) -> Answer {
+        self.stacks[3].run(|| self.library.ask(sheets, class, interface, area, stubs))
     }
 
     fn argument_words(&mut self, descriptor: &[u8], flags: u32) -> Answer {

@@ -11,6 +11,7 @@
 static uint8_t bytes[LGT_MOST_CLASS_BLOCKS * LGT_BLOCK_BYTES + 1];
 static uint32_t set[LGT_CLASS_WORDS];
 static uint32_t abi[LGT_ABI_WORDS];
+static uint32_t numbers[LGT_NUMBERS];
 static uint32_t area[AREA_WORDS] = {1};
 static uint32_t stubs[LGT_MOST_SLOTS];
 static uint32_t missing[LGT_MISSING_WORDS];
@@ -80,8 +81,8 @@ static uint32_t ask(uint32_t slots)
 {
     uint32_t answer[2];
 
-    if (told("ask", lgt_interface_dispatch_table(set, LGT_CLASS_WORDS, abi, LGT_ABI_WORDS, 2, 1, area, AREA_WORDS, stubs,
-                                                 LGT_MOST_SLOTS, answer)) != LGT_ACCEPTED)
+    if (told("ask", lgt_interface_dispatch_table(set, LGT_CLASS_WORDS, abi, LGT_ABI_WORDS, numbers, LGT_NUMBERS, 2, 1, area,
+                                                 AREA_WORDS, stubs, LGT_MOST_SLOTS, answer)) != LGT_ACCEPTED)
         return 1;
     printf("class 2 as class 1: place %" PRIu32 " nodes read %" PRIu32 "\n", answer[0], answer[1]);
     print_slots(answer[0] + 1, slots);
@@ -109,10 +110,13 @@ int main(int argc, char **argv)
     if (told("classes", number) != 0)
         return 1;
     printf("classes words %" PRIu32 "\n", answer[0]);
+    /* Both sheets are read: their signatures are numbered once, before the first link. */
+    if (told("numbers", lgt_number_signatures(set, LGT_CLASS_WORDS, abi, LGT_ABI_WORDS, numbers, LGT_NUMBERS)) != 0)
+        return 1;
 
     for (number = 1; number <= set[LGT_SET_CLASSES]; number++) {
-        if (told("class", lgt_link(set, LGT_CLASS_WORDS, abi, LGT_ABI_WORDS, number, area, AREA_WORDS, stubs, LGT_MOST_SLOTS,
-                                   missing, LGT_MISSING_WORDS, answer)) != 0)
+        if (told("class", lgt_link(set, LGT_CLASS_WORDS, abi, LGT_ABI_WORDS, numbers, LGT_NUMBERS, number, area, AREA_WORDS,
+                                   stubs, LGT_MOST_SLOTS, missing, LGT_MISSING_WORDS, answer)) != 0)
             return 1;
         printf("class %" PRIu32 " ", number);
         print_name(class_record(number));
@@ -126,7 +130,8 @@ int main(int argc, char **argv)
         return 1;
 
     /* A class is linked once; an empty slice may be NULL. */
-    number = lgt_link(set, LGT_CLASS_WORDS, abi, LGT_ABI_WORDS, 1, area, AREA_WORDS, NULL, 0, NULL, 0, answer);
+    number = lgt_link(set, LGT_CLASS_WORDS, abi, LGT_ABI_WORDS, numbers, LGT_NUMBERS, 1, area, AREA_WORDS, NULL, 0, NULL, 0,
+                      answer);
     if (number != LGT_REFUSED_CLASS)
         return 1;
     printf("class 1 again: refused %" PRIu32 ", answer %" PRIu32 " %" PRIu32 "\n", number, answer[0], answer[1]);

@@ -235,40 +235,43 @@ pub fn renumber_classes(set: &mut [u32], order: &mut [u32]) -> Result<u32, Refus
     accepted(row, answer[0])
 }
 
-/// Fills a list with the numbers of the signatures, name and descriptor, of both sheets: word m is of method m, word 512 + s of ABI slot s.
-/// Each holds the place of the first record whose name and whose descriptor are the same, a word without a record 0, so that two
-/// records have one number exactly if both parts are the same. Words after the first [`NUMBERS`] stay as they were. Fill the list after
-/// reading, and again whenever set or ABI words have changed, by a link too: links do not go by the list yet.
+/// Fills a list with the numbers of the signatures, name and descriptor, of both sheets, by which links and asks tell them apart: word m is of
+/// method m, word 512 + s of ABI slot s. Each holds the place of the first record whose name and whose descriptor are the same, a word without
+/// a record 0, so that two records have one number exactly if both parts are the same. Words after the first [`NUMBERS`] stay as they
+/// were. Fill the list after reading, and again after the set was changed by anything but a link. A [`ClassSet`](crate::ClassSet) does it
+/// for itself.
 ///
 /// # Errors
 ///
-/// Refusals 3 to 5 as of a [`link`], and 3 where the list has fewer than [`NUMBERS`] words; the list is then as it was.
+/// Refusals 3 to 5; 3 also where the list has fewer than [`NUMBERS`] words. It is then as it was.
 ///
 /// ```
 /// # use lgt_linker::*;
 /// # let mut set = [0; CLASS_WORDS];
 /// # let mut abi = [0; ABI_WORDS];
-/// # read_class_sheet(&std::fs::read("../../examples/card/classes.bin").unwrap(), &mut set).unwrap();
-/// # read_abi_sheet(&std::fs::read("../../examples/card/abi.bin").unwrap(), &mut abi).unwrap();
-/// // Card has open and close, VipCard close and mark.
+/// # read_class_sheet(&std::fs::read("../../examples/card/classes.bin").unwrap(), &mut set)?;
+/// # read_abi_sheet(&std::fs::read("../../examples/card/abi.bin").unwrap(), &mut abi)?;
 /// let mut numbers = [7; NUMBERS];
-/// assert_eq!(number_signatures(&set, &abi, &mut numbers), Ok(()));
+/// number_signatures(&set, &abi, &mut numbers)?; // Card has open and close, VipCard close and mark
 /// assert_eq!(numbers[..5], [0, 1, 1, 3, 0]);
 /// assert_eq!(number_signatures(&set, &abi, &mut numbers[1..]), Err(Refusal::SheetCounts));
+/// # Ok::<(), Refusal>(())
 /// ```
 pub fn number_signatures(set: &[u32], abi: &[u32], numbers: &mut [u32]) -> Result<(), Refusal> {
-    // SAFETY: the slices are whole, and the written one is lent exclusively.
+    // SAFETY: the slices are whole, and the one that is written is lent exclusively.
     let row = unsafe { sys::lgt_number_signatures(set.as_ptr(), set.len(), abi.as_ptr(), abi.len(), numbers.as_mut_ptr(), numbers.len()) };
     accepted(row, ())
 }
 
 /// Links a class of the set: its table goes to the area's next free word (word 0 of the area), its record and fields into the set, and the
 /// count of its missing slots, with a bit for each slot, into the list `missing` ([`layout::missing`](crate::layout::missing)), which has 33
-/// words for each class. Lend one list, which nobody else writes, from the first link on; it may hold anything before.
+/// words for each class. Lend one list, which nobody else writes, from the first link on; it may hold anything before. The list `numbers`
+/// is filled by [`number_signatures`] from this very set and these ABI words, and as the last link left it: one that adds methods gives
+/// each the number of the signature that it took.
 ///
 /// # Errors
 ///
-/// Refusals 3 to 7, 26 and 8 to 15; set, area and list are then as they were.
+/// Refusals 3 to 7, 26 and 8 to 15; set, area and lists are then as they were.
 ///
 /// ```
 /// # use lgt_linker::*;
@@ -278,21 +281,33 @@ pub fn number_signatures(set: &[u32], abi: &[u32], numbers: &mut [u32]) -> Resul
 /// read_abi_sheet(&std::fs::read("../../examples/card/abi.bin").unwrap(), &mut abi).unwrap();
 /// let mut area = [0; 64];
 /// area[0] = 1; // a fresh area
-/// let mut missing = [0; MISSING_WORDS];
-/// assert_eq!(link(&mut set, &abi, 1, &mut area, &[9; 8], &mut missing), Ok(Linked { place: 1, slots: 2 }));
+/// let (mut numbers, mut missing) = ([0; NUMBERS], [0; MISSING_WORDS]);
+/// number_signatures(&set, &abi, &mut numbers).unwrap();
+/// assert_eq!(link(&mut set, &abi, &mut numbers, 1, &mut area, &[9; 8], &mut missing), Ok(Linked { place: 1, slots: 2 }));
 /// assert_eq!(area[1..5], [1, 4096, 4112, 0]);
-/// assert_eq!(link(&mut set, &abi, 1, &mut area, &[9; 8], &mut missing), Err(Refusal::Class)); // it is linked
-/// assert_eq!(link(&mut set, &abi, 2, &mut area, &[9; 8], &mut missing[..65]), Err(Refusal::NoRoom)); // two classes, 66 words
+/// assert_eq!(link(&mut set, &abi, &mut numbers, 1, &mut area, &[9; 8], &mut missing), Err(Refusal::Class)); // it is linked
+/// // two classes, 66 words
+/// assert_eq!(link(&mut set, &abi, &mut numbers, 2, &mut area, &[9; 8], &mut missing[..65]), Err(Refusal::NoRoom));
 /// ```
-pub fn link(set: &mut [u32], abi: &[u32], class: u32, area: &mut [u32], stubs: &[u32], missing: &mut [u32]) -> Result<Linked, Refusal> {
+pub fn link(
+    set: &mut [u32],
+    abi: &[u32],
+    numbers: &mut [u32],
+    class: u32,
+    area: &mut [u32],
+    stubs: &[u32],
+    missing: &mut [u32],
+) -> Result<Linked, Refusal> {
     let mut answer = [0; 2];
-    // SAFETY: the slices are whole; the three that are written are lent exclusively, and the answer has its words.
+    // SAFETY: the slices are whole; the four that are written are lent exclusively, and the answer has its words.
     let row = unsafe {
         sys::lgt_link(
             set.as_mut_ptr(),
             set.len(),
             abi.as_ptr(),
             abi.len(),
+            numbers.as_mut_ptr(),
+            numbers.len(),
             class,
             area.as_mut_ptr(),
             area.len(),
@@ -322,9 +337,11 @@ pub fn link(set: &mut [u32], abi: &[u32], class: u32, area: &mut [u32], stubs: &
 /// # read_abi_sheet(&std::fs::read("../../examples/interface/abi.bin").unwrap(), &mut abi).unwrap();
 /// # let mut area = [0; 64];
 /// # area[0] = 1;
+/// # let mut numbers = [0; NUMBERS];
+/// # number_signatures(&set, &abi, &mut numbers).unwrap();
 /// // Class 1, Openable, has open and close; close has no target.
 /// let mut missing = [0; MISSING_WORDS];
-/// link(&mut set, &abi, 1, &mut area, &[9; 8], &mut missing).unwrap();
+/// link(&mut set, &abi, &mut numbers, 1, &mut area, &[9; 8], &mut missing).unwrap();
 /// assert_eq!(missing_slots(&set, &abi, &missing, 1), Ok(1));
 /// assert_eq!(missing[..3], [1, 0b10, 0]); // the count, then a bit for each slot
 /// assert_eq!(missing_slots(&set, &abi, &missing, 2), Err(Refusal::Class)); // it is not linked yet
@@ -338,12 +355,13 @@ pub fn missing_slots(set: &[u32], abi: &[u32], missing: &[u32], class: u32) -> R
     accepted(row, answer[0])
 }
 
-/// The class's table for an interface: found in the class's list, or built and put in front of it. The set is only read.
+/// The class's table for an interface: found in the class's list, or built and put in front of it. The set and the list of numbers, which is
+/// as a [`link`] is lent it, are only read.
 ///
 /// A table once answered stays at its place, and stays the one that would be built at that moment, slot for slot, whatever links and asks
-/// follow: a caller may keep the place. This is so where all calls began with an unlinked set, each gets set and area as the last one
-/// left them, and all lend the same ABI words and stubs, whatever list of missing slots a link is lent. The nodes read are then at most
-/// as many as there are classes, whatever the stubs.
+/// follow: a caller may keep the place. This is so where all calls began with an unlinked set and a list of numbers filled from it, each
+/// gets set, numbers and area as the last one left them, and all lend the same ABI words and stubs, whatever list of missing slots a link is
+/// lent. The nodes read are then at most as many as there are classes, whatever the stubs.
 ///
 /// # Errors
 ///
@@ -358,16 +376,18 @@ pub fn missing_slots(set: &[u32], abi: &[u32], missing: &[u32], class: u32) -> R
 /// # let mut area = [0; 64];
 /// # area[0] = 1;
 /// // Classes 1, Openable, and 2, Door, are linked; Door's table as an Openable is asked for.
-/// # let mut missing = [0; MISSING_WORDS];
-/// # link(&mut set, &abi, 1, &mut area, &[9; 8], &mut missing).unwrap();
-/// # link(&mut set, &abi, 2, &mut area, &[9; 8], &mut missing).unwrap();
-/// let asked = interface_dispatch_table(&set, &abi, 2, 1, &mut area, &[9; 8]).unwrap();
+/// # let (mut numbers, mut missing) = ([0; NUMBERS], [0; MISSING_WORDS]);
+/// # number_signatures(&set, &abi, &mut numbers).unwrap();
+/// # link(&mut set, &abi, &mut numbers, 1, &mut area, &[9; 8], &mut missing).unwrap();
+/// # link(&mut set, &abi, &mut numbers, 2, &mut area, &[9; 8], &mut missing).unwrap();
+/// let asked = interface_dispatch_table(&set, &abi, &numbers, 2, 1, &mut area, &[9; 8]).unwrap();
 /// assert_eq!(asked, Asked { place: 10, nodes: 0 });
 /// assert_eq!(area[10..13], [1, 8192, 9]); // the interface's number, Door's open, a stub
 /// ```
 pub fn interface_dispatch_table(
     set: &[u32],
     abi: &[u32],
+    numbers: &[u32],
     class: u32,
     interface: u32,
     area: &mut [u32],
@@ -381,6 +401,8 @@ pub fn interface_dispatch_table(
             set.len(),
             abi.as_ptr(),
             abi.len(),
+            numbers.as_ptr(),
+            numbers.len(),
             class,
             interface,
             area.as_mut_ptr(),

@@ -2,7 +2,8 @@
 //!
 //! Two ways to use it. Lend memory yourself: [`read_class_sheet`], [`read_abi_sheet`], [`write_class_sheet`], [`read_unordered_sheet`],
 //! [`renumber_classes`], [`widen_class_sheet`], [`narrow_class_sheet`], [`number_signatures`], [`link`], [`missing_slots`],
-//! [`interface_dispatch_table`], [`argument_words`], [`compare_names`], [`reference_count`], [`read_class_file`] and [`class_file_head`] take slices and allocate nothing; [`layout`] names
+//! [`interface_dispatch_table`], [`argument_words`], [`compare_names`], [`reference_count`], [`read_class_file`] and
+//! [`class_file_head`] take slices and allocate nothing; [`layout`] names
 //! their words. Or let [`ClassSet`], [`AbiSheet`], [`Area`] and [`ClassFile`] own it, read from sheets and class files or made of Rust
 //! values by [`SetBuilder`] and [`AbiBuilder`]:
 //!
@@ -35,8 +36,8 @@
 //! # Needs
 //!
 //! - x86-64 Linux, and the archive `liblgt_linker.a` (see the README); `core` and `alloc`, not `std`.
-//! - Stack: a call takes at most 165,272 bytes as measured (`docs/PERFORMANCE.md`); give a thread 256 KiB. Threads of `std` have 2 MiB.
-//!   A thread of musl's default size, 128 KiB, is too small for a link or a conversion back.
+//! - Stack: a call takes at most 126,328 bytes as measured (`docs/PERFORMANCE.md`); let 128 KiB be free beside the frames of the thread that calls.
+//!   Threads of `std` have 2 MiB; one of musl's default size has 128 KiB in all, of which its own frames may take what the measured call leaves.
 
 #![no_std]
 #![deny(missing_docs)]
@@ -48,6 +49,7 @@ mod calls;
 mod file;
 mod forms;
 pub mod layout;
+mod numbers;
 mod refusal;
 mod set;
 mod sys;

@@ -22,7 +22,7 @@ pub enum Refusal {
     SheetSize,
     /// 2: a block's check differs
     BlockCheck,
-    /// 3: counts, blocks or the words after the content
+    /// 3: counts, blocks or the words after the content, or a short list of numbers
     SheetCounts,
     /// 4: a record breaks a rule
     Record,
@@ -101,14 +101,14 @@ const REFUSALS: &[Row] = &[
     Row {
         number: 3,
         refusal: Refusal::SheetCounts,
-        wrong: "a count is above its limit, the content does not fit, something follows it that should be zero, or a class holds what only \
-         a link writes",
+        wrong: "a count is above its limit, the content does not fit, something follows it that should be zero, a class holds what only \
+         a link writes, or the list of numbers is too short",
         mend: "Keep the counts within their limits and the file as short as its content allows, with zeros after the content, and store \
          only an unlinked set: every table place and slot count 0, and the static words of every built or array class. A link, an \
          interface table or a write asks, of each sheet, only that its counts keep their limits and that the lent words hold all \
          of its content: lend as many words as the counts and their sections take. A filling of the list of numbers asks the same \
-         of both sheets, and a list of 1,024 words. A renumbering asks the same of the class sheet, and every table place and slot \
-         count 0, and those static words.",
+         of both sheets. A filling, a link and an interface table ask for a list of 1,024 words. A renumbering asks the same of the \
+         class sheet, and every table place and slot count 0, and those static words.",
     },
     Row {
         number: 4,

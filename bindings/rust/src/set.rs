@@ -1,43 +1,47 @@
 //! Sets, ABI sheets and areas that own their words.
 
+use alloc::sync::Arc;
 use alloc::vec;
 use alloc::vec::Vec;
 use core::fmt;
 
 use crate::calls::{
-    ABI_WORDS, Asked, CLASS_BYTES, CLASS_WORDS, Linked, MISSING_WORDS, interface_dispatch_table, link, missing_slots, read_abi_sheet,
-    read_class_sheet, read_unordered_sheet, reference_words, renumber_classes, write_class_sheet,
+    ABI_WORDS, Asked, CLASS_BYTES, CLASS_WORDS, Linked, MISSING_WORDS, NUMBERS, interface_dispatch_table, link, missing_slots,
+    number_signatures, read_abi_sheet, read_class_sheet, read_unordered_sheet, reference_words, renumber_classes, write_class_sheet,
 };
 use crate::layout::{BLOCK_BYTES, abi, missing, set};
+use crate::numbers::Numbers;
 use crate::refusal::Refusal;
 use crate::view::{AbiClass, Class, Method, Slot};
 
-/// A class set that owns its words, as many as the largest sheet has, so that sections can grow, and the list of missing slots that its
-/// links fill.
-#[derive(Clone, PartialEq, Eq)]
+/// A class set that owns its words, as many as the largest sheet has, so that sections can grow, the list of missing slots that its
+/// links fill, and the list of its signatures' numbers, which is filled when the set is made, and anew when it is lent another ABI sheet.
+#[derive(Clone)]
 pub struct ClassSet {
     words: Vec<u32>,
+    numbers: Numbers,
     missing: Vec<u32>,
 }
 
-/// An ABI sheet that owns its words.
+/// Two sets are equal by their words and their lists of missing slots.
+impl PartialEq for ClassSet {
+    fn eq(&self, other: &ClassSet) -> bool {
+        self.words == other.words && self.missing == other.missing
+    }
+}
+
+impl Eq for ClassSet {}
+
+/// An ABI sheet that owns its words; a clone shares them.
 #[derive(Clone, PartialEq, Eq)]
 pub struct AbiSheet {
-    words: Vec<u32>,
+    words: Arc<[u32]>,
 }
 
 /// A table area that owns its words.
 #[derive(Clone, PartialEq, Eq)]
 pub struct Area {
     words: Vec<u32>,
-}
-
-/// Rows 3 to 5 of both: a link of class 0 is refused by 6, unless one of these comes first.
-fn judged(set: &mut [u32], abi: &[u32]) -> Result<(), Refusal> {
-    match link(set, abi, 0, &mut [], &[], &mut []) {
-        Err(Refusal::Class) | Ok(_) => Ok(()),
-        Err(refusal) => Err(refusal),
-    }
 }
 
 /// The words, or as many of them as content can take, in a list of this length.
@@ -49,9 +53,10 @@ fn owned(words: &[u32], length: usize) -> Vec<u32> {
 }
 
 impl ClassSet {
-    /// These words, with no missing slots counted yet.
-    fn of(words: Vec<u32>) -> ClassSet {
-        ClassSet { words, missing: vec![0; MISSING_WORDS] }
+    /// These words, judged by rows 3 to 5, with no missing slots counted yet.
+    fn of(words: &[u32]) -> Result<ClassSet, Refusal> {
+        let numbers = Numbers::filled(words, &Arc::from([0; abi::COUNTS]))?;
+        Ok(ClassSet { words: owned(words, CLASS_WORDS), numbers, missing: vec![0; MISSING_WORDS] })
     }
 
     /// Reads a class sheet.
@@ -70,7 +75,7 @@ impl ClassSet {
     pub fn read(bytes: &[u8]) -> Result<ClassSet, Refusal> {
         let mut words = vec![0; CLASS_WORDS];
         read_class_sheet(bytes, &mut words)?;
-        Ok(ClassSet::of(words))
+        ClassSet::of(&words)
     }
 
     /// Reads a class sheet whose classes come in any order, a child before its parent, and renumbers them so that parents come first.
@@ -106,8 +111,7 @@ impl ClassSet {
         let mut order = vec![0; set::LIMITS[set::CLASSES]];
         let classes = renumber_classes(&mut words, &mut order)?;
         order.truncate(classes as usize);
-        judged(&mut words, &[0; abi::COUNTS])?;
-        Ok((ClassSet::of(words), order))
+        Ok((ClassSet::of(&words)?, order))
     }
 
     /// A set of words in the sheet's layout, as [`words`](ClassSet::words) gives them: of a sheet, or as links left them. Of links, the list
@@ -125,8 +129,7 @@ impl ClassSet {
     /// # Ok::<(), Refusal>(())
     /// ```
     pub fn from_words(words: &[u32]) -> Result<ClassSet, Refusal> {
-        judged(&mut words.to_vec(), &[0; abi::COUNTS])?;
-        Ok(ClassSet::of(owned(words, CLASS_WORDS)))
+        ClassSet::of(words)
     }
 
     /// The class sheet of a set that no link has changed: the bytes that [`read`](ClassSet::read) gives back as the same set, and of a set
@@ -301,7 +304,8 @@ impl ClassSet {
     /// # Ok::<(), Refusal>(())
     /// ```
     pub fn link(&mut self, abi: &AbiSheet, class: u32, area: &mut Area, stubs: &[u32]) -> Result<Linked, Refusal> {
-        link(&mut self.words, &abi.words, class, &mut area.words, stubs, &mut self.missing)
+        let numbers = self.numbers.for_link(&self.words, &abi.words)?;
+        link(&mut self.words, &abi.words, numbers, class, &mut area.words, stubs, &mut self.missing)
     }
 
     /// Links every class in the order of the numbers, and says what became of each.
@@ -383,7 +387,8 @@ impl ClassSet {
         area: &mut Area,
         stubs: &[u32],
     ) -> Result<Asked, Refusal> {
-        interface_dispatch_table(&self.words, &abi.words, class, interface, &mut area.words, stubs)
+        let numbers = self.numbers.for_ask(&self.words, &abi.words)?;
+        interface_dispatch_table(&self.words, &abi.words, &numbers, class, interface, &mut area.words, stubs)
     }
 
     /// The slots of a linked class's table in this area, with the methods that they are of; none of a class that is not linked.
@@ -534,7 +539,7 @@ impl AbiSheet {
     pub fn read(bytes: &[u8]) -> Result<AbiSheet, Refusal> {
         let mut words = vec![0; ABI_WORDS];
         read_abi_sheet(bytes, &mut words)?;
-        Ok(AbiSheet { words })
+        Ok(AbiSheet { words: words.into() })
     }
 
     /// An ABI sheet of words in its layout, as [`words`](AbiSheet::words) gives them.
@@ -551,8 +556,8 @@ impl AbiSheet {
     /// # Ok::<(), Refusal>(())
     /// ```
     pub fn from_words(words: &[u32]) -> Result<AbiSheet, Refusal> {
-        judged(&mut [0; set::COUNTS], words)?;
-        Ok(AbiSheet { words: owned(words, ABI_WORDS) })
+        number_signatures(&[0; set::COUNTS], words, &mut [0; NUMBERS])?;
+        Ok(AbiSheet { words: owned(words, ABI_WORDS).into() })
     }
 
     /// The ABI words, in the sheet's layout.

@@ -47,10 +47,12 @@ fn a_damaged_sheet_is_refused() {
 
 #[test]
 fn no_slice_is_too_small() {
-    assert_eq!(link(&mut [], &[], 0, &mut [], &[], &mut []), Err(Refusal::SheetCounts));
+    assert_eq!(number_signatures(&[], &[], &mut []), Err(Refusal::SheetCounts));
+    assert_eq!(link(&mut [], &[], &mut [], 0, &mut [], &[], &mut []), Err(Refusal::SheetCounts));
     assert_eq!(missing_slots(&[], &[], &[], 0), Err(Refusal::SheetCounts));
     assert_eq!(missing_slots(&[0; 6], &[0; 4], &[], 1), Err(Refusal::Class));
-    assert_eq!(interface_dispatch_table(&[0; 6], &[0; 4], 1, 1, &mut [], &[]), Err(Refusal::Class));
+    assert_eq!(interface_dispatch_table(&[0; 6], &[0; 4], &[0; NUMBERS], 1, 1, &mut [], &[]), Err(Refusal::Class));
+    assert_eq!(interface_dispatch_table(&[0; 6], &[0; 4], &[0; NUMBERS - 1], 1, 1, &mut [], &[]), Err(Refusal::SheetCounts));
     assert_eq!(argument_words(b"", 0), Err(Refusal::Descriptor));
 }
 

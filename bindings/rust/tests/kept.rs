@@ -34,7 +34,9 @@ fn a_table_once_answered_stays_right() {
     assert_eq!(area.words()[8..10], [1, 901]);
     let mut words = area.words().to_vec();
     words[6] = 0;
-    let afresh = interface_dispatch_table(set.words(), abi.words(), 2, 1, &mut words, &STUBS).unwrap().place as usize;
+    let mut numbers = [0; NUMBERS];
+    number_signatures(set.words(), abi.words(), &mut numbers).unwrap();
+    let afresh = interface_dispatch_table(set.words(), abi.words(), &numbers, 2, 1, &mut words, &STUBS).unwrap().place as usize;
     assert_eq!(words[afresh..afresh + 2], [1, 901]);
 }
 

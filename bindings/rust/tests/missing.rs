@@ -51,7 +51,8 @@ fn bits_go_on_in_the_next_word() {
     let mut words = SetBuilder::new().class(ClassBuilder::new("P")).build().unwrap().words().to_vec();
     let (mut area, mut missing) = ([0; 64], [7; 40]);
     area[0] = 1;
-    assert_eq!(link(&mut words, abi.words(), 1, &mut area, &[9; 40], &mut missing), Ok(Linked { place: 1, slots: 40 }));
+    let linked = link(&mut words, abi.words(), &mut [0; NUMBERS], 1, &mut area, &[9; 40], &mut missing);
+    assert_eq!(linked, Ok(Linked { place: 1, slots: 40 }));
     assert_eq!(missing[..3], [40, 0xFFFF_FFFF, 0xFF]);
     assert_eq!(missing[3..33], [0; 30]);
     assert_eq!(missing[33..], [7; 7]); // what no class has stays
@@ -60,11 +61,12 @@ fn bits_go_on_in_the_next_word() {
 #[test]
 fn a_list_has_33_words_for_each_class_of_the_set() {
     let (set, mut area, mut missing) = (compiled(&[]), Area::fresh(64).into_words(), [7; 65]);
-    let mut words = set.words().to_vec();
-    assert_eq!(link(&mut words, &[0; 4], 1, &mut area, &[9; 8], &mut missing), Err(Refusal::NoRoom));
+    let (mut words, mut numbers) = (set.words().to_vec(), [0; NUMBERS]);
+    number_signatures(&words, &[0; 4], &mut numbers).unwrap();
+    assert_eq!(link(&mut words, &[0; 4], &mut numbers, 1, &mut area, &[9; 8], &mut missing), Err(Refusal::NoRoom));
     assert_eq!((words.as_slice(), missing), (set.words(), [7; 65]));
     let mut missing = [7; 66];
-    assert!(link(&mut words, &[0; 4], 1, &mut area, &[9; 8], &mut missing).is_ok());
+    assert!(link(&mut words, &[0; 4], &mut numbers, 1, &mut area, &[9; 8], &mut missing).is_ok());
     assert_eq!(missing_slots(&words, &[0; 4], &missing, 1), Ok(2));
     assert_eq!(missing_slots(&words, &[0; 4], &missing[..65], 1), Err(Refusal::NoRoom));
     // Row 6 comes before row 15, and the sheets before both.

@@ -47,7 +47,7 @@ fn a_link_overwrites_what_it_is_lent_of_its_own_class_alone() {
     let mut words = two.words().to_vec();
     let at = [1, 2].map(|number| class::record(number) + class::STATIC_WORDS);
     (words[at[0]], words[at[1]]) = (7, 9);
-    assert_eq!(link(&mut words, &[0; 4], 1, &mut [1, 0, 0], &[], &mut [0; 66]), Ok(Linked { place: 1, slots: 0 }));
+    assert_eq!(link(&mut words, &[0; 4], &mut [0; NUMBERS], 1, &mut [1, 0, 0], &[], &mut [0; 66]), Ok(Linked { place: 1, slots: 0 }));
     assert_eq!(at.map(|at| words[at]), [0, 9]);
 }
 

@@ -8,10 +8,8 @@ use lib.Seq.{get_or-drop}
 use lib.Dec.{eqb}
 use Rattle.words.proofs.Laws.{part-rest}
 use Rattle.text.specs.Text.{name_start_word, name_length_word, descriptor_start_word, descriptor_length_word, number_word}
-use Rattle.class_sheet.specs.ClassSheet.{method_name, method_descriptor}
 use Rattle.abi_sheet.specs.AbiSheet.{abi_member_width, abi_slots_at, abi_fields_at, abi_slot_word, abi_field_word}
 use Rattle.chain.specs.Records.{record_word, record_is}
-use Rattle.linking.specs.Signature.{of_method, of_abi_slot, place_name, place_descriptor, by_bytes}
 use Rattle.linking.specs.Abi.{slot_index, field_is}
 use Rattle.abi.specs.Abis.{slot_records, field_records}
 
@@ -31,20 +29,6 @@ unfolding record_word slot_records abi_slot_word
 slot-word abi s k =
     let e : abi_slots_at abi + (abi_member_width * s + k) ≡ abi_slots_at abi + abi_member_width * s + k = omega arith in
     get_or-drop (abi_slots_at abi) abi (abi_member_width * s + k) 0 ∙ rw e
-
-pub record_slot : (ws text abi labels : List ℕ) (s m : ℕ) {r name descriptor : List ℕ} → r ≡ slot_records abi → name ≡ method_name ws text m
-    → descriptor ≡ method_descriptor ws text m
-    → record_is r abi_member_width labels s name descriptor ≡ by_bytes ws text abi labels (of_abi_slot s) (of_method m)
-unfolding record_is by_bytes place_name place_descriptor
-record_slot ws text abi labels s m e n d = rw (
-  e,
-  n,
-  d,
-  slot-word abi s name_start_word,
-  slot-word abi s name_length_word,
-  slot-word abi s descriptor_start_word,
-  slot-word abi s descriptor_length_word,
-)
 
 pub record_index : (abi : List ℕ) (s i : ℕ) {r : List ℕ} → r ≡ slot_records abi
     → eqb (min (record_word r abi_member_width s number_word) 1023) i ≡ eqb (slot_index abi s) i

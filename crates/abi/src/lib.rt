@@ -2,13 +2,13 @@
 // past its section's limit is cut there, and an index or a size above its limit counts as the limit.
 #![tactic(auto)]
 
-ghost use Rattle.std.specs.Prelude.{◌≡◌, ◌≤◌, ℕ, Bool, min, ◌++◌, length, take, eqb};
-ghost use Rattle.class_sheet.specs.ClassSheet.{class_limit};
+ghost use Rattle.std.specs.Prelude.{◌≡◌, ◌≤◌, ◌+◌, get_or, ℕ, Bool, min, ◌++◌, length, take, eqb};
+ghost use Rattle.class_sheet.specs.ClassSheet.{class_limit, method_limit};
 ghost use Rattle.words.specs.Folds.{Computes};
 ghost use Rattle.words.specs.Lists.{find, all_found};
 ghost use Rattle.text.specs.Text.{number_word, same_bytes};
 ghost use Rattle.abi_sheet.specs.AbiSheet.{abi_member_width, abi_class_name, abi_class_first_slot, abi_class_slot_count, abi_class_first_field, abi_class_field_count, abi_slot_limit, abi_field_limit};
-ghost use Rattle.linking.specs.Signature.{of_method, of_abi_slot, by_bytes};
+ghost use Rattle.linking.specs.Signature.{of_method, of_abi_slot, by_numbers};
 ghost use Rattle.linking.specs.Chain.{list_count, chain};
 ghost use Rattle.linking.specs.Abi.{abi_named, abi_slots, slot_index, fixed_field_index, vtable_index, slot_at, field_is, fixed_field, class_size, given_words, class_abi, chain_abi, minimum_size};
 ghost use Rattle.linking.specs.Vtable.{fixed_of, distance_of};
@@ -40,7 +40,7 @@ pub fn abi_named(abi: &[u32], labels: &[u8], name: &[u8]) -> Option<u32>
 }
 
 // How many slot records ABI class a has.
-fn slot_count(abi: &[u32], a: u32) -> u32
+pub fn slot_count(abi: &[u32], a: u32) -> u32
     ensures { result ≡ list_count (abi_class_first_slot abi.now a) (abi_class_slot_count abi.now a) abi_slot_limit }
 {
     chain::list_count(
@@ -63,7 +63,7 @@ pub fn field_count(abi: &[u32], a: u32) -> u32
 
 // The index that slot record s fixes.
 #[tactic(auto, unfolding(linking::specs::Abi::slot_index))]
-fn slot_index(abi: &[u32], s: u32) -> u32
+pub fn slot_index(abi: &[u32], s: u32) -> u32
     ensures { result ≡ slot_index abi.now s }
 {
     abi_sheet::slot_index(abi, s).min(1023)
@@ -102,23 +102,27 @@ fn find_slot<F: Fn(u32) -> bool>(abi: &[u32], a: u32, test: F) -> Option<u32>
     words::find_in(first, first + slot_count(abi, a), test)
 }
 
-// ABI class a's first slot record of method m's signature.
-fn slot_of(sheets: Sheets, m: u32, a: u32) -> Option<u32>
-    ensures { result ≡ find (λ s. of_sheets by_bytes sheets.entry (of_abi_slot s) (of_method m)) (abi_slots sheets.entry.abi.now a) }
+// The number of ABI slot s's signature.
+pub fn slot_number(numbers: &[u32], s: u32) -> u32
+    ensures { result ≡ get_or numbers.now (method_limit + s) 0 }
 {
-    let records = slot_records(sheets.abi);
-    let signature = class_sheet::method_signature(sheets.set, sheets.text, m);
-    find_slot(sheets.abi, a, |s| {
-        chain::record_is(records, MEMBER_WIDTH, sheets.labels, s, signature)
-    })
+    words::get_or(numbers, class_sheet::METHOD_LIMIT as usize + s as usize, 0)
+}
+
+// ABI class a's first slot record of method m's signature.
+fn slot_of(abi: &[u32], numbers: &[u32], m: u32, a: u32) -> Option<u32>
+    ensures { result ≡ find (λ s. by_numbers numbers.now (of_abi_slot s) (of_method m)) (abi_slots abi.now a) }
+{
+    let number = words::get_or(numbers, m as usize, 0);
+    find_slot(abi, a, |s| slot_number(numbers, s) == number)
 }
 
 // The index that ABI class a fixes for method m's signature.
 #[tactic(auto, unfolding(linking::specs::Abi::vtable_index))]
-fn vtable_index(sheets: Sheets, m: u32, a: u32) -> Option<u32>
-    ensures { result ≡ vtable_index (of_sheets by_bytes sheets.entry) sheets.entry.abi.now (of_method m) a }
+fn vtable_index(abi: &[u32], numbers: &[u32], m: u32, a: u32) -> Option<u32>
+    ensures { result ≡ vtable_index (by_numbers numbers.now) abi.now (of_method m) a }
 {
-    slot_of(sheets, m, a).map(|s| slot_index(sheets.abi, s))
+    slot_of(abi, numbers, m, a).map(|s| slot_index(abi, s))
 }
 
 // Whether record s of the slot records fixes index i.
@@ -225,17 +229,17 @@ pub fn chain_abi(sheets: Sheets, c: u32) -> AbiClasses
 
 // The index that the first of the ABI classes fixes for method m's signature.
 pub fn fixed_of(sheets: Sheets, abis: &[u32], m: u32) -> Option<u32>
-    ensures { result ≡ fixed_of (of_sheets by_bytes sheets.entry) sheets.entry.abi.now abis.now m }
+    ensures { result ≡ fixed_of (by_numbers sheets.entry.numbers.now) sheets.entry.abi.now abis.now m }
 {
-    words::first_found(abis, |a| vtable_index(sheets, m, a))
+    words::first_found(abis, |a| vtable_index(sheets.abi, sheets.numbers, m, a))
 }
 
 // How far up the chain's ABI classes the one stands that method m's index comes from: how many stand before the first that fixes one.
 pub fn distance_of(sheets: Sheets, abis: &[u32], m: u32) -> usize
-    ensures { result ≡ distance_of (of_sheets by_bytes sheets.entry) sheets.entry.abi.now abis.now m }
+    ensures { result ≡ distance_of (by_numbers sheets.entry.numbers.now) sheets.entry.abi.now abis.now m }
 {
     for i in 0..abis.len() {
-        if vtable_index(sheets, m, abis[i]).is_some() {
+        if vtable_index(sheets.abi, sheets.numbers, m, abis[i]).is_some() {
             return i;
         }
     }

@@ -11,7 +11,9 @@ use Rattle.words.proofs.Bools.{by, passed}
 use Rattle.class_sheet.specs.ClassSheet.{text_of}
 use Rattle.abi_sheet.specs.AbiSheet.{abi_text_of}
 use Rattle.set_rules.specs.SetRules.{set_refusal}
-use Rattle.linking.specs.Signature.{Same}
+use Rattle.linking.specs.Signature.{Same, by_numbers}
+use Rattle.linking.specs.Numbers.{numbers_short}
+use Rattle.linking.specs.Numbered.{ask_numbered}
 use Rattle.linking.specs.Vtable.{Built, built, refused, table_entries}
 use Rattle.linking.specs.Link.{next_free, bad_area, no_room, Outcome, refused_call}
 use Rattle.linking.specs.Ask.{Walk, hit, missed, broken, walk, head_place, dispatch_entries, build_node, bad_ask, ask_by}
@@ -136,3 +138,14 @@ module _ (same : Same) (ws abi : List ℕ) (c i : ℕ) (area stubs : List ℕ) w
     ask-broken e =
         let a = code-asks ws abi c i area rows in
         rw (eq-eqb (set_refusal ws abi) 0 a.accepted, a.classes, a.tables, head_is, e)
+
+-- ---- row 3 of the list of numbers
+
+module _ (ws abi numbers : List ℕ) (c i : ℕ) (area stubs : List ℕ) {b : Bool} (short : b ≡ numbers_short numbers) where
+  pub ask_short : b ≡ true → refused_call 3 ws area ≡ ask_numbered ws abi numbers c i area stubs
+  unfolding ask_numbered
+  ask_short e = rw (← short, e)
+
+  pub ask_long : {o : Outcome} → b ≡ false → o ≡ ask_by (by_numbers numbers) ws abi c i area stubs → o ≡ ask_numbered ws abi numbers c i area stubs
+  unfolding ask_numbered
+  ask_long e f = f ∙ rw (← short, e)

@@ -1,54 +1,53 @@
 // `interface_dispatch_table` (class_definition.rs): a class's table for an interface, found in the class's list or built in front of it.
 #![tactic(auto)]
 
-ghost use Rattle.std.specs.Prelude.{◌≡◌, ◌&&◌, false, ◌≤◌};
+ghost use Rattle.std.specs.Prelude.{◌≡◌, ◌&&◌, false, ◌≤◌, get_or, eqb};
 ghost use Rattle.class_sheet.specs.ClassSheet.{method_flags, text_length, text_of, text_limit};
 ghost use Rattle.abi_sheet.specs.AbiSheet.{abi_text_length, abi_text_of, abi_text_limit};
 ghost use Rattle.set_rules.specs.SetRules.{set_refusal};
-ghost use Rattle.linking.specs.Signature.{of_method, by_bytes, by_sheets};
+ghost use Rattle.linking.specs.Signature.{of_method, by_numbers};
 ghost use Rattle.linking.specs.Chain.{is_virtual};
 ghost use Rattle.linking.specs.Vtable.{table_entries, built};
 ghost use Rattle.linking.specs.Link.{bad_area};
-ghost use Rattle.linking.specs.Ask.{head_place, own_implementation, dispatch_entries, build_node, ask_def};
+ghost use Rattle.linking.specs.Ask.{head_place, own_implementation, dispatch_entries, build_node, ask_by};
+ghost use Rattle.linking.specs.Numbered.{ask_numbered};
 ghost use Rattle.linking.specs.Whose.{declared_implementation};
 ghost use Rattle.reading.specs.Tables.{entry, entries};
 ghost use Rattle.area.specs.Area.{outcome};
 ghost use Rattle.refusal.specs.Rows.{row_of};
-ghost use Rattle.linking.specs.Sheets.{of_sheets, of_bytes};
-ghost use Rattle.chain.specs.Records.{method_is};
+ghost use Rattle.linking.specs.Sheets.{of_sheets, of_numbers};
 ghost use Rattle.ask.specs.Dispatch.{slot_built, dispatched, table_built, ask_refusal, finish_ask};
-ghost use Rattle.text.specs.Signatures.{of_signature};
 
 use area::Answer;
 use linking::{Declared, Sheets};
 use reading::{ReadTable, Slot, TABLE_LIMIT, Table};
 use refusal::Refusal;
-use text::Signature;
 
-// Whether method m is neither static nor private and has this name and descriptor.
-fn implements(ws: &[u32], text: &[u8], m: u32, signature: Signature) -> bool
-    ensures { result ≡ (is_virtual (method_flags ws.now m) && of_signature (method_is ws.now text.now m) signature.entry) }
+// Whether method m is neither static nor private and has this number.
+fn implements(ws: &[u32], numbers: &[u32], m: u32, number: u32) -> bool
+    ensures { result ≡ (is_virtual (method_flags ws.now m) && eqb (get_or numbers.now m 0) number) }
 {
-    chain::is_virtual(class_sheet::method_flags(ws, m)) & chain::method_is(ws, text, m, signature)
+    chain::is_virtual(class_sheet::method_flags(ws, m))
+        & (words::get_or(numbers, m as usize, 0) == number)
 }
 
 // Class c's first method of method m's signature that is neither static nor private.
 fn own_implementation(sheets: Sheets, m: u32, c: u32) -> Option<u32>
-    ensures { result ≡ own_implementation (of_sheets by_bytes sheets.entry) sheets.entry.set.now (of_method m) c }
+    ensures { result ≡ own_implementation (by_numbers sheets.entry.numbers.now) sheets.entry.set.now (of_method m) c }
 {
-    let signature = class_sheet::method_signature(sheets.set, sheets.text, m);
+    let number = words::get_or(sheets.numbers, m as usize, 0);
     let first = class_sheet::class_first_method(sheets.set, c);
     let end = first + chain::method_count(sheets.set, c);
     words::find_in(
         first,
         end,
-        |k| implements(sheets.set, sheets.text, k, signature),
+        |k| implements(sheets.set, sheets.numbers, k, number),
     )
 }
 
 // The first such method, with its class: class c's, then its ancestors'.
 fn implementation(sheets: Sheets, c: u32, m: u32) -> Option<Declared>
-    ensures { result ≡ declared_implementation (of_sheets by_bytes sheets.entry) sheets.entry.set.now c m }
+    ensures { result ≡ declared_implementation (by_numbers sheets.entry.numbers.now) sheets.entry.set.now c m }
 {
     if c == 0 {
         return None;
@@ -61,7 +60,7 @@ fn implementation(sheets: Sheets, c: u32, m: u32) -> Option<Declared>
 
 // Class c's slot for an interface's: none where no class of its chain implements the method.
 fn dispatch_slot(sheets: Sheets, c: u32, slot: Slot) -> Option<Slot>
-    ensures { slot_built result ≡ dispatched (of_sheets by_bytes sheets.entry) sheets.entry.set.now c (entry slot) }
+    ensures { slot_built result ≡ dispatched (by_numbers sheets.entry.numbers.now) sheets.entry.set.now c (entry slot) }
 {
     let Some(j) = slot.method() else {
         return Some(slot);
@@ -77,7 +76,7 @@ fn dispatch_slots(
     from: &ReadTable,
     to: &mut ReadTable,
 ) -> Result<(), Refusal>
-    ensures { table_built (entries to.new) result ≡ dispatch_entries (of_sheets by_bytes sheets.entry) sheets.entry.set.now c (entries from.now) }
+    ensures { table_built (entries to.new) result ≡ dispatch_entries (by_numbers sheets.entry.numbers.now) sheets.entry.set.now c (entries from.now) }
 {
     to.clear();
     for slot in from.slots() {
@@ -95,7 +94,7 @@ fn dispatch_table(
     to: &mut ReadTable,
 ) -> Result<(), Refusal>
     ensures { table_built (entries to.new) result
-        ≡ dispatch_entries (of_sheets by_bytes sheets.entry) sheets.entry.set.now c (of_bytes table_entries sheets.entry area.now i) }
+        ≡ dispatch_entries (by_numbers sheets.entry.numbers.now) sheets.entry.set.now c (of_numbers table_entries sheets.entry area.now i) }
 {
     let mut from = Table::for_reading();
     let mut classes = [0u32; TABLE_LIMIT];
@@ -107,6 +106,7 @@ fn dispatch_table(
 fn dispatch_unpacked<'a>(
     ws: &'a [u32],
     abi: &'a [u32],
+    numbers: &'a [u32],
     area: &[u32],
     c: u32,
     i: u32,
@@ -114,12 +114,12 @@ fn dispatch_unpacked<'a>(
 ) -> Result<(), Refusal>
     requires { (text_length ws.now ≤ text_limit) × (abi_text_length abi.now ≤ abi_text_limit) }
     ensures { table_built (entries to.new) result
-        ≡ dispatch_entries (by_sheets ws.now abi.now) ws.now c
-        (table_entries (by_sheets ws.now abi.now) ws.now (text_of ws.now) abi.now (abi_text_of abi.now) area.now i) }
+        ≡ dispatch_entries (by_numbers numbers.now) ws.now c
+        (table_entries (by_numbers numbers.now) ws.now (text_of ws.now) abi.now (abi_text_of abi.now) area.now i) }
 {
     let mut room = [0u8; class_sheet::TEXT_LIMIT as usize];
     let mut label_room = [0u8; abi_sheet::TEXT_LIMIT as usize];
-    let sheets = Sheets::unpack(ws, abi, &mut room, &mut label_room);
+    let sheets = Sheets::unpack(ws, abi, numbers, &mut room, &mut label_room);
     dispatch_table(sheets, area, c, i, to)
 }
 
@@ -167,6 +167,7 @@ fn finish_ask(
 fn build_node<'a>(
     ws: &'a [u32],
     abi: &'a [u32],
+    numbers: &'a [u32],
     c: u32,
     i: u32,
     area: &mut [u32],
@@ -174,10 +175,10 @@ fn build_node<'a>(
     nodes: u32,
 ) -> Result<Answer, Refusal>
     requires { (set_refusal ws.now abi.now ≡ 0) × (bad_area ws.now area.old ≡ false) }
-    ensures { outcome result ws.now area.new ≡ build_node (by_sheets ws.now abi.now) ws.now abi.now c i area.old stubs.now nodes }
+    ensures { outcome result ws.now area.new ≡ build_node (by_numbers numbers.now) ws.now abi.now c i area.old stubs.now nodes }
 {
     let mut table = Table::for_reading();
-    dispatch_unpacked(ws, abi, area, c, i, &mut table)?;
+    dispatch_unpacked(ws, abi, numbers, area, c, i, &mut table)?;
     finish_ask(ws, c, i, area, stubs, nodes, &table)
 }
 
@@ -196,20 +197,17 @@ fn ask_refusal(ws: &[u32], abi: &[u32], c: u32, i: u32, area: &[u32]) -> Result<
     Ok(())
 }
 
-// Asks for the class's table of the interface. The answer is the place after its node's link word, where interface number and slots
-// follow, and how many nodes were read on the way; or the row that refuses. Where the class's list has a node of the interface, nothing is
-// written. Else a new node goes in front of the list, from the area's next free word on, and word 0 of the area moves past it. A refused
-// ask writes nothing. Nothing of this is left to the program; where the specification is silent, docs/DECISIONS.md has
-// the reading.
-pub fn interface_dispatch_table<'a>(
+// Asks for the class's table of the interface, with a list of numbers that is long enough.
+fn ask<'a>(
     set: &'a [u32],
     abi: &'a [u32],
+    numbers: &'a [u32],
     class: u32,
     interface: u32,
     area: &mut [u32],
     stubs: &[u32],
 ) -> Result<Answer, Refusal>
-    ensures { outcome result set.now area.new ≡ ask_def set.now abi.now class interface area.old stubs.now }
+    ensures { outcome result set.now area.new ≡ ask_by (by_numbers numbers.now) set.now abi.now class interface area.old stubs.now }
 {
     ask_refusal(set, abi, class, interface, area)?;
     let head = words::get_or(area, head_place(set, class), 0);
@@ -219,6 +217,38 @@ pub fn interface_dispatch_table<'a>(
             first: n + 1,
             second: walked.read,
         }),
-        None => build_node(set, abi, class, interface, area, stubs, walked.read),
+        None => build_node(
+            set,
+            abi,
+            numbers,
+            class,
+            interface,
+            area,
+            stubs,
+            walked.read,
+        ),
     }
+}
+
+// Asks for the class's table of the interface. The answer is the place after its node's link word, where interface number and slots
+// follow, and how many nodes were read on the way; or the row that refuses. Where the class's list has a node of the interface, nothing is
+// written. Else a new node goes in front of the list, from the area's next free word on, and word 0 of the area moves past it. A refused
+// ask writes nothing. Signatures are matched by the numbers of the list, which is only read. Nothing of this is left to the program; where the
+// specification is silent, docs/DECISIONS.md has the reading.
+#[tactic(auto, using(crate::proofs::AskLaws::ask_short, crate::proofs::AskLaws::ask_long))]
+pub fn interface_dispatch_table<'a>(
+    set: &'a [u32],
+    abi: &'a [u32],
+    numbers: &'a [u32],
+    class: u32,
+    interface: u32,
+    area: &mut [u32],
+    stubs: &[u32],
+) -> Result<Answer, Refusal>
+    ensures { outcome result set.now area.new ≡ ask_numbered set.now abi.now numbers.now class interface area.old stubs.now }
+{
+    if signatures::is_short(numbers) {
+        return Err(Refusal::Form);
+    }
+    ask(set, abi, numbers, class, interface, area, stubs)
 }

@@ -1,21 +1,25 @@
--- Kind 3 beside kind 0: a chain to which `AsKindZero` speaks; and each of its premises is needed: two lists for each, in which the class is linked, all
--- premises but that one hold, and the two kinds make other tables. Assumes nothing.
+-- Kind 3 beside kind 0: a chain to which `AsKindZero` and `Throughout` speak; and each of their premises is needed: two lists for each, in which the class is
+-- linked, all premises but that one hold, and the two kinds make other tables. All calls here are by the numbers of lists, each filled from the ABI sheet and from
+-- its own class sheet (kind 3, or 0 in its stead) but in the two rows that show this to be needed. (That the lists are handed on has no row: only a generated
+-- class's link writes them, at the places of the methods that it copies and adds, and none is in a chain of kind 3.) Assumes nothing.
 use Rattle.std.proofs.Common.{◌≡◌, refl, ◌≢◌, Bool, true, false, not, ◌&&◌, ◌||◌, List, [], ◌∷◌, ℕ, arith, length, get_or, replicate, eqb, eqb-true}
 use mathlib.Core.List.{Memᴰ}
 use Rattle.words.proofs.Bools.{or-either}
 use Rattle.class_sheet.specs.ClassSheet.{text_of, class_kind, is_packaged, method_flags}
 use Rattle.linking.specs.Signature.{methods_same, by_bytes}
+use Rattle.linking.specs.Numbers.{numbers_of}
 use Rattle.linking.specs.Chain.{own_methods, chain, eligible}
 use Rattle.linking.specs.Packages.{is_public, is_protected}
 use Rattle.linking.proofs.Overriding.{same_true}
 use Rattle.linking.proofs.Assemble.{Class, flagged, built, linked_at, sized, abi, class_sheet, abi_sheet, fresh, sevens}
 use Rattle.linking.proofs.Packaged.{packaged}
 use Rattle.linking.proofs.Opened.{opened}
-use Rattle.calls.specs.Calls.{Call, link, now, later}
+use Rattle.calls.specs.Calls.{Call, link, Way, numbered, now, later}
 use Rattle.calls.specs.Demand.{table, Linked}
 use Rattle.calls.specs.KindZero.{as_built, unpackaged, Premises, SameSlots}
-use Rattle.calls.proofs.Tests.{every, every-each, implied, chain_methods, a-method, is_unlinked, unlinked-holds, targets_nonzero, nonzero_hold, targets_different, different_hold, shown}
-use Rattle.calls.proofs.KindZero.{throughout}
+use Rattle.calls.proofs.Tests.{every, every-each, implied, chain_methods, a-method, is_unlinked, unlinked-holds, targets_nonzero, nonzero_hold, targets_different, different_hold, shown, numbering}
+use Rattle.calls.proofs.RunsAgree.{filling_filled}
+use Rattle.calls.proofs.ByNumbers.{as_kind_zero, throughout}
 
 -- ---- the premises as tests, row by row as in `Premises`
 
@@ -72,7 +76,7 @@ module _ (ws : List ℕ) (c : ℕ) where
 
 -- what examples by computation open
 unfoldable beside : ℕ
-unfolding opened shown as_built unpackaged only_packaged has_open_methods once tests
+unfolding opened shown numbering as_built unpackaged only_packaged has_open_methods once tests
 beside = 0
 
 -- ---- a chain of three classes
@@ -107,23 +111,38 @@ passes : Passes sheet 3 none
 unfolding beside sheet none
 passes = record { packages = refl; open_methods = refl; once-only = refl; nonzero_targets = refl; different_targets = refl }
 
-pub linked₃ : Linked sheet none area missing calls 3 9 3
+abbrev filling₃ : List ℕ
+filling₃ = numbers_of sheet none
+
+abbrev filling₀ : List ℕ
+filling₀ = numbers_of (unpackaged sheet) none
+
+pub linked₃ : Linked (numbered filling₃) sheet none area missing calls 3 9 3
 unfolding beside sheet none
 linked₃ = later (later (now (905 ∷ 906 ∷ 907 ∷ []) refl refl refl))
 
-pub linked₀ : Linked (unpackaged sheet) none area missing calls 3 9 3
+pub linked₀ : Linked (numbered filling₀) (unpackaged sheet) none area missing calls 3 9 3
 unfolding beside sheet none
 linked₀ = later (later (now (905 ∷ 906 ∷ 907 ∷ []) refl refl refl))
 
--- the theorem speaks to it
-pub instance : (d : ℕ) → Memᴰ d (chain sheet 3) → SameSlots sheet none area area missing missing calls calls d
+-- the theorems speak to it
+
+pub instance-words : table (numbered filling₃) sheet none area missing calls 9 3
+    ≡ table (numbered filling₀) (unpackaged sheet) none area missing calls 9 3
+instance-words =
+    (as_kind_zero sheet none area area missing missing filling₃ filling₀ (filling_filled sheet none) (filling_filled (unpackaged sheet) none)
+    (unlinked-holds sheet unlinked) calls calls 3 9 3 9 3 linked₃ linked₀ (premises sheet 3 none passes)).1
+
+pub instance : (d : ℕ) → Memᴰ d (chain sheet 3)
+    → SameSlots (numbered filling₃) (numbered filling₀) sheet none area area missing missing calls calls d
 instance =
-    throughout sheet none area area missing missing (unlinked-holds sheet unlinked) calls calls 3 9 3 9 3 linked₃ linked₀ (premises sheet 3 none passes)
+    throughout sheet none area area missing missing filling₃ filling₀ (filling_filled sheet none) (filling_filled (unpackaged sheet) none)
+    (unlinked-holds sheet unlinked) calls calls 3 9 3 9 3 linked₃ linked₀ (premises sheet 3 none passes)
 
 -- and so both tables are
 pub record Three : Type 0 where
-  pub packaged : table sheet none area missing calls 9 3 ≡ 20 ∷ 31 ∷ 30 ∷ []
-  pub built : table (unpackaged sheet) none area missing calls 9 3 ≡ 20 ∷ 31 ∷ 30 ∷ []
+  pub packaged : table (numbered filling₃) sheet none area missing calls 9 3 ≡ 20 ∷ 31 ∷ 30 ∷ []
+  pub built : table (numbered filling₀) (unpackaged sheet) none area missing calls 9 3 ≡ 20 ∷ 31 ∷ 30 ∷ []
 
 pub three-classes : Three
 unfolding beside sheet none
@@ -140,17 +159,28 @@ pub record Pair : Type 0 where
   pub calls₃ : List Call
   pub calls₀ : List Call
 
+-- the lists of numbers that are filled from the sheet, and from the one with kind 0
+abbrev pub filled₃ : Pair → Way
+filled₃ x = numbered (numbers_of x.set x.sheet)
+
+abbrev pub filled₀ : Pair → Way
+filled₀ x = numbered (numbers_of (unpackaged x.set) x.sheet)
+
 -- the class is linked in both lists; of the premises, `unlinked` and the tests in the order of `Premises` are as written; and the two tables are not
 -- the same
-pub record Differs (x : Pair) (c p n q k : ℕ) (unlinked : Bool) (verdicts : List Bool) (t₃ t₀ : List ℕ) : Type 0 where
+pub record Apart (x : Pair) (way₃ way₀ : Way) (c p n q k : ℕ) (unlinked : Bool) (verdicts : List Bool) (t₃ t₀ : List ℕ) : Type 0 where
   pub start_is : is_unlinked x.set ≡ unlinked
   pub verdicts_are : tests x.set c x.sheet ≡ verdicts
-  pub linked₃ : Linked x.set x.sheet x.area₃ x.missing x.calls₃ c p n
-  pub linked₀ : Linked (unpackaged x.set) x.sheet x.area₀ x.missing x.calls₀ c q k
-  pub table₃ : table x.set x.sheet x.area₃ x.missing x.calls₃ p n ≡ t₃
-  pub table₀ : table (unpackaged x.set) x.sheet x.area₀ x.missing x.calls₀ q k ≡ t₀
+  pub linked₃ : Linked way₃ x.set x.sheet x.area₃ x.missing x.calls₃ c p n
+  pub linked₀ : Linked way₀ (unpackaged x.set) x.sheet x.area₀ x.missing x.calls₀ c q k
+  pub table₃ : table way₃ x.set x.sheet x.area₃ x.missing x.calls₃ p n ≡ t₃
+  pub table₀ : table way₀ (unpackaged x.set) x.sheet x.area₀ x.missing x.calls₀ q k ≡ t₀
   pub slot : ℕ
   pub apart : get_or t₃ slot 0 ≢ get_or t₀ slot 0
+
+-- so by lists that are filled
+abbrev pub Differs : Pair → ℕ → ℕ → ℕ → ℕ → ℕ → Bool → List Bool → List ℕ → List ℕ → Type 0
+Differs x = Apart x (filled₃ x) (filled₀ x)
 
 abbrev from : List Class → List Call → Pair
 from cs ks = record { set = class_sheet cs; sheet = abi_sheet []; area₃ = fresh 23; area₀ = fresh 23; missing = sevens (length cs); calls₃ = ks; calls₀ = ks }
@@ -208,6 +238,13 @@ same_targets =
     (packaged "A" 0 (flagged 1 "a" 3 ∷ []) ∷ packaged "B" 1 (flagged 1 "b" 3 ∷ []) ∷ packaged "C" 2 (flagged 1 "a" 1 ∷ []) ∷ [])
     (link 1 (901 ∷ []) ∷ link 2 (902 ∷ 903 ∷ []) ∷ link 3 (904 ∷ 905 ∷ 906 ∷ []) ∷ [])
 
+-- the list of numbers is filled: by zeros B's `bar` takes the slot of `foo`
+unfoldable pub two_names : Pair
+two_names = from (packaged "A" 0 (flagged 1 "foo" 10 ∷ []) ∷ packaged "B" 1 (flagged 1 "bar" 20 ∷ []) ∷ []) two
+
+abbrev pub zeros : Way
+zeros = numbered (replicate 1024 0)
+
 pub record BesideZero : Type 0 where
   pub unlinked : Differs linked_before 2 4 1 4 1 false (true ∷ true ∷ true ∷ true ∷ true ∷ []) (10 ∷ []) (11 ∷ [])
   pub packages : Differs kind_zero 1 1 1 1 1 true (false ∷ true ∷ true ∷ true ∷ true ∷ []) (901 ∷ []) (902 ∷ [])
@@ -215,6 +252,9 @@ pub record BesideZero : Type 0 where
   pub once : Differs twice 1 1 2 1 1 true (true ∷ true ∷ false ∷ true ∷ true ∷ []) (10 ∷ 11 ∷ []) (11 ∷ [])
   pub nonzero_targets : Differs zero_target 2 5 2 5 2 true (true ∷ true ∷ true ∷ false ∷ true ∷ []) (20001 ∷ 20001 ∷ []) (20001 ∷ 20000 ∷ [])
   pub different_targets : Differs same_targets 3 8 2 8 3 true (true ∷ true ∷ true ∷ true ∷ false ∷ []) (1 ∷ 3 ∷ []) (3 ∷ 3 ∷ 1 ∷ [])
+  -- kind 3's list of numbers is not, and kind 0's
+  pub filled_for₃ : Apart two_names zeros (filled₀ two_names) 2 4 1 4 2 true (true ∷ true ∷ true ∷ true ∷ true ∷ []) (20 ∷ []) (10 ∷ 20 ∷ [])
+  pub filled_for₀ : Apart two_names (filled₃ two_names) zeros 2 4 2 4 1 true (true ∷ true ∷ true ∷ true ∷ true ∷ []) (10 ∷ 20 ∷ []) (20 ∷ [])
 
 unlinked-needed : Differs linked_before 2 4 1 4 1 false (true ∷ true ∷ true ∷ true ∷ true ∷ []) (10 ∷ []) (11 ∷ [])
 unfolding beside linked_before
@@ -294,6 +334,32 @@ different-needed = record {
   apart = omega arith;
 }
 
+filled_for₃-needed : Apart two_names zeros (filled₀ two_names) 2 4 1 4 2 true (true ∷ true ∷ true ∷ true ∷ true ∷ []) (20 ∷ []) (10 ∷ 20 ∷ [])
+unfolding beside two_names
+filled_for₃-needed = record {
+  start_is = refl;
+  verdicts_are = refl;
+  linked₃ = later (now (904 ∷ 905 ∷ 906 ∷ []) refl refl refl);
+  linked₀ = later (now (904 ∷ 905 ∷ 906 ∷ []) refl refl refl);
+  table₃ = refl;
+  table₀ = refl;
+  slot = 0;
+  apart = omega arith;
+}
+
+filled_for₀-needed : Apart two_names (filled₃ two_names) zeros 2 4 2 4 1 true (true ∷ true ∷ true ∷ true ∷ true ∷ []) (10 ∷ 20 ∷ []) (20 ∷ [])
+unfolding beside two_names
+filled_for₀-needed = record {
+  start_is = refl;
+  verdicts_are = refl;
+  linked₃ = later (now (904 ∷ 905 ∷ 906 ∷ []) refl refl refl);
+  linked₀ = later (now (904 ∷ 905 ∷ 906 ∷ []) refl refl refl);
+  table₃ = refl;
+  table₀ = refl;
+  slot = 0;
+  apart = omega arith;
+}
+
 pub beside-zero : BesideZero
 beside-zero = record {
   unlinked = unlinked-needed;
@@ -302,4 +368,6 @@ beside-zero = record {
   once = once-needed;
   nonzero_targets = nonzero-needed;
   different_targets = different-needed;
+  filled_for₃ = filled_for₃-needed;
+  filled_for₀ = filled_for₀-needed;
 }

@@ -10,8 +10,8 @@ use Rattle.linking.specs.Before.{build_before, builds_methods, relays_class, ent
 use Rattle.linking.proofs.Assemble as assemble
 use Rattle.linking.proofs.Assemble.{AbiClass, Member, method, built, compiled, slot, abi, lent, fresh, stubs_of}
 use Rattle.linking.proofs.Opened.{opened}
-use Rattle.calls.specs.Calls.{Call, State, link, start, step, table_at}
-use Rattle.calls.specs.OldRun.{step_before, answers_of, answers_now, answers_before, none_clashes}
+use Rattle.calls.specs.Calls.{Call, State, link, start, step, table_at, bytewise}
+use Rattle.calls.specs.OldRun.{step_before, answers_now, answers_before, none_clashes}
 use Rattle.calls.proofs.Tests.{shown}
 
 -- ---- the last link
@@ -26,7 +26,7 @@ unfoldable pub told_in : ℕ → ℕ → assemble.Lent → (ℕ × List ℕ) × 
 told_in words n w =
     let calls : List Call = list_from (λ c. link c (stubs_of 40)) 1 n in
     let s : State = start w.set (fresh words) w.missing in
-    (ending (answers_now w.abi calls s), ending (answers_before w.abi calls s))
+    (ending (answers_now bytewise w.abi calls s), ending (answers_before w.abi calls s))
 
 abbrev told : ℕ → assemble.Lent → (ℕ × List ℕ) × (ℕ × List ℕ)
 told n w = told_in 60 n w
@@ -82,7 +82,7 @@ pub record Rows : Type 0 where
       ≡ ((15, []), (0, 7 ∷ []))
 
 pub rows : Rows
-unfolding opened build_before link_before plan_with step step_before answers_of ending told_in
+unfolding opened build_before link_before plan_with step step_before answers_now answers_before ending told_in
 rows = record {
   vanished = refl;
   nearer = refl;
@@ -103,7 +103,7 @@ rows = record {
 abbrev calm : List AbiClass → Bool
 calm sheet =
     let w : assemble.Lent = two (method "a" 5 ∷ method "b" 6 ∷ []) [] sheet in
-    none_clashes w.abi (list_from (λ c. link c (stubs_of 40)) 1 2) (start w.set (fresh 60) w.missing)
+    none_clashes bytewise w.abi (list_from (λ c. link c (stubs_of 40)) 1 2) (start w.set (fresh 60) w.missing)
 
 pub record Calm : Type 0 where
   -- P fixes a at 0, and Q b at 1; or a at 0, too

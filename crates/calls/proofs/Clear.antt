@@ -12,9 +12,9 @@ use Rattle.words.proofs.Bools.{by}
 use Rattle.class_sheet.specs.ClassSheet.{class_count}
 use Rattle.linking.specs.Chain.{chain}
 use Rattle.linking.specs.Before.{link_clashes}
-use Rattle.calls.specs.Calls.{Call, link, ask, State, start, step}
+use Rattle.calls.specs.Calls.{Call, link, ask, bytewise, State, start, step}
 use Rattle.calls.specs.OldRun.{step_before, clashes}
-use Rattle.calls.specs.Elsewhere.{Comes, now, later, Clashing, Clear}
+use Rattle.calls.proofs.Comes.{Comes, now, later, Clashing, Clear}
 
 -- a link of c in the list meets a clash in either run
 pub record Meets (abi : List ℕ) (c : ℕ) (s t : State) (ks : List Call) : Type 0 where
@@ -57,7 +57,7 @@ module _ (abi : List ℕ) (c : ℕ) where
       (λ q. inr (λ h. eqb-false d c q (ap linked h.is)))
   here? s t (ask d i stubs) = inr (λ h. true≢false (sym (ap is_link h.is)))
 
-  later_meets : (s t : State) (k : Call) (ks : List Call) → Meets abi c (step abi s k) (step_before abi t k) ks → Meets abi c s t (k ∷ ks)
+  later_meets : (s t : State) (k : Call) (ks : List Call) → Meets abi c (step bytewise abi s k) (step_before abi t k) ks → Meets abi c s t (k ∷ ks)
   later_meets s t k ks m = record { stubs = m.stubs; state = m.state; before = m.before; comes = later m.comes; clash = m.clash }
 
   now_meets : (s t : State) (k : Call) (ks : List Call) → Here s t k → Meets abi c s t (k ∷ ks)
@@ -72,7 +72,8 @@ module _ (abi : List ℕ) (c : ℕ) where
   comes-some (later d) = refl
 
   split : {stubs : List ℕ} {u v s t : State} {k : Call} {ks : List Call} → Comes abi (link c stubs) u v s t (k ∷ ks)
-      → (clashes abi u (link c stubs) ≡ true) ⊎ (clashes abi v (link c stubs) ≡ true) → Here s t k ⊎ Meets abi c (step abi s k) (step_before abi t k) ks
+      → (clashes abi u (link c stubs) ≡ true) ⊎ (clashes abi v (link c stubs) ≡ true)
+      → Here s t k ⊎ Meets abi c (step bytewise abi s k) (step_before abi t k) ks
   split {stubs} now x = inl (record { stubs = stubs; is = refl; clash = x })
   split {stubs} {u} {v} (later d) x = inr (record { stubs = stubs; state = u; before = v; comes = d; clash = x })
 
@@ -82,7 +83,7 @@ module _ (abi : List ℕ) (c : ℕ) where
       elim (here? s t k) [
         | inl h ↦ inl (now_meets s t k ks h)
         | inr n ↦
-            elim (meets? ks (step abi s k) (step_before abi t k)) [
+            elim (meets? ks (step bytewise abi s k) (step_before abi t k)) [
               | inl m ↦ inl (later_meets s t k ks m)
               | inr r ↦ inr (λ m. elim (split m.comes m.clash) [ inl h ↦ n h | inr q ↦ r q ])
             ]

@@ -7,12 +7,12 @@ use borrow.Author.Tests.{eqb-false}
 use Rattle.words.specs.Lists.{fold, some}
 use Rattle.words.proofs.Bools.{by}
 use Rattle.words.proofs.ListLaws.{by-found, some-append, not_found}
-use Rattle.linking.specs.Signature.{Same, Place, by_bytes}
+use Rattle.linking.specs.Signature.{Same, Place, by_bytes, by_numbers}
 use Rattle.linking.specs.Chain.{on_found, is_eligible}
 use Rattle.linking.specs.Vtable.{Entry, empty, parent_entries}
 use Rattle.linking.specs.Compiler.{Taken, place_of, native_view, compiler_targets, added_methods, name_of, flags_of, target_of, class_methods, compiler_entry, compiler_entries, same_signature, has_slot, append_from, append_entry, compiler_table}
 use Rattle.calls.specs.Sources.{Copies, Sources}
-use Rattle.linking.proofs.Comparing.{Compares, bytes_compare}
+use Rattle.linking.proofs.Comparing.{Compares, bytes_compare, numbers_compare}
 use Rattle.slots.proofs.ListFacts.{found-same}
 use Rattle.calls.proofs.Sources.{all-at, read-parent, table-built}
 use Rattle.calls.proofs.RelayedCopies.{table-copied, table-ordered}
@@ -280,4 +280,7 @@ module _ (same : Same) (compares : Compares same) (ws text abi labels area : Lis
   }
 
 pub sources : Sources
-sources ws text abi labels area c = copies (by_bytes ws text abi labels) (bytes_compare ws text abi labels) ws text abi labels area c
+sources = record {
+  bytewise = λ ws text abi labels. copies (by_bytes ws text abi labels) (bytes_compare ws text abi labels) ws text abi labels;
+  numbered = λ ns. copies (by_numbers ns) (numbers_compare ns);
+}

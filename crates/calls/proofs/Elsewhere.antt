@@ -32,10 +32,11 @@ use Rattle.linking.proofs.RenumberedPackages.{Held}
 use Rattle.linking.proofs.Rows.{sound}
 use Rattle.slots.proofs.ChainFacts.{chain-here}
 use Rattle.linking.proofs.Overriding.{chain-of-chain}
-use Rattle.calls.specs.Calls.{Call, link, ask, State, outcome, start, step, Unlinked}
+use Rattle.calls.specs.Calls.{Call, link, ask, bytewise, State, outcome, start, step, Unlinked}
 use Rattle.calls.specs.OldRun.{outcome_before, step_before, clashes}
 use Rattle.calls.specs.Kept.{built_afresh}
-use Rattle.calls.specs.Elsewhere.{Comes, now, later, AllRoomy, SameAnswer, Made, Clear, IsElsewhere, Roomy}
+use Rattle.calls.specs.Elsewhere.{Roomy}
+use Rattle.calls.proofs.Comes.{Comes, now, later, AllRoomy, SameAnswer, Made, Clear, IsElsewhere}
 use Rattle.calls.proofs.Rows.{ask-classes, ClassOk, class-ok, ask-cases}
 use Rattle.calls.proofs.Beside.{Sets, placed-keeps, same-chain}
 use Rattle.calls.proofs.Dispatch.{built-size, dispatch_refused}
@@ -262,7 +263,7 @@ module _ (ws abi area missing : List ℕ) (calls : List Call) where
 
   pub before_here : (k : Call) (s t : State) → Made ws abi area missing calls k s t → IsElsewhere ws abi area missing calls k
       → class_count t.set ≡ class_count ws
-      → outcome_before abi t k ≡ outcome abi t k
+      → outcome_before abi t k ≡ outcome bytewise abi t k
   before_here (link c stubs) s t made calm same =
       sym (ap (λ (o : LinkOutcome). o.outcome)
       (link_as_before t.set abi t.area c stubs t.missing (calm-link c stubs s t made (calm c (Memᴰ.head refl)) same)))
@@ -272,7 +273,7 @@ module _ (ws abi area missing : List ℕ) (calls : List Call) where
   pub link-answer : (c : ℕ) (stubs : List ℕ) (s t : State) → Made ws abi area missing calls (link c stubs) s t
       → IsElsewhere ws abi area missing calls (link c stubs)
       → class_count t.set ≡ class_count ws → Related abi (Clear ws abi area missing calls) s t
-      → Roomy (outcome abi s (link c stubs)) → Roomy (outcome_before abi t (link c stubs)) → SameAnswer abi (link c stubs) s t
+      → Roomy (outcome bytewise abi s (link c stubs)) → Roomy (outcome_before abi t (link c stubs)) → SameAnswer abi (link c stubs) s t
   link-answer c stubs s t made calm same rel room room' =
       let e = before_here (link c stubs) s t made calm same in
       let r = link-same abi (Clear ws abi area missing calls) s t rel c stubs (calm c (Memᴰ.head refl)) room (rw e at room') in
@@ -286,7 +287,7 @@ module _ (ws abi area missing : List ℕ) (calls : List Call) where
   -- an ask elsewhere
   pub ask-answer : (c i : ℕ) (stubs : List ℕ) (s t : State) → IsElsewhere ws abi area missing calls (ask c i stubs)
       → Related abi (Clear ws abi area missing calls) s t
-      → Roomy (outcome abi s (ask c i stubs)) → Roomy (outcome_before abi t (ask c i stubs)) → SameAnswer abi (ask c i stubs) s t
+      → Roomy (outcome bytewise abi s (ask c i stubs)) → Roomy (outcome_before abi t (ask c i stubs)) → SameAnswer abi (ask c i stubs) s t
   ask-answer c i stubs s t calm rel room room' =
       let r = ask-same abi (Clear ws abi area missing calls) s t rel c i stubs (calm c (Memᴰ.head refl)) (calm i (Memᴰ.tail (Memᴰ.head refl))) room room' in
       let a = ask-set s.set abi c i s.area stubs in
@@ -301,7 +302,7 @@ module _ (ws abi area missing : List ℕ) (calls : List Call) where
 
   -- every call elsewhere, in related states
   pub answer : (k : Call) (s t : State) → Made ws abi area missing calls k s t → IsElsewhere ws abi area missing calls k → class_count t.set ≡ class_count ws
-      → Related abi (Clear ws abi area missing calls) s t → Roomy (outcome abi s k) → Roomy (outcome_before abi t k) → SameAnswer abi k s t
+      → Related abi (Clear ws abi area missing calls) s t → Roomy (outcome bytewise abi s k) → Roomy (outcome_before abi t k) → SameAnswer abi k s t
   answer (link c stubs) s t made calm same rel room room' = link-answer c stubs s t made calm same rel room room'
   answer (ask c i stubs) s t made calm same rel room room' = ask-answer c i stubs s t calm rel room room'
 
@@ -313,13 +314,13 @@ module _ (ws abi area missing : List ℕ) (calls : List Call) where
     pub layout : Layout s
     pub layout' : Layout t
 
-  module _ (next : (k : Call) (s t : State) → Made ws abi area missing calls k s t → InStep s t → InStep (step abi s k) (step_before abi t k)) where
+  module _ (next : (k : Call) (s t : State) → Made ws abi area missing calls k s t → InStep s t → InStep (step bytewise abi s k) (step_before abi t k)) where
     along : (ks : List Call) (s' t' : State) → ((k : Call) (s t : State) → Comes abi k s t s' t' ks → Made ws abi area missing calls k s t) → InStep s' t'
         → (k : Call) (s t : State) → Comes abi k s t s' t' ks → InStep s t
     along [] s' t' lift r k s t c = elim c [ ]
     along (j ∷ ks) s' t' lift r k s t now = r
     along (j ∷ ks) s' t' lift r k s t (later d) =
-        along ks (step abi s' j) (step_before abi t' j) (λ k s t e. lift k s t (later e)) (next j s' t' (lift j s' t' now) r) k s t d
+        along ks (step bytewise abi s' j) (step_before abi t' j) (λ k s t e. lift k s t (later e)) (next j s' t' (lift j s' t' now) r) k s t d
 
     -- theorem 6 of a list, from the start in step and one call
     pub elsewhere-by : InStep (start ws area missing) (start ws area missing) → AllRoomy ws abi area missing calls → (k : Call) (s t : State)

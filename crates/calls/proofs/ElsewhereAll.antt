@@ -19,10 +19,11 @@ use Rattle.linking.specs.Ask.{ask_def}
 use Rattle.linking.proofs.Plans.{planned-same, not-planned}
 use Rattle.linking.proofs.PlansWith.{plans_with}
 use Rattle.linking.proofs.Rows.{sound}
-use Rattle.calls.specs.Calls.{Call, link, ask, State, step}
-use Rattle.calls.specs.OldRun.{step_before}
-use Rattle.calls.specs.Elsewhere.{takes, Made, Clear, IsElsewhere, AllRoomy, Elsewhere}
+use Rattle.calls.specs.Calls.{Call, link, ask, bytewise, State, step, left, ByBytes}
+use Rattle.calls.specs.OldRun.{step_before, left_before}
+use Rattle.calls.specs.Elsewhere.{takes, ElsewhereBy}
 use Rattle.matching.proofs.Stays.{plan-stands}
+use Rattle.calls.proofs.Comes.{Made, Clear, IsElsewhere, AllRoomy, made-after, elsewhere_made, roomy_made}
 use Rattle.calls.proofs.BesideLink.{SamePlan, SamePlanned, both-planned, both-unplanned, plan-same}
 use Rattle.calls.proofs.Area.{linked-free}
 use Rattle.calls.proofs.Wrote.{plan_from, Wrote, with_cases, wrote_after}
@@ -60,7 +61,7 @@ layout-moved s lay u p q =
 
 module _ (abi : List ℕ) (E : ℕ → Type 0) where
   step-link : (s : State) (c : ℕ) (stubs : List ℕ)
-      → step abi s (link c stubs) ≡ left_by abi E (link_built abi E s c stubs (made_now abi s c))
+      → step bytewise abi s (link c stubs) ≡ left_by abi E (link_built abi E s c stubs (made_now abi s c))
   unfolding step
   step-link s c stubs = ap (left_by abi E) (link-is abi E s c stubs)
 
@@ -69,7 +70,7 @@ module _ (abi : List ℕ) (E : ℕ → Type 0) where
   unfolding step_before link_before
   before-link s c stubs = refl
 
-  step-ask : (s : State) (c i : ℕ) (stubs : List ℕ) → step abi s (ask c i stubs) ≡ put_in s (ask_def s.set abi c i s.area stubs)
+  step-ask : (s : State) (c i : ℕ) (stubs : List ℕ) → step bytewise abi s (ask c i stubs) ≡ put_in s (ask_def s.set abi c i s.area stubs)
   unfolding step
   step-ask s c i stubs = rw (ask-set s.set abi c i s.area stubs) refl
 
@@ -139,7 +140,7 @@ module _ (ws abi area missing : List ℕ) (calls : List Call) (roomy : AllRoomy 
     is-elsewhere : IsElsewhere ws abi area missing calls (link c stubs)
     is-elsewhere d i = elim (Memᴰ.cases_cons i) [ inl e ↦ rw e calm | inr j ↦ absurd (Memᴰ.not-nil j) ]
 
-    as_before : step_before abi t (link c stubs) ≡ step abi t (link c stubs)
+    as_before : step_before abi t (link c stubs) ≡ step bytewise abi t (link c stubs)
     as_before = sym (step_as_before abi t (link c stubs) (calm-link ws abi area missing calls c stubs s t made calm r.classes))
 
     took : takes s.area (link_built abi E s c stubs (now s c)).outcome ≡ takes t.area (link_built abi E t c stubs (now t c)).outcome
@@ -160,7 +161,7 @@ module _ (ws abi area missing : List ℕ) (calls : List Call) (roomy : AllRoomy 
         (above-held abi E s t r.related c calm w.class))
         w.comes w'.comes
 
-    link-kept : Related abi E (step abi s (link c stubs)) (step abi t (link c stubs))
+    link-kept : Related abi E (step bytewise abi s (link c stubs)) (step bytewise abi t (link c stubs))
     link-kept =
         let o : LinkOutcome = link_built abi E s c stubs (now s c) in
         let o' : LinkOutcome = link_built abi E t c stubs (now t c) in
@@ -185,7 +186,7 @@ module _ (ws abi area missing : List ℕ) (calls : List Call) (roomy : AllRoomy 
   -- ---- any link
 
   link-step : (c : ℕ) (stubs : List ℕ) (s t : State) → Made ws abi area missing calls (link c stubs) s t → InStep ws abi area missing calls s t
-      → InStep ws abi area missing calls (step abi s (link c stubs)) (step_before abi t (link c stubs))
+      → InStep ws abi area missing calls (step bytewise abi s (link c stubs)) (step_before abi t (link c stubs))
   link-step c stubs s t made r =
       let rel = r.related in
       record {
@@ -262,7 +263,7 @@ module _ (ws abi area missing : List ℕ) (calls : List Call) (roomy : AllRoomy 
           | inr n ↦ apart (λ x y. n x)
         ]
 
-    ask-step : InStep ws abi area missing calls (step abi s (ask c i stubs)) (step_before abi t (ask c i stubs))
+    ask-step : InStep ws abi area missing calls (step bytewise abi s (ask c i stubs)) (step_before abi t (ask c i stubs))
     ask-step = record {
       related = rw (step-ask abi E s c i stubs, before-ask abi E t c i stubs) ask-related;
       classes = rw (before-ask abi E t c i stubs) r.classes;
@@ -271,11 +272,13 @@ module _ (ws abi area missing : List ℕ) (calls : List Call) (roomy : AllRoomy 
     }
 
   next : (k : Call) (s t : State) → Made ws abi area missing calls k s t → InStep ws abi area missing calls s t
-      → InStep ws abi area missing calls (step abi s k) (step_before abi t k)
+      → InStep ws abi area missing calls (step bytewise abi s k) (step_before abi t k)
   next (link c stubs) s t made r = link-step c stubs s t made r
   next (ask c i stubs) s t made r = ask-step c i stubs s t made r
 
--- THE THEOREM
-pub elsewhere : Elsewhere
-elsewhere ws abi area missing none calls roomy k s t made calm =
-    elsewhere-from ws abi area missing none calls (next ws abi area missing calls roomy) roomy k s t made calm
+-- THE THEOREM, by bytes
+pub elsewhere_by_bytes : ByBytes ElsewhereBy
+elsewhere_by_bytes ws abi area missing none calls roomy front back k e calm =
+    let made = roomy_made ws abi area missing calls roomy in
+    elsewhere-from ws abi area missing none calls (next ws abi area missing calls made) made k (left bytewise ws abi area missing front)
+    (left_before ws abi area missing front) (made-after ws abi area missing calls front back k e) (elsewhere_made ws abi area missing calls k calm)

@@ -12,9 +12,10 @@ use Rattle.set_rules.specs.SetRules.{set_refusal}
 use Rattle.linking.specs.Before.{reaches_table, link_clashes}
 use Rattle.linking.specs.Link.{bad_class, bad_area, Outcome, LinkOutcome, refused_link, link_def, link_by}
 use Rattle.linking.specs.Ask.{bad_ask, ask_def, ask_by}
-use Rattle.calls.specs.Calls.{Call, link, ask, State, outcome, start, step, Unlinked, table_at}
+use Rattle.calls.specs.Calls.{Call, link, ask, bytewise, State, outcome, start, step, Unlinked, table_at}
 use Rattle.calls.specs.OldRun.{outcome_before, step_before, clashes}
-use Rattle.calls.specs.Elsewhere.{Comes, now, later, slots_of, takes, SameAnswer, Made, IsElsewhere, AllRoomy}
+use Rattle.calls.specs.Elsewhere.{slots_of, takes}
+use Rattle.calls.proofs.Comes.{Comes, now, later, SameAnswer, Made, IsElsewhere, AllRoomy}
 use Rattle.calls.proofs.OldRun.{outcome_as_before, step_as_before}
 use Rattle.calls.proofs.Elsewhere.{ask-set, InStep, elsewhere-by, start_in_step}
 
@@ -57,10 +58,10 @@ module _ (abi : List ℕ) (b : State) (bad : (set_refusal b.set abi ≢ 0) ⊎ (
   never-clashes (link c stubs) = no_clash c
   never-clashes (ask c i stubs) = refl
 
-  same_outcome : (k : Call) → outcome abi b k ≡ outcome_before abi b k
+  same_outcome : (k : Call) → outcome bytewise abi b k ≡ outcome_before abi b k
   same_outcome k = outcome_as_before abi b k (never-clashes k)
 
-  step_stuck : (k : Call) → step abi b k ≡ b
+  step_stuck : (k : Call) → step bytewise abi b k ≡ b
   unfolding step
   step_stuck (link c stubs) =
       ap (λ (o : LinkOutcome). record { set = o.outcome.set; area = o.outcome.area; missing = o.missing }) (link_stuck c stubs).1
@@ -92,7 +93,7 @@ module _ (abi : List ℕ) (b : State) (bad : (set_refusal b.set abi ≢ 0) ⊎ (
 -- theorem 6, from one call: whatever the start
 pub elsewhere-from : (ws abi area missing : List ℕ) → Unlinked ws → (calls : List Call)
     → ((k : Call) (s t : State) → Made ws abi area missing calls k s t → InStep ws abi area missing calls s t
-    → InStep ws abi area missing calls (step abi s k) (step_before abi t k))
+    → InStep ws abi area missing calls (step bytewise abi s k) (step_before abi t k))
     → AllRoomy ws abi area missing calls → (k : Call) (s t : State) → Made ws abi area missing calls k s t
     → IsElsewhere ws abi area missing calls k → SameAnswer abi k s t
 elsewhere-from ws abi area missing none calls next roomy k s t made calm =

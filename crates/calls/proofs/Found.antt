@@ -1,5 +1,6 @@
--- A node on a class's list is what an ask for its interface answers (specs/Kept.antt): no row refuses the ask, and its walk ends at the node, as no other
--- has the interface. Row 7 stays silent because every accepted call leaves an area that it does not refuse. Assumes nothing.
+-- A node on a class's list is what an ask for its interface answers (specs/Kept.antt), however the calls compare signatures: no row refuses the ask, and its
+-- walk ends at the node, as no other has the interface. Row 7 stays silent because every accepted call leaves an area that it does not refuse, and row 3
+-- takes the list of numbers, as it did where a class was linked. Assumes nothing.
 use mathlib.Core.Path.{◌≡◌, refl, sym, ap, ◌∙◌, subst}
 use mathlib.Core.Logic.{inl, inr}
 use mathlib.Core.Bool.{false}
@@ -13,22 +14,16 @@ use borrow.Author.Tests.{eqb-true, eqb-false, eq-eqb, ne_eqb, lt-leb, le-ltb}
 use Rattle.words.proofs.Bools.{by}
 use Rattle.class_sheet.specs.ClassSheet.{class_count, class_table_place}
 use Rattle.set_rules.specs.SetRules.{set_refusal}
-use Rattle.linking.specs.Vtable.{Built}
-use Rattle.linking.specs.Link.{HasTable, no_class, next_free, bad_area, Outcome, LinkOutcome}
-use Rattle.linking.specs.Ask.{Walk, hit, walk, bad_ask, ask_def, ask_by}
+use Rattle.linking.specs.Link.{HasTable, no_class, next_free, bad_area, Outcome}
+use Rattle.linking.specs.Ask.{Walk, hit, walk, bad_ask, ask_by}
 use Rattle.slots.proofs.ListFacts.{in_none}
-use Rattle.calls.specs.Calls.{Call, link, ask, State, start, step, run, left}
+use Rattle.calls.specs.Calls.{Call, link, ask, Way, numbered, bytewise, State, start, outcome, numbers_left, numbers_run, way_after, way_run, step, run, left, way_left}
 use Rattle.calls.specs.Kept.{head_of, interface_at, Spells, OnList, Different, Found, FoundAgain}
-use Rattle.calls.proofs.Rows.{ask-cases}
-use Rattle.calls.proofs.Wrote.{plan_from, with_cases, wrote_sound}
-use Rattle.calls.proofs.ElsewhereNext.{made_now, link_built, left_by, link-is}
-use Rattle.calls.proofs.Puts.{put-sound}
-use Rattle.calls.proofs.Tables.{Tables, none-linked, ask-next, same-state}
-use Rattle.calls.proofs.Nodes.{Nodes, Stands, stands-start, step-stands, run-stands}
+use Rattle.calls.proofs.Ways.{link-ends, ask-leaves, Long, ask-is, accepted-long, still-long}
+use Rattle.calls.proofs.Tables.{none-linked}
 use Rattle.calls.proofs.Walk.{spells_one}
-use Rattle.calls.proofs.Kept.{few, lends_any}
-use Rattle.calls.proofs.Stays.{stays-accepted}
-use Rattle.calls.proofs.Missing.{start-accepted}
+use Rattle.calls.proofs.NodeLists.{Listed}
+use Rattle.calls.proofs.Kept.{few, left-stands}
 
 -- ---- the walk
 
@@ -75,52 +70,37 @@ module _ (area : List ℕ) (i : ℕ) where
             }
       ])
 
--- ---- row 7
+-- ---- row 3's clause on the list of numbers: where a class is linked, it is long enough
 
--- where a class is linked, row 7 passes the area
-abbrev Sits : State → Type 0
-Sits s = (c : ℕ) → HasTable s.set c → bad_area s.set s.area ≡ false
+abbrev Ready : Way → State → Type 0
+Ready way s = (c : ℕ) → HasTable s.set c → Long way
 
-abbrev Any : ℕ → Type 0
-Any c = Unit {0}
+step-ready : (way : Way) (abi : List ℕ) (s : State) → Ready way s → (k : Call) → Ready (way_after way abi s k) (step way abi s k)
+unfolding step
+step-ready way abi s h (link c stubs) d l =
+    elim (link-ends way abi s c stubs) [
+      | inl r ↦ still-long way abi s (link c stubs) (h d (subst (λ (x : List ℕ). HasTable x d) r.same_set l))
+      | inr a ↦ still-long way abi s (link c stubs) (accepted-long way abi s c stubs a.number)
+    ]
+step-ready way abi s h (ask c i stubs) d l =
+    still-long way abi s (ask c i stubs) (h d (subst (λ (x : List ℕ). HasTable x d) (ask-leaves way abi s c i stubs) l))
 
-module _ (abi : List ℕ) (s : State) where
-  step-sits : Tables s → Sits s → (k : Call) → Sits (step abi s k)
-  unfolding step
-  step-sits tables h (link c stubs) =
-      let B : Built = made_now abi s c in
-      let o : LinkOutcome = link_built abi Any s c stubs B in
-      subst (λ (x : LinkOutcome). Sits (left_by abi Any x)) (sym (link-is abi Any s c stubs))
-      (elim (with_cases s.set abi c s.area stubs s.missing (plan_from s.set abi s.area B c)) [
-        | inl u ↦ (λ d l.
-            let k : HasTable s.set d = subst (λ (x : List ℕ). HasTable x d) u.same_set l in
-            rw (u.same_set, u.same_area) (h d k))
-        | inr w ↦ (λ d l. wrote_sound s.set abi c s.area stubs B o.outcome w)
-      ])
-  step-sits tables h (ask c i stubs) =
-      let o : Outcome = ask_def s.set abi c i s.area stubs in
-      elim (ask-cases s.set abi c i s.area stubs) [
-        | inl r ↦ subst Sits (sym (same-state s o.set o.area s.missing r.same_set r.same_area refl)) h
-        | inr a ↦ subst Sits (sym (ask-next abi s tables c i stubs o a)) (λ d l. put-sound abi s c i stubs o a)
-      ]
-
-abbrev Whatever : List ℕ → Type 0
-Whatever x = Unit {0}
-
-run-sits : (abi : List ℕ) {n : ℕ} (ks : List Call) (s : State) → Stands abi Whatever n s → Sits s → Sits (run abi ks s)
-unfolding run
-run-sits abi [] s t h = h
-run-sits abi (k ∷ ks) s t h = run-sits abi ks (step abi s k) (step-stands abi Whatever s t k tt) (step-sits abi s t.tables h k)
+run-ready : (way : Way) (abi : List ℕ) (ks : List Call) (s : State) → Ready way s → Ready (way_run way abi ks s) (run way abi ks s)
+unfolding run numbers_run
+run-ready (numbered ns) abi [] s h = h
+run-ready (numbered ns) abi (k ∷ ks) s h =
+    run-ready (numbered (numbers_left ns abi s k)) abi ks (step (numbered ns) abi s k) (step-ready (numbered ns) abi s h k)
+run-ready bytewise abi ks s h = λ c l. tt
 
 -- ---- the ask
 
-module _ (abi : List ℕ) (s : State) (valid : set_refusal s.set abi ≡ 0) (sits : Sits s) (c i node : ℕ) (l : HasTable s.set c)
-    (ns : Nodes abi Whatever s c) (limit : class_count s.set ≤ 64) (on : OnList s c i node) (stubs : List ℕ) where
+module _ (way : Way) (abi : List ℕ) (s : State) (valid : set_refusal s.set abi ≡ 0) (long : Long way) (sits : bad_area s.set s.area ≡ false)
+    (c i node : ℕ) (l : HasTable s.set c) (ns : Listed s c) (limit : class_count s.set ≤ 64) (on : OnList s c i node) (stubs : List ℕ) where
   here : Memᴰ node ns.places
-  here = let e = spells_one s.area on.places ns.places (head_of s c) on.spelt ns.list.spelt in rw e at on.along
+  here = let e = spells_one s.area on.places ns.places (head_of s c) on.spelt ns.nodes.spelt in rw e at on.along
 
   interface : HasTable s.set i
-  interface = subst (λ (j : ℕ). HasTable s.set j) on.of (ns.each node here).right.interface
+  interface = subst (λ (j : ℕ). HasTable s.set j) on.of (ns.nodes.each node here).interface
 
   asks : bad_ask s.set c i ≡ false
   unfolding bad_ask no_class
@@ -137,33 +117,32 @@ module _ (abi : List ℕ) (s : State) (valid : set_refusal s.set abi ≡ 0) (sit
 
   reached : Reached ns.places node 0 (walk s.area i 64 0 (head_of s c))
   reached =
-      let f = few abi Whatever s c ns in
-      finds s.area i ns.places 64 0 (head_of s c) node ns.list.spelt (omega arith) (λ n j. omega (arith, (ns.list.each n j).below)) ns.list.different here on.of
+      let f = few way abi s c ns in
+      finds s.area i ns.places 64 0 (head_of s c) node ns.nodes.spelt (omega arith) (λ n j. omega (arith, (ns.nodes.each n j).below)) ns.nodes.different here on.of
 
-  found : Found abi s c i node stubs
-  unfolding ask_def ask_by
+  answer : outcome way abi s (ask c i stubs)
+      ≡ record { refusal = 0; first = node + 1; second = 0 + length reached.front + 1; set = s.set; area = s.area }
+  unfolding ask_by
+  answer =
+      ask-is way abi s long c i stubs ∙ rw (eq-eqb (set_refusal s.set abi) 0 valid, asks, sits, reached.walks) refl
+
+  found : Found way abi s c i node stubs
   found =
-      let v = eq-eqb (set_refusal s.set abi) 0 valid in
-      let a = sits c l in
-      let r = reached in
-      let w = r.walks in
+      let e = answer in
       record {
-        front = r.front;
-        back = r.back;
-        spelt = subst (Spells s.area (head_of s c)) r.split ns.list.spelt;
-        accepted = rw (v, asks, a, w) refl;
-        place = rw (v, asks, a, w) refl;
-        nodes = rw (v, asks, a, w) (omega arith);
-        same_set = rw (v, asks, a, w) refl;
-        same_area = rw (v, asks, a, w) refl;
+        front = reached.front;
+        back = reached.back;
+        spelt = subst (Spells s.area (head_of s c)) reached.split ns.nodes.spelt;
+        accepted = ap (λ (o : Outcome). o.refusal) e;
+        place = ap (λ (o : Outcome). o.first) e;
+        nodes = ap (λ (o : Outcome). o.second) e ∙ omega arith;
+        same_set = ap (λ (o : Outcome). o.set) e;
+        same_area = ap (λ (o : Outcome). o.area) e;
       }
 
 pub found-again : FoundAgain
-found-again ws abi area missing unlinked calls c i node l on stubs =
-    let s : State = left ws abi area missing calls in
-    let begin = stands-start abi Whatever ws area missing unlinked in
-    let t = run-stands abi Whatever calls (start ws area missing) begin (lends_any abi calls) in
-    let e : set_refusal s.set abi ≡ 0 =
-    stays-accepted.calls_leave abi calls (start ws area missing) (start-accepted ws abi area missing unlinked calls c l) in
-    found abi s e (run-sits abi calls (start ws area missing) begin (λ d k. absurd (none-linked unlinked k))) c i node l (t.lists c l)
-    (omega (arith, t.classes, t.limit c l)) on stubs
+found-again way ws abi area missing unlinked calls c i node l on stubs =
+    let s : State = left way ws abi area missing calls in
+    let t = left-stands way ws abi area missing unlinked calls in
+    let long = run-ready way abi calls (start ws area missing) (λ d k. absurd (none-linked unlinked k)) c l in
+    found (way_left way ws abi area missing calls) abi s (t.valid c l) long (t.sits c l) c i node l (t.lists c l) (omega (arith, t.classes, t.limit c l)) on stubs

@@ -1,8 +1,9 @@
--- A KEPT INTERFACE TABLE IS STILL THE RIGHT ONE (specs/Kept.antt), from what holds after every list of calls (Nodes.antt). Assumes nothing.
-use mathlib.Core.Path.{◌≡◌, refl, sym, ap, ◌∙◌, subst}
+-- A KEPT INTERFACE TABLE IS STILL THE RIGHT ONE (specs/Kept.antt), from what holds after every list of calls (Nodes.antt): the form of a class's
+-- list and the nodes read, however the calls compare signatures; the tables' rightness, by bytes. Assumes nothing.
+use mathlib.Core.Path.{◌≡◌, refl, sym, ap, ◌∙◌}
 use mathlib.Core.Logic.{◌⊎◌, inl, inr, ◌≢◌}
 use mathlib.Core.Bool.{true, false}
-use mathlib.Core.List.{List, [], ◌∷◌}
+use mathlib.Core.List.{List, []}
 use Prim.Native.Nat.{ℕ, ◌+◌, ◌-◌, ◌≤◌, ◌<◌}
 use native.Mathlib.Omega.{arith}
 use lib.ListN.{length, get_or, length-set}
@@ -23,84 +24,72 @@ use Rattle.linking.specs.Ask.{missed, broken, walk, head_place, build_node, bad_
 use Rattle.linking.proofs.Plans.{built-same}
 use Rattle.linking.proofs.Rows.{Sound, sound}
 use Rattle.slots.proofs.ListFacts.{in_none}
-use Rattle.calls.specs.Calls.{left, Call, ask, State, start, outcome, step, run, Unlinked, table_at}
-use Rattle.calls.specs.Kept.{SameStubs, head_of, Once, built_afresh, Right, answered, without_list, Full, BuildsSame, AskedIn, asked_now, asked_later, OnceOnly, KeptTables, NodesBound, KeptAnswers, AskedAfresh, AsAsked}
+use Rattle.calls.specs.Calls.{left, way_left, Call, ask, Way, bytewise, way_after, ByBytes, State, start, outcome, step, run, Unlinked, table_at}
+use Rattle.calls.specs.Kept.{head_of, Once, built_afresh, AllRight, answered, without_list, Full, BuildsSame, AskedIn, asked_now, asked_later, TablesBy, AnswersBy, AfreshBy, OnceOnly, NodesBound}
 use Rattle.calls.proofs.Area.{asked-slots}
 use Rattle.calls.proofs.Like.{like-same}
 use Rattle.calls.proofs.Like as like
 use Rattle.calls.proofs.Dispatch.{built-size, built_alike}
 use Rattle.calls.proofs.Rows.{Hits, PutsNode, ask-cases}
-use Rattle.calls.proofs.Walk.{ended, missed-all, hit-one, spells_one}
+use Rattle.calls.proofs.Ways.{ask-ends}
+use Rattle.calls.proofs.Tables.{none-linked}
+use Rattle.calls.proofs.Walk.{ended, missed-all, hit-one}
+use Rattle.calls.proofs.NodeLists.{Listed}
 use Rattle.calls.proofs.NodeLists as laid
-use Rattle.calls.proofs.Nodes.{Nodes, Stands, stands-start, step-stands, StillOn, answered-on, Lends, run-stands, run_on}
+use Rattle.calls.proofs.Nodes.{Stands, stands-start, step-stands, run-stands, StillOn, answered-on, run_on, run-right}
 
 -- ---- the nodes of a list are no more than the classes
 
-module _ (abi : List ℕ) (L : List ℕ → Type 0) (s : State) (c : ℕ) (ns : Nodes abi L s c) where
+module _ (way : Way) (abi : List ℕ) (s : State) (c : ℕ) (ns : Listed s c) where
   pub few : length ns.places ≤ class_count s.set
-  few = laid.few s.set s.area ns.list
+  few = laid.few s.set s.area ns.nodes
 
-  read : (i : ℕ) (stubs : List ℕ) → (outcome abi s (ask c i stubs)).refusal ≡ 0 → (outcome abi s (ask c i stubs)).second ≤ class_count s.set
+  read : (i : ℕ) (stubs : List ℕ) → (outcome way abi s (ask c i stubs)).refusal ≡ 0 → (outcome way abi s (ask c i stubs)).second ≤ class_count s.set
   read i stubs e =
       let f = few in
-      elim (ask-cases s.set abi c i s.area stubs) [
+      elim (ask-ends way abi s c i stubs) [
         | inl r ↦
             let h = r.hits e in
-            let k = (hit-one s.area i ns.places 64 0 (head_of s c) h.node h.nodes ns.list.spelt h.walks).2 in
+            let k = (hit-one s.area i ns.places 64 0 (head_of s c) h.node h.nodes ns.nodes.spelt h.walks).2 in
             rw h.answers-nodes (omega arith)
         | inr a ↦
-            let k = (missed-all s.area i ns.places 64 0 (head_of s c) a.nodes ns.list.spelt a.walks).1 in
+            let k = (missed-all s.area i ns.places 64 0 (head_of s c) a.nodes ns.nodes.spelt a.walks).1 in
             rw a.answers-nodes (omega arith)
       ]
 
   sound-list : class_count s.set ≤ 64 → (i : ℕ) → walk s.area i 64 0 (head_of s c) ≢ broken
   sound-list h i =
       let f = few in
-      laid.sound-list s.set s.area i 64 0 ns.list (omega arith)
+      laid.sound-list s.set s.area i 64 0 ns.nodes (omega arith)
 
-  once : class_count s.set ≤ 64 → Once abi (class_count s.set) s c
+  once : class_count s.set ≤ 64 → Once way abi (class_count s.set) s c
   once h = record {
     places = ns.places;
-    spelt = ns.list.spelt;
-    different = ns.list.different;
-    linked = λ n m. (ns.list.each n m).interface;
+    spelt = ns.nodes.spelt;
+    different = ns.nodes.different;
+    linked = λ n m. (ns.nodes.each n m).interface;
     few = few;
     sound = sound-list h;
-    misses = λ i k e. let m = (missed-all s.area i ns.places 64 0 (head_of s c) k ns.list.spelt e).1 in omega arith;
-    hits = λ i n k e. let m = (hit-one s.area i ns.places 64 0 (head_of s c) n k ns.list.spelt e).2 in omega arith;
+    misses = λ i k e. let m = (missed-all s.area i ns.places 64 0 (head_of s c) k ns.nodes.spelt e).1 in omega arith;
+    hits = λ i n k e. let m = (hit-one s.area i ns.places 64 0 (head_of s c) n k ns.nodes.spelt e).2 in omega arith;
     nodes_read = read;
   }
 
 -- ---- THE THEOREMS
 
-pub lends_any : (abi : List ℕ) (calls : List Call) → Lends abi (λ x. Unit {0}) calls
-lends_any abi [] = tt
-lends_any abi (k ∷ ks) = (tt, lends_any abi ks)
-
-lends_same : (abi stubs : List ℕ) (calls : List Call) → SameStubs stubs calls → Lends abi (λ x. x ≡ stubs) calls
-lends_same abi stubs [] h = tt
-lends_same abi stubs (k ∷ ks) h = (h.0, lends_same abi stubs ks h.1)
-
-module _ (ws abi area missing : List ℕ) (unlinked : Unlinked ws) (calls : List Call) where
-  stands : (L : List ℕ → Type 0) → Lends abi L calls → Stands abi L (class_count ws) (left ws abi area missing calls)
-  stands L given = run-stands abi L calls (start ws area missing) (stands-start abi L ws area missing unlinked) given
+module _ (way : Way) (ws abi area missing : List ℕ) (unlinked : Unlinked ws) (calls : List Call) where
+  pub left-stands : Stands abi (class_count ws) (left way ws abi area missing calls)
+  left-stands = run-stands abi way calls (start ws area missing) (stands-start abi ws area missing unlinked)
 
 pub once-only : OnceOnly
-once-only ws abi area missing unlinked calls c l =
-    let t = stands ws abi area missing unlinked calls (λ x. Unit {0}) (lends_any abi calls) in
-    rw (← t.classes) (once abi (λ x. Unit {0}) (left ws abi area missing calls) c (t.lists c l) (omega (arith, t.classes, t.limit c l)))
+once-only way ws abi area missing unlinked calls c l =
+    let t = left-stands way ws abi area missing unlinked calls in
+    rw (← t.classes)
+    (once (way_left way ws abi area missing calls) abi (left way ws abi area missing calls) c (t.lists c l) (omega (arith, t.classes, t.limit c l)))
 
-pub kept_tables : KeptTables
-kept_tables ws abi area missing stubs unlinked calls same c i node l on =
-    let s : State = left ws abi area missing calls in
-    let ns = (stands ws abi area missing unlinked calls (λ x. x ≡ stubs) (lends_same abi stubs calls same)).lists c l in
-    let e : on.places ≡ ns.places = spells_one s.area on.places ns.places (head_of s c) on.spelt ns.list.spelt in
-    let n = ns.each node (rw e at on.along) in
-    subst (λ (x : List ℕ). Right abi x s c i node) n.lent (subst (λ (j : ℕ). Right abi n.stubs s c j node) on.of n.right)
-
-pub as_asked : AsAsked
-as_asked ws abi area missing stubs unlinked fresh calls same =
-    (once-only ws abi area missing unlinked calls, kept_tables ws abi area missing stubs unlinked calls same)
+pub tables_by_bytes : ByBytes TablesBy
+tables_by_bytes ws abi area missing stubs unlinked calls same =
+    run-right abi stubs calls (start ws area missing) (stands-start abi ws area missing unlinked) (λ c i node l. absurd (none-linked unlinked l)) same
 
 -- ---- what an accepted ask answers
 
@@ -116,7 +105,7 @@ record Answers (abi stubs : List ℕ) (s : State) (c i : ℕ) : Type 0 where
   afresh : built_afresh abi s c i ≡ built entries
   size : length entries ≡ class_slot_count s.set i
   enough : length entries ≤ length stubs
-  slots : answered abi s c i stubs ≡ slot_words stubs 0 entries
+  slots : answered bytewise abi s c i stubs ≡ slot_words stubs 0 entries
 
 -- where it puts a node
 built-answers : (abi stubs : List ℕ) (s : State) (c i : ℕ) → PutsNode s.set abi c i s.area stubs (ask_def s.set abi c i s.area stubs)
@@ -143,17 +132,15 @@ built-answers abi stubs s c i a =
           ∙ asked-slots s.set s.area c i a.entries stubs a.room.free a.lent.some (omega (arith, a.lent.below c a.class));
     }
 
-module _ (abi stubs : List ℕ) (n : ℕ) (s : State) (stands : Stands abi (λ x. x ≡ stubs) n s) (c i : ℕ) where
+module _ (abi stubs : List ℕ) (n : ℕ) (s : State) (stands : Stands abi n s) (right : AllRight abi s stubs) (c i : ℕ) where
   -- where it finds one
   found-answers : Hits s.set abi c i s.area (ask_def s.set abi c i s.area stubs)
       → (ask_def s.set abi c i s.area stubs).area ≡ s.area → Answers abi stubs s c i
   found-answers h e =
       let o : Outcome = ask_def s.set abi c i s.area stubs in
       let ns = stands.lists c h.class in
-      let w = hit-one s.area i ns.places 64 0 (head_of s c) h.node h.nodes ns.list.spelt h.walks in
-      let n = ns.each h.node w.0 in
-      let r : Right abi stubs s c i h.node =
-      subst (λ (x : List ℕ). Right abi x s c i h.node) n.lent (subst (λ (j : ℕ). Right abi n.stubs s c j h.node) w.1 n.right) in
+      let w = hit-one s.area i ns.places 64 0 (head_of s c) h.node h.nodes ns.nodes.spelt h.walks in
+      let r = right c i h.node h.class (record { places = ns.places; spelt = ns.nodes.spelt; along = w.0; of = w.1 }) in
       record {
         accepted = h.valid;
         asks = h.asks;
@@ -170,7 +157,7 @@ module _ (abi stubs : List ℕ) (n : ℕ) (s : State) (stands : Stands abi (λ x
             ∙ ap (λ (n : ℕ). table_at s.area (h.node + 1) n) (sym r.size) ∙ r.slots;
       }
 
-  answers : (outcome abi s (ask c i stubs)).refusal ≡ 0 → Answers abi stubs s c i
+  answers : (outcome bytewise abi s (ask c i stubs)).refusal ≡ 0 → Answers abi stubs s c i
   answers e =
       elim (ask-cases s.set abi c i s.area stubs) [
         | inl u ↦ found-answers (u.hits e) u.same_area
@@ -189,7 +176,7 @@ module _ (abi stubs : List ℕ) (n : ℕ) (s : State) (stands : Stands abi (λ x
       let z : get_or bare.area (head_place s.set c) 0 ≡ 0 = get_or-set_same s.area (head_place s.set c) 0 0 (omega arith) in
       in_none refl (hit-one bare.area i [] 64 0 (get_or bare.area (head_place s.set c) 0) h.node h.nodes z h.walks).0
 
-  bare-answers : (outcome abi bare (ask c i stubs)).refusal ≡ 0 → Answers abi stubs bare c i
+  bare-answers : (outcome bytewise abi bare (ask c i stubs)).refusal ≡ 0 → Answers abi stubs bare c i
   bare-answers e =
       elim (ask-cases s.set abi c i bare.area stubs) [
         | inl u ↦ absurd (no_hit (u.hits e))
@@ -211,8 +198,8 @@ module _ (abi stubs : List ℕ) (n : ℕ) (s : State) (stands : Stands abi (λ x
       (part-set-other 0 s.area (head_place s.set c) 0 (class_table_place s.set i + 1) (class_slot_count s.set i) (no_slot l k))
       c l.among (λ d j. record { first = refl; many = refl })
 
-  alike : (outcome abi s (ask c i stubs)).refusal ≡ 0 → (outcome abi bare (ask c i stubs)).refusal ≡ 0
-      → answered abi s c i stubs ≡ answered abi bare c i stubs
+  alike : (outcome bytewise abi s (ask c i stubs)).refusal ≡ 0 → (outcome bytewise abi bare (ask c i stubs)).refusal ≡ 0
+      → answered bytewise abi s c i stubs ≡ answered bytewise abi bare c i stubs
   alike e f =
       let a = answers e in
       let b = bare-answers f in
@@ -244,7 +231,7 @@ module _ (abi stubs : List ℕ) (n : ℕ) (s : State) (stands : Stands abi (λ x
       omega arith
 
   bare-refusal : Answers abi stubs s c i
-      → (((outcome abi bare (ask c i stubs)).refusal ≡ 15) × Full s i) ⊎ ((outcome abi bare (ask c i stubs)).refusal ≡ 0)
+      → (((outcome bytewise abi bare (ask c i stubs)).refusal ≡ 15) × Full s i) ⊎ ((outcome bytewise abi bare (ask c i stubs)).refusal ≡ 0)
   unfolding ask_def ask_by build_node
   bare-refusal a =
       rw (
@@ -259,49 +246,47 @@ module _ (abi stubs : List ℕ) (n : ℕ) (s : State) (stands : Stands abi (λ x
       (λ t. rw t (inl (refl, too_full a (length a.entries) a.size a.enough t)))
       (λ f. rw f (inr refl)))
 
-  afresh-or-full : (outcome abi s (ask c i stubs)).refusal ≡ 0 → BuildsSame abi s c i stubs
+  afresh-or-full : (outcome bytewise abi s (ask c i stubs)).refusal ≡ 0 → BuildsSame bytewise abi s c i stubs
   afresh-or-full e = elim (bare-refusal (answers e)) [ inl f ↦ inl f | inr f ↦ inr (f, alike e f) ]
 
-pub asked-afresh : AskedAfresh
-asked-afresh ws abi area missing stubs unlinked calls same c i e =
-    afresh-or-full abi stubs (class_count ws) (left ws abi area missing calls)
-    (stands ws abi area missing unlinked calls (λ x. x ≡ stubs) (lends_same abi stubs calls same)) c i e
+pub afresh_by_bytes : ByBytes AfreshBy
+afresh_by_bytes ws abi area missing stubs unlinked calls same c i e =
+    afresh-or-full abi stubs (class_count ws) (left bytewise ws abi area missing calls)
+    (left-stands bytewise ws abi area missing unlinked calls) (tables_by_bytes ws abi area missing stubs unlinked calls same) c i e
 
 -- ---- the nodes that an ask of the list reads
 
 module _ (abi : List ℕ) (n c i place nodes : ℕ) where
-  asked-class : (s : State) (stubs : List ℕ) → (outcome abi s (ask c i stubs)).refusal ≡ 0 → HasTable s.set c
-  asked-class s stubs e = elim (ask-cases s.set abi c i s.area stubs) [ inl u ↦ (u.hits e).class | inr a ↦ a.class ]
+  asked-class : (way : Way) (s : State) (stubs : List ℕ) → (outcome way abi s (ask c i stubs)).refusal ≡ 0 → HasTable s.set c
+  asked-class way s stubs e = elim (ask-ends way abi s c i stubs) [ inl u ↦ (u.hits e).class | inr a ↦ a.class ]
 
-  asked-bound : {s : State} {ks : List Call} → AskedIn abi c i place nodes s ks → Stands abi (λ x. Unit {0}) n s → nodes ≤ n
-  asked-bound {s} (asked_now stubs e f g) t =
-      let r = read abi (λ x. Unit {0}) s c (t.lists c (asked-class s stubs e)) i stubs e in
+  asked-bound : {way : Way} {s : State} {ks : List Call} → AskedIn abi c i place nodes way s ks → Stands abi n s → nodes ≤ n
+  asked-bound {way} {s} (asked_now stubs e f g) t =
+      let r = read way abi s c (t.lists c (asked-class way s stubs e)) i stubs e in
       omega (arith, g, t.classes)
-  asked-bound {s} (asked_later {k = k} j) t = asked-bound j (step-stands abi (λ x. Unit {0}) s t k tt)
+  asked-bound {way} {s} (asked_later {k = k} j) t = asked-bound j (step-stands abi way s t k)
 
 pub nodes-bound : NodesBound
-nodes-bound ws abi area missing unlinked calls c i place nodes j =
-    asked-bound abi (class_count ws) c i place nodes j (stands-start abi (λ x. Unit {0}) ws area missing unlinked)
+nodes-bound way ws abi area missing unlinked calls c i place nodes j =
+    asked-bound abi (class_count ws) c i place nodes j (stands-start abi ws area missing unlinked)
 
 -- ---- and what it answered, after the list
 
-kept-answer : (abi stubs : List ℕ) (n c i place nodes : ℕ) {s : State} {ks : List Call} → AskedIn abi c i place nodes s ks
-    → Stands abi (λ x. x ≡ stubs) n s → SameStubs stubs ks → (node : ℕ) × (place ≡ node + 1) × StillOn abi (λ x. x ≡ stubs) (run abi ks s) c i node
+kept-answer : (abi : List ℕ) (n c i place nodes : ℕ) {way : Way} {s : State} {ks : List Call} → AskedIn abi c i place nodes way s ks
+    → Stands abi n s → (node : ℕ) × (place ≡ node + 1) × StillOn abi (run way abi ks s) c i node
 unfolding run
-kept-answer abi stubs n c i place nodes {s} (asked_now {ks = ks} lent e f g) t same =
-    let a = answered-on abi (λ x. x ≡ stubs) s t c i lent same.0 e in
-    let r = run_on abi (λ x. x ≡ stubs) ks (step abi s (ask c i lent)) (step-stands abi (λ x. x ≡ stubs) s t (ask c i lent) same.0)
-    (lends_same abi stubs ks same.1) c i a.0 a.2.linked a.2.on in
+kept-answer abi n c i place nodes {way} {s} (asked_now {ks = ks} lent e f g) t =
+    let a = answered-on abi way s t c i lent e in
+    let r = run_on abi (way_after way abi s (ask c i lent)) ks (step way abi s (ask c i lent)) (step-stands abi way s t (ask c i lent)) c i a.0 a.2.linked a.2.on in
     (a.0, sym f ∙ a.1, r)
-kept-answer abi stubs n c i place nodes {s} (asked_later {k = k} j) t same =
-    kept-answer abi stubs n c i place nodes j (step-stands abi (λ x. x ≡ stubs) s t k same.0) same.1
+kept-answer abi n c i place nodes {way} {s} (asked_later {k = k} j) t = kept-answer abi n c i place nodes j (step-stands abi way s t k)
 
-pub kept-answers : KeptAnswers
-kept-answers ws abi area missing stubs unlinked calls same c i place nodes j =
-    let r = kept-answer abi stubs (class_count ws) c i place nodes j (stands-start abi (λ x. x ≡ stubs) ws area missing unlinked) same in
+pub answers_by_bytes : ByBytes AnswersBy
+answers_by_bytes ws abi area missing stubs unlinked calls same c i place nodes j =
+    let r = kept-answer abi (class_count ws) c i place nodes j (stands-start abi ws area missing unlinked) in
     record {
       node = r.0;
       at = r.1;
       on = r.2.on;
-      right = kept_tables ws abi area missing stubs unlinked calls same c i r.0 r.2.linked r.2.on;
+      right = tables_by_bytes ws abi area missing stubs unlinked calls same c i r.0 r.2.linked r.2.on;
     }

@@ -21,9 +21,9 @@ use Rattle.slots.proofs.ListFacts.{inside}
 use Rattle.slots.proofs.ChainFacts.{chain-here}
 use Rattle.slots.proofs.FixedFacts.{signature-same}
 use Rattle.slots.proofs.PackageZero.{MadeZero, Same, same_tables}
-use Rattle.calls.specs.Calls.{Call, start, Unlinked, LinkedIn, table_at}
+use Rattle.calls.specs.Calls.{Call, bytewise, start, Unlinked, LinkedIn, table_at}
 use Rattle.calls.specs.Demand.{table, Linked}
-use Rattle.calls.specs.KindZero.{as_built, unpackaged, Premises, AsKindZero, Throughout}
+use Rattle.calls.specs.KindZero.{as_built, unpackaged, Premises, SameWords, SameChains}
 use Rattle.calls.proofs.Like.{Alike, unmoved-kind}
 use Rattle.calls.proofs.View.{chain_same, chain-class}
 use Rattle.calls.proofs.Build.{built-same}
@@ -160,8 +160,8 @@ module _ (ws text abi labels : List ℕ) where
 -- ---- both runs
 
 module _ (ws abi area₃ area₀ missing₃ missing₀ : List ℕ) (unlinked : Unlinked ws) (calls₃ calls₀ : List Call) (c p n q k : ℕ)
-    (linked₃ : LinkedIn abi c p n (start ws area₃ missing₃) calls₃)
-    (linked₀ : LinkedIn abi c q k (start (unpackaged ws) area₀ missing₀) calls₀) (premises : Premises ws c) where
+    (linked₃ : LinkedIn abi c p n bytewise (start ws area₃ missing₃) calls₃)
+    (linked₀ : LinkedIn abi c q k bytewise (start (unpackaged ws) area₀ missing₀) calls₀) (premises : Premises ws c) where
   abbrev text : List ℕ
   text = text_of ws
 
@@ -297,23 +297,25 @@ module _ (ws abi area₃ area₀ missing₃ missing₀ : List ℕ) (unlinked : U
       along : {m : ℕ} → ChainMethod ws d m → ChainMethod ws c m
       along j = record { owner = j.owner; along = up d i j.owner j.along; own = j.own }
 
-  linked-three : (d : ℕ) → Memᴰ d (chain ws c) → (place : ℕ) × (slots : ℕ) × Linked ws abi area₃ missing₃ calls₃ d place slots
+  linked-three : (d : ℕ) → Memᴰ d (chain ws c) → (place : ℕ) × (slots : ℕ) × Linked bytewise ws abi area₃ missing₃ calls₃ d place slots
   linked-three d i = chain_in ws abi area₃ missing₃ valid₃ unlinked calls₃ linked₃ d i
 
-  linked-zero : (d : ℕ) → Memᴰ d (chain ws c) → (place : ℕ) × (slots : ℕ) × Linked vs abi area₀ missing₀ calls₀ d place slots
+  linked-zero : (d : ℕ) → Memᴰ d (chain ws c) → (place : ℕ) × (slots : ℕ) × Linked bytewise vs abi area₀ missing₀ calls₀ d place slots
   linked-zero d i = chain_in vs abi area₀ missing₀ valid₀ unlinked₀ calls₀ linked₀ d (rw chain-is i)
 
 -- ---- THE THEOREMS
 
-pub as_kind_zero : AsKindZero
-as_kind_zero ws abi area₃ area₀ missing₃ missing₀ unlinked calls₃ calls₀ c p n q k linked₃ linked₀ premises =
+pub zero_by_bytes : (ws abi area₃ area₀ missing₃ missing₀ : List ℕ) → Unlinked ws → (calls₃ calls₀ : List Call)
+    → SameWords bytewise bytewise ws abi area₃ area₀ missing₃ missing₀ calls₃ calls₀
+zero_by_bytes ws abi area₃ area₀ missing₃ missing₀ unlinked calls₃ calls₀ c p n q k linked₃ linked₀ premises =
     as_zero ws abi area₃ area₀ missing₃ missing₀ unlinked calls₃ calls₀ c p n q k linked₃ linked₀ premises
 
-pub throughout : Throughout
-throughout ws abi area₃ area₀ missing₃ missing₀ unlinked calls₃ calls₀ c p n q k linked₃ linked₀ premises d i =
+pub throughout_by_bytes : (ws abi area₃ area₀ missing₃ missing₀ : List ℕ) → Unlinked ws → (calls₃ calls₀ : List Call)
+    → SameChains bytewise bytewise ws abi area₃ area₀ missing₃ missing₀ calls₃ calls₀
+throughout_by_bytes ws abi area₃ area₀ missing₃ missing₀ unlinked calls₃ calls₀ c p n q k linked₃ linked₀ premises d i =
     let a = linked-three ws abi area₃ area₀ missing₃ missing₀ unlinked calls₃ calls₀ c p n q k linked₃ linked₀ premises d i in
     let b = linked-zero ws abi area₃ area₀ missing₃ missing₀ unlinked calls₃ calls₀ c p n q k linked₃ linked₀ premises d i in
-    let s = as_kind_zero ws abi area₃ area₀ missing₃ missing₀ unlinked calls₃ calls₀ d a.0 a.1 b.0 b.1 a.2 b.2
+    let s = zero_by_bytes ws abi area₃ area₀ missing₃ missing₀ unlinked calls₃ calls₀ d a.0 a.1 b.0 b.1 a.2 b.2
     (premises-of ws abi area₃ area₀ missing₃ missing₀ unlinked calls₃ calls₀ c p n q k linked₃ linked₀ premises d i) in
     record {
       place₃ = a.0;
@@ -321,5 +323,5 @@ throughout ws abi area₃ area₀ missing₃ missing₀ unlinked calls₃ calls�
       slots = a.1;
       linked₃ = a.2;
       linked₀ = rw s.0 b.2;
-      words = s.1 ∙ ap (λ (x : ℕ). table (unpackaged ws) abi area₀ missing₀ calls₀ b.0 x) (sym s.0);
+      words = s.1 ∙ ap (λ (x : ℕ). table bytewise (unpackaged ws) abi area₀ missing₀ calls₀ b.0 x) (sym s.0);
     }

@@ -11,6 +11,7 @@ pub mod Fits
 pub mod Dispatch
 pub mod RelayedCopies
 pub mod Rows
+pub mod Ways
 pub mod Sources
 pub mod SameIndex
 pub mod CompilerSlots
@@ -48,8 +49,10 @@ pub mod ElsewhereNeeded
 pub mod ElsewhereNext
 pub mod ElsewhereAsk
 pub mod ElsewhereStuck
+pub mod Comes
 pub mod Clear
 pub mod ElsewhereAll
+pub mod ElsewhereByNumbers
 pub mod OneSlot
 pub mod Nodes
 pub mod Kept
@@ -57,3 +60,6 @@ pub mod Found
 pub mod KeptExamples
 pub mod AnyLists
 pub mod AnyListsExamples
+pub mod RunsAgree
+pub mod ByNumbers
+pub mod AnyListsByNumbers

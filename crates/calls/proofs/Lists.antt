@@ -8,7 +8,7 @@ use Rattle.class_sheet.specs.ClassSheet.{class_table_place, class_slot_count}
 use Rattle.set_rules.specs.Valid.{Valid}
 use Rattle.linking.specs.Link.{HasTable, Outcome, LinkOutcome, link_def}
 use Rattle.linking.specs.Ask.{ask_def}
-use Rattle.calls.specs.Calls.{Call, link, ask, State, step, run, LinkedIn, now, later, Lent, lent_now, lent_later, stubs_of}
+use Rattle.calls.specs.Calls.{Call, link, ask, bytewise, State, step, run, LinkedIn, now, later, Lent, lent_now, lent_later, stubs_of}
 use Rattle.calls.proofs.Rows.{link-cases, PutsNode, ask-cases}
 use Rattle.calls.proofs.Tables.{Keeps, keeps_same, still, keeps-next, link-keeps, new-place, new-slots, new-linked, was, ask-next, ask-keeps, ask-tables, same-state}
 use Rattle.calls.proofs.Runs.{Inv, made-keeps, link-inv}
@@ -36,7 +36,7 @@ module _ (ws₀ abi : List ℕ) (valid₀ : Valid ws₀) (P : ℕ → Type 0) wh
   stays s inv ws area missing e f g =
       subst (λ (x : State). Goes s x) (sym (same-state s ws area missing e f g)) (record { keeps = keeps_same s; inv = inv })
 
-  pub step-goes : (s : State) → Inv ws₀ abi valid₀ P s → (k : Call) → ((x : ℕ) → Memᴰ x (stubs_of k) → P x) → Goes s (step abi s k)
+  pub step-goes : (s : State) → Inv ws₀ abi valid₀ P s → (k : Call) → ((x : ℕ) → Memᴰ x (stubs_of k) → P x) → Goes s (step bytewise abi s k)
   unfolding step
   step-goes s inv (link c stubs) lent =
       let o : LinkOutcome = link_def s.set abi c s.area stubs s.missing in
@@ -57,12 +57,12 @@ module _ (ws₀ abi : List ℕ) (valid₀ : Valid ws₀) (P : ℕ → Type 0) wh
 
   -- ---- all of them
 
-  pub run-goes : (ks : List Call) (s : State) → Inv ws₀ abi valid₀ P s → ((x : ℕ) → Lent x ks → P x) → Goes s (run abi ks s)
+  pub run-goes : (ks : List Call) (s : State) → Inv ws₀ abi valid₀ P s → ((x : ℕ) → Lent x ks → P x) → Goes s (run bytewise abi ks s)
   unfolding run
   run-goes [] s inv lent = record { keeps = keeps_same s; inv = inv }
   run-goes (k ∷ ks) s inv lent =
       let one = step-goes s inv k (λ x i. lent x (lent_now i)) in
-      let all = run-goes ks (step abi s k) one.inv (λ x i. lent x (lent_later i)) in
+      let all = run-goes ks (step bytewise abi s k) one.inv (λ x i. lent x (lent_later i)) in
       record { keeps = keeps-next one.keeps all.keeps; inv = all.inv }
 
   -- ---- the table that a link answered is the class's table after the list
@@ -72,8 +72,8 @@ module _ (ws₀ abi : List ℕ) (valid₀ : Valid ws₀) (P : ℕ → Type 0) wh
     pub place : class_table_place s.set c ≡ p
     pub slots : class_slot_count s.set c ≡ n
 
-  pub answered : {c p n : ℕ} {s : State} {ks : List Call} → LinkedIn abi c p n s ks → Inv ws₀ abi valid₀ P s → ((x : ℕ) → Lent x ks → P x)
-      → Answered (run abi ks s) c p n
+  pub answered : {c p n : ℕ} {s : State} {ks : List Call} → LinkedIn abi c p n bytewise s ks → Inv ws₀ abi valid₀ P s → ((x : ℕ) → Lent x ks → P x)
+      → Answered (run bytewise abi ks s) c p n
   unfolding run step
   answered {c} {p} {n} {s} (now {ks = ks} stubs e f g) inv lent =
       elim (link-cases s.set abi c s.area stubs s.missing) [
@@ -98,10 +98,10 @@ module _ (ws₀ abi : List ℕ) (valid₀ : Valid ws₀) (P : ℕ → Type 0) wh
   pub record Somewhere (c : ℕ) (s : State) (ks : List Call) : Type 0 where
     pub place : ℕ
     pub slots : ℕ
-    pub found : LinkedIn abi c place slots s ks
+    pub found : LinkedIn abi c place slots bytewise s ks
 
   step-new : (s : State) → Inv ws₀ abi valid₀ P s → (k : Call) → ((x : ℕ) → Memᴰ x (stubs_of k) → P x) → (ks : List Call) (d : ℕ)
-      → HasTable (step abi s k).set d → HasTable s.set d ⊎ Somewhere d s (k ∷ ks)
+      → HasTable (step bytewise abi s k).set d → HasTable s.set d ⊎ Somewhere d s (k ∷ ks)
   unfolding step
   step-new s inv (link c stubs) lent ks d l =
       elim (link-cases s.set abi c s.area stubs s.missing) [
@@ -123,13 +123,13 @@ module _ (ws₀ abi : List ℕ) (valid₀ : Valid ws₀) (P : ℕ → Type 0) wh
         | inr a ↦ inl (subst (λ (x : List ℕ). HasTable x d) a.same_set l)
       ]
 
-  pub history : (ks : List Call) (s : State) → Inv ws₀ abi valid₀ P s → ((x : ℕ) → Lent x ks → P x) → (d : ℕ) → HasTable (run abi ks s).set d
+  pub history : (ks : List Call) (s : State) → Inv ws₀ abi valid₀ P s → ((x : ℕ) → Lent x ks → P x) → (d : ℕ) → HasTable (run bytewise abi ks s).set d
       → HasTable s.set d ⊎ Somewhere d s ks
   unfolding run
   history [] s inv lent d l = inl l
   history (k ∷ ks) s inv lent d l =
       let first : (x : ℕ) → Memᴰ x (stubs_of k) → P x = λ x i. lent x (lent_now i) in
-      elim (history ks (step abi s k) (step-goes s inv k first).inv (λ x i. lent x (lent_later i)) d l) [
+      elim (history ks (step bytewise abi s k) (step-goes s inv k first).inv (λ x i. lent x (lent_later i)) d l) [
         | inl m ↦ step-new s inv k first ks d m
         | inr r ↦ inr (record { place = r.place; slots = r.slots; found = later r.found })
       ]

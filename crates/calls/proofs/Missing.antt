@@ -29,7 +29,6 @@ use Rattle.linking.specs.Missing.{missing_def, entries_built, table_by, recounte
 use Rattle.linking.proofs.ChainLaws.{parent-within, chain-none, chain_more}
 use Rattle.linking.proofs.Plans.{Plans, plans}
 use Rattle.linking.proofs.LinkRead.{After, Added, link-after, link-still, link-added}
-use Rattle.linking.proofs.Writes.{length-write}
 use Rattle.linking.proofs.Rebuilt as again
 use Rattle.linking.proofs.Rebuilt.{Unmoved, Any, unmoved-other, chain_same, table-held}
 use Rattle.linking.proofs.RenumberedPackages.{Held, has-below, last_of}
@@ -37,10 +36,10 @@ use Rattle.linking.proofs.RebuiltGrown.{table-grown}
 use Rattle.linking.proofs.Renumbered.{SameBuilt}
 use Rattle.linking.proofs.MissingLaws.{bits-built, bits-ext, word_same, length-same, length-bits, rebuilds, length_pack, own-words, other_words, count-read, parent-read, no_parent}
 use Rattle.linking.proofs.Packed.{text-bytes}
-use Rattle.calls.specs.Calls.{left, Call, link, ask, State, start, step, run, Unlinked}
-use Rattle.calls.specs.Missing.{bits_now, Rebuilt, Counted, MissingKept, AskedCount}
+use Rattle.calls.specs.Calls.{left, Call, link, ask, bytewise, ByBytes, State, start, step, run, Unlinked}
+use Rattle.calls.specs.Missing.{bits_now, Rebuilt, Counted, KeptBy, AskedBy}
 use Rattle.calls.proofs.Rows.{Accepted, link-cases, ask-cases}
-use Rattle.calls.proofs.Tables.{table_of, Keeps, Tables, none-linked, tables_start, chain-linked, link-keeps, new-slots, new-table, was, link-tables, ask-next, ask-keeps, ask-tables, same-state}
+use Rattle.calls.proofs.Tables.{table_of, Keeps, Tables, none-linked, tables_start, chain-linked, link-keeps, new-slots, new-table, was, link-tables, link-long, ask-next, ask-keeps, ask-tables, same-state}
 use Rattle.calls.proofs.Stays.{stays-accepted}
 use Rattle.calls.proofs.Theorem.{run-bad}
 
@@ -220,10 +219,6 @@ module _ (abi : List ℕ) (s : State) (c : ℕ) (stubs : List ℕ) (o : LinkOutc
   unfolding counted_after
   list-is = acc.new-missing
 
-  pub long-next : missing_width * class_count next.set ≤ length next.missing
-  long-next =
-      rw (after.classes, list-is, length-write s.missing (missing_at c) (pack_bits bits) (omega (arith, room-list, length_pack bits))) acc.long
-
   -- ---- and the tables after it, built anew
 
   module _ (tables : Tables s) where
@@ -321,7 +316,7 @@ module _ (abi : List ℕ) (s : State) (c : ℕ) (stubs : List ℕ) (o : LinkOutc
             ∙ own-words s.missing (pack_bits bits) c (length_pack bits) room-list ∙ ap pack_bits (sym bits_c);
         many = ap length bits_c ∙ length-bits (parent_bit s.missing parent) T
             ∙ sym (new-slots abi s c stubs o acc);
-        long = long-next;
+        long = link-long abi s c stubs o acc;
       }
 
       counted-other : (d : ℕ) → HasTable s.set d → Counted abi next d
@@ -332,7 +327,7 @@ module _ (abi : List ℕ) (s : State) (c : ℕ) (stubs : List ℕ) (o : LinkOutc
                 ∙ other_words s.missing (pack_bits bits) c (length_pack bits) room-list d here.0 l.some (one d l) ∙ k.words
                 ∙ ap pack_bits (bits-other d l);
             many = ap length (sym (bits-other d l)) ∙ k.many ∙ sym (keeps.slots d l);
-            long = long-next;
+            long = link-long abi s c stubs o acc;
           }
 
 -- ---- a call that leaves the set and every table, as an ask does
@@ -423,7 +418,7 @@ module _ (abi : List ℕ) where
             (λ t. counted-other abi s c stubs o acc h.tables h.counted d (old d (eqb-false d c t) l));
       }
 
-  pub ask_holds : (s : State) → Holds s → (c i : ℕ) (stubs : List ℕ) → Holds (step abi s (ask c i stubs))
+  pub ask_holds : (s : State) → Holds s → (c i : ℕ) (stubs : List ℕ) → Holds (step bytewise abi s (ask c i stubs))
   unfolding step
   ask_holds s h c i stubs =
       let o : Outcome = ask_def s.set abi c i s.area stubs in
@@ -439,7 +434,7 @@ module _ (abi : List ℕ) where
             })
       ]
 
-  step-holds : (s : State) → Holds s → (k : Call) → Holds (step abi s k)
+  step-holds : (s : State) → Holds s → (k : Call) → Holds (step bytewise abi s k)
   unfolding step
   step-holds s h (link c stubs) =
       let o : LinkOutcome = link_def s.set abi c s.area stubs s.missing in
@@ -450,16 +445,16 @@ module _ (abi : List ℕ) where
       ]
   step-holds s h (ask c i stubs) = unfold step in ask_holds s h c i stubs
 
-  run_holds : (ks : List Call) (s : State) → Holds s → Holds (run abi ks s)
+  run_holds : (ks : List Call) (s : State) → Holds s → Holds (run bytewise abi ks s)
   unfolding run
   run_holds [] s h = h
-  run_holds (k ∷ ks) s h = run_holds ks (step abi s k) (step-holds s h k)
+  run_holds (k ∷ ks) s h = run_holds ks (step bytewise abi s k) (step-holds s h k)
 
 -- ---- THE THEOREM
 
 module _ (ws abi area missing : List ℕ) (unlinked : Unlinked ws) (calls : List Call) where
   abbrev final : State
-  final = run abi calls (start ws area missing)
+  final = run bytewise abi calls (start ws area missing)
 
   holds : Holds abi final
   holds =
@@ -478,10 +473,10 @@ module _ (ws abi area missing : List ℕ) (unlinked : Unlinked ws) (calls : List
       let e = run-bad ws abi (eqb-false (set_refusal ws abi) 0 t) calls (start ws area missing) refl in
       absurd (none-linked unlinked (record { some = l.some; among = rw e at l.among; has = rw e at l.has })))
 
-pub missing-kept : MissingKept
-missing-kept = record {
-  rebuilt = λ ws abi area missing unlinked calls c l. (holds ws abi area missing unlinked calls).rebuilt c l;
-  counted = λ ws abi area missing unlinked calls c l. (holds ws abi area missing unlinked calls).counted c l;
+pub missing_by_bytes : ByBytes KeptBy
+missing_by_bytes ws abi area missing = record {
+  rebuilt = λ unlinked calls c l. (holds ws abi area missing unlinked calls).rebuilt c l;
+  counted = λ unlinked calls c l. (holds ws abi area missing unlinked calls).counted c l;
 }
 
 -- ---- asking: no row refuses, and the word that it reads is the first of the class's
@@ -499,8 +494,8 @@ read_count abi s c l e k =
       count-read s.missing c (bits_now abi s c) k.words,
     )
 
-pub asked-count : AskedCount
-asked-count ws abi area missing unlinked calls c l =
-    read_count abi (left ws abi area missing calls) c l
-    (stays-accepted.calls_leave abi calls (start ws area missing) (start-accepted ws abi area missing unlinked calls c l))
-    (missing-kept.counted ws abi area missing unlinked calls c l)
+pub asked_by_bytes : ByBytes AskedBy
+asked_by_bytes ws abi area missing unlinked calls c l =
+    read_count abi (left bytewise ws abi area missing calls) c l
+    (stays-accepted bytewise abi calls (start ws area missing) (start-accepted ws abi area missing unlinked calls c l))
+    ((missing_by_bytes ws abi area missing).counted unlinked calls c l)

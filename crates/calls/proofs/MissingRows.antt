@@ -9,11 +9,11 @@ use Rattle.linking.proofs.Assemble as assemble
 use Rattle.linking.proofs.Assemble.{flagged, method, built, compiled, slot, abi, sized, lent, fresh, stubs_of, on_missing, answers}
 use Rattle.linking.proofs.Packaged.{packaged, foo}
 use Rattle.linking.proofs.Opened.{opened}
-use Rattle.calls.specs.Calls.{State, link, start, step, run}
+use Rattle.calls.specs.Calls.{State, link, bytewise, start, step, run}
 
 -- the state after links of the first n classes, the list full of sevens before
 unfoldable pub after : assemble.Lent → ℕ → State
-after w n = run w.abi (list_from (λ c. link c (stubs_of 40)) 1 n) (start w.set (fresh 60) w.missing)
+after w n = run bytewise w.abi (list_from (λ c. link c (stubs_of 40)) 1 n) (start w.set (fresh 60) w.missing)
 
 unfoldable pub counts : assemble.Lent → ℕ → List (ℕ × ℕ × ℕ)
 counts w n =

@@ -5,8 +5,7 @@ use Rattle.linking.proofs.Before.{link_as_before}
 use Rattle.slots.proofs.ClashFacts.{orderly_no_clash}
 use Rattle.calls.specs.OneSlot.{OneFixedSlot}
 use Rattle.calls.proofs.MovedLinks.{none_lost, eleven-is-moved, twelve-is-old, redeclared-refused, descendant-refused}
-use Rattle.calls.proofs.OldRun.{run_as_before}
-use Rattle.calls.proofs.ElsewhereAll.{elsewhere}
+use Rattle.calls.proofs.ElsewhereByNumbers.{run_as_before, elsewhere}
 
 pub one-fixed-slot : OneFixedSlot
 one-fixed-slot = record {

@@ -6,16 +6,17 @@ use Rattle.class_sheet.specs.ClassSheet.{first_method_word, method_count_word, m
 use Rattle.abi_sheet.specs.AbiSheet.{abi_text_length, abi_text_words, abi_text_of}
 use Rattle.set_rules.specs.Valid.{IsClass, Valid}
 use Rattle.set_rules.proofs.Valid.{valid}
-use Rattle.linking.specs.Signature.{by_sheets}
-use Rattle.linking.specs.Link.{next_free, new_words, new_statics, linked_words, LinkOutcome, link_def}
+use Rattle.linking.specs.Signature.{Same}
+use Rattle.linking.specs.Link.{next_free, new_words, new_statics, linked_words, LinkOutcome}
 use Rattle.linking.specs.Whose.{MethodsApart}
 use Rattle.linking.proofs.Plans.{Plans, plans}
 use Rattle.linking.proofs.Whose.{whose}
 use Rattle.linking.proofs.Packed.{text-bytes}
-use Rattle.calls.specs.Calls.{Call, link, ask, State, step, run}
+use Rattle.calls.specs.Calls.{Call, link, ask, Way, State, way_after, step, run}
 use Rattle.calls.specs.Owners.{Owners}
 use Rattle.calls.proofs.Linked.{Leaves, link_leaves, link-own}
-use Rattle.calls.proofs.Rows.{Accepted, link-cases, ask-cases}
+use Rattle.matching.proofs.Rows.{Accepted}
+use Rattle.calls.proofs.Ways.{same_of, left_by, link-ends, ask-leaves}
 
 -- class c's method list in the new words: where it was, or past all that was there
 abbrev Own : List ℕ → List ℕ → ℕ → Type 0
@@ -25,12 +26,12 @@ Own old new c =
 
 -- ---- one link that is accepted
 
-module _ (ws abi : List ℕ) (c : ℕ) (area stubs missing : List ℕ) (o : LinkOutcome) (acc : Accepted ws abi c area stubs missing o) where
+module _ (same : Same) (ws abi : List ℕ) (c : ℕ) (area stubs missing : List ℕ) (o : LinkOutcome) (acc : Accepted same ws abi c area stubs missing o) where
   valid-now : Valid ws
   valid-now = (valid ws abi acc.valid).0
 
-  abbrev planning : Plans (by_sheets ws abi) ws (text_of ws) abi (abi_text_of abi) area c acc.coming
-  planning = plans (by_sheets ws abi) ws (text_of ws) abi (abi_text_of abi) area c acc.coming acc.comes
+  abbrev planning : Plans same ws (text_of ws) abi (abi_text_of abi) area c acc.coming
+  planning = plans same ws (text_of ws) abi (abi_text_of abi) area c acc.coming acc.comes
 
   abbrev left : List ℕ
   left = linked_words ws c (next_free area) (new_words ws (text_of ws) abi (abi_text_of abi) c) (new_statics ws (text_of ws) c) acc.coming
@@ -99,25 +100,24 @@ module _ (ws abi : List ℕ) (c : ℕ) (area stubs missing : List ℕ) (o : Link
 
 -- ---- any list of calls
 
-step-apart : (abi : List ℕ) (s : State) (k : Call) → MethodsApart s.set → MethodsApart (step abi s k).set
+step-apart : (way : Way) (abi : List ℕ) (s : State) (k : Call) → MethodsApart s.set → MethodsApart (step way abi s k).set
 unfolding step
-step-apart abi s (link c stubs) a =
+step-apart way abi s (link c stubs) a =
     ⊎_elim
     (λ r. subst MethodsApart (sym r.same_set) a)
-    (λ acc. linked-apart s.set abi c s.area stubs s.missing (link_def s.set abi c s.area stubs s.missing) acc)
-    (link-cases s.set abi c s.area stubs s.missing)
-step-apart abi s (ask c i stubs) a =
-    ⊎_elim (λ r. subst MethodsApart (sym r.same_set) a) (λ r. subst MethodsApart (sym r.same_set) a) (ask-cases s.set abi c i s.area stubs)
+    (λ l. linked-apart (same_of way s.set abi) s.set abi c s.area stubs s.missing (left_by way abi s c stubs) l)
+    (link-ends way abi s c stubs)
+step-apart way abi s (ask c i stubs) a = subst MethodsApart (sym (ask-leaves way abi s c i stubs)) a
 
-run-apart : (abi : List ℕ) (calls : List Call) (s : State) → MethodsApart s.set → MethodsApart (run abi calls s).set
+run-apart : (way : Way) (abi : List ℕ) (calls : List Call) (s : State) → MethodsApart s.set → MethodsApart (run way abi calls s).set
 unfolding run
-run-apart abi [] s a = a
-run-apart abi (k ∷ ks) s a = run-apart abi ks (step abi s k) (step-apart abi s k a)
+run-apart way abi [] s a = a
+run-apart way abi (k ∷ ks) s a = run-apart (way_after way abi s k) abi ks (step way abi s k) (step-apart way abi s k a)
 
 pub owners : Owners
 owners = record {
   valid = λ ws v. v.methods;
   apart = run-apart;
-  owner = λ abi calls s c d m v k e.
-      (whose.no_other (run abi calls s).set c d m (run-apart abi calls s v.methods) k e).0;
+  owner = λ way abi calls s c d m v k e.
+      (whose.no_other (run way abi calls s).set c d m (run-apart way abi calls s v.methods) k e).0;
 }

@@ -1,5 +1,5 @@
--- An ask that puts one node in front of a class's list (`PutsNode`): that list gets the node, and all other words below the next free one stay. Assumes
--- nothing.
+-- An ask that puts one node in front of a class's list (`Puts`), by whatever comparison: that list gets the node, and all other words below the next free
+-- one stay. Assumes nothing.
 use mathlib.Core.Path.{◌≡◌, refl, sym, ap, ◌∙◌}
 use mathlib.Core.Logic.{◌≢◌, ◌⊎◌, inl, inr}
 use mathlib.Core.Bool.{false}
@@ -14,13 +14,13 @@ use Rattle.class_sheet.specs.ClassSheet.{class_count, class_table_place, class_s
 use Rattle.abi_sheet.specs.AbiSheet.{abi_text_of}
 use Rattle.set_rules.specs.Valid.{Valid}
 use Rattle.set_rules.proofs.Valid.{valid}
-use Rattle.linking.specs.Signature.{by_sheets}
+use Rattle.linking.specs.Signature.{Same}
 use Rattle.linking.specs.Link.{HasTable, next_free, bad_area, Outcome}
 use Rattle.linking.specs.Ask.{hit, walk, head_place}
 use Rattle.calls.specs.Calls.{State}
 use Rattle.calls.specs.Kept.{interface_at}
 use Rattle.calls.proofs.Area.{asked-length, asked-before, asked-link, asked-interface, asked-head, asked-free}
-use Rattle.calls.proofs.Rows.{PutsNode, silent}
+use Rattle.calls.proofs.Rows.{Puts, silent}
 use Rattle.calls.proofs.Dispatch.{built-size}
 use Rattle.calls.proofs.BesideAsk.{SameWalk}
 use Rattle.calls.proofs.Elsewhere.{walk_of}
@@ -29,7 +29,7 @@ use Rattle.calls.proofs.NodeLists.{Node, Nodes, more, few, fewer, walks_same, no
 
 -- ---- what it leaves
 
-module _ (abi : List ℕ) (s : State) (c i : ℕ) (stubs : List ℕ) (o : Outcome) (p : PutsNode s.set abi c i s.area stubs o) where
+module _ {same : Same} (abi : List ℕ) (s : State) (c i : ℕ) (stubs : List ℕ) (o : Outcome) (p : Puts same s.set abi c i s.area stubs o) where
   abbrev ws : List ℕ
   ws = s.set
 
@@ -43,7 +43,7 @@ module _ (abi : List ℕ) (s : State) (c i : ℕ) (stubs : List ℕ) (o : Outcom
   pub put-size : length p.entries ≡ class_slot_count ws i
   put-size =
       let l = p.interface in
-      built-size (by_sheets ws abi) ws (text_of ws) abi (abi_text_of abi) s.area c i p.entries ((put-valid.class i (l.some, l.among)).slots l.has) p.builds
+      built-size same ws (text_of ws) abi (abi_text_of abi) s.area c i p.entries ((put-valid.class i (l.some, l.among)).slots l.has) p.builds
 
   pub head-below : head_place ws c < new
   head-below = let b = p.lent.below c p.class in omega arith

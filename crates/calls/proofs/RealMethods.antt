@@ -27,16 +27,16 @@ use Rattle.slots.specs.Made.{read_words, start_from, table_from, inherited_from,
 use Rattle.slots.proofs.ChainFacts.{chain-here, chain-up}
 use Rattle.slots.proofs.EntryFacts.{own-word, stub-word}
 use Rattle.slots.proofs.ReadFacts.{length-words, word_at}
-use Rattle.calls.specs.Calls.{Call, link, ask, State, start, step, run, Unlinked, LinkedIn, table_at, Lent, lent_now, lent_later, stubs_of}
+use Rattle.calls.specs.Calls.{Call, link, ask, bytewise, ByBytes, State, start, step, run, Unlinked, LinkedIn, table_at, Lent, lent_now, lent_later, stubs_of}
 use Rattle.calls.specs.Demand.{Conditions}
-use Rattle.calls.specs.Missing.{bits_now, NoRealMethod}
+use Rattle.calls.specs.Missing.{bits_now, NoRealBy}
 use Rattle.calls.proofs.Rows.{Accepted, link-cases, ask-cases}
 use Rattle.calls.proofs.Tables.{table_of, Keeps, none-linked, tables_start, link-keeps, new-table, was, same-state}
 use Rattle.calls.proofs.Runs.{Plain, plain-up, Inv, in_at, link-inv, new-from, parent_is, parent-linked₀, parent-of}
 use Rattle.calls.proofs.Lists.{Goes, step-goes}
 use Rattle.calls.proofs.Fits.{one_rule}
 use Rattle.calls.proofs.Sources.{All, none, all-at, all-each, relayed-all, extended-all, adds-all, packages-all}
-use Rattle.calls.proofs.Missing.{Holds, link-holds, ask_holds, bits-other, bits_c, parent-bits, bits-kept, missing-kept, start-accepted}
+use Rattle.calls.proofs.Missing.{Holds, link-holds, ask_holds, bits-other, bits_c, parent-bits, bits-kept, missing_by_bytes, start-accepted}
 use Rattle.calls.proofs.Stays.{stays-accepted}
 use Rattle.calls.proofs.Theorem.{start-inv, after, table_is, whole_is, link_fits, linked-valid}
 
@@ -209,7 +209,7 @@ module _ (ws₀ abi : List ℕ) (valid₀ : Valid ws₀) (P : ℕ → Type 0) wh
 
   -- an ask
 
-  ask-stands : (s : State) → Stands s → (c i : ℕ) (stubs : List ℕ) → ((x : ℕ) → Memᴰ x stubs → P x) → Stands (step abi s (ask c i stubs))
+  ask-stands : (s : State) → Stands s → (c i : ℕ) (stubs : List ℕ) → ((x : ℕ) → Memᴰ x stubs → P x) → Stands (step bytewise abi s (ask c i stubs))
   unfolding step
   ask-stands s st c i stubs lent =
       let o : Outcome = ask_def s.set abi c i s.area stubs in
@@ -229,7 +229,7 @@ module _ (ws₀ abi : List ℕ) (valid₀ : Valid ws₀) (P : ℕ → Type 0) wh
             (bits-kept abi s st.holds.tables o.area g'.keeps) d (parent-of ws₀ abi valid₀ P st.inv d l) l (st.witness d l p);
       })
 
-  step-stands : (s : State) → Stands s → (k : Call) → ((x : ℕ) → Memᴰ x (stubs_of k) → P x) → Stands (step abi s k)
+  step-stands : (s : State) → Stands s → (k : Call) → ((x : ℕ) → Memᴰ x (stubs_of k) → P x) → Stands (step bytewise abi s k)
   unfolding step
   step-stands s st (link c stubs) lent =
       let o : LinkOutcome = link_def s.set abi c s.area stubs s.missing in
@@ -240,11 +240,11 @@ module _ (ws₀ abi : List ℕ) (valid₀ : Valid ws₀) (P : ℕ → Type 0) wh
       ]
   step-stands s st (ask c i stubs) lent = unfold step in ask-stands s st c i stubs lent
 
-  pub run-stands : (ks : List Call) (s : State) → Stands s → ((x : ℕ) → Lent x ks → P x) → Stands (run abi ks s)
+  pub run-stands : (ks : List Call) (s : State) → Stands s → ((x : ℕ) → Lent x ks → P x) → Stands (run bytewise abi ks s)
   unfolding run
   run-stands [] s st lent = st
   run-stands (k ∷ ks) s st lent =
-      run-stands ks (step abi s k) (step-stands s st k (λ x i. lent x (lent_now i))) (λ x i. lent x (lent_later i))
+      run-stands ks (step bytewise abi s k) (step-stands s st k (λ x i. lent x (lent_now i))) (λ x i. lent x (lent_later i))
 
   -- ---- along the chain
 
@@ -316,7 +316,7 @@ module _ (ws₀ abi : List ℕ) (valid₀ : Valid ws₀) (P : ℕ → Type 0) wh
 -- ---- THE THEOREM
 
 module _ (ws abi area missing : List ℕ) (unlinked : Unlinked ws) (calls : List Call) (c place slots : ℕ)
-    (linked : LinkedIn abi c place slots (start ws area missing) calls) (k : Conditions ws abi calls c) where
+    (linked : LinkedIn abi c place slots bytewise (start ws area missing) calls) (k : Conditions ws abi calls c) where
   valid₀ : Valid ws
   valid₀ = linked-valid ws abi area missing calls c place slots linked
 
@@ -324,7 +324,7 @@ module _ (ws abi area missing : List ℕ) (unlinked : Unlinked ws) (calls : List
   P x = Lent x calls
 
   abbrev final : State
-  final = run abi calls (start ws area missing)
+  final = run bytewise abi calls (start ws area missing)
 
   stands : Stands ws abi valid₀ P final
   stands =
@@ -359,12 +359,12 @@ module _ (ws abi area missing : List ℕ) (unlinked : Unlinked ws) (calls : List
 
   within : (i : ℕ) → i < slots → i < 1024
   within i h =
-      let e = stays-accepted.calls_leave abi calls (start ws area missing) (start-accepted ws abi area missing unlinked calls c now) in
+      let e = stays-accepted bytewise abi calls (start ws area missing) (start-accepted ws abi area missing unlinked calls c now) in
       let v = ((valid final.set abi e).0.class c (now.some, now.among)).slots now.has in
       omega (arith, (after ws abi area missing valid₀ unlinked calls linked).slots)
 
   bit_is : (i : ℕ) → i < slots → missing_bit final.missing c i ≡ get_or (bits_now abi final c) i false
-  bit_is i h = bit-read final.missing c (bits_now abi final c) (missing-kept.counted ws abi area missing unlinked calls c now).words i (within i h)
+  bit_is i h = bit-read final.missing c (bits_now abi final c) ((missing_by_bytes ws abi area missing).counted unlinked calls c now).words i (within i h)
 
   no_real : (i : ℕ) → i < slots
       → (missing_bit final.missing c i ≡ true)
@@ -374,5 +374,5 @@ module _ (ws abi area missing : List ℕ) (unlinked : Unlinked ws) (calls : List
     λ f. bit_is i h ∙ real_false ws abi valid₀ P (real-slot i h) f,
   )
 
-pub no_real-method : NoRealMethod
-no_real-method ws abi area missing unlinked calls c place slots linked k i h = no_real ws abi area missing unlinked calls c place slots linked k i h
+pub no_real_by_bytes : ByBytes NoRealBy
+no_real_by_bytes ws abi area missing unlinked calls c place slots linked k i h = no_real ws abi area missing unlinked calls c place slots linked k i h

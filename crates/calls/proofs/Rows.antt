@@ -7,7 +7,7 @@ use Rattle.words.proofs.FoldLaws.{all-if}
 use Rattle.class_sheet.specs.ClassSheet.{class_count, text_of, class_table_place, class_slot_count}
 use Rattle.abi_sheet.specs.AbiSheet.{abi_text_of}
 use Rattle.set_rules.specs.SetRules.{set_refusal}
-use Rattle.linking.specs.Signature.{by_sheets}
+use Rattle.linking.specs.Signature.{Same, by_sheets}
 use Rattle.linking.specs.Vtable.{Entry, Built, built, refused, table_entries}
 use Rattle.linking.specs.Link.{HasTable, no_class, is_linked, next_free, ends_below, bad_area, no_room, Outcome, refused_call, LinkOutcome, link_def}
 use Rattle.linking.specs.Ask.{Walk, hit, missed, broken, walk, head_place, dispatch_entries, asked_area, on_dispatch, build_node, on_walk, bad_ask, ask_def, ask_by}
@@ -54,8 +54,8 @@ pub record Idle (ws abi : List ℕ) (c i : ℕ) (area : List ℕ) (o : Outcome) 
   pub same_area : o.area ≡ area
   pub hits : o.refusal ≡ 0 → Hits ws abi c i area o
 
--- it puts a node in front
-pub record PutsNode (ws abi : List ℕ) (c i : ℕ) (area stubs : List ℕ) (o : Outcome) : Type 0 where
+-- it puts a node in front, whose table is made by this comparison
+pub record Puts (same : Same) (ws abi : List ℕ) (c i : ℕ) (area stubs : List ℕ) (o : Outcome) : Type 0 where
   pub valid : set_refusal ws abi ≡ 0
   pub class : HasTable ws c
   pub interface : HasTable ws i
@@ -65,7 +65,7 @@ pub record PutsNode (ws abi : List ℕ) (c i : ℕ) (area stubs : List ℕ) (o :
   pub nodes : ℕ
   pub walks : walk area i 64 0 (get_or area (head_place ws c) 0) ≡ missed nodes
   pub entries : List Entry
-  pub builds : dispatch_entries (by_sheets ws abi) ws c (table_entries (by_sheets ws abi) ws (text_of ws) abi (abi_text_of abi) area i) ≡ built entries
+  pub builds : dispatch_entries same ws c (table_entries same ws (text_of ws) abi (abi_text_of abi) area i) ≡ built entries
   pub room : Fits area stubs (length entries)
   pub number : o.refusal ≡ 0
   pub answers-place : o.first ≡ next_free area + 1
@@ -73,7 +73,11 @@ pub record PutsNode (ws abi : List ℕ) (c i : ℕ) (area stubs : List ℕ) (o :
   pub same_set : o.set ≡ ws
   pub new-area : o.area ≡ asked_area ws area c i entries stubs
 
-untouched : (ws abi : List ℕ) (c i : ℕ) (area : List ℕ) (n : ℕ) → n ≢ 0 → Idle ws abi c i area (refused_call n ws area)
+-- by the bytes of the signatures
+abbrev pub PutsNode : List ℕ → List ℕ → ℕ → ℕ → List ℕ → List ℕ → Outcome → Type 0
+PutsNode ws abi = Puts (by_sheets ws abi) ws abi
+
+pub untouched : (ws abi : List ℕ) (c i : ℕ) (area : List ℕ) (n : ℕ) → n ≢ 0 → Idle ws abi c i area (refused_call n ws area)
 untouched ws abi c i area n h = record { same_set = refl; same_area = refl; hits = λ e. absurd (h e) }
 
 pub ask-classes : (ws : List ℕ) (c i : ℕ) → bad_ask ws c i ≡ false → HasTable ws c × HasTable ws i
@@ -88,13 +92,13 @@ ask-classes ws c i e =
       record { some = m.0; among = m.1; has = is-linked ws i (not-false (is_linked ws i) p.1) },
     )
 
-module _ (ws abi : List ℕ) (c i : ℕ) (area stubs : List ℕ) where
+module _ (same : Same) (ws abi : List ℕ) (c i : ℕ) (area stubs : List ℕ) where
   abbrev Any : Outcome → Type 0
-  Any o = Idle ws abi c i area o ⊎ PutsNode ws abi c i area stubs o
+  Any o = Idle ws abi c i area o ⊎ Puts same ws abi c i area stubs o
 
   module _ (v : set_refusal ws abi ≡ 0) (asks : bad_ask ws c i ≡ false) (sits : bad_area ws area ≡ false) where
     put-node : (nodes : ℕ) → walk area i 64 0 (get_or area (head_place ws c) 0) ≡ missed nodes → (b : Built)
-        → dispatch_entries (by_sheets ws abi) ws c (table_entries (by_sheets ws abi) ws (text_of ws) abi (abi_text_of abi) area i) ≡ b
+        → dispatch_entries same ws c (table_entries same ws (text_of ws) abi (abi_text_of abi) area i) ≡ b
         → Any (on_dispatch b
         (λ T. cond (no_room area stubs (length T))
         (refused_call 15 ws area)
@@ -123,12 +127,12 @@ module _ (ws abi : List ℕ) (c i : ℕ) (area stubs : List ℕ) where
           new-area = refl;
         })))
     put-node nodes w (refused n) e =
-        let m : n ≡ 16 = dispatch_refused (by_sheets ws abi) ws c (table_entries (by_sheets ws abi) ws (text_of ws) abi (abi_text_of abi) area i) n e in
+        let m : n ≡ 16 = dispatch_refused same ws c (table_entries same ws (text_of ws) abi (abi_text_of abi) area i) n e in
         inl (untouched ws abi c i area n (λ z. omega arith))
 
     walked : (w : Walk) → walk area i 64 0 (get_or area (head_place ws c) 0) ≡ w
         → Any (on_walk w (λ n nodes. record { refusal = 0; first = n + 1; second = nodes; set = ws; area = area })
-        (build_node (by_sheets ws abi) ws abi c i area stubs) (refused_call 7 ws area))
+        (build_node same ws abi c i area stubs) (refused_call 7 ws area))
     unfolding build_node
     walked (hit n nodes) e =
         inl (record {
@@ -149,12 +153,12 @@ module _ (ws abi : List ℕ) (c i : ℕ) (area stubs : List ℕ) where
           };
         })
     walked (missed nodes) e =
-        put-node nodes e (dispatch_entries (by_sheets ws abi) ws c (table_entries (by_sheets ws abi) ws (text_of ws) abi (abi_text_of abi) area i)) refl
+        put-node nodes e (dispatch_entries same ws c (table_entries same ws (text_of ws) abi (abi_text_of abi) area i)) refl
     walked broken e = inl (untouched ws abi c i area 7 (omega arith))
 
-  pub ask-cases : Any (ask_def ws abi c i area stubs)
-  unfolding ask_def ask_by
-  ask-cases =
+  pub cases_by : Any (ask_by same ws abi c i area stubs)
+  unfolding ask_by
+  cases_by =
       by (eqb (set_refusal ws abi) 0)
       (λ v.
       rw v
@@ -166,6 +170,11 @@ module _ (ws abi : List ℕ) (c i : ℕ) (area stubs : List ℕ) where
       rw u
       (walked (eqb-true (set_refusal ws abi) 0 v) t u (walk area i 64 0 (get_or area (head_place ws c) 0)) refl))))))
       (λ v. rw v (inl (untouched ws abi c i area (set_refusal ws abi) (eqb-false (set_refusal ws abi) 0 v))))
+
+pub ask-cases : (ws abi : List ℕ) (c i : ℕ) (area stubs : List ℕ)
+    → Idle ws abi c i area (ask_def ws abi c i area stubs) ⊎ PutsNode ws abi c i area stubs (ask_def ws abi c i area stubs)
+unfolding ask_def
+ask-cases ws abi c i area stubs = cases_by (by_sheets ws abi) ws abi c i area stubs
 
 -- ---- row 7 the other way: what it asks for is all that it asks for
 

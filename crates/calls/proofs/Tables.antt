@@ -1,9 +1,10 @@
 -- What a call keeps of the classes that are linked before it, and what holds of all linked classes after it: each table lies whole in the area and
--- apart from the others, and a linked class's parent is linked. Assumes nothing.
+-- apart from the others, and a linked class's parent is linked; by whatever comparison. Assumes nothing.
 use mathlib.Core.Path.{◌≡◌, refl, sym, ap, ◌∙◌, subst}
 use mathlib.Core.Logic.{◌⊎◌, inl, inr, ◌≢◌}
+use mathlib.Core.Bool.{Bool, false}
 use mathlib.Core.List.{List, Memᴰ}
-use Prim.Native.Nat.{ℕ, zero, suc, ◌+◌, ◌≤◌, ◌<◌}
+use Prim.Native.Nat.{ℕ, zero, suc, ◌+◌, ◌*◌, ◌≤◌, ◌<◌}
 use native.Mathlib.Omega.{arith}
 use lib.ListN.{length}
 use lib.Dec.{eqb}
@@ -14,21 +15,25 @@ use Rattle.class_sheet.specs.ClassSheet.{class_count, text_length, text_words, t
 use Rattle.abi_sheet.specs.AbiSheet.{abi_text_length, abi_text_words, abi_text_of}
 use Rattle.set_rules.specs.Valid.{Valid}
 use Rattle.set_rules.proofs.Valid.{valid}
-use Rattle.linking.specs.Signature.{by_sheets}
+use Rattle.linking.specs.Signature.{Same}
 use Rattle.linking.proofs.ChainLaws.{parent_below, parent-within, chain-none}
 use Rattle.linking.specs.Chain.{parent_of, chain}
 use Rattle.linking.specs.Vtable.{Entry, slot_words}
-use Rattle.linking.specs.Link.{HasTable, next_free, new_words, new_statics, linked_area, Outcome, LinkOutcome}
+use Rattle.linking.specs.Counts.{bits_of, missing_width, pack_bits, missing_at, parent_bit, counted_after}
+use Rattle.linking.specs.Link.{HasTable, next_free, bad_area, new_words, new_statics, linked_area, Outcome, LinkOutcome}
 use Rattle.linking.specs.Ask.{head_place, asked_area}
 use Rattle.linking.proofs.Plans.{Plans, plans}
 use Rattle.linking.proofs.Packed.{text-bytes}
+use Rattle.linking.proofs.Writes.{length-write}
+use Rattle.linking.proofs.MissingLaws.{length_pack}
 use Rattle.slots.proofs.ListFacts.{in_none}
 use Rattle.slots.proofs.ChainFacts.{chain-cases}
 use Rattle.slots.proofs.ReadFacts.{length-words}
 use Rattle.calls.specs.Calls.{State, start, Unlinked, table_at}
-use Rattle.calls.proofs.Area.{linked-length, linked-before, linked-slots, asked-length, asked-before}
+use Rattle.calls.proofs.Area.{linked-length, linked-before, linked-slots, linked-free, asked-length, asked-before}
 use Rattle.calls.proofs.Linked.{Leaves, link_leaves}
-use Rattle.calls.proofs.Rows.{Accepted, PutsNode}
+use Rattle.matching.proofs.Rows.{Accepted}
+use Rattle.calls.proofs.Rows.{Puts, silent}
 use Rattle.calls.proofs.Like.{alike}
 use Rattle.calls.proofs.View.{parent-same}
 
@@ -103,8 +108,8 @@ whole-keeps tables k c l = ap length (k.table c l) ∙ tables.whole c l ∙ sym 
 
 -- ---- an accepted link keeps what is linked, and adds its class
 
-module _ (abi : List ℕ) (s : State) (c : ℕ) (stubs : List ℕ) (o : LinkOutcome)
-    (acc : Accepted s.set abi c s.area stubs s.missing o) where
+module _ {same : Same} (abi : List ℕ) (s : State) (c : ℕ) (stubs : List ℕ) (o : LinkOutcome)
+    (acc : Accepted same s.set abi c s.area stubs s.missing o) where
   abbrev next : State
   next = record { set = o.outcome.set; area = o.outcome.area; missing = o.missing }
 
@@ -120,8 +125,8 @@ module _ (abi : List ℕ) (s : State) (c : ℕ) (stubs : List ℕ) (o : LinkOutc
   pub valid-now : Valid s.set
   valid-now = (valid s.set abi acc.valid).0
 
-  pub planning : Plans (by_sheets s.set abi) s.set (text_of s.set) abi (abi_text_of abi) s.area c acc.coming
-  planning = plans (by_sheets s.set abi) s.set (text_of s.set) abi (abi_text_of abi) s.area c acc.coming acc.comes
+  pub planning : Plans same s.set (text_of s.set) abi (abi_text_of abi) s.area c acc.coming
+  planning = plans same s.set (text_of s.set) abi (abi_text_of abi) s.area c acc.coming acc.comes
 
   pub leaves : Leaves s.set o.outcome.set c (next_free s.area) (length T)
   leaves =
@@ -221,9 +226,44 @@ module _ (abi : List ℕ) (s : State) (c : ℕ) (stubs : List ℕ) (o : LinkOutc
         rw (link-keeps.place d od, link-keeps.slots d od, link-keeps.place e oe, link-keeps.slots e oe) (tables.apart d e od oe n)));
   }
 
+  -- row 7 has nothing against what it leaves
+  free : next_free o.outcome.area ≡ next_free s.area + length T + 2
+  free = ap next_free acc.new-area ∙ linked-free s.area c T stubs acc.lent.some room
+
+  end_below : (d : ℕ) → HasTable o.outcome.set d → end_of next d ≤ next_free o.outcome.area
+  end_below d l =
+      by (eqb d c)
+      (λ t. let e : d ≡ c = eqb-true d c t in rw e (omega (arith, new-place, new-slots, free)))
+      (λ f. omega (
+        arith,
+        new-place,
+        free,
+        link-keeps.place d (was d (eqb-false d c f) l),
+        link-keeps.slots d (was d (eqb-false d c f) l),
+        old_below d (was d (eqb-false d c f) l),
+      ))
+
+  pub link-sits : bad_area o.outcome.set o.outcome.area ≡ false
+  link-sits =
+      let f = room in
+      let h = acc.lent.short in
+      let n = free in
+      let g = ap length acc.new-area ∙ linked-length s.area c T stubs acc.lent.some room in
+      silent o.outcome.set o.outcome.area (record { some = λ e. omega arith; within = omega arith; short = omega arith; below = end_below })
+
+  -- the list of missing slots stays long enough
+  pub link-long : missing_width * class_count o.outcome.set ≤ length o.missing
+  unfolding counted_after
+  link-long =
+      let bits : List Bool = bits_of (parent_bit s.missing (parent_of s.set c)) T in
+      let l = acc.long in
+      let e : length o.missing ≡ length s.missing =
+      ap length acc.new-missing ∙ length-write s.missing (missing_at c) (pack_bits bits) (omega (arith, length_pack bits)) in
+      omega (arith, leaves.like.classes)
+
 -- ---- an ask keeps what is linked: its node lies after all tables, and the list head that it stores to is no slot
 
-module _ (abi : List ℕ) (s : State) (tables : Tables s) (c i : ℕ) (stubs : List ℕ) (o : Outcome) (asked : PutsNode s.set abi c i s.area stubs o) where
+module _ {same : Same} (abi : List ℕ) (s : State) (tables : Tables s) (c i : ℕ) (stubs : List ℕ) (o : Outcome) (asked : Puts same s.set abi c i s.area stubs o) where
   abbrev put : State
   put = record { set = s.set; area = o.area; missing = s.missing }
 

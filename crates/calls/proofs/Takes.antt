@@ -1,6 +1,6 @@
 -- The table of a class of kind 3 (specs/Takes.antt): of one method what it does to each slot, then of all of them in turn; and the slots that the
 -- walk gives a method are those whose introducing method it overrides. Assumes nothing.
-use Rattle.std.proofs.Common.{◌≡◌, refl, sym, ap, ◌∙◌, ◌⊎◌, inl, inr, ⊎_elim, Bool, true, false, true≢false, List, [], ◌∷◌, ◌++◌, append_assoc, append-nil, ℕ, zero, suc, ◌+◌, ◌≤◌, ◌<◌, arith, length, set, drop, length-append, drop-set-lt, Option}
+use Rattle.std.proofs.Common.{◌≡◌, refl, sym, ap, subst, ◌∙◌, ◌⊎◌, inl, inr, ⊎_elim, Bool, true, false, true≢false, List, [], ◌∷◌, ◌++◌, append_assoc, append-nil, ℕ, zero, suc, ◌+◌, ◌≤◌, ◌<◌, arith, length, set, drop, length-append, drop-set-lt, Option}
 use mathlib.Core.List.Memᴰ
 use mathlib.Core.List.{Memᴰ}
 use Rattle.words.specs.Lists.{list_from, numbers, fold}
@@ -13,11 +13,12 @@ use Rattle.linking.specs.Signature.{Same, methods_same, by_sheets}
 use Rattle.linking.specs.Chain.{list_count, own_methods, parent_of, eligible}
 use Rattle.linking.specs.Vtable.{Entry, method_entry, method_entries}
 use Rattle.linking.specs.Packages.{overridden, introducing, taken_slots, put_taken, take_slots, packages_over, build_packages}
-use Rattle.linking.specs.Link.{link_def}
+use Rattle.linking.specs.Link.{Outcome, LinkOutcome, link_def}
 use Rattle.linking.proofs.Overriding.{overridden-overrides, overrides-overridden}
 use Rattle.linking.proofs.Plans.{packages-within, plans}
 use Rattle.slots.proofs.EntryFacts.{at}
 use Rattle.slots.proofs.TakenFacts.{taken_of, taken_in_lem, PutAt, stored, left, added, put-at, put-length, stores-length}
+use Rattle.matching.proofs.Numbered.{link_numbered_agrees}
 use Rattle.calls.specs.Takes as spec
 use Rattle.calls.specs.Takes.{Picked, none, pick, skip, TakesSlot, Stands, taken, Takes, LinkTakes, TakenSlots}
 use Rattle.calls.proofs.Rows.{Accepted, link-cases}
@@ -293,7 +294,7 @@ module _ (ws abi area : List ℕ) (c : ℕ) (some : 0 < c) (room : c ≤ class_l
 
 accepted-takes : (ws abi : List ℕ) (c : ℕ) (area stubs missing : List ℕ) → class_kind ws c ≡ 3
     → Accepted ws abi c area stubs missing (link_def ws abi c area stubs missing)
-    → LinkTakes ws abi c area stubs missing
+    → LinkTakes ws abi c area stubs (link_def ws abi c area stubs missing).outcome
 accepted-takes ws abi c area stubs missing kind a = record {
   table = a.coming.table;
   takes = table-takes ws abi area c a.class.some (omega (arith, a.class.among, (valid ws abi a.valid).0.number_of_classes)) a.coming.table
@@ -302,6 +303,13 @@ accepted-takes ws abi c area stubs missing kind a = record {
   written = a.new-area;
 }
 
-pub taken-slots : TakenSlots
-taken-slots ws abi c area stubs missing kind e =
+taken_by_bytes : (ws abi : List ℕ) (c : ℕ) (area stubs missing : List ℕ) → class_kind ws c ≡ 3
+    → (link_def ws abi c area stubs missing).outcome.refusal ≡ 0 → LinkTakes ws abi c area stubs (link_def ws abi c area stubs missing).outcome
+taken_by_bytes ws abi c area stubs missing kind e =
     elim (link-cases ws abi c area stubs missing) [ inl r ↦ absurd (r.number e) | inr a ↦ accepted-takes ws abi c area stubs missing kind a ]
+
+pub taken-slots : TakenSlots
+taken-slots ws abi ns c area stubs missing f kind e =
+    let o = ap (λ (x : LinkOutcome). x.outcome) (link_numbered_agrees ws abi ns f c area stubs missing) in
+    subst (LinkTakes ws abi c area stubs) (sym o)
+    (taken_by_bytes ws abi c area stubs missing kind (sym (ap (λ (x : Outcome). x.refusal) o) ∙ e))

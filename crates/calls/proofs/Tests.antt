@@ -12,11 +12,14 @@ use Rattle.text.specs.Text.{same_bytes}
 use Rattle.text.proofs.Laws.{same-is, same_refl}
 use Rattle.class_sheet.specs.ClassSheet.{class_count, text_of, class_kind, class_flags, class_table_place, method_target}
 use Rattle.abi_sheet.specs.AbiSheet.{abi_text_of, abi_slot_name, abi_slot_descriptor}
+use Rattle.linking.specs.Signature.{place_number, place_at, by_numbers}
+use Rattle.linking.specs.Numbers.{is_used, is_twin, number_at, numbers_of, numbers_short}
+use Rattle.linking.specs.Numbered.{numbers_taken, numbers_after, link_numbered, ask_numbered}
 use Rattle.linking.specs.Chain.{own_methods, chain, is_interface}
 use Rattle.linking.specs.Abi.{abi_slots, slot_index, class_abi}
 use Rattle.slots.specs.Slots.{OldRule, ChainMethod, ChainSlot, Orderly}
 use Rattle.slots.proofs.ListFacts.{all_found_lem}
-use Rattle.calls.specs.Calls.{Call, State, outcome, step, run, Unlinked, Lent, lent_now, lent_later, stubs_of}
+use Rattle.calls.specs.Calls.{Call, Way, State, outcome, way_after, step, run, numbers_run, Unlinked, Lent, lent_now, lent_later, stubs_of}
 use Rattle.calls.specs.Demand.{BuiltOrArray, Conditions}
 
 -- ---- lists
@@ -256,13 +259,19 @@ verdicts ws abi calls c =
     ∷ stubs_nonzero ws abi calls c ∷ targets_different ws abi calls c ∷ without_stub ws abi calls c ∷ []
 
 -- the answers of a list: refusal, then place and slots of a link, place and nodes of an ask
-unfoldable pub answers : List ℕ → State → List Call → List (ℕ × ℕ × ℕ)
-answers abi s [] = []
-answers abi s (k ∷ ks) =
-    ((outcome abi s k).refusal, (outcome abi s k).first, (outcome abi s k).second) ∷ answers abi (step abi s k) ks
+unfoldable pub answers : Way → List ℕ → State → List Call → List (ℕ × ℕ × ℕ)
+answers way abi s [] = []
+answers way abi s (k ∷ ks) =
+    ((outcome way abi s k).refusal, (outcome way abi s k).first, (outcome way abi s k).second) ∷ answers (way_after way abi s k) abi (step way abi s k) ks
 
 -- what examples by computation open
 unfoldable pub shown : ℕ
 unfolding every gather chain_methods chain_slots stubs_lent is_unlinked by_old_rule built_or_array without_interface one_index_each is_orderly
     targets_nonzero stubs_nonzero targets_different without_stub verdicts answers step run
 shown = 0
+
+-- and of those by numbers
+unfoldable pub numbering : ℕ
+unfolding place_number place_at by_numbers is_used is_twin number_at numbers_of numbers_short numbers_taken numbers_after link_numbered ask_numbered
+    numbers_run
+numbering = 0

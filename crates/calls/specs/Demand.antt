@@ -8,7 +8,7 @@ use Rattle.abi_sheet.specs.AbiSheet.{abi_text_of}
 use Rattle.linking.specs.Chain.{parent_of, chain, is_interface}
 use Rattle.linking.specs.Abi.{class_abi}
 use Rattle.slots.specs.Slots.{OldRule, Unique, Kept, ChainMethod, Orderly}
-use Rattle.calls.specs.Calls.{Call, start, run, Unlinked, LinkedIn, table_at, Lent}
+use Rattle.calls.specs.Calls.{Call, Way, ByNumbers, start, left, Unlinked, LinkedIn, table_at, Lent}
 
 -- class d is built, of kind 0 or 3, or an array class
 abbrev pub BuiltOrArray : List ℕ → ℕ → Type 0
@@ -32,14 +32,14 @@ pub record Conditions (ws abi : List ℕ) (calls : List Call) (c : ℕ) : Type 0
 
 -- ---- the claim
 
-module _ (ws abi area missing : List ℕ) (calls : List Call) where
+module _ (way : Way) (ws abi area missing : List ℕ) (calls : List Call) where
   -- "after it": the table of a class whose accepted link answered this place and so many slots
   abbrev pub table : ℕ → ℕ → List ℕ
-  table place slots = table_at (run abi calls (start ws area missing)).area place slots
+  table place slots = table_at (left way ws abi area missing calls).area place slots
 
   -- a link of class c in the list was accepted, and answered so
   abbrev pub Linked : ℕ → ℕ → ℕ → Type 0
-  Linked c place slots = LinkedIn abi c place slots (start ws area missing) calls
+  Linked c place slots = LinkedIn abi c place slots way (start ws area missing) calls
 
   -- "In a child without an ABI entry": its parent is linked in the list, and whatever link of it was accepted, the child's table keeps the known
   -- slots of the parent's
@@ -63,7 +63,11 @@ module _ (ws abi area missing : List ℕ) (calls : List Call) where
 -- "For every list of links and interface asks, accepted or refused, of whatever class numbers and stub lists, from an unlinked sheet, with one
 -- ABI sheet and whatever the area holds", and whatever the list of missing slots holds: for every class linked in the list that meets the conditions, the
 -- claim
+abbrev pub Claimed : Way → List ℕ → List ℕ → List ℕ → List ℕ → Type 0
+Claimed way ws abi area missing =
+    Unlinked ws → (calls : List Call) (c place slots : ℕ) → Linked way ws abi area missing calls c place slots → Conditions ws abi calls c
+    → Claim way ws abi area missing calls c place slots
+
+-- of calls by the numbers of a list that "is filled from the very set and ABI sheet that are then linked, and no one else writes it"
 abbrev pub Demand3 : Type 0
-Demand3 =
-    (ws abi area missing : List ℕ) → Unlinked ws → (calls : List Call) (c place slots : ℕ) → Linked ws abi area missing calls c place slots
-    → Conditions ws abi calls c → Claim ws abi area missing calls c place slots
+Demand3 = ByNumbers Claimed

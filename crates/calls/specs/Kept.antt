@@ -1,5 +1,5 @@
 -- A KEPT INTERFACE TABLE IS STILL THE RIGHT ONE: `OnceOnly` and `KeptTables`, at the end, are the statements, with what they come to for asks;
--- proofs/Kept.antt proves them. They speak of what a list of calls leaves, and so of every beginning of it. Assumes nothing.
+-- proofs/Kept.antt, Found.antt and ByNumbers.antt prove them. They speak of what a list of calls leaves, and so of every beginning of it. Assumes nothing.
 use Rattle.std.specs.Prelude.{ℕ, ◌+◌, ◌≤◌, ◌<◌, ◌≡◌, ◌≢◌, ◌⊎◌, length, get_or, set}
 use mathlib.Core.List.{List, [], ◌∷◌, ◌++◌, map, Memᴰ}
 use Rattle.class_sheet.specs.ClassSheet.{class_count, text_of, class_slot_count}
@@ -8,7 +8,8 @@ use Rattle.linking.specs.Signature.{by_sheets}
 use Rattle.linking.specs.Vtable.{Entry, Built, built, table_entries, slot_words}
 use Rattle.linking.specs.Link.{HasTable, next_free}
 use Rattle.linking.specs.Ask.{hit, missed, broken, walk, head_place, dispatch_entries}
-use Rattle.calls.specs.Calls.{Call, ask, State, start, outcome, step, left, Unlinked, table_at, stubs_of}
+use Rattle.linking.specs.Numbers.{Filled}
+use Rattle.calls.specs.Calls.{Call, ask, Way, numbered, ByNumbers, AnyWay, State, start, outcome, way_after, step, left, way_left, Unlinked, table_at, stubs_of}
 
 -- every call lends this stub list
 abbrev pub SameStubs : List ℕ → List Call → Type 0
@@ -41,7 +42,7 @@ Different [] = Unit {0}
 Different (x ∷ xs) = (Memᴰ x xs → ⊥) × Different xs
 
 -- "no interface occurs twice on one list, so the nodes read never exceed the number of classes"
-pub record Once (abi : List ℕ) (classes : ℕ) (s : State) (c : ℕ) : Type 0 where
+pub record Once (way : Way) (abi : List ℕ) (classes : ℕ) (s : State) (c : ℕ) : Type 0 where
   pub places : List ℕ
   pub spelt : Spells s.area (head_of s c) places
   pub different : Different (map (interface_at s.area) places)
@@ -54,7 +55,7 @@ pub record Once (abi : List ℕ) (classes : ℕ) (s : State) (c : ℕ) : Type 0 
   pub misses : (i k : ℕ) → walk s.area i 64 0 (head_of s c) ≡ missed k → k ≡ length places
   pub hits : (i node k : ℕ) → walk s.area i 64 0 (head_of s c) ≡ hit node k → k ≤ length places
   -- an accepted ask's second answer is the nodes that it read
-  pub nodes_read : (i : ℕ) (stubs : List ℕ) → (outcome abi s (ask c i stubs)).refusal ≡ 0 → (outcome abi s (ask c i stubs)).second ≤ classes
+  pub nodes_read : (i : ℕ) (stubs : List ℕ) → (outcome way abi s (ask c i stubs)).refusal ≡ 0 → (outcome way abi s (ask c i stubs)).second ≤ classes
 
 -- ---- a table found on a class's list
 
@@ -77,8 +78,8 @@ pub record Right (abi stubs : List ℕ) (s : State) (c i node : ℕ) : Type 0 wh
 -- ---- a table that an ask answers
 
 -- the table that an ask answers, in the area that it leaves
-abbrev pub answered : List ℕ → State → ℕ → ℕ → List ℕ → List ℕ
-answered abi s c i stubs = table_at (outcome abi s (ask c i stubs)).area (outcome abi s (ask c i stubs)).first (class_slot_count s.set i)
+abbrev pub answered : Way → List ℕ → State → ℕ → ℕ → List ℕ → List ℕ
+answered way abi s c i stubs = table_at (outcome way abi s (ask c i stubs)).area (outcome way abi s (ask c i stubs)).first (class_slot_count s.set i)
 
 -- the same memory, but that class c's list is empty
 abbrev pub without_list : State → ℕ → State
@@ -89,21 +90,21 @@ abbrev pub Full : State → ℕ → Type 0
 Full s i = length s.area < next_free s.area + class_slot_count s.set i + 2
 
 -- the ask builds on the emptied list the slots that it answers on this one, if the area has room for them
-abbrev pub BuildsSame : List ℕ → State → ℕ → ℕ → List ℕ → Type 0
-BuildsSame abi s c i stubs =
-    (((outcome abi (without_list s c) (ask c i stubs)).refusal ≡ 15) × Full s i)
-    ⊎ (((outcome abi (without_list s c) (ask c i stubs)).refusal ≡ 0) × (answered abi s c i stubs ≡ answered abi (without_list s c) c i stubs))
+abbrev pub BuildsSame : Way → List ℕ → State → ℕ → ℕ → List ℕ → Type 0
+BuildsSame way abi s c i stubs =
+    (((outcome way abi (without_list s c) (ask c i stubs)).refusal ≡ 15) × Full s i)
+    ⊎ (((outcome way abi (without_list s c) (ask c i stubs)).refusal ≡ 0) × (answered way abi s c i stubs ≡ answered way abi (without_list s c) c i stubs))
 
 -- an ask for interface i finds this node: it reads the nodes before it and this one, answers its place, and leaves set and area
-pub record Found (abi : List ℕ) (s : State) (c i node : ℕ) (stubs : List ℕ) : Type 0 where
+pub record Found (way : Way) (abi : List ℕ) (s : State) (c i node : ℕ) (stubs : List ℕ) : Type 0 where
   pub front : List ℕ
   pub back : List ℕ
   pub spelt : Spells s.area (head_of s c) (front ++ node ∷ back)
-  pub accepted : (outcome abi s (ask c i stubs)).refusal ≡ 0
-  pub place : (outcome abi s (ask c i stubs)).first ≡ node + 1
-  pub nodes : (outcome abi s (ask c i stubs)).second ≡ length front + 1
-  pub same_set : (outcome abi s (ask c i stubs)).set ≡ s.set
-  pub same_area : (outcome abi s (ask c i stubs)).area ≡ s.area
+  pub accepted : (outcome way abi s (ask c i stubs)).refusal ≡ 0
+  pub place : (outcome way abi s (ask c i stubs)).first ≡ node + 1
+  pub nodes : (outcome way abi s (ask c i stubs)).second ≡ length front + 1
+  pub same_set : (outcome way abi s (ask c i stubs)).set ≡ s.set
+  pub same_area : (outcome way abi s (ask c i stubs)).area ≡ s.area
 
 -- the table that an ask answered is at this place, on the class's list, and right
 pub record AnswerKept (abi stubs : List ℕ) (s : State) (c i place : ℕ) : Type 0 where
@@ -113,74 +114,96 @@ pub record AnswerKept (abi stubs : List ℕ) (s : State) (c i place : ℕ) : Typ
   pub right : Right abi stubs s c i node
 
 -- an ask in the list was accepted, and answered this place and so many nodes
-pub data AskedIn (abi : List ℕ) (c i place nodes : ℕ) : State → List Call → Type 0 where
-  asked_now : {s : State} {ks : List Call} (stubs : List ℕ)
-      → (outcome abi s (ask c i stubs)).refusal ≡ 0
-      → (outcome abi s (ask c i stubs)).first ≡ place
-      → (outcome abi s (ask c i stubs)).second ≡ nodes
-      → AskedIn abi c i place nodes s (ask c i stubs ∷ ks)
-  asked_later : {s : State} {k : Call} {ks : List Call} → AskedIn abi c i place nodes (step abi s k) ks → AskedIn abi c i place nodes s (k ∷ ks)
+pub data AskedIn (abi : List ℕ) (c i place nodes : ℕ) : Way → State → List Call → Type 0 where
+  asked_now : {way : Way} {s : State} {ks : List Call} (stubs : List ℕ)
+      → (outcome way abi s (ask c i stubs)).refusal ≡ 0
+      → (outcome way abi s (ask c i stubs)).first ≡ place
+      → (outcome way abi s (ask c i stubs)).second ≡ nodes
+      → AskedIn abi c i place nodes way s (ask c i stubs ∷ ks)
+  asked_later : {way : Way} {s : State} {k : Call} {ks : List Call}
+      → AskedIn abi c i place nodes (way_after way abi s k) (step way abi s k) ks → AskedIn abi c i place nodes way s (k ∷ ks)
 
 -- ---- of all lists, nodes and asks of one state
 
-module _ (abi : List ℕ) (s : State) where
+-- of every node on a linked class's list
+abbrev pub AllRight : List ℕ → State → List ℕ → Type 0
+AllRight abi s stubs = (c i node : ℕ) → HasTable s.set c → OnList s c i node → Right abi stubs s c i node
+
+module _ (way : Way) (abi : List ℕ) (s : State) where
   -- of every linked class's list; the sheet has so many classes
   abbrev pub AllOnce : ℕ → Type 0
-  AllOnce classes = (c : ℕ) → HasTable s.set c → Once abi classes s c
-
-  -- of every node on it
-  abbrev pub AllRight : List ℕ → Type 0
-  AllRight stubs = (c i node : ℕ) → HasTable s.set c → OnList s c i node → Right abi stubs s c i node
+  AllOnce classes = (c : ℕ) → HasTable s.set c → Once way abi classes s c
 
   -- "a table found on a class's list": every node on it is what an ask answers, whatever stub list that lends
   abbrev pub AllFound : Type 0
-  AllFound = (c i node : ℕ) → HasTable s.set c → OnList s c i node → (stubs : List ℕ) → Found abi s c i node stubs
+  AllFound = (c i node : ℕ) → HasTable s.set c → OnList s c i node → (stubs : List ℕ) → Found way abi s c i node stubs
 
   -- an accepted ask answers, found or built, the slots that the same ask builds where the class's list is empty
   abbrev pub AllAfresh : List ℕ → Type 0
-  AllAfresh stubs = (c i : ℕ) → (outcome abi s (ask c i stubs)).refusal ≡ 0 → BuildsSame abi s c i stubs
+  AllAfresh stubs = (c i : ℕ) → (outcome way abi s (ask c i stubs)).refusal ≡ 0 → BuildsSame way abi s c i stubs
 
 -- ---- the statements: after any links and asks on an unlinked sheet, "whether accepted or refused", each call on what the last one left, with
--- one ABI sheet; whatever the area and the list of counts hold at the start
+-- one ABI sheet; whatever the area and the list of counts hold at the start. `..By` are the claims, however the calls compare signatures.
 
--- whatever stub lists were lent
+module _ (way : Way) (ws abi area missing : List ℕ) where
+  -- whatever stub lists were lent
+  abbrev pub OnceBy : Type 0
+  OnceBy = Unlinked ws → (calls : List Call) → AllOnce (way_left way ws abi area missing calls) abi (left way ws abi area missing calls) (class_count ws)
+
+  -- where one stub list was lent
+  abbrev pub TablesBy : Type 0
+  TablesBy = (stubs : List ℕ) → Unlinked ws → (calls : List Call) → SameStubs stubs calls → AllRight abi (left way ws abi area missing calls) stubs
+
+  -- what they come to for asks
+
+  -- "the nodes read never exceed the number of classes"
+  abbrev pub NodesBy : Type 0
+  NodesBy =
+      Unlinked ws → (calls : List Call) (c i place nodes : ℕ) → AskedIn abi c i place nodes way (start ws area missing) calls → nodes ≤ class_count ws
+
+  -- a table that an ask of the list answered: a caller may keep the place
+  abbrev pub AnswersBy : Type 0
+  AnswersBy =
+      (stubs : List ℕ) → Unlinked ws → (calls : List Call) → SameStubs stubs calls → (c i place nodes : ℕ)
+      → AskedIn abi c i place nodes way (start ws area missing) calls → AnswerKept abi stubs (left way ws abi area missing calls) c i place
+
+  -- whatever stub lists were lent
+  abbrev pub FoundBy : Type 0
+  FoundBy = Unlinked ws → (calls : List Call) → AllFound (way_left way ws abi area missing calls) abi (left way ws abi area missing calls)
+
+  -- where one stub list was lent, of the asks that lend it too
+  abbrev pub AfreshBy : Type 0
+  AfreshBy =
+      (stubs : List ℕ) → Unlinked ws → (calls : List Call) → SameStubs stubs calls
+      → AllAfresh (way_left way ws abi area missing calls) abi (left way ws abi area missing calls) stubs
+
+-- what they say of a class's list, and of the nodes that asks read, is all one however signatures are compared
+
 abbrev pub OnceOnly : Type 0
-OnceOnly = (ws abi area missing : List ℕ) → Unlinked ws → (calls : List Call) → AllOnce abi (left ws abi area missing calls) (class_count ws)
+OnceOnly = AnyWay OnceBy
 
--- where one stub list was lent
-abbrev pub KeptTables : Type 0
-KeptTables =
-    (ws abi area missing stubs : List ℕ) → Unlinked ws → (calls : List Call) → SameStubs stubs calls
-    → AllRight abi (left ws abi area missing calls) stubs
-
--- ---- what they come to for asks
-
--- "the nodes read never exceed the number of classes"
 abbrev pub NodesBound : Type 0
-NodesBound =
-    (ws abi area missing : List ℕ) → Unlinked ws → (calls : List Call) (c i place nodes : ℕ)
-    → AskedIn abi c i place nodes (start ws area missing) calls → nodes ≤ class_count ws
+NodesBound = AnyWay NodesBy
 
--- a table that an ask of the list answered: a caller may keep the place
-abbrev pub KeptAnswers : Type 0
-KeptAnswers =
-    (ws abi area missing stubs : List ℕ) → Unlinked ws → (calls : List Call) → SameStubs stubs calls → (c i place nodes : ℕ)
-    → AskedIn abi c i place nodes (start ws area missing) calls → AnswerKept abi stubs (left ws abi area missing calls) c i place
-
--- whatever stub lists were lent
 abbrev pub FoundAgain : Type 0
-FoundAgain = (ws abi area missing : List ℕ) → Unlinked ws → (calls : List Call) → AllFound abi (left ws abi area missing calls)
+FoundAgain = AnyWay FoundBy
 
--- where one stub list was lent, of the asks that lend it too
+-- and what they say of the tables holds of calls that get "sheet, area and ticket 10's list, filled from the two sheets, as the last left them"
+
+abbrev pub KeptTables : Type 0
+KeptTables = ByNumbers TablesBy
+
+abbrev pub KeptAnswers : Type 0
+KeptAnswers = ByNumbers AnswersBy
+
 abbrev pub AskedAfresh : Type 0
-AskedAfresh =
-    (ws abi area missing stubs : List ℕ) → Unlinked ws → (calls : List Call) → SameStubs stubs calls
-    → AllAfresh abi (left ws abi area missing calls) stubs
+AskedAfresh = ByNumbers AfreshBy
 
 -- ---- the request's own sentences, with "a fresh area": its word 0 is 1. That is not needed: `OnceOnly` and `KeptTables` say the two claims of whatever
 -- area, and the first of whatever stub lists
 
 abbrev pub AsAsked : Type 0
 AsAsked =
-    (ws abi area missing stubs : List ℕ) → Unlinked ws → get_or area 0 0 ≡ 1 → (calls : List Call) → SameStubs stubs calls
-    → AllOnce abi (left ws abi area missing calls) (class_count ws) × AllRight abi (left ws abi area missing calls) stubs
+    (ws abi area missing ns stubs : List ℕ) → Unlinked ws → get_or area 0 0 ≡ 1 → Filled ws abi ns → (calls : List Call) → SameStubs stubs calls
+    → AllOnce (way_left (numbered ns) ws abi area missing calls) abi (left (numbered ns) ws abi area missing calls) (class_count ws)
+    × AllRight abi (left (numbered ns) ws abi area missing calls) stubs

@@ -9,7 +9,8 @@ use Rattle.class_sheet.specs.ClassSheet.{class_count, text_of, is_packaged, put_
 use Rattle.linking.specs.Chain.{own_methods, chain, eligible, SameSignature}
 use Rattle.linking.specs.Packages.{is_public, is_protected}
 use Rattle.slots.specs.Slots.{PackageRule, ChainMethod}
-use Rattle.calls.specs.Calls.{Call, Unlinked}
+use Rattle.linking.specs.Numbers.{Filled}
+use Rattle.calls.specs.Calls.{Call, Way, numbered, Unlinked}
 use Rattle.calls.specs.Demand.{table, Linked}
 
 -- the sheet with each kind 3 written as 0
@@ -35,25 +36,34 @@ module _ (ws : List ℕ) where
         → method_target ws m ≡ method_target ws k → m ≡ k
 
 -- class c is linked in both lists, of the sheet and of the sheet with kind 0, whatever the areas, the lists of missing slots and the stubs lent
-module _ (ws abi area₃ area₀ missing₃ missing₀ : List ℕ) (calls₃ calls₀ : List Call) where
+module _ (way₃ way₀ : Way) (ws abi area₃ area₀ missing₃ missing₀ : List ℕ) (calls₃ calls₀ : List Call) where
   -- with as many slots, and the same words in them
   pub record SameSlots (c : ℕ) : Type 0 where
     pub place₃ : ℕ
     pub place₀ : ℕ
     pub slots : ℕ
-    pub linked₃ : Linked ws abi area₃ missing₃ calls₃ c place₃ slots
-    pub linked₀ : Linked (unpackaged ws) abi area₀ missing₀ calls₀ c place₀ slots
-    pub words : table ws abi area₃ missing₃ calls₃ place₃ slots ≡ table (unpackaged ws) abi area₀ missing₀ calls₀ place₀ slots
+    pub linked₃ : Linked way₃ ws abi area₃ missing₃ calls₃ c place₃ slots
+    pub linked₀ : Linked way₀ (unpackaged ws) abi area₀ missing₀ calls₀ c place₀ slots
+    pub words : table way₃ ws abi area₃ missing₃ calls₃ place₃ slots ≡ table way₀ (unpackaged ws) abi area₀ missing₀ calls₀ place₀ slots
 
+  abbrev pub SameWords : Type 0
+  SameWords =
+      (c p n q k : ℕ) → Linked way₃ ws abi area₃ missing₃ calls₃ c p n → Linked way₀ (unpackaged ws) abi area₀ missing₀ calls₀ c q k → Premises ws c
+      → (n ≡ k) × (table way₃ ws abi area₃ missing₃ calls₃ p n ≡ table way₀ (unpackaged ws) abi area₀ missing₀ calls₀ q k)
+
+  -- "throughout": so for each class of its chain
+  abbrev pub SameChains : Type 0
+  SameChains =
+      (c p n q k : ℕ) → Linked way₃ ws abi area₃ missing₃ calls₃ c p n → Linked way₀ (unpackaged ws) abi area₀ missing₀ calls₀ c q k → Premises ws c
+      → (d : ℕ) → Memᴰ d (chain ws c) → SameSlots d
+
+-- each sheet's list of numbers is filled from it
 abbrev pub AsKindZero : Type 0
 AsKindZero =
-    (ws abi area₃ area₀ missing₃ missing₀ : List ℕ) → Unlinked ws → (calls₃ calls₀ : List Call) (c p n q k : ℕ) → Linked ws abi area₃ missing₃ calls₃ c p n
-    → Linked (unpackaged ws) abi area₀ missing₀ calls₀ c q k → Premises ws c
-    → (n ≡ k) × (table ws abi area₃ missing₃ calls₃ p n ≡ table (unpackaged ws) abi area₀ missing₀ calls₀ q k)
+    (ws abi area₃ area₀ missing₃ missing₀ ns₃ ns₀ : List ℕ) → Filled ws abi ns₃ → Filled (unpackaged ws) abi ns₀ → Unlinked ws → (calls₃ calls₀ : List Call)
+    → SameWords (numbered ns₃) (numbered ns₀) ws abi area₃ area₀ missing₃ missing₀ calls₃ calls₀
 
--- "throughout": so for each class of its chain
 abbrev pub Throughout : Type 0
 Throughout =
-    (ws abi area₃ area₀ missing₃ missing₀ : List ℕ) → Unlinked ws → (calls₃ calls₀ : List Call) (c p n q k : ℕ) → Linked ws abi area₃ missing₃ calls₃ c p n
-    → Linked (unpackaged ws) abi area₀ missing₀ calls₀ c q k → Premises ws c → (d : ℕ) → Memᴰ d (chain ws c)
-    → SameSlots ws abi area₃ area₀ missing₃ missing₀ calls₃ calls₀ d
+    (ws abi area₃ area₀ missing₃ missing₀ ns₃ ns₀ : List ℕ) → Filled ws abi ns₃ → Filled (unpackaged ws) abi ns₀ → Unlinked ws → (calls₃ calls₀ : List Call)
+    → SameChains (numbered ns₃) (numbered ns₀) ws abi area₃ area₀ missing₃ missing₀ calls₃ calls₀

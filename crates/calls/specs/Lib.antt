@@ -12,3 +12,4 @@ pub mod OldRun
 pub mod OneSlot
 pub mod Kept
 pub mod AnyLists
+pub mod RunsAgree

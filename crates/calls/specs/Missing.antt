@@ -10,7 +10,7 @@ use Rattle.linking.specs.Counts.{missing_width, missing_at, missing_bit, missing
 use Rattle.linking.specs.Link.{HasTable, refused_call, link_def}
 use Rattle.linking.specs.Missing.{missing_def, table_by, recounted}
 use Rattle.slots.specs.Slots.{ChainMethod}
-use Rattle.calls.specs.Calls.{Call, link, State, outcome, left, Unlinked, table_at}
+use Rattle.calls.specs.Calls.{Call, link, Way, bytewise, ByNumbers, State, outcome, left, Unlinked, table_at}
 use Rattle.calls.specs.Demand.{Conditions, Linked, table}
 use Rattle.calls.specs.Unlisted.{link_unlisted}
 
@@ -35,11 +35,14 @@ pub record Counted (abi : List ℕ) (s : State) (c : ℕ) : Type 0 where
 
 -- "shown equal, after any links handed on as in demand 3": every list of links and asks, accepted or refused, from an unlinked sheet, with one ABI
 -- sheet and whatever the area and the list hold
-pub record MissingKept : Type 0 where
-  pub rebuilt : (ws abi area missing : List ℕ) → Unlinked ws → (calls : List Call) (c : ℕ)
-      → HasTable (left ws abi area missing calls).set c → Rebuilt abi (left ws abi area missing calls) c
-  pub counted : (ws abi area missing : List ℕ) → Unlinked ws → (calls : List Call) (c : ℕ)
-      → HasTable (left ws abi area missing calls).set c → Counted abi (left ws abi area missing calls) c
+pub record KeptBy (way : Way) (ws abi area missing : List ℕ) : Type 0 where
+  pub rebuilt : Unlinked ws → (calls : List Call) (c : ℕ) → HasTable (left way ws abi area missing calls).set c
+      → Rebuilt abi (left way ws abi area missing calls) c
+  pub counted : Unlinked ws → (calls : List Call) (c : ℕ) → HasTable (left way ws abi area missing calls).set c
+      → Counted abi (left way ws abi area missing calls) c
+
+abbrev pub MissingKept : Type 0
+MissingKept = ByNumbers KeptBy
 
 -- what the 33 words of a class say, wherever a list has them for these bits: "the count, then a bit for each slot, set if counted, lowest first, the rest 0"
 pub record CountIs : Type 0 where
@@ -50,15 +53,16 @@ pub record CountIs : Type 0 where
   pub rest_zero : (list : List ℕ) (c : ℕ) (bits : List Bool) → take missing_width (drop (missing_at c) list) ≡ pack_bits bits
       → (j : ℕ) → length bits ≤ j → j < 1024 → missing_bit list c j ≡ false
 
--- "row 15 also takes a shorter list", and that is all that the list changes: answers, set and area are as before there was one, and as with any other
+-- "row 15 also takes a shorter list", and that is all that the list changes: answers, set and area are as before there was one, and as with any other. (By bytes,
+-- as a link was then.)
 pub record LinkBefore : Type 0 where
   -- a link that is lent a list long enough answers and leaves what it did when none was lent
   pub as_before : (ws abi : List ℕ) (c : ℕ) (area stubs list : List ℕ) → missing_short ws list ≡ false
       → (link_def ws abi c area stubs list).outcome ≡ link_unlisted ws abi c area stubs
   -- so does every link of a list of calls that begins with such a list: whatever calls went before, of the set and the area that they left
   pub each_as_before : (ws abi area list : List ℕ) → missing_short ws list ≡ false → (calls : List Call) (c : ℕ) (stubs : List ℕ)
-      → outcome abi (left ws abi area list calls) (link c stubs)
-      ≡ link_unlisted (left ws abi area list calls).set abi c (left ws abi area list calls).area stubs
+      → outcome bytewise abi (left bytewise ws abi area list calls) (link c stubs)
+      ≡ link_unlisted (left bytewise ws abi area list calls).set abi c (left bytewise ws abi area list calls).area stubs
   -- a list that is long enough, whatever it holds
   pub long : (ws abi : List ℕ) (c : ℕ) (area stubs list other : List ℕ) → missing_short ws list ≡ false → missing_short ws other ≡ false
       → (link_def ws abi c area stubs list).outcome ≡ (link_def ws abi c area stubs other).outcome
@@ -69,22 +73,27 @@ pub record LinkBefore : Type 0 where
       → (link_def ws abi c area stubs other).outcome.refusal ≢ 0 → (link_def ws abi c area stubs list).outcome ≡ (link_def ws abi c area stubs other).outcome
   -- so, call by call, for any list of calls: whatever calls went before, the next one gives the same answers and leaves the same set and area
   pub calls_before : (ws abi area list other : List ℕ) → missing_short ws list ≡ false → missing_short ws other ≡ false → (calls : List Call) (k : Call)
-      → outcome abi (left ws abi area list calls) k ≡ outcome abi (left ws abi area other calls) k
+      → outcome bytewise abi (left bytewise ws abi area list calls) k ≡ outcome bytewise abi (left bytewise ws abi area other calls) k
   pub calls_leave : (ws abi area list other : List ℕ) → missing_short ws list ≡ false → missing_short ws other ≡ false → (calls : List Call)
-      → ((left ws abi area list calls).set ≡ (left ws abi area other calls).set) × ((left ws abi area list calls).area ≡ (left ws abi area other calls).area)
+      → ((left bytewise ws abi area list calls).set ≡ (left bytewise ws abi area other calls).set) × ((left bytewise ws abi area list calls).area ≡ (left bytewise ws abi area other calls).area)
 
 -- "Asking reads that one number, shown equal .. to counting by the same rule over the chain."
+abbrev pub AskedBy : Way → List ℕ → List ℕ → List ℕ → List ℕ → Type 0
+AskedBy way ws abi area missing =
+    Unlinked ws → (calls : List Call) (c : ℕ) → HasTable (left way ws abi area missing calls).set c
+    → missing_def (left way ws abi area missing calls).set abi (left way ws abi area missing calls).missing c
+    ≡ record { refusal = 0; count = bit_count (bits_now abi (left way ws abi area missing calls) c) }
+
 abbrev pub AskedCount : Type 0
-AskedCount =
-    (ws abi area missing : List ℕ) → Unlinked ws → (calls : List Call) (c : ℕ) → HasTable (left ws abi area missing calls).set c
-    → missing_def (left ws abi area missing calls).set abi (left ws abi area missing calls).missing c
-    ≡ record { refusal = 0; count = bit_count (bits_now abi (left ws abi area missing calls) c) }
+AskedCount = ByNumbers AskedBy
 
 -- "how many of a class's slots hold no real method": under demand 3's conditions a slot is counted if and only if its word is the target of no method of the
 -- chain
+abbrev pub NoRealBy : Way → List ℕ → List ℕ → List ℕ → List ℕ → Type 0
+NoRealBy way ws abi area missing =
+    Unlinked ws → (calls : List Call) (c place slots : ℕ) → Linked way ws abi area missing calls c place slots → Conditions ws abi calls c → (i : ℕ) → i < slots
+    → (missing_bit (left way ws abi area missing calls).missing c i ≡ true)
+    ↔ ((m : ℕ) → ChainMethod ws c m → method_target ws m ≢ get_or (table way ws abi area missing calls place slots) i 0)
+
 abbrev pub NoRealMethod : Type 0
-NoRealMethod =
-    (ws abi area missing : List ℕ) → Unlinked ws → (calls : List Call) (c place slots : ℕ) → Linked ws abi area missing calls c place slots
-    → Conditions ws abi calls c → (i : ℕ) → i < slots
-    → (missing_bit (left ws abi area missing calls).missing c i ≡ true)
-    ↔ ((m : ℕ) → ChainMethod ws c m → method_target ws m ≢ get_or (table ws abi area missing calls place slots) i 0)
+NoRealMethod = ByNumbers NoRealBy

@@ -1,10 +1,10 @@
--- Lists of calls by the linker before two inherited signatures on one fixed slot were told apart, and by the linker; and the links on which they differ.
--- Assumes nothing.
+-- Lists of calls by the linker before two inherited signatures on one fixed slot were told apart, which compared bytes, and by the linker; and the links on
+-- which they differ. Assumes nothing.
 use Rattle.std.specs.Prelude.{ℕ, Bool, true, false, not, ◌&&◌, List, [], ◌∷◌}
 use Rattle.linking.specs.Link.{Outcome}
 use Rattle.linking.specs.Ask.{ask_def}
 use Rattle.linking.specs.Before.{link_clashes, link_before}
-use Rattle.calls.specs.Calls.{Call, link, ask, State, outcome, step}
+use Rattle.calls.specs.Calls.{Call, link, ask, Way, State, start, outcome, way_after, step}
 
 -- ---- a call by the linker before: its answers, and what it leaves
 
@@ -21,16 +21,22 @@ step_before abi s k = record { set = (outcome_before abi s k).set; area = (outco
 
 -- ---- lists of calls
 
+-- what a list leaves
+unfoldable pub run_before : List ℕ → List Call → State → State
+run_before abi [] s = s
+run_before abi (k ∷ ks) s = run_before abi ks (step_before abi s k)
+
+abbrev pub left_before : List ℕ → List ℕ → List ℕ → List ℕ → List Call → State
+left_before ws abi area missing calls = run_before abi calls (start ws area missing)
+
 -- what each call of a list answers, and all that it leaves
-unfoldable pub answers_of : (State → Call → Outcome) → (State → Call → State) → List Call → State → List (Outcome × State)
-answers_of outcome step [] s = []
-answers_of outcome step (k ∷ ks) s = (outcome s k, step s k) ∷ answers_of outcome step ks (step s k)
+unfoldable pub answers_now : Way → List ℕ → List Call → State → List (Outcome × State)
+answers_now way abi [] s = []
+answers_now way abi (k ∷ ks) s = (outcome way abi s k, step way abi s k) ∷ answers_now (way_after way abi s k) abi ks (step way abi s k)
 
-abbrev pub answers_now : List ℕ → List Call → State → List (Outcome × State)
-answers_now abi calls s = answers_of (outcome abi) (step abi) calls s
-
-abbrev pub answers_before : List ℕ → List Call → State → List (Outcome × State)
-answers_before abi calls s = answers_of (outcome_before abi) (step_before abi) calls s
+unfoldable pub answers_before : List ℕ → List Call → State → List (Outcome × State)
+answers_before abi [] s = []
+answers_before abi (k ∷ ks) s = (outcome_before abi s k, step_before abi s k) ∷ answers_before abi ks (step_before abi s k)
 
 -- a link where two known inherited signatures have one fixed index
 abbrev pub clashes : List ℕ → State → Call → Bool
@@ -38,6 +44,6 @@ clashes abi s (link c stubs) = link_clashes s.set abi s.area c
 clashes abi s (ask c i stubs) = false
 
 -- no link of the list is one, in the state in which it is made
-unfoldable pub none_clashes : List ℕ → List Call → State → Bool
-none_clashes abi [] s = true
-none_clashes abi (k ∷ ks) s = not (clashes abi s k) && none_clashes abi ks (step abi s k)
+unfoldable pub none_clashes : Way → List ℕ → List Call → State → Bool
+none_clashes way abi [] s = true
+none_clashes way abi (k ∷ ks) s = not (clashes abi s k) && none_clashes (way_after way abi s k) abi ks (step way abi s k)

@@ -11,7 +11,7 @@ use Rattle.linking.specs.Vtable.{Entry, refused, parent_entries, occurs, fixed_o
 use Rattle.linking.specs.Link.{Plan, planned, plan, link_def}
 use Rattle.linking.specs.Before.{clash, GaveWay, builds_methods, relays_class, reaches_table, link_clashes, link_before, Moved, Displaced, Stands}
 use Rattle.slots.specs.Slots.{Orderly}
-use Rattle.calls.specs.Calls.{Call, State}
+use Rattle.calls.specs.Calls.{Call, Way, start, ByNumbers}
 use Rattle.calls.specs.OldRun.{answers_now, answers_before, none_clashes}
 use Rattle.calls.specs.Elsewhere.{Elsewhere}
 
@@ -35,6 +35,12 @@ Refused ws abi area c stubs missing m =
     ((link_def ws abi c area stubs missing).outcome.refusal ≡ 11)
     ⊎ (((link_def ws abi c area stubs missing).outcome.refusal ≡ 12) × Earlier ws abi area c m)
 
+-- a list of calls without such a link is answered, and leaves all memory, as it was
+abbrev pub AsBefore : Way → List ℕ → List ℕ → List ℕ → List ℕ → Type 0
+AsBefore way ws abi area missing =
+    (calls : List Call) → none_clashes way abi calls (start ws area missing) ≡ true
+    → answers_now way abi calls (start ws area missing) ≡ answers_before abi calls (start ws area missing)
+
 pub record OneFixedSlot : Type 0 where
   -- "a close method vanished": in a class with its own ABI entry no inherited signature is lost
   pub nothing_lost : (ws abi area : List ℕ) (c : ℕ) → relays_class ws (text_of ws) abi (abi_text_of abi) c ≡ true
@@ -44,7 +50,7 @@ pub record OneFixedSlot : Type 0 where
   -- "Old answers that change: ..": not those of a link where no two signatures have one index, nor of a list of calls without such a link
   pub link_as_before : (ws abi area : List ℕ) (c : ℕ) (stubs missing : List ℕ) → link_clashes ws abi area c ≡ false
       → link_def ws abi c area stubs missing ≡ link_before ws abi c area stubs missing
-  pub run_as_before : (abi : List ℕ) (calls : List Call) (s : State) → none_clashes abi calls s ≡ true → answers_now abi calls s ≡ answers_before abi calls s
+  pub run_as_before : ByNumbers AsBefore
   -- "at most their descendants too, and elsewhere only through places, room and nodes read"
   pub elsewhere : Elsewhere
   -- under an orderly sheet there is none

@@ -4,7 +4,7 @@
 use Rattle.std.specs.Prelude.{ℕ, suc, ◌≤◌, ◌<◌, ◌≡◌, ◌≢◌, Bool, true, false, length, get_or, drop, List, Option, Some, None}
 use mathlib.Core.List.{Memᴰ}
 use Rattle.class_sheet.specs.ClassSheet.{is_generated, class_compiler_table, method_target}
-use Rattle.linking.specs.Signature.{Same, methods_same, by_bytes}
+use Rattle.linking.specs.Signature.{Same, methods_same, by_bytes, by_numbers}
 use Rattle.linking.specs.Chain.{own_methods}
 use Rattle.linking.specs.Abi.{class_abi, chain_abi, minimum_size}
 use Rattle.linking.specs.Vtable.{Entry, empty, built, parent_entries, method_entry, occurs, stays, follows, fixed_of, staying_of}
@@ -77,6 +77,7 @@ module _ (same : Same) (ws text abi labels area : List ℕ) (c : ℕ) where
         → (get_or (compiler_table same ws text abi labels area c) i empty).method ≡ Some m
         → k < j → (get_or (parent_entries same ws text abi labels area c) k empty).method ≢ Some m
 
--- and where they are compared by their bytes, of every class
-abbrev pub Sources : Type 0
-Sources = (ws text abi labels area : List ℕ) (c : ℕ) → Copies (by_bytes ws text abi labels) ws text abi labels area c
+-- of every class: where they are compared by their bytes, and where by the numbers of a list, whatever it holds
+pub record Sources : Type 0 where
+  pub bytewise : (ws text abi labels area : List ℕ) (c : ℕ) → Copies (by_bytes ws text abi labels) ws text abi labels area c
+  pub numbered : (ns ws text abi labels area : List ℕ) (c : ℕ) → Copies (by_numbers ns) ws text abi labels area c

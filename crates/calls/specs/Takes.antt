@@ -9,7 +9,9 @@ use Rattle.linking.specs.Signature.{by_sheets}
 use Rattle.linking.specs.Chain.{own_methods, parent_of, eligible}
 use Rattle.linking.specs.Vtable.{Entry, empty, parent_entries, method_entry, method_entries}
 use Rattle.linking.specs.Packages.{introducing, Overrides}
-use Rattle.linking.specs.Link.{linked_area, link_def}
+use Rattle.linking.specs.Link.{linked_area, Outcome}
+use Rattle.linking.specs.Numbered.{link_numbered}
+use Rattle.matching.specs.Filling.{Faithful}
 
 -- the elements of a list of which P holds, in order
 pub data Picked (P : ℕ → Type 0) : List ℕ → List ℕ → Type 0 where
@@ -49,14 +51,16 @@ module _ (ws abi area : List ℕ) (c : ℕ) where
     pub last_slots : drop (length inherited) T ≡ method_entries ws new
     pub slots : length T ≡ length inherited + length new
 
--- what an accepted link answers and writes is such a table
-pub record LinkTakes (ws abi : List ℕ) (c : ℕ) (area stubs missing : List ℕ) : Type 0 where
+-- what a link of the class answers and writes is such a table
+pub record LinkTakes (ws abi : List ℕ) (c : ℕ) (area stubs : List ℕ) (o : Outcome) : Type 0 where
   pub table : List Entry
   pub takes : Takes ws abi area c table
-  pub answered : (link_def ws abi c area stubs missing).outcome.second ≡ length table
-  pub written : (link_def ws abi c area stubs missing).outcome.area ≡ linked_area area c table stubs
+  pub answered : o.second ≡ length table
+  pub written : o.area ≡ linked_area area c table stubs
 
+-- so it is of an accepted one, by numbers that tell the signatures of these sheets apart
 abbrev pub TakenSlots : Type 0
 TakenSlots =
-    (ws abi : List ℕ) (c : ℕ) (area stubs missing : List ℕ) → class_kind ws c ≡ 3 → (link_def ws abi c area stubs missing).outcome.refusal ≡ 0
-    → LinkTakes ws abi c area stubs missing
+    (ws abi numbers : List ℕ) (c : ℕ) (area stubs missing : List ℕ) → Faithful ws abi numbers → class_kind ws c ≡ 3
+    → (link_numbered ws abi numbers c area stubs missing).outcome.refusal ≡ 0
+    → LinkTakes ws abi c area stubs (link_numbered ws abi numbers c area stubs missing).outcome

@@ -2,7 +2,7 @@
 use Rattle.std.specs.Prelude.{ℕ, ◌+◌, ◌*◌, Bool, ◌&&◌, List, get_or, drop, eqb, Option}
 use Rattle.words.specs.Lists.{numbers, find}
 use Rattle.text.specs.Text.{name_start_word, name_length_word, descriptor_start_word, descriptor_length_word, name_at, same_bytes}
-use Rattle.class_sheet.specs.ClassSheet.{member_width, method_limit, target_word, methods_at, method_name, method_descriptor}
+use Rattle.class_sheet.specs.ClassSheet.{member_width, method_limit, target_word, methods_at}
 use Rattle.linking.specs.Chain.{list_count}
 
 -- the words from the first method record on
@@ -18,10 +18,6 @@ unfoldable pub record_is : List ℕ → ℕ → List ℕ → ℕ → List ℕ �
 record_is records width text m name descriptor =
     same_bytes (name_at text (record_word records width m name_start_word) (record_word records width m name_length_word)) name
     && same_bytes (name_at text (record_word records width m descriptor_start_word) (record_word records width m descriptor_length_word)) descriptor
-
--- method m has this name and descriptor
-unfoldable pub method_is : List ℕ → List ℕ → ℕ → List ℕ → List ℕ → Bool
-method_is ws text m name descriptor = same_bytes (method_name ws text m) name && same_bytes (method_descriptor ws text m) descriptor
 
 -- the first with this target of the method records that a list asks for
 unfoldable pub first_target : List ℕ → ℕ → ℕ → ℕ → Option ℕ

@@ -2,17 +2,15 @@
 // cut there, and a parent that is not below its child counts as none.
 #![tactic(auto)]
 
-ghost use Rattle.std.specs.Prelude.{◌≡◌};
+ghost use Rattle.std.specs.Prelude.{◌≡◌, get_or, eqb};
 ghost use Rattle.words.specs.Lists.{find};
 ghost use Rattle.class_sheet.specs.ClassSheet.{member_width, method_limit, field_limit, interface_limit, target_word, class_first_method, class_method_count, class_first_field, class_field_count, class_first_interface, class_interface_count};
+ghost use Rattle.linking.specs.Signature.{methods_same, by_numbers};
 ghost use Rattle.linking.specs.Chain.{list_count, own_methods, parent_of, is_virtual, is_eligible, eligible};
-ghost use Rattle.chain.specs.Records.{method_records, record_word, record_is, method_is};
+ghost use Rattle.chain.specs.Records.{method_records, record_word, record_is};
 ghost use Rattle.text.specs.Signatures.{of_signature};
 
 use text::Signature;
-
-// How many words a method record has.
-const MEMBER_WIDTH: u32 = class_sheet::MEMBER_WIDTH as u32;
 
 // How many of `count` elements from `first` on lie below the limit.
 pub fn list_count(first: u32, count: u32, limit: u32) -> u32
@@ -121,14 +119,6 @@ pub fn record_is(records: &[u32], width: u32, text: &[u8], m: u32, signature: Si
     )
 }
 
-// Whether method m has this name and descriptor.
-#[tactic(auto, using(crate::proofs::RecordLaws::record_method))]
-pub fn method_is(ws: &[u32], text: &[u8], m: u32, signature: Signature) -> bool
-    ensures { result ≡ of_signature (method_is ws.now text.now m) signature.entry }
-{
-    record_is(method_records(ws), MEMBER_WIDTH, text, m, signature)
-}
-
 // The target of method record m.
 #[tactic(auto, unfolding(crate::specs::Records::record_word))]
 pub fn record_target(records: &[u32], m: u32) -> u32
@@ -141,13 +131,20 @@ pub fn record_target(records: &[u32], m: u32) -> u32
     )
 }
 
-// Class c's first method of this signature, of any flags.
-pub fn own_method(ws: &[u32], text: &[u8], signature: Signature, c: u32) -> Option<u32>
-    ensures { result ≡ find (λ m. of_signature (method_is ws.now text.now m) signature.entry) (own_methods ws.now c) }
+// Whether methods k and m have one signature.
+#[tactic(auto, unfolding(linking::specs::Signature::methods_same, linking::specs::Signature::by_numbers, linking::specs::Signature::place_number))]
+pub fn same_methods(numbers: &[u32], k: u32, m: u32) -> bool
+    ensures { result ≡ methods_same (by_numbers numbers.now) k m }
 {
-    let records = method_records(ws);
+    words::get_or(numbers, k as usize, 0) == words::get_or(numbers, m as usize, 0)
+}
+
+// Class c's first method of this number, of any flags.
+pub fn own_numbered(ws: &[u32], numbers: &[u32], number: u32, c: u32) -> Option<u32>
+    ensures { result ≡ find (λ m. eqb (get_or numbers.now m 0) number) (own_methods ws.now c) }
+{
     let first = class_sheet::class_first_method(ws, c);
     words::find_in(first, first + method_count(ws, c), |m| {
-        record_is(records, MEMBER_WIDTH, text, m, signature)
+        words::get_or(numbers, m as usize, 0) == number
     })
 }

@@ -1,22 +1,22 @@
 -- Laws of methods of the sheet and added ones, as the code reads them. Assumes nothing.
 use mathlib.Core.Path.{◌≡◌}
-use mathlib.Core.Bool.{Bool, false, ◌&&◌}
+use mathlib.Core.Bool.{Bool, false}
 use mathlib.Core.List.{List}
 use Prim.Native.Nat.{ℕ, ◌-◌, ◌≤◌, ◌<◌}
 use lib.ListN.{get_or, take, drop}
+use lib.Dec.{eqb}
 use borrow.Author.Tests.{lt-ltb, le-ltb}
 use Rattle.std.specs.Prelude.{Option, Some, None, slice_get}
 use Rattle.words.specs.Lists.{some}
-use Rattle.text.specs.Text.{same_bytes}
 use Rattle.class_sheet.specs.ClassSheet.{method_name, method_flags, method_target, method_limit}
-use Rattle.linking.specs.Signature.{place_name, place_descriptor, by_bytes}
+use Rattle.linking.specs.Signature.{by_numbers}
 use Rattle.linking.specs.Vtable.{Entry}
 use Rattle.linking.specs.Compiler.{Taken, none_taken, place_of, name_of, flags_of, target_of, same_signature, has_slot}
 use Rattle.growth.specs.declared.news.Member.{Member}
 use Rattle.growth.specs.declared.news.Named.TheVariants.{Method}
 use Rattle.growth.specs.News.{ref_place, ref_name, new_of, taken_of, added_of}
 use Rattle.growth.proofs.NewsLaws.{added_got, added_out}
-use Rattle.compiler.specs.Methods.{same_method}
+use Rattle.compiler.specs.Methods.{number_of, has_number}
 
 -- ---- a method of the sheet
 
@@ -82,22 +82,19 @@ module _ (ws text abi labels : List ℕ) (members : List Member) (m : ℕ)
     unfolding target_of
     target_none = simp (le-ltb m method_limit h) (rw none)
 
--- ---- a signature, as the code compares it: by its bytes
+-- ---- a number, as the code compares it
 
-module _ (ws text abi labels : List ℕ) (new : List Taken) where
-  module _ (name descriptor : List ℕ) (e : Entry) {o : Option ℕ} (h : o ≡ e.method) where
-    pub same_none : o ≡ None → false ≡ same_method ws text abi labels new name descriptor e
-    unfolding same_method
-    same_none f = rw (← h, f)
+module _ (numbers : List ℕ) (new : List Taken) where
+  module _ (n : ℕ) (e : Entry) {o : Option ℕ} (h : o ≡ e.method) where
+    pub number_unknown : o ≡ None → false ≡ has_number numbers new n e
+    unfolding has_number
+    number_unknown f = rw (← h, f)
 
-    pub same_known : {j : ℕ} {a d : List ℕ} {b b' : Bool} → o ≡ Some j → a ≡ place_name ws text abi labels (place_of new j) → b ≡ same_bytes name a
-        → d ≡ place_descriptor ws text abi labels (place_of new j) → b' ≡ same_bytes descriptor d
-        → (b && b') ≡ same_method ws text abi labels new name descriptor e
-    unfolding same_method
-    same_known f g g' k k' = rw (g', g, k', k) (rw (← h, f))
+    pub number_known : {j k : ℕ} → o ≡ Some j → k ≡ number_of numbers new j → eqb n k ≡ has_number numbers new n e
+    unfolding has_number
+    number_known f g = rw g (rw (← h, f))
 
-  pub has_is : (m : ℕ) (es : List Entry) {name descriptor : List ℕ} {b : Bool} → name ≡ place_name ws text abi labels (place_of new m)
-      → descriptor ≡ place_descriptor ws text abi labels (place_of new m) → b ≡ some (same_method ws text abi labels new name descriptor) es
-      → b ≡ has_slot (by_bytes ws text abi labels) new m es
-  unfolding has_slot same_signature same_method by_bytes
-  has_is m es e f g = rw (g, f, e)
+  pub has_is : (m : ℕ) (es : List Entry) {n : ℕ} {b : Bool} → n ≡ number_of numbers new m → b ≡ some (has_number numbers new n) es
+      → b ≡ has_slot (by_numbers numbers) new m es
+  unfolding has_slot same_signature has_number number_of by_numbers
+  has_is m es e g = rw (g, e)

@@ -6,19 +6,16 @@ ghost use Rattle.std.specs.Prelude.{◌≡◌, None, ◌++◌, ◌+◌, ◌-◌,
 ghost use Rattle.words.specs.Lists.{numbers, find, first_found, fold, some};
 ghost use Rattle.class_sheet.specs.ClassSheet.{method_limit};
 ghost use Rattle.linking.specs.Vtable.{empty};
-ghost use Rattle.linking.specs.Signature.{place_name, place_descriptor};
 ghost use Rattle.linking.specs.Compiler.{place_of, name_of, flags_of, target_of, class_methods, entry_target, match_target, compiler_entry, compiler_entries, compiler_targets, has_slot, append_from, append_entry, compiler_table, added_methods};
 ghost use Rattle.reading.specs.Arrays.{mark_of, method_of};
 ghost use Rattle.reading.specs.Tables.{entry, entries};
 ghost use Rattle.growth.specs.News.{ref_place, added_of};
-ghost use Rattle.compiler.specs.Methods.{of_added, of_members, of_methods, compared, has_target, same_method, takes_slot};
-ghost use Rattle.linking.specs.Sheets.{of_sheets, of_bytes};
-ghost use Rattle.text.specs.Signatures.{of_signature};
+ghost use Rattle.compiler.specs.Methods.{of_added, of_members, of_methods, compared, has_target, number_of, has_number, takes_slot};
+ghost use Rattle.linking.specs.Sheets.{of_sheets, of_numbers};
 
 use growth::{Named, News};
 use linking::Sheets;
 use reading::{BuiltTable, ReadTable, Slot, Table};
-use text::Signature;
 
 // The sheets and the members that the link adds, which names, flags and targets of methods are looked up in.
 #[derive(Clone, Copy)]
@@ -41,12 +38,12 @@ impl<'a> Members<'a> {
             .map_or(Named::Method(0), |new| new.names)
     }
 
-    // The name and descriptor of method m.
-    fn signature_of(self, m: u32) -> Signature<'a>
-        ensures name { result.name.now ≡ of_sheets place_name self.entry.sheets (of_added place_of self.entry m) }
-        ensures descriptor { result.descriptor.now ≡ of_sheets place_descriptor self.entry.sheets (of_added place_of self.entry m) }
+    // The number of method m's signature.
+    #[tactic(auto, unfolding(crate::specs::Methods::number_of, growth::specs::News::ref_number))]
+    fn number_of(self, m: u32) -> u32
+        ensures { result ≡ of_added (number_of self.entry.sheets.numbers.now) self.entry m }
     {
-        growth::taken_signature(self.sheets, self.ref_of(m))
+        growth::ref_number(self.sheets.numbers, self.ref_of(m))
     }
 
     // The name of method m; empty where there is none.
@@ -172,17 +169,13 @@ impl<'a> Members<'a> {
         );
     }
 
-    // Whether the slot's method has this name and descriptor.
-    #[tactic(auto, using(crate::proofs::MethodLaws::same_known, crate::proofs::MethodLaws::same_none))]
-    fn same_method(self, signature: Signature, slot: Slot) -> bool
-        ensures { result ≡ of_signature (of_added (of_sheets same_method self.entry.sheets) self.entry) signature.entry (entry slot) }
+    // Whether the slot's method has this number.
+    #[tactic(auto, using(crate::proofs::MethodLaws::number_known, crate::proofs::MethodLaws::number_unknown))]
+    fn has_number(self, number: u32, slot: Slot) -> bool
+        ensures { result ≡ of_added (has_number self.entry.sheets.numbers.now) self.entry number (entry slot) }
     {
         match slot.method() {
-            Some(m) => {
-                let own = self.signature_of(m);
-                text::same(signature.name, own.name)
-                    & text::same(signature.descriptor, own.descriptor)
-            }
+            Some(m) => number == self.number_of(m),
             None => false,
         }
     }
@@ -191,8 +184,8 @@ impl<'a> Members<'a> {
     fn has_slot(self, m: u32, table: &BuiltTable) -> bool
         ensures { result ≡ of_added (has_slot (compared self.entry)) self.entry m (entries table.now) }
     {
-        let signature = self.signature_of(m);
-        table.slots().any(|slot| self.same_method(signature, slot))
+        let number = self.number_of(m);
+        table.slots().any(|slot| self.has_number(number, slot))
     }
 
     // Whether method m takes a slot behind those of the table: it is eligible, and none of them has its signature.
@@ -279,8 +272,8 @@ pub fn prepare_generated(
     table: &mut BuiltTable,
     news: &mut News,
 )
-    ensures table { entries table.new ≡ of_bytes compiler_table sheets.entry area.now c }
-    ensures members { of_sheets added_of sheets.entry news.new ≡ of_bytes added_methods sheets.entry area.now c }
+    ensures table { entries table.new ≡ of_numbers compiler_table sheets.entry area.now c }
+    ensures members { of_sheets added_of sheets.entry news.new ≡ of_numbers added_methods sheets.entry area.now c }
     ensures count { length news.new ≤ 1024 }
 {
     let mut parent = Table::for_reading();

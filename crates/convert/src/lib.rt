@@ -221,7 +221,9 @@ fn drops_statics(ws: &[u32]) -> bool
     !words::all_up_to(class_sheet::class_count(ws), |c| keeps_statics(ws, text, c))
 }
 
-// Rows 23 and 18 for the words of a class sheet that a reading accepted, and its blocks in the old form.
+// Rows 23 and 18 for the words of a class sheet that a reading accepted, and its blocks in the old form. Not inlined, so that a reading and this do not take
+// the stack at one time.
+#[inline(never)]
 #[tactic(auto, using(crate::proofs::Calls::form_text), unfolding(crate::specs::Steps::narrow_words, crate::specs::Convert::blocks_or_row))]
 fn narrow_words(ws: &[u32], out: &mut [u8]) -> Result<u32, Refusal>
     requires { class_form ws.now ≡ true }

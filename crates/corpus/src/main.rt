@@ -12,14 +12,14 @@ use words::{byte_of, get_or, part, put};
 // `LGTC`, and the version of the form.
 const MAGIC: u32 = 1129596748;
 
-const VERSION: u32 = 3;
+const VERSION: u32 = 4;
 
 // The bytes of a file that count, and its words.
 const FILE_BYTES: usize = 524288;
 
 const FILE_WORDS: usize = FILE_BYTES / 4;
 
-// Room for the class words and the ABI words of a case, for its area, and for its list of missing slots or one of stubs.
+// Room for the class words and the ABI words of a case, for its area, and for its list of numbers, that of missing slots or one of stubs.
 const SET_WORDS: usize = 20480;
 
 const AREA_WORDS: usize = 8192;
@@ -131,6 +131,7 @@ fn is_answer<T: Into<u64> + Drop>(answer: Result<T, Refusal>, row: u32, first: u
 enum Difference {
     Answer,
     Set,
+    Numbers,
     Area,
     Missing,
 }
@@ -140,16 +141,18 @@ impl fmt::Display for Difference {
         f.write_str(match self {
             Difference::Answer => "the answer differs",
             Difference::Set => "the class words differ",
+            Difference::Numbers => "the list of numbers differs",
             Difference::Area => "the area differs",
             Difference::Missing => "the list of missing slots differs",
         })
     }
 }
 
-// The words that calls write: class words, the area and the list of missing slots.
+// The words that calls write: class words, the list of numbers, the area and the list of missing slots.
 #[derive(Drop)]
 struct Memory<'a> {
     set: &'a mut [u32],
+    numbers: &'a mut [u32],
     area: &'a mut [u32],
     missing: &'a mut [u32],
 }
@@ -158,6 +161,7 @@ impl Memory<'_> {
     // Makes the changes that are read next.
     fn change(&mut self, reader: &mut Reader) {
         reader.changes(self.set);
+        reader.changes(self.numbers);
         reader.changes(self.area);
         reader.changes(self.missing);
     }
@@ -166,6 +170,8 @@ impl Memory<'_> {
     fn difference(&self, rust: &Memory) -> Option<Difference> {
         if !is_front(self.set, rust.set) {
             Some(Difference::Set)
+        } else if !is_front(self.numbers, rust.numbers) {
+            Some(Difference::Numbers)
         } else if !is_front(self.area, rust.area) {
             Some(Difference::Area)
         } else if !is_front(self.missing, rust.missing) {
@@ -189,6 +195,7 @@ enum Kind {
     Link,
     Ask,
     Missing,
+    Filling,
 }
 
 impl From<u32> for Kind {
@@ -196,6 +203,7 @@ impl From<u32> for Kind {
         match kind {
             0 => Kind::Link,
             2 => Kind::Missing,
+            3 => Kind::Filling,
             _ => Kind::Ask,
         }
     }
@@ -234,6 +242,7 @@ impl Call {
         replay::replay(
             memory.set,
             given.abi,
+            memory.numbers,
             memory.area,
             memory.missing,
             &call,
@@ -250,11 +259,21 @@ impl Call {
         is_answer(answer, row, first) && second == 0
     }
 
+    // Fills the list of numbers.
+    fn fill_numbers(&self, set: &mut [u32], abi: &[u32], numbers: &mut [u32]) -> bool {
+        let row = match signatures::number_signatures(set, abi, numbers) {
+            Ok(()) => 0,
+            Err(refusal) => refusal.into(),
+        };
+        [row, 0, 0] == self.answer
+    }
+
     // Makes the call.
     fn make(&self, given: Given, memory: &mut Memory) -> bool {
         match self.kind {
             Kind::Link | Kind::Ask => self.replay(given, memory),
             Kind::Missing => self.ask_missing(given, memory),
+            Kind::Filling => self.fill_numbers(memory.set, given.abi, memory.numbers),
         }
     }
 }
@@ -289,10 +308,12 @@ fn make_calls(reader: &mut Reader, given: Given, memory: &mut Memory, rust: &mut
 fn replay_case(reader: &mut Reader) -> Seen {
     let mut set = [0; SET_WORDS];
     let mut abi = [0; SET_WORDS];
+    let mut numbers = [0; LIST_WORDS];
     let mut area = [0; AREA_WORDS];
     let mut missing = [0; LIST_WORDS];
     let set_room = reader.list(&mut set);
     let abi_room = reader.list(&mut abi);
+    let numbers_room = reader.list(&mut numbers);
     let area_room = reader.list(&mut area);
     let missing_room = reader.list(&mut missing);
     let stub_lists = reader.word();
@@ -301,14 +322,17 @@ fn replay_case(reader: &mut Reader) -> Seen {
         stubs: *reader,
     };
     reader.lists(stub_lists, &mut [0; LIST_WORDS]);
-    let (mut rust_set, mut rust_area, mut rust_missing) = (set, area, missing);
+    let (mut rust_set, mut rust_numbers) = (set, numbers);
+    let (mut rust_area, mut rust_missing) = (area, missing);
     let mut rust = Memory {
         set: &mut rust_set,
+        numbers: &mut rust_numbers,
         area: &mut rust_area,
         missing: &mut rust_missing,
     };
     let mut memory = Memory {
         set: front(&mut set, set_room as usize),
+        numbers: front(&mut numbers, numbers_room as usize),
         area: front(&mut area, area_room as usize),
         missing: front(&mut missing, missing_room as usize),
     };
@@ -411,6 +435,7 @@ struct Header {
     sheet_bytes: u32,
     sheet_words: u32,
     missing: u32,
+    numbers: u32,
 }
 
 impl Header {
@@ -430,6 +455,7 @@ impl Header {
             sheet_bytes: reader.word(),
             sheet_words: reader.word(),
             missing: reader.word(),
+            numbers: reader.word(),
         }
     }
 
@@ -443,6 +469,7 @@ impl Header {
             && self.sheet_bytes as usize <= MOST_BYTES
             && self.sheet_words as usize <= MOST_WORDS
             && self.missing as usize <= LIST_WORDS
+            && self.numbers as usize <= LIST_WORDS
     }
 }
 

@@ -2,3 +2,4 @@ pub mod GrowthLaws
 pub mod Indices
 pub mod Linked
 pub mod NewsLaws
+pub mod NumberLaws

@@ -1,8 +1,10 @@
 -- What the growth of a list leaves in the class words, where there is room for it, and else nothing. Assumes nothing.
 use Rattle.std.specs.Prelude.{ℕ, ◌+◌, ◌*◌, ◌-◌, ◌≤◌, Bool, cond, not, ◌&&◌, Option, Some, None, List, ◌++◌, length, take, drop, leb}
 use Rattle.words.specs.Words.{inside}
-use Rattle.class_sheet.specs.ClassSheet.{member_width, text_limit, sheet_words, text_length, text_at, text_of, methods_at, fields_at, interfaces_at, class_kind, is_built_kind, method_count, field_count, class_first_method, class_method_count, class_first_field, class_field_count, put_method_count, put_field_count, put_text_length, put_class_first_method, put_class_method_count, put_class_first_field, put_class_field_count}
+use Rattle.class_sheet.specs.ClassSheet.{member_width, method_limit, text_limit, sheet_words, text_length, text_at, text_of, methods_at, fields_at, interfaces_at, class_kind, is_built_kind, method_count, field_count, class_first_method, class_method_count, class_first_field, class_field_count, put_method_count, put_field_count, put_text_length, put_class_first_method, put_class_method_count, put_class_first_field, put_class_field_count}
 use Rattle.linking.specs.Compiler.{New}
+use Rattle.growth.specs.declared.news.Member.{Member}
+use Rattle.growth.specs.News.{news_numbers}
 use Rattle.growth.specs.declared.Section.{Section}
 use Rattle.growth.specs.declared.Grown.{Grown}
 use Rattle.linking.specs.Set.{write_at, new_records, new_text, packed, grown_methods, grown_fields, section_full, grown_end}
@@ -47,6 +49,19 @@ methods_counted ws c count members bytes =
 unfoldable pub fields_counted : List ℕ → ℕ → ℕ → ℕ → ℕ → List ℕ
 fields_counted ws c count members bytes =
     put_class_field_count (put_class_first_field (put_text_length (put_field_count ws (count + members)) bytes) c count) c members
+
+-- the numbers of the methods of a list once it has grown: those of its own records, and those that the new ones take
+unfoldable pub numbers_grown : List ℕ → Section → List Member → List ℕ
+numbers_grown numbers list ms = take list.own (drop list.first numbers) ++ news_numbers numbers ms
+
+-- the list lies in its section, its numbers lie below those of the ABI's slots, and the list of numbers has at least those of all methods
+unfoldable pub numbers_fit : List ℕ → Section → List Member → Bool
+numbers_fit numbers list ms =
+    inside list.first list.own list.count && leb (list.count + (list.own + length ms)) method_limit && leb method_limit (length numbers)
+
+-- they are put at the section's end, where there is room for them, and else nothing is (the program's choice)
+unfoldable pub numbers_put : List ℕ → Section → List Member → List ℕ
+numbers_put numbers list ms = cond (numbers_fit numbers list ms) (write_at numbers list.count (numbers_grown numbers list ms)) numbers
 
 -- there is room for them: what `can_grow` shows
 pub record Room (ws : List ℕ) (end from own : ℕ) (new : List New) : Type 0 where

@@ -1,9 +1,9 @@
 -- New members as the code has them. What names a member is a method of the class sheet, or a slot or a field of the ABI sheet; a new method takes
 -- its signature from a method or a slot. Assumes nothing.
-use Rattle.std.specs.Prelude.{ℕ, List, [], ◌∷◌}
+use Rattle.std.specs.Prelude.{ℕ, List, [], ◌∷◌, get_or}
 use Rattle.class_sheet.specs.ClassSheet.{method_name, method_descriptor}
 use Rattle.abi_sheet.specs.AbiSheet.{abi_slot_name, abi_slot_descriptor, abi_field_name, abi_field_descriptor}
-use Rattle.linking.specs.Signature.{Place, of_method, of_abi_slot}
+use Rattle.linking.specs.Signature.{Place, of_method, of_abi_slot, place_number}
 use Rattle.linking.specs.Compiler.{New, Taken}
 use Rattle.growth.specs.declared.news.Member.{Member}
 use Rattle.growth.specs.declared.news.Named.{Named}
@@ -14,6 +14,14 @@ unfoldable pub ref_place : Named → Place
 ref_place (Method m) = of_method m
 ref_place (Slot s) = of_abi_slot s
 ref_place (Field f) = of_method 0
+
+-- the number at that place, and those of several members
+unfoldable pub ref_number : List ℕ → Named → ℕ
+ref_number numbers r = get_or numbers (place_number (ref_place r)) 0
+
+unfoldable pub news_numbers : List ℕ → List Member → List ℕ
+news_numbers numbers [] = []
+news_numbers numbers (m ∷ ms) = ref_number numbers m.names ∷ news_numbers numbers ms
 
 module _ (ws text abi labels : List ℕ) where
   -- a part of the class text, or of the ABI text, whichever names it

@@ -2,13 +2,12 @@
 // section's end and the new names in the text.
 #![tactic(auto)]
 
-ghost use Rattle.std.specs.Prelude.{◌≡◌, ◌+◌, ◌*◌, ◌<◌, ◌≤◌, ◌^◌, ◌++◌, length, leb};
+ghost use Rattle.std.specs.Prelude.{◌≡◌, ◌+◌, ◌*◌, ◌<◌, ◌≤◌, ◌^◌, ◌++◌, length, get_or, leb};
 ghost use Rattle.words.specs.Words.{words_for};
 ghost use Rattle.class_sheet.specs.ClassSheet.{member_width, text_limit, sheet_words, text_length, text_of, member_words};
 ghost use Rattle.linking.specs.Set.{write_at, put_indices, new_records, new_text, packed, section_full, grown_end};
-ghost use Rattle.linking.specs.Signature.{place_name, place_descriptor};
-ghost use Rattle.growth.specs.News.{ref_name, ref_descriptor, ref_place, news_of};
-ghost use Rattle.growth.specs.Growth.{laid, laid_end, can_grow, methods_grown, fields_grown, tail_of, methods_of, fields_of, growing, methods_counted, fields_counted, appended, Placed, Room};
+ghost use Rattle.growth.specs.News.{ref_name, ref_descriptor, ref_number, news_of};
+ghost use Rattle.growth.specs.Growth.{laid, laid_end, can_grow, methods_grown, fields_grown, tail_of, methods_of, fields_of, growing, methods_counted, fields_counted, appended, numbers_grown, numbers_fit, numbers_put, Placed, Room};
 ghost use Rattle.linking.specs.Sheets.{of_sheets, of_lent};
 
 use class_sheet::{MEMBER_WIDTH, MemberRecord};
@@ -50,16 +49,19 @@ pub fn ref_signature<'a>(sheets: Sheets<'a>, r: Named) -> Signature<'a>
     signature_of(sheets.set, sheets.text, sheets.abi, sheets.labels, r)
 }
 
-// The signature that a new method takes, of the place that names it: method 0's where that is a field, which has none.
-#[tactic(auto, unfolding(crate::specs::News::ref_place, linking::specs::Signature::place_name, linking::specs::Signature::place_descriptor))]
-pub fn taken_signature<'a>(sheets: Sheets<'a>, r: Named) -> Signature<'a>
-    ensures name { result.name.now ≡ of_sheets place_name sheets.entry (ref_place r) }
-    ensures descriptor { result.descriptor.now ≡ of_sheets place_descriptor sheets.entry (ref_place r) }
+// The number at the place whose signature a new method takes: method 0's where a field names it, which has none.
+#[tactic(auto, unfolding(crate::specs::News::ref_number, crate::specs::News::ref_place, linking::specs::Signature::place_number))]
+pub fn ref_number(numbers: &[u32], r: Named) -> u32
+    ensures { result ≡ ref_number numbers.now r }
 {
     match r {
-        Named::Method(m) => class_sheet::method_signature(sheets.set, sheets.text, m),
-        Named::Slot(s) => abi_sheet::slot_signature(sheets.abi, sheets.labels, s),
-        Named::Field(_) => class_sheet::method_signature(sheets.set, sheets.text, 0),
+        Named::Method(m) => words::get_or(numbers, m as usize, 0),
+        Named::Slot(s) => words::get_or(
+            numbers,
+            (class_sheet::METHOD_LIMIT as usize) + (s as usize),
+            0,
+        ),
+        Named::Field(_) => words::get_or(numbers, 0, 0),
     }
 }
 
@@ -319,6 +321,7 @@ fn append(set: &mut [u32], list: Section, lent: Lent, news: &News) -> Option<Gro
         text: lent.text,
         abi: lent.abi,
         labels: lent.labels,
+        numbers: &[],
     };
     if !can_grow(sheets, list, news) {
         return None;
@@ -377,4 +380,47 @@ pub fn grow_fields(set: &mut [u32], c: u32, indices: &[u32], lent: Lent, news: &
         put_indices(&mut set[list.end..copied], 0, 0, indices);
         put_field_counts(set, c, list.count, grown);
     }
+}
+
+// Number j of a list of methods once it has grown: that of a copied record, or the one that a new method takes.
+#[tactic(auto, using(crate::proofs::NumberLaws::number_own, crate::proofs::NumberLaws::number_new, crate::proofs::NumberLaws::number_none))]
+fn grown_number(numbers: &[u32], list: Section, news: &News, j: usize) -> u32
+    requires { list.first + list.own ≤ length numbers.now }
+    ensures { result ≡ get_or (numbers_grown numbers.now list news.now) j 0 }
+{
+    let own = list.own as usize;
+    if j < own {
+        return words::get_or(numbers, (list.first as usize) + j, 0);
+    }
+    if let Some(new) = news.get(j - own) {
+        return ref_number(numbers, new.names);
+    }
+    0
+}
+
+// Whether there is room for the numbers of a list of methods that grows: the list lies in its section, what it adds lies below the ABI slots' numbers,
+// and the list of numbers has at least those of all methods.
+#[tactic(auto, unfolding(crate::specs::Growth::numbers_fit))]
+fn numbers_fit(numbers: &[u32], list: Section, news: &News) -> bool
+    ensures { result ≡ numbers_fit numbers.now list news.now }
+{
+    let limit = class_sheet::METHOD_LIMIT as usize;
+    let grown = (list.own as usize) + news.len();
+    words::is_inside(list.first, list.own, list.count)
+        & ((list.count as usize) + grown <= limit)
+        & (limit <= numbers.len())
+}
+
+// Stores the numbers of a list of methods that has grown at the end of their section, those of the copied records and those that the new methods take,
+// where there is room, and else nothing.
+pub fn grow_numbers(numbers: &mut [u32], list: Section, news: &News)
+    ensures { numbers.new ≡ numbers_put numbers.old list news.now }
+{
+    if !numbers_fit(numbers, list, news) {
+        return;
+    }
+    let n = (list.own as usize) + news.len();
+    let mut grown = [0u32; class_sheet::METHOD_LIMIT as usize];
+    words::store_each(&mut grown, n, |j| grown_number(numbers, list, news, j));
+    words::copy(&grown, 0, n, numbers, list.count as usize);
 }

@@ -1,9 +1,9 @@
 -- Numbers fall along a chain, so that it has no more classes than its first one's number (`chain_length`), which by row 6 is at most the count, and that by
 -- row 3 at most 64. Assumes nothing.
-use Rattle.std.proofs.Common.{◌≡◌, refl, ◌≢◌, ⊎_elim, Bool, true, false, cond, not, ◌&&◌, ◌||◌, List, [], ◌∷◌, ℕ, ◌*◌, ◌/◌, ◌≤◌, arith, length, eqb, ltb, eqb-true, ltb-false}
+use Rattle.std.proofs.Common.{◌≡◌, refl, ◌≢◌, ⊎_elim, Bool, true, false, cond, not, ◌&&◌, ◌||◌, List, [], ◌∷◌, ℕ, ◌*◌, ◌/◌, ◌≤◌, arith, length, replicate, eqb, ltb, eqb-true, ltb-false}
 use borrow.Author.Tests.{eqb-false}
 use Rattle.words.specs.Lists.{list_from}
-use Rattle.words.proofs.Bools.{or-neither}
+use Rattle.words.proofs.Bools.{by, or-neither}
 use Rattle.class_sheet.specs.ClassSheet.{class_width, class_count, text_of}
 use Rattle.abi_sheet.specs.AbiSheet.{abi_text_of}
 use Rattle.class_rules.specs.ClassRules.{class_records}
@@ -11,9 +11,12 @@ use Rattle.abi_rules.specs.AbiRules.{abi_records}
 use Rattle.set_rules.specs.SetRules.{set_fits, class_descriptors, abi_descriptors, records_refusal, set_refusal}
 use Rattle.set_rules.proofs.Valid.{valid_exactly}
 use Rattle.convert.proofs.Few.{at_most}
+use Rattle.linking.specs.Signature.{Same, by_numbers}
 use Rattle.linking.specs.Chain.{parent_of, chain}
-use Rattle.linking.specs.Link.{no_class, is_linked, bad_array, bad_class, Outcome, refused_call, LinkOutcome, refused_link, link_by, link_def}
-use Rattle.linking.specs.Ask.{bad_ask, ask_by, ask_def}
+use Rattle.linking.specs.Link.{no_class, is_linked, bad_array, bad_class, Outcome, refused_call, LinkOutcome, refused_link, link_by}
+use Rattle.linking.specs.Ask.{bad_ask, ask_by}
+use Rattle.linking.specs.Numbers.{numbers_short}
+use Rattle.linking.specs.Numbered.{link_numbered, ask_numbered}
 use Rattle.linking.proofs.ChainLaws.{chain_length}
 use Rattle.linking.proofs.Opened.{opened}
 use Rattle.harmless.specs.Depth.{Passed, Short, Shallow}
@@ -45,9 +48,10 @@ both-passed number R tells row true true o e l p = absurd (refused 6 (omega arit
 both-passed number R tells row true false o e l p = (eqb-true row 0 e, refl)
 both-passed number R tells row false bad o e l p = absurd (refused row (eqb-false row 0 e) (omega arith) (rw (tells row) at p))
 
-link-short : (ws abi : List ℕ) (c : ℕ) (area stubs missing : List ℕ) → Passed (link_def ws abi c area stubs missing).outcome.refusal → Short ws c
-unfolding link_def link_by bad_class
-link-short ws abi c area stubs missing p =
+link-short : (same : Same) (ws abi : List ℕ) (c : ℕ) (area stubs missing : List ℕ) → Passed (link_by same ws abi c area stubs missing).outcome.refusal
+    → Short ws c
+unfolding link_by bad_class
+link-short same ws abi c area stubs missing p =
     let number : LinkOutcome → ℕ = λ o. o.outcome.refusal in
     let q = both-passed number (λ n. refused_link n ws area missing) (λ n. refl)
     (set_refusal ws abi) _ (bad_class ws (text_of ws) c) _ refl (set-rows ws abi) p in
@@ -56,9 +60,9 @@ link-short ws abi c area stubs missing p =
     let b = or-neither (no_class ws c || is_linked ws c) (not (eqb (parent_of ws c) 0) && not (is_linked ws (parent_of ws c))) a.0 in
     class-short ws c (((valid_exactly ws abi).0 q.0).0.number_of_classes) (or-neither (no_class ws c) (is_linked ws c) b.0).0
 
-ask-short : (ws abi : List ℕ) (c i : ℕ) (area stubs : List ℕ) → Passed (ask_def ws abi c i area stubs).refusal → Short ws c × Short ws i
-unfolding ask_def ask_by bad_ask
-ask-short ws abi c i area stubs p =
+ask-short : (same : Same) (ws abi : List ℕ) (c i : ℕ) (area stubs : List ℕ) → Passed (ask_by same ws abi c i area stubs).refusal → Short ws c × Short ws i
+unfolding ask_by bad_ask
+ask-short same ws abi c i area stubs p =
     let number : Outcome → ℕ = λ o. o.refusal in
     let q = both-passed number (λ n. refused_call n ws area) (λ n. refl) (set_refusal ws abi) _ (bad_ask ws c i) _ refl (set-rows ws abi) p in
     let a = or-neither (no_class ws c || no_class ws i || not (is_linked ws c)) (not (is_linked ws i)) q.1 in
@@ -67,10 +71,26 @@ ask-short ws abi c i area stubs p =
     let few = ((valid_exactly ws abi).0 q.0).0.number_of_classes in
     (class-short ws c few d.0, class-short ws i few d.1)
 
+-- ---- by numbers: a list that is too short has not passed either
+
+numbered-short : (ws abi numbers : List ℕ) (c : ℕ) (area stubs missing : List ℕ)
+    → Passed (link_numbered ws abi numbers c area stubs missing).outcome.refusal → Short ws c
+unfolding link_numbered link_by
+numbered-short ws abi numbers c area stubs missing p =
+    by (numbers_short numbers) (λ t. absurd (refused 3 (omega arith) (omega arith) (rw t at p)))
+    (λ t. link-short (by_numbers numbers) ws abi c area stubs missing (rw t at p))
+
+asked-short : (ws abi numbers : List ℕ) (c i : ℕ) (area stubs : List ℕ) → Passed (ask_numbered ws abi numbers c i area stubs).refusal
+    → Short ws c × Short ws i
+unfolding ask_numbered
+asked-short ws abi numbers c i area stubs p =
+    by (numbers_short numbers) (λ t. absurd (refused 3 (omega arith) (omega arith) (rw t at p)))
+    (λ t. ask-short (by_numbers numbers) ws abi c i area stubs (rw t at p))
+
 -- ---- THE THEOREM
 
 pub shallow : Shallow
-shallow = record { link = link-short; ask = ask-short; class = class-short }
+shallow = record { link = numbered-short; ask = asked-short; class = class-short }
 
 -- ---- 64 is reached, and each of the two rows is needed. Links and asks that pass are those of `marked` (linking/proofs/Marked.antt).
 
@@ -82,11 +102,11 @@ pub record Depths : Type 0 where
   pub reached : length (chain (line 64) 64) ≡ 64
   -- 65 classes, which row 3 refuses
   pub too_many : length (chain (line 65) 65) ≡ 65
-  pub refused_3 : (link_def (line 65) [] 65 [] [] []).outcome.refusal ≡ 3
+  pub refused_3 : (link_numbered (line 65) [] (replicate 1024 0) 65 [] [] []).outcome.refusal ≡ 3
   -- a number above the count, which row 6 refuses
   pub above : length (chain (line 64) 65) ≡ 65
   pub no_class_lem : no_class (line 64) 65 ≡ true
 
 pub depths : Depths
-unfolding opened
+unfolding opened numbers_short link_numbered
 depths = record { reached = refl; too_many = refl; refused_3 = refl; above = refl; no_class_lem = refl }

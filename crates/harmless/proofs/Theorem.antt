@@ -1,5 +1,5 @@
 -- Refused calls do no harm (specs/Harmless.antt). Assumes nothing.
-use Rattle.std.proofs.Common.{◌≡◌, refl, sym, ap, subst, ◌≢◌, ◌⊎◌, inl, inr, Bool, true, false, cond, not, ◌&&◌, ◌||◌, List, [], ◌∷◌, ◌++◌, ℕ, ◌+◌, ◌*◌, ◌≤◌, arith, length, get_or, drop, eqb, ltb, Option, Some, None}
+use Rattle.std.proofs.Common.{◌≡◌, refl, sym, ap, subst, ◌≢◌, ◌⊎◌, inl, inr, Bool, true, false, cond, not, ◌&&◌, ◌||◌, List, [], ◌∷◌, ◌++◌, ℕ, ◌+◌, ◌*◌, ◌≤◌, arith, length, get_or, drop, eqb, ltb, ne_eqb, Option, Some, None}
 use Rattle.words.specs.Folds.{all_of}
 use Rattle.block.specs.Block.{block_count, check_ok, shape_ok, sheet_words}
 use Rattle.class_sheet.specs.ClassSheet.{block_limit, is_built_kind, is_generated, is_packaged, class_kind, class_flags, class_compiler_table, text_of}
@@ -19,17 +19,18 @@ use Rattle.renumber.specs.Renumber as renumber
 use Rattle.renumber.specs.Renumber.{renumber_refusal, renumber_def}
 use Rattle.convert.proofs.Few.{at_most, class-few}
 use Rattle.convert.specs.Convert.{blocks_or_row, forward, narrowed, widen_refusal, widen_sheet, narrow_refusal, narrow_sheet}
-use Rattle.linking.specs.Signature.{Same, of_method, by_sheets}
+use Rattle.linking.specs.Signature.{Same, of_method, by_numbers}
 use Rattle.linking.specs.Chain.{is_interface, eligible, on_found, own_fields}
 use Rattle.linking.specs.Abi.{class_abi}
 use Rattle.linking.specs.Packages.{bad_packages}
 use Rattle.linking.specs.Fields.{too_many_words, stand_from, generated_base, generated_refusal, instance_words, declared_words}
 use Rattle.linking.specs.Vtable.{Entry, Built, built, refused, on_built, entry_is_other, empty, put_method, add_method, add_methods, build_methods, table_entries}
-use Rattle.linking.specs.Link.{Plan, Planned, planned, unplanned, within_slots, plan_built, plan_generated, plan_array, plan, built_table, generated_table, lists_full, set_short, no_room, refused_call, finish_link, on_plan, on_table, bad_class, bad_area, link_by, link_def, Outcome, LinkOutcome, refused_link, no_class, is_linked}
+use Rattle.linking.specs.Link.{Plan, Planned, planned, unplanned, within_slots, plan_built, plan_generated, plan_array, plan, built_table, generated_table, lists_full, set_short, no_room, refused_call, finish_link, on_plan, on_table, bad_class, bad_area, link_by, Outcome, LinkOutcome, refused_link, no_class, is_linked}
 use Rattle.linking.specs.Counts.{missing_short}
 use Rattle.linking.specs.Missing.{Missing, turned_away, missing_def}
 use Rattle.linking.specs.Numbers.{numbers_short, FillOutcome, refused_filling, fill_def}
-use Rattle.linking.specs.Ask.{Walk, hit, missed, broken, walk, head_place, implementation, dispatch_entry, cons_entry, dispatch_entries, on_dispatch, build_node, on_walk, bad_ask, ask_by, ask_def}
+use Rattle.linking.specs.Numbered.{NumberedOutcome, leaving, link_numbered, ask_numbered}
+use Rattle.linking.specs.Ask.{Walk, hit, missed, broken, walk, head_place, implementation, dispatch_entry, cons_entry, dispatch_entries, on_dispatch, build_node, on_walk, bad_ask, ask_by}
 use Rattle.class_members.specs.Members.{FileOutcome, refused_by, read_refusal, file_refusal, read_class_file, class_file_head}
 use Rattle.harmless.specs.Harmless.{Refused, refused_reading, refused_writing, refused_renumbering, refused_bitmap, refused_count, Harmless}
 
@@ -395,23 +396,34 @@ OfAsk n = ((3 ≤ n) × (n ≤ 7)) ⊎ ((15 ≤ n) × (n ≤ 16))
 abbrev OfCount : ℕ → Type 0
 OfCount n = ((3 ≤ n) × (n ≤ 6)) ⊎ (n ≡ 15)
 
-of-link : (ws abi : List ℕ) (c : ℕ) (area stubs missing : List ℕ)
-    → Ends OfLink {O = LinkOutcome} (λ o. o.outcome.refusal) (λ n. refused_link n ws area missing) (λ n. refl) (link_def ws abi c area stubs missing)
-unfolding link_def
-of-link ws abi c area stubs missing = link-ends OfLink (λ n h k. inl (h, k)) (inr refl) (by_sheets ws abi) ws abi c area stubs missing
+of-link : (ws abi numbers : List ℕ) (c : ℕ) (area stubs missing : List ℕ)
+    → Ends OfLink {O = NumberedOutcome} (λ o. o.outcome.refusal) (λ n. leaving (refused_link n ws area missing) numbers) (λ n. refl)
+    (link_numbered ws abi numbers c area stubs missing)
+unfolding link_numbered link_by
+of-link ws abi numbers c area stubs missing =
+    let ends = link-ends OfLink (λ n h k. inl (h, k)) (inr refl) (by_numbers numbers) ws abi c area stubs missing in
+    ends-either OfLink {O = NumberedOutcome} (λ o. o.outcome.refusal) (λ n. leaving (refused_link n ws area missing) numbers) (λ n. refl)
+    (numbers_short numbers) _ _
+    (ends-refused OfLink {O = NumberedOutcome} (λ o. o.outcome.refusal) (λ n. leaving (refused_link n ws area missing) numbers) (λ n. refl) 3
+    (λ h. inl (omega arith, omega arith)))
+    (record {
+      same = λ h. rw (ne_eqb _ 0 h) (ap (λ (o : LinkOutcome). leaving o numbers) (ends.same h));
+      number = ends.number;
+    })
 
 of-count : (ws abi missing : List ℕ) (c : ℕ) → Ends OfCount {O = Missing} (λ o. o.refusal) turned_away (λ n. refl) (missing_def ws abi missing c)
 of-count ws abi missing c =
     missing-ends OfCount (inl (omega arith, omega arith)) (inl (omega arith, omega arith)) (inl (omega arith, omega arith)) (inl (omega arith, omega arith))
     (inr refl) ws abi missing c
 
-of-ask : (ws abi : List ℕ) (c i : ℕ) (area stubs : List ℕ)
-    → Ends OfAsk {O = Outcome} (λ o. o.refusal) (λ n. refused_call n ws area) (λ n. refl) (ask_def ws abi c i area stubs)
-unfolding ask_def
-of-ask ws abi c i area stubs =
-    ask-ends OfAsk (inl (omega arith, omega arith)) (inl (omega arith, omega arith)) (inl (omega arith, omega arith)) (inl (omega arith, omega arith))
-    (inl (omega arith, omega arith)) (inr (omega arith, omega arith)) (inr (omega arith, omega arith)) (by_sheets ws abi)
-    ws abi c i area stubs
+of-ask : (ws abi numbers : List ℕ) (c i : ℕ) (area stubs : List ℕ)
+    → Ends OfAsk {O = Outcome} (λ o. o.refusal) (λ n. refused_call n ws area) (λ n. refl) (ask_numbered ws abi numbers c i area stubs)
+unfolding ask_numbered
+of-ask ws abi numbers c i area stubs =
+    ends-either OfAsk {O = Outcome} (λ o. o.refusal) (λ n. refused_call n ws area) (λ n. refl) (numbers_short numbers) _ _
+    (ends-refused OfAsk {O = Outcome} (λ o. o.refusal) (λ n. refused_call n ws area) (λ n. refl) 3 (λ h. inl (omega arith, omega arith)))
+    (ask-ends OfAsk (inl (omega arith, omega arith)) (inl (omega arith, omega arith)) (inl (omega arith, omega arith)) (inl (omega arith, omega arith))
+    (inl (omega arith, omega arith)) (inr (omega arith, omega arith)) (inr (omega arith, omega arith)) (by_numbers numbers) ws abi c i area stubs)
 
 pub harmless : Harmless
 unfolding read_class_sheet read_unordered_sheet read_abi_sheet class_sheet_refusal unordered_sheet_refusal abi_sheet_refusal widen_sheet narrow_sheet
@@ -423,19 +435,19 @@ harmless = record {
   widen = λ bs out. blocks-harmless (widen_refusal bs (length out)) (forward (sheet_words bs)) out;
   narrow = λ bs out. blocks-harmless (narrow_refusal bs (length out)) (narrowed (sheet_words bs)) out;
   renumber = renumber-harmless;
-  link = λ ws abi c area stubs missing. (of-link ws abi c area stubs missing).same;
+  link = λ ws abi numbers c area stubs missing. (of-link ws abi numbers c area stubs missing).same;
   missing = λ ws abi missing c. (of-count ws abi missing c).same;
   fill = λ ws abi ns. (of-fill ws abi ns).same;
-  ask = λ ws abi c i area stubs. (of-ask ws abi c i area stubs).same;
+  ask = λ ws abi numbers c i area stubs. (of-ask ws abi numbers c i area stubs).same;
   references = references-harmless;
   count = count-harmless;
   arguments = arguments-harmless;
   class_file = file-harmless;
   file_head = head-harmless;
-  rows_of_link = λ ws abi c area stubs missing. (of-link ws abi c area stubs missing).number;
+  rows_of_link = λ ws abi numbers c area stubs missing. (of-link ws abi numbers c area stubs missing).number;
   missing_rows = λ ws abi missing c. (of-count ws abi missing c).number;
   fill_rows = λ ws abi ns. (of-fill ws abi ns).number;
-  ask_rows = λ ws abi c i area stubs. (of-ask ws abi c i area stubs).number;
+  ask_rows = λ ws abi numbers c i area stubs. (of-ask ws abi numbers c i area stubs).number;
   rows_of_classes = λ bs ws. read-few 5 class_sheet_refusal bs ws (sheet-few 5 block_limit class_rows bs (length ws) (omega arith) class-few);
   rows_of_abi = λ bs ws. read-few 5 abi_sheet_refusal bs ws (sheet-few 5 abi_block_limit abi_rows bs (length ws) (omega arith) abi-few);
   unordered_rows = λ bs ws. read-few 3 unordered_sheet_refusal bs ws (sheet-few 3 block_limit loose_rows bs (length ws) (omega arith) loose_few);

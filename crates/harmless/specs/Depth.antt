@@ -4,8 +4,8 @@
 use Rattle.std.specs.Prelude.{ℕ, ◌≤◌, ◌≡◌, ◌⊎◌, false, List, length}
 use Rattle.class_sheet.specs.ClassSheet.{class_count}
 use Rattle.linking.specs.Chain.{chain}
-use Rattle.linking.specs.Link.{no_class, link_def}
-use Rattle.linking.specs.Ask.{ask_def}
+use Rattle.linking.specs.Link.{no_class}
+use Rattle.linking.specs.Numbered.{link_numbered, ask_numbered}
 
 -- none of rows 3 to 6 gave this number
 abbrev pub Passed : ℕ → Type 0
@@ -16,7 +16,9 @@ abbrev pub Short : List ℕ → ℕ → Type 0
 Short ws c = (d : ℕ) → d ≤ c → length (chain ws d) ≤ 64
 
 pub record Shallow : Type 0 where
-  pub link : (ws abi : List ℕ) (c : ℕ) (area stubs missing : List ℕ) → Passed (link_def ws abi c area stubs missing).outcome.refusal → Short ws c
-  pub ask : (ws abi : List ℕ) (c i : ℕ) (area stubs : List ℕ) → Passed (ask_def ws abi c i area stubs).refusal → Short ws c × Short ws i
+  pub link : (ws abi numbers : List ℕ) (c : ℕ) (area stubs missing : List ℕ) → Passed (link_numbered ws abi numbers c area stubs missing).outcome.refusal
+      → Short ws c
+  pub ask : (ws abi numbers : List ℕ) (c i : ℕ) (area stubs : List ℕ) → Passed (ask_numbered ws abi numbers c i area stubs).refusal
+      → Short ws c × Short ws i
   -- what of the two rows it takes: "classes ≤ 64", and not "number 0 or above the count". A class that has lines in the listing has passed both
   pub class : (ws : List ℕ) (c : ℕ) → class_count ws ≤ 64 → no_class ws c ≡ false → Short ws c

@@ -13,10 +13,10 @@ use Rattle.writer.specs.Writer.{write_class_sheet}
 use Rattle.renumber.specs.Renumber as renumber
 use Rattle.renumber.specs.Renumber.{renumber_def}
 use Rattle.convert.specs.Convert.{widen_sheet, narrow_sheet}
-use Rattle.linking.specs.Link.{refused_call, refused_link, link_def}
+use Rattle.linking.specs.Link.{refused_call, refused_link}
 use Rattle.linking.specs.Missing.{turned_away, missing_def}
 use Rattle.linking.specs.Numbers.{refused_filling, fill_def}
-use Rattle.linking.specs.Ask.{ask_def}
+use Rattle.linking.specs.Numbered.{leaving, link_numbered, ask_numbered}
 use Rattle.class_members.specs.Members.{refused_by, read_class_file, class_file_head}
 
 -- an outcome whose number is not 0 is the refused one of that number
@@ -48,11 +48,12 @@ pub record Harmless : Type 0 where
   pub widen : (bs out : List ℕ) → Refused (λ o. o.refusal) (refused_writing out) (widen_sheet bs out)
   pub narrow : (bs out : List ℕ) → Refused (λ o. o.refusal) (refused_writing out) (narrow_sheet bs out)
   pub renumber : (ws list : List ℕ) → Refused (λ o. o.refusal) (refused_renumbering ws list) (renumber_def ws list)
-  pub link : (ws abi : List ℕ) (c : ℕ) (area stubs missing : List ℕ)
-      → Refused (λ o. o.outcome.refusal) (λ n. refused_link n ws area missing) (link_def ws abi c area stubs missing)
+  pub link : (ws abi numbers : List ℕ) (c : ℕ) (area stubs missing : List ℕ)
+      → Refused (λ o. o.outcome.refusal) (λ n. leaving (refused_link n ws area missing) numbers) (link_numbered ws abi numbers c area stubs missing)
   pub missing : (ws abi missing : List ℕ) (c : ℕ) → Refused (λ o. o.refusal) turned_away (missing_def ws abi missing c)
   pub fill : (ws abi ns : List ℕ) → Refused (λ o. o.refusal) (λ n. refused_filling n ns) (fill_def ws abi ns)
-  pub ask : (ws abi : List ℕ) (c i : ℕ) (area stubs : List ℕ) → Refused (λ o. o.refusal) (λ n. refused_call n ws area) (ask_def ws abi c i area stubs)
+  pub ask : (ws abi numbers : List ℕ) (c i : ℕ) (area stubs : List ℕ)
+      → Refused (λ o. o.refusal) (λ n. refused_call n ws area) (ask_numbered ws abi numbers c i area stubs)
   pub references : (bitmap : List ℕ) (n : ℕ) (list : List ℕ) → Refused (λ o. o.refusal) (refused_bitmap list) (read_references bitmap n list)
   pub count : (bitmap : List ℕ) (n : ℕ) → Refused (λ o. o.refusal) (refused_bitmap []) (count_references bitmap n)
   pub arguments : (s : List ℕ) (flags : ℕ) → Refused (λ o. o.refusal) refused_count (argument_answer s flags)
@@ -60,15 +61,17 @@ pub record Harmless : Type 0 where
       → Refused (λ o. o.refusal) (λ n. refused_by n fields methods text) (read_class_file bs targets fields methods text)
   pub file_head : (bs : List ℕ) → Refused (λ o. o.refusal) (λ n. refused_by n [] [] []) (class_file_head bs)
   -- 2. and which: a link 3 to 15 and 26, an ask 3 to 7, 15 and 16, asking for a count 3 to 6 and 15, a filling 3 to 5, a reading 1 to 5, one in any order 1 to 3
-  pub rows_of_link : (ws abi : List ℕ) (c : ℕ) (area stubs missing : List ℕ) → (link_def ws abi c area stubs missing).outcome.refusal ≢ 0
-      → ((3 ≤ (link_def ws abi c area stubs missing).outcome.refusal) × ((link_def ws abi c area stubs missing).outcome.refusal ≤ 15))
-      ⊎ ((link_def ws abi c area stubs missing).outcome.refusal ≡ 26)
+  pub rows_of_link : (ws abi numbers : List ℕ) (c : ℕ) (area stubs missing : List ℕ)
+      → (link_numbered ws abi numbers c area stubs missing).outcome.refusal ≢ 0
+      → ((3 ≤ (link_numbered ws abi numbers c area stubs missing).outcome.refusal)
+      × ((link_numbered ws abi numbers c area stubs missing).outcome.refusal ≤ 15))
+      ⊎ ((link_numbered ws abi numbers c area stubs missing).outcome.refusal ≡ 26)
   pub missing_rows : (ws abi missing : List ℕ) (c : ℕ) → (missing_def ws abi missing c).refusal ≢ 0
       → ((3 ≤ (missing_def ws abi missing c).refusal) × ((missing_def ws abi missing c).refusal ≤ 6)) ⊎ ((missing_def ws abi missing c).refusal ≡ 15)
   pub fill_rows : (ws abi ns : List ℕ) → (fill_def ws abi ns).refusal ≢ 0 → (3 ≤ (fill_def ws abi ns).refusal) × ((fill_def ws abi ns).refusal ≤ 5)
-  pub ask_rows : (ws abi : List ℕ) (c i : ℕ) (area stubs : List ℕ) → (ask_def ws abi c i area stubs).refusal ≢ 0
-      → ((3 ≤ (ask_def ws abi c i area stubs).refusal) × ((ask_def ws abi c i area stubs).refusal ≤ 7))
-      ⊎ ((15 ≤ (ask_def ws abi c i area stubs).refusal) × ((ask_def ws abi c i area stubs).refusal ≤ 16))
+  pub ask_rows : (ws abi numbers : List ℕ) (c i : ℕ) (area stubs : List ℕ) → (ask_numbered ws abi numbers c i area stubs).refusal ≢ 0
+      → ((3 ≤ (ask_numbered ws abi numbers c i area stubs).refusal) × ((ask_numbered ws abi numbers c i area stubs).refusal ≤ 7))
+      ⊎ ((15 ≤ (ask_numbered ws abi numbers c i area stubs).refusal) × ((ask_numbered ws abi numbers c i area stubs).refusal ≤ 16))
   pub rows_of_classes : (bs ws : List ℕ) → (read_class_sheet bs ws).refusal ≤ 5
   pub rows_of_abi : (bs ws : List ℕ) → (read_abi_sheet bs ws).refusal ≤ 5
   pub unordered_rows : (bs ws : List ℕ) → (read_unordered_sheet bs ws).refusal ≤ 3

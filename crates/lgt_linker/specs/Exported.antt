@@ -1,7 +1,8 @@
 -- What an exported call answers: the number that it returns, then the words of the small array that it is lent. Assumes nothing.
 use Rattle.std.specs.Prelude.{ℕ, cond, List, get_or}
 use Rattle.text.specs.Text.{same_bytes, pairs_read}
-use Rattle.linking.specs.Link.{Outcome, LinkOutcome}
+use Rattle.linking.specs.Link.{Outcome}
+use Rattle.linking.specs.Numbered.{NumberedOutcome}
 use Rattle.linking.specs.Missing as asking
 use Rattle.linking.specs.Numbers.{FillOutcome}
 use Rattle.sheet.specs.Sheet as sheet
@@ -17,9 +18,9 @@ abbrev pub called : ℕ → List ℕ → List ℕ → List ℕ → Outcome
 called row answer ws area =
     record { refusal = row; first = get_or answer 0 0; second = get_or answer 1 0; set = ws; area = area }
 
--- the same of a link, which also leaves the list of missing slots
-abbrev pub linked_by : ℕ → List ℕ → List ℕ → List ℕ → List ℕ → LinkOutcome
-linked_by row answer ws area missing = record { outcome = called row answer ws area; missing = missing }
+-- the same of a link, which also leaves the list of missing slots and the list of numbers
+abbrev pub linked_by : ℕ → List ℕ → List ℕ → List ℕ → List ℕ → List ℕ → NumberedOutcome
+linked_by row answer ws area missing numbers = record { outcome = called row answer ws area; missing = missing; numbers = numbers }
 
 -- a question for missing slots that returns `row` and leaves the answer word
 abbrev pub counted_by : ℕ → List ℕ → asking.Missing

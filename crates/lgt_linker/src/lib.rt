@@ -5,10 +5,9 @@
 
 ghost use Rattle.std.specs.Prelude.{◌≡◌, [], ◌∷◌, MatchResult, replicate};
 ghost use Rattle.refusal.specs.Rows.{row_of};
-ghost use Rattle.linking.specs.Link.{link_def};
-ghost use Rattle.linking.specs.Ask.{ask_def};
 ghost use Rattle.linking.specs.Missing.{missing_def};
 ghost use Rattle.linking.specs.Numbers.{fill_def};
+ghost use Rattle.linking.specs.Numbered.{link_numbered, ask_numbered};
 ghost use Rattle.sheet.specs.Sheet.{read_class_sheet, read_abi_sheet, read_unordered_sheet};
 ghost use Rattle.renumber.specs.Renumber.{renumber_def};
 ghost use Rattle.writer.specs.Writer.{write_class_sheet};
@@ -140,16 +139,17 @@ pub extern "C" fn lgt_number_signatures(set: &[u32], abi: &[u32], numbers: &mut 
 pub extern "C" fn lgt_link(
     set: &mut [u32],
     abi: &[u32],
+    numbers: &mut [u32],
     class: u32,
     area: &mut [u32],
     stubs: &[u32],
     missing: &mut [u32],
     answer: &mut [u32; 2],
 ) -> u32
-    ensures { linked_by result answer.new set.new area.new missing.new
-        ≡ link_def set.old abi.now class area.old stubs.now missing.old }
+    ensures { linked_by result answer.new set.new area.new missing.new numbers.new
+        ≡ link_numbered set.old abi.now numbers.old class area.old stubs.now missing.old }
 {
-    let linked = link::link(set, abi, class, area, stubs, missing).map(call_words);
+    let linked = link::link(set, abi, numbers, class, area, stubs, missing).map(call_words);
     give(linked, 0, answer)
 }
 
@@ -171,20 +171,21 @@ pub extern "C" fn lgt_missing_slots(
     )
 }
 
-// `ask::interface_dispatch_table`: the answer words are the interface table's place and the nodes read; the set is only read.
+// `ask::interface_dispatch_table`: the answer words are the interface table's place and the nodes read; the set and the list of numbers are only read.
 #[unsafe(no_mangle)]
 pub extern "C" fn lgt_interface_dispatch_table(
     set: &[u32],
     abi: &[u32],
+    numbers: &[u32],
     class: u32,
     interface: u32,
     area: &mut [u32],
     stubs: &[u32],
     answer: &mut [u32; 2],
 ) -> u32
-    ensures { called result answer.new set.now area.new ≡ ask_def set.now abi.now class interface area.old stubs.now }
+    ensures { called result answer.new set.now area.new ≡ ask_numbered set.now abi.now numbers.now class interface area.old stubs.now }
 {
-    let table = ask::interface_dispatch_table(set, abi, class, interface, area, stubs);
+    let table = ask::interface_dispatch_table(set, abi, numbers, class, interface, area, stubs);
     give(table.map(call_words), 0, answer)
 }
 

@@ -4,13 +4,13 @@
 ghost use Rattle.std.specs.Prelude.{◌≡◌, ◌+◌, ◌<◌, ◌≤◌, ◌∷◌, [], ◌++◌};
 ghost use Rattle.class_sheet.specs.ClassSheet.{text_of, text_length, text_limit};
 ghost use Rattle.abi_sheet.specs.AbiSheet.{abi_text_of, abi_text_length, abi_text_limit};
-ghost use Rattle.linking.specs.Sheets.{of_sheets, of_bytes};
-ghost use Rattle.linking.specs.Signature.{by_sheets};
+ghost use Rattle.linking.specs.Sheets.{of_sheets, of_numbers};
+ghost use Rattle.linking.specs.Signature.{by_numbers};
 ghost use Rattle.linking.specs.Vtable.{table_entries};
 ghost use Rattle.reading.specs.Tables.{entry, entries};
 ghost use Rattle.lines.specs.Bytes.{decimal};
 ghost use Rattle.lines.specs.Out.{Puts, standing};
-ghost use Rattle.lines.specs.Lines.{shown, column, class_line, slot_line, refused, class_refused, sheet_refused, own_slot, fixed_slot, slot_name, slot_descriptor, entry_line, slot_texts, lines_of, is_unlisted, class_lines};
+ghost use Rattle.lines.specs.Lines.{shown, column, class_line, slot_line, refused, class_refused, sheet_refused, own_slot, fixed_slot, slot_name, slot_descriptor, entry_line, slot_texts, lines_of, is_unlisted, class_lines_by};
 
 use linking::Sheets;
 use reading::{TABLE_LIMIT, Table};
@@ -189,7 +189,7 @@ fn list_slot(sheets: Sheets, c: u32, s: Slot, out: &mut Out)
 
 // Puts the lines of class c's slots, each as Reading finds it.
 fn list_slots(sheets: Sheets, area: &[u32], c: u32, out: &mut Out)
-    ensures { Puts out.old out.new (of_bytes slot_texts sheets.entry c 0 (of_bytes table_entries sheets.entry area.now c)) }
+    ensures { Puts out.old out.new (of_numbers slot_texts sheets.entry c 0 (of_numbers table_entries sheets.entry area.now c)) }
 {
     let mut table = Table::for_reading();
     let mut classes = [0u32; TABLE_LIMIT];
@@ -206,7 +206,7 @@ fn list_slots(sheets: Sheets, area: &[u32], c: u32, out: &mut Out)
 
 // Puts class c's lines, with the sheets' texts unpacked.
 fn list_with(sheets: Sheets, area: &[u32], c: u32, out: &mut Out)
-    ensures { Puts out.old out.new (of_bytes lines_of sheets.entry area.now c) }
+    ensures { Puts out.old out.new (of_numbers lines_of sheets.entry area.now c) }
 {
     let name = class_sheet::class_name(sheets.set, sheets.text, c);
     let words = class_sheet::class_instance_words(sheets.set, c);
@@ -216,13 +216,13 @@ fn list_with(sheets: Sheets, area: &[u32], c: u32, out: &mut Out)
 }
 
 // Unpacks the texts, and puts class c's lines.
-fn list_unpacked(ws: &[u32], abi: &[u32], area: &[u32], c: u32, out: &mut Out)
+fn list_unpacked(ws: &[u32], abi: &[u32], numbers: &[u32], area: &[u32], c: u32, out: &mut Out)
     requires { (text_length ws.now ≤ text_limit) × (abi_text_length abi.now ≤ abi_text_limit) }
-    ensures { Puts out.old out.new (lines_of (by_sheets ws.now abi.now) ws.now (text_of ws.now) abi.now (abi_text_of abi.now) area.now c) }
+    ensures { Puts out.old out.new (lines_of (by_numbers numbers.now) ws.now (text_of ws.now) abi.now (abi_text_of abi.now) area.now c) }
 {
     let mut room = [0u8; class_sheet::TEXT_LIMIT as usize];
     let mut label_room = [0u8; abi_sheet::TEXT_LIMIT as usize];
-    let sheets = Sheets::unpack(ws, abi, &mut room, &mut label_room);
+    let sheets = Sheets::unpack(ws, abi, numbers, &mut room, &mut label_room);
     list_with(sheets, area, c, out);
 }
 
@@ -240,11 +240,12 @@ fn is_unlisted(ws: &[u32], abi: &[u32], c: u32) -> bool
         | (abi_sheet::TEXT_LIMIT < labels)
 }
 
-// Puts the lines of the linked class c, none where it is unlisted. So a chain that is gone through has at most 64 classes.
-pub fn list_class(ws: &[u32], abi: &[u32], area: &[u32], c: u32, out: &mut Out)
-    ensures { Puts out.old out.new (class_lines ws.now abi.now area.now c) }
+// Puts the lines of the linked class c, none where it is unlisted. So a chain that is gone through has at most 64 classes. Signatures are matched
+// by the numbers of the list.
+pub fn list_class(ws: &[u32], abi: &[u32], numbers: &[u32], area: &[u32], c: u32, out: &mut Out)
+    ensures { Puts out.old out.new (class_lines_by (by_numbers numbers.now) ws.now abi.now area.now c) }
 {
     if !is_unlisted(ws, abi, c) {
-        list_unpacked(ws, abi, area, c, out);
+        list_unpacked(ws, abi, numbers, area, c, out);
     }
 }

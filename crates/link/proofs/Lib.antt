@@ -1,4 +1,5 @@
 pub mod FinishLaws
+pub mod NumberLaws
 pub mod PlanLaws
 pub mod PlannedLaws
 pub mod StoreLaws

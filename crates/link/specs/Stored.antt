@@ -1,16 +1,18 @@
 -- What a link stores in the class words, as the code goes: what grows, then the record, then the indices; its last rows, and what it answers. Assumes
 -- nothing.
-use Rattle.std.specs.Prelude.{ℕ, ◌≡◌, true, false, cond, ◌||◌, List, [], Result, Ok, Err}
-use Rattle.class_sheet.specs.ClassSheet.{text_of, class_first_field, fields_at}
+use Rattle.std.specs.Prelude.{ℕ, ◌+◌, ◌≤◌, ◌≡◌, ◌≢◌, true, false, cond, not, ◌&&◌, ◌||◌, List, [], length, eqb, Result, Ok, Err}
+use Rattle.class_sheet.specs.ClassSheet.{method_limit, method_count, text_of, class_kind, is_built_kind, class_first_method, class_method_count, class_first_field, fields_at}
 use Rattle.abi_sheet.specs.AbiSheet.{abi_text_of}
 use Rattle.set_rules.specs.SetRules.{set_fits, set_refusal}
-use Rattle.linking.specs.Signature.{Same}
+use Rattle.linking.specs.Signature.{Same, by_numbers}
 use Rattle.linking.specs.Compiler.{New, Taken, members}
-use Rattle.linking.specs.Set.{put_indices}
+use Rattle.linking.specs.Set.{write_at, put_indices}
+use Rattle.linking.specs.Numbered.{NumberedOutcome, leaving, numbers_planned}
 use Rattle.linking.specs.Packages.{bad_packages}
 use Rattle.linking.specs.Counts.{missing_short}
 use Rattle.linking.specs.Link.{Plan, is_none, linked_record, lists_full, set_short, no_room, bad_class, bad_area, plan, link_by, refused_link, LinkOutcome}
-use Rattle.growth.specs.Growth.{methods_grown, fields_grown}
+use Rattle.growth.specs.declared.news.Member.{Member}
+use Rattle.growth.specs.Growth.{methods_grown, fields_grown, growing, numbers_grown}
 use Rattle.area.specs.Area.{outcome}
 use Rattle.area.specs.declared.Answer.{Answer}
 use Rattle.plan.specs.Plans.{methods_of, fields_of, Leaves}
@@ -49,6 +51,20 @@ abbrev pub stored_news : List ℕ → ℕ → ℕ → ℕ → ℕ → ℕ → Li
 stored_news ws c place slots words statics indices new =
     stored ws c place slots words statics indices (members (methods_of ws c new)) (fields_of ws c new)
 
+-- ---- the list of numbers: it grows with the methods of a class that is not built
+
+unfoldable pub numbers_stored : List ℕ → ℕ → List ℕ → List Member → List ℕ
+numbers_stored ws c numbers ms =
+    cond (not (is_built_kind (class_kind ws c)) && not (eqb (length ms) 0))
+    (write_at numbers (growing ws c).count (numbers_grown numbers (growing ws c) ms)) numbers
+
+-- there is room for them
+pub record Storable (ws : List ℕ) (c : ℕ) (numbers : List ℕ) (ms : List Member) : Type 0 where
+  pub long : method_limit ≤ length numbers
+  pub list : is_built_kind (class_kind ws c) ≡ false → length ms ≢ 0
+      → (class_first_method ws c + class_method_count ws c ≤ method_count ws)
+      × (method_count ws + (class_method_count ws c + length ms) ≤ method_limit)
+
 -- ---- rows 14 and 15 of a plan whose table has n slots: the number that refuses it, or 0
 
 unfoldable pub room_row : List ℕ → ℕ → Plan → List ℕ → List ℕ → List ℕ → ℕ → ℕ
@@ -59,6 +75,16 @@ room_row ws c p area stubs missing n =
 
 abbrev pub link_outcome : Result Answer Refusal → List ℕ → List ℕ → List ℕ → LinkOutcome
 link_outcome r ws area missing = record { outcome = outcome r ws area; missing = missing }
+
+abbrev pub numbered_outcome : Result Answer Refusal → List ℕ → List ℕ → List ℕ → List ℕ → NumberedOutcome
+numbered_outcome r ws area missing numbers = leaving (link_outcome r ws area missing) numbers
+
+-- a link by the numbers of a list that is long enough, and the list that it leaves
+unfoldable pub link_long : List ℕ → List ℕ → List ℕ → ℕ → List ℕ → List ℕ → List ℕ → NumberedOutcome
+link_long ws abi numbers c area stubs missing =
+    let done : LinkOutcome = link_by (by_numbers numbers) ws abi c area stubs missing in
+    leaving done
+    (cond (eqb done.outcome.refusal 0) (numbers_planned ws numbers c (plan (by_numbers numbers) ws (text_of ws) abi (abi_text_of abi) area c)) numbers)
 
 -- row 3 accepts the sheets, and the texts are theirs
 pub record Fitting (ws abi text labels : List ℕ) : Type 0 where

@@ -1,13 +1,15 @@
 // `link`: rows 3 to 15 and 26 in the table's order, and what an accepted link leaves in the class words, the area and the list of missing slots.
 #![tactic(auto)]
 
-ghost use Rattle.std.specs.Prelude.{◌≡◌};
-ghost use Rattle.linking.specs.Signature.{by_bytes};
-ghost use Rattle.linking.specs.Link.{new_statics, linked_record, lists_full, set_short, link_by, link_def};
+ghost use Rattle.std.specs.Prelude.{◌≡◌, false};
+ghost use Rattle.linking.specs.Signature.{by_numbers};
+ghost use Rattle.linking.specs.Link.{new_statics, linked_record, lists_full, set_short};
+ghost use Rattle.linking.specs.Numbers.{numbers_short};
+ghost use Rattle.linking.specs.Numbered.{link_numbered};
 ghost use Rattle.growth.specs.News.{news_of, added_of};
 ghost use Rattle.refusal.specs.Rows.{row_of};
-ghost use Rattle.link.specs.Stored.{link_outcome, of_growing, numbered, with_methods, stored_news, room_row, Fitting, Texts, Accepted, Judged};
-ghost use Rattle.linking.specs.Sheets.{of_bytes, of_lent};
+ghost use Rattle.link.specs.Stored.{numbered_outcome, link_long, of_growing, numbered, with_methods, stored_news, numbers_stored, room_row, Fitting, Texts, Accepted, Judged, Storable};
+ghost use Rattle.linking.specs.Sheets.{of_numbers, of_lent};
 
 use area::Answer;
 use class_sheet::Kind;
@@ -69,6 +71,16 @@ fn store_methods(set: &mut [u32], c: u32, lent: Lent, news: &News)
     }
 }
 
+// Stores the numbers of the methods that class c's list has once the new ones are added, if there are any.
+fn store_numbers(set: &[u32], c: u32, numbers: &mut [u32], news: &News)
+    requires { Storable set.now c numbers.old news.now }
+    ensures { numbers.new ≡ numbers_stored set.now c numbers.old news.now }
+{
+    if !class_sheet::is_built(set, c) & (news.len() != 0) {
+        growth::grow_numbers(numbers, growth::growing(set, c), news);
+    }
+}
+
 // Stores what an accepted link leaves in the class words: new fields of a built class or new methods of another, the record, and the
 // indices of the class's own fields.
 fn store_link(set: &mut [u32], c: u32, linked: Linked, indices: &[u32], lent: Lent, news: &News)
@@ -127,7 +139,9 @@ impl<'a> Growing<'a> {
     }
 }
 
-// Rows 8 to 15 of a set, a class and an area that rows 3 to 7 and 26 accept: what the link comes to, with its table and new members.
+// Rows 8 to 15 of a set, a class and an area that rows 3 to 7 and 26 accept: what the link comes to, with its table and new members. Not inlined, so that
+// its arrays are gone from the stack when the link is stored.
+#[inline(never)]
 fn judge(
     sheets: Sheets,
     c: u32,
@@ -137,7 +151,7 @@ fn judge(
     made: &mut Plan,
 ) -> Result<(), Refusal>
     requires { Accepted sheets.set.now sheets.abi.now c area.now sheets.text.now sheets.labels.now }
-    ensures { of_bytes Judged sheets.entry c area.now stubs.now missing.now result made.new }
+    ensures { of_numbers Judged sheets.entry c area.now stubs.now missing.now result made.new }
 {
     plan::plan_link(sheets, area, c, made)?;
     let growing = Growing {
@@ -153,13 +167,14 @@ fn link_planned(
     set: &mut [u32],
     c: u32,
     lent: Lent,
+    numbers: &mut [u32],
     area: &mut [u32],
     stubs: &[u32],
     missing: &mut [u32],
 ) -> Result<Answer, Refusal>
-    requires { Accepted set.old lent.abi.now c area.old lent.text.now lent.labels.now }
-    ensures { link_outcome result set.new area.new missing.new
-        ≡ link_by (of_lent by_bytes set.old lent.entry) set.old lent.entry.abi.now c area.old stubs.now missing.old }
+    requires { (Accepted set.old lent.abi.now c area.old lent.text.now lent.labels.now) × (numbers_short numbers.old ≡ false) }
+    ensures { numbered_outcome result set.new area.new missing.new numbers.new
+        ≡ link_long set.old lent.entry.abi.now numbers.old c area.old stubs.now missing.old }
 {
     let mut made = Plan::new();
     let sheets = Sheets {
@@ -167,6 +182,7 @@ fn link_planned(
         text: lent.text,
         abi: lent.abi,
         labels: lent.labels,
+        numbers,
     };
     judge(sheets, c, area, stubs, missing, &mut made)?;
     let table = &made.table;
@@ -179,6 +195,7 @@ fn link_planned(
     let parent = chain::parent_of(set, c);
     missing::count_class(missing, c, parent, &table.words, &table.marks, table.len);
     area::write_table(area, c, &table.words, table.len as usize, stubs);
+    store_numbers(set, c, numbers, &made.news);
     let indices = made.fields.indices.as_slice();
     store_link(set, c, linked, indices, lent, &made.news);
     Ok(Answer {
@@ -192,13 +209,14 @@ fn link_read(
     set: &mut [u32],
     c: u32,
     lent: Lent,
+    numbers: &mut [u32],
     area: &mut [u32],
     stubs: &[u32],
     missing: &mut [u32],
 ) -> Result<Answer, Refusal>
-    requires { Texts set.old lent.abi.now lent.text.now lent.labels.now }
-    ensures { link_outcome result set.new area.new missing.new
-        ≡ link_by (of_lent by_bytes set.old lent.entry) set.old lent.entry.abi.now c area.old stubs.now missing.old }
+    requires { (Texts set.old lent.abi.now lent.text.now lent.labels.now) × (numbers_short numbers.old ≡ false) }
+    ensures { numbered_outcome result set.new area.new missing.new numbers.new
+        ≡ link_long set.old lent.entry.abi.now numbers.old c area.old stubs.now missing.old }
 {
     if call_rules::bad_class(set, lent.text, c) {
         return Err(Refusal::Class);
@@ -212,12 +230,13 @@ fn link_read(
             text: lent.text,
             abi: lent.abi,
             labels: lent.labels,
+            numbers,
         },
         c,
     ) {
         return Err(Refusal::MixedPackages);
     }
-    link_planned(set, c, lent, area, stubs, missing)
+    link_planned(set, c, lent, numbers, area, stubs, missing)
 }
 
 // Rows 4 to 15 and 26, and the effect, of sheets that row 3 accepts, and their texts.
@@ -225,33 +244,40 @@ fn link_fitting(
     set: &mut [u32],
     c: u32,
     lent: Lent,
+    numbers: &mut [u32],
     area: &mut [u32],
     stubs: &[u32],
     missing: &mut [u32],
 ) -> Result<Answer, Refusal>
-    requires { Fitting set.old lent.abi.now lent.text.now lent.labels.now }
-    ensures { link_outcome result set.new area.new missing.new
-        ≡ link_by (of_lent by_bytes set.old lent.entry) set.old lent.entry.abi.now c area.old stubs.now missing.old }
+    requires { (Fitting set.old lent.abi.now lent.text.now lent.labels.now) × (numbers_short numbers.old ≡ false) }
+    ensures { numbered_outcome result set.new area.new missing.new numbers.new
+        ≡ link_long set.old lent.entry.abi.now numbers.old c area.old stubs.now missing.old }
 {
     set_rules::records_refusal(set, lent.text, lent.abi, lent.labels)?;
-    link_read(set, c, lent, area, stubs, missing)
+    link_read(set, c, lent, numbers, area, stubs, missing)
 }
 
 // Links the class. The answer is the place of its table in the area, where the class number and the slots follow, and the number of its
 // slots; or the row that refuses. The table goes to the area's next free word, and word 0 of the area moves past it. The class's record
 // gets place, slot count and, unless it is generated, instance words and static words; its fields get their indices; ABI fields and compiler methods that
-// it lacks are added. The class's 33 words of the list `missing` get the number of its missing slots and a bit for each. Rows 3 to 5 are judged anew, and a
-// refused link writes nothing. Nothing of this is left to the program; where the specification is silent, docs/DECISIONS.md has the reading.
+// it lacks are added. The class's 33 words of the list `missing` get the number of its missing slots and a bit for each. Signatures are matched by the
+// numbers of the list `numbers`, which gets those of the methods that are copied and added. Rows 3 to 5 are judged anew, and a refused link writes
+// nothing. Nothing of this is left to the program; where the specification is silent, docs/DECISIONS.md has the reading.
 pub fn link(
     set: &mut [u32],
     abi: &[u32],
+    numbers: &mut [u32],
     class: u32,
     area: &mut [u32],
     stubs: &[u32],
     missing: &mut [u32],
 ) -> Result<Answer, Refusal>
-    ensures { link_outcome result set.new area.new missing.new ≡ link_def set.old abi.now class area.old stubs.now missing.old }
+    ensures { numbered_outcome result set.new area.new missing.new numbers.new
+        ≡ link_numbered set.old abi.now numbers.old class area.old stubs.now missing.old }
 {
+    if signatures::is_short(numbers) {
+        return Err(Refusal::Form);
+    }
     if !set_rules::set_fits(set, abi) {
         return Err(Refusal::Form);
     }
@@ -260,5 +286,5 @@ pub fn link(
     let mut label_room = [0u8; abi_sheet::TEXT_LIMIT as usize];
     let labels = abi_sheet::text_bytes(abi, &mut label_room);
     let lent = Lent { text, abi, labels };
-    link_fitting(set, class, lent, area, stubs, missing)
+    link_fitting(set, class, lent, numbers, area, stubs, missing)
 }

@@ -101,17 +101,9 @@ new_fields_of abi labels (g ∷ gs) =
     }
     ∷ new_fields_of abi labels gs
 
-module _ (same : Same) (ws text abi labels area : List ℕ) where
-  -- (the definitions `.._with` take the table that `build_methods` makes, so that a plan by another way of relaying is one line)
-  abbrev pub built_table_with : Built → ℕ → Built
-  built_table_with B c =
-      cond (is_packaged ws c)
-      (built (build_packages same ws text abi labels area c))
-      (cond (is_interface (class_flags ws c)) (built (build_interface_methods ws text c)) B)
-
-  unfoldable pub built_table : ℕ → Built
-  built_table c = built_table_with (build_methods same ws text abi labels area c) c
-
+-- (the definitions `.._with` take the table that `build_methods` makes, so that a plan by another way of relaying is one line)
+module _ (ws text abi labels : List ℕ) where
+  -- over a built class's table
   abbrev pub plan_built_with : Built → ℕ → Planned
   plan_built_with B c =
       let own : Option ℕ = class_abi ws text abi labels c in
@@ -126,8 +118,18 @@ module _ (same : Same) (ws text abi labels area : List ℕ) where
         new_fields = new_fields_of abi labels (added_fields ws text abi labels own c);
       })))
 
+module _ (same : Same) (ws text abi labels area : List ℕ) where
+  abbrev pub built_table_with : Built → ℕ → Built
+  built_table_with B c =
+      cond (is_packaged ws c)
+      (built (build_packages same ws text abi labels area c))
+      (cond (is_interface (class_flags ws c)) (built (build_interface_methods ws text c)) B)
+
+  unfoldable pub built_table : ℕ → Built
+  built_table c = built_table_with (build_methods same ws text abi labels area c) c
+
   unfoldable pub plan_built : ℕ → Planned
-  plan_built c = plan_built_with (built_table c) c
+  plan_built c = plan_built_with ws text abi labels (built_table c) c
 
   -- "Generated without a compiler table: `build_methods`, interface or not."
   abbrev pub generated_table_with : Built → ℕ → Built
@@ -162,7 +164,7 @@ module _ (same : Same) (ws text abi labels area : List ℕ) where
   plan c = plan_by_kind (plan_built c) (plan_generated c) c
 
   unfoldable pub plan_with : Built → ℕ → Planned
-  plan_with B c = plan_by_kind (plan_built_with (built_table_with B c) c) (plan_generated_with (generated_table_with B c) c) c
+  plan_with B c = plan_by_kind (plan_built_with ws text abi labels (built_table_with B c) c) (plan_generated_with (generated_table_with B c) c) c
 
 -- the instance words that linking sets, of a class that is not generated: "An array class has 0."
 unfoldable pub new_words : List ℕ → List ℕ → List ℕ → List ℕ → ℕ → ℕ

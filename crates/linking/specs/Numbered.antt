@@ -5,7 +5,7 @@ use Rattle.abi_sheet.specs.AbiSheet.{abi_text_of}
 use Rattle.linking.specs.Signature.{place_number, by_numbers}
 use Rattle.linking.specs.Compiler.{Taken, members}
 use Rattle.linking.specs.Set.{write_at}
-use Rattle.linking.specs.Link.{Planned, planned, unplanned, plan, is_none, Outcome, refused_call, LinkOutcome, refused_link, link_by}
+use Rattle.linking.specs.Link.{Planned, planned, unplanned, plan, is_none, Outcome, refused_call, LinkOutcome, refused_link, link_with}
 use Rattle.linking.specs.Ask.{ask_by}
 use Rattle.linking.specs.Numbers.{numbers_short}
 
@@ -45,8 +45,8 @@ numbers_planned ws numbers c (unplanned n) = numbers
 -- a refused link leaves the list
 unfoldable pub link_numbered : List ℕ → List ℕ → List ℕ → ℕ → List ℕ → List ℕ → List ℕ → NumberedOutcome
 link_numbered ws abi numbers c area stubs missing =
-    let done : LinkOutcome = link_by (by_numbers numbers) ws abi c area stubs missing in
     let coming : Planned = plan (by_numbers numbers) ws (text_of ws) abi (abi_text_of abi) area c in
+    let done : LinkOutcome = link_with coming ws abi c area stubs missing in
     cond (numbers_short numbers)
     (leaving (refused_link 3 ws area missing) numbers)
     (leaving done (cond (eqb done.outcome.refusal 0) (numbers_planned ws numbers c coming) numbers))

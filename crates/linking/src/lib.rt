@@ -13,13 +13,15 @@ pub struct Declared {
     pub method: u32,
 }
 
-// The two sheets of a link or an ask, as words, with their texts unpacked: the class words and their text, the ABI words and theirs.
+// The two sheets of a link or an ask, as words, with their texts unpacked: the class words and their text, the ABI words and theirs; and the list
+// of numbers by which signatures are matched.
 #[derive(Clone, Copy)]
 pub struct Sheets<'a> {
     pub set: &'a [u32],
     pub text: &'a [u8],
     pub abi: &'a [u32],
     pub labels: &'a [u8],
+    pub numbers: &'a [u32],
 }
 
 // What a call that writes the class words is lent besides them: their text as bytes, the ABI words and their text.
@@ -31,14 +33,16 @@ pub struct Lent<'a> {
 }
 
 impl<'a> Sheets<'a> {
-    // The sheets of these words, with their texts unpacked into bytes that have room for any.
+    // The sheets of these words, with their texts unpacked into bytes that have room for any, and this list of numbers.
     pub fn unpack(
         set: &'a [u32],
         abi: &'a [u32],
+        numbers: &'a [u32],
         room: &'a mut [u8; class_sheet::TEXT_LIMIT as usize],
         label_room: &'a mut [u8; abi_sheet::TEXT_LIMIT as usize],
     ) -> Sheets<'a>
         ensures words { (result.set.now ≡ set.now) × (result.abi.now ≡ abi.now) }
+        ensures numbers { result.numbers.now ≡ numbers.now }
         ensures text { text_length set.now ≤ text_limit → result.text.now ≡ text_of set.now }
         ensures labels { abi_text_length abi.now ≤ abi_text_limit → result.labels.now ≡ abi_text_of abi.now }
     {
@@ -47,6 +51,7 @@ impl<'a> Sheets<'a> {
             text: class_sheet::text_bytes(set, room),
             abi,
             labels: abi_sheet::text_bytes(abi, label_room),
+            numbers,
         }
     }
 }

@@ -1,2 +1,3 @@
 pub mod ListingLaws
 pub mod Longest
+pub mod NumberLaws

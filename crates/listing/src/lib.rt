@@ -6,7 +6,7 @@ ghost use Rattle.std.specs.Prelude.{◌≡◌, ◌≤◌, ◌<◌, length, map};
 ghost use Rattle.class_sheet.specs.ClassSheet.{class_limit};
 ghost use Rattle.set_rules.specs.SetRules.{set_refusal};
 ghost use Rattle.lines.specs.Out.{Puts};
-ghost use Rattle.listing.specs.Small.{Small, Accepts};
+ghost use Rattle.listing.specs.Small.{Small, Accepts, Matched};
 ghost use Rattle.listing.specs.Listing.{fresh_area, stub_words, link_row, links, link_all, class_text, class_texts, set_text, abi_line, classes_text, listing};
 
 use lines::Out;
@@ -15,12 +15,14 @@ use refusal::Refusal;
 // The most classes that a set has.
 const CLASSES: usize = class_sheet::CLASS_LIMIT as usize;
 
-// The words of the area, of the stubs, and of the list of missing slots: 33 for each class.
+// The words of the area, of the stubs, of the list of missing slots, 33 for each class, and of the list of numbers.
 const AREA_WORDS: usize = 4096;
 
 const STUB_WORDS: usize = 1024;
 
 const MISSING_WORDS: usize = 33 * CLASSES;
+
+const NUMBER_WORDS: usize = 1024;
 
 // The words of a set, and the memory that its links write.
 #[derive(Drop)]
@@ -28,6 +30,7 @@ struct Memory {
     set: [u32; class_sheet::SHEET_WORDS],
     area: [u32; AREA_WORDS],
     missing: [u32; MISSING_WORDS],
+    numbers: [u32; NUMBER_WORDS],
 }
 
 // A fresh area.
@@ -53,15 +56,17 @@ fn stub_words() -> [u32; STUB_WORDS]
 
 // Links as many classes as there are places for why one was refused, from class 1 on, each in what the link before it left.
 fn link_classes(memory: &mut Memory, abi: &[u32], stubs: &[u32], refusals: &mut [Option<Refusal>])
-    requires { length refusals.old ≤ class_limit }
-    ensures { links (map link_row refusals.new) memory.new.set memory.new.area memory.new.missing
+    requires { (length refusals.old ≤ class_limit) × Matched memory.old.set abi.now memory.old.numbers }
+    ensures linked { links (map link_row refusals.new) memory.new.set memory.new.area memory.new.missing
         ≡ link_all abi.now stubs.now (length refusals.old) 1 memory.old.set memory.old.area memory.old.missing }
+    ensures matched { Matched memory.new.set abi.now memory.new.numbers }
 {
     for (i, refusal) in refusals.iter_mut().enumerate() {
         let set = &mut memory.set;
         let answer = link::link(
             set,
             abi,
+            &mut memory.numbers,
             i as u32 + 1,
             &mut memory.area,
             stubs,
@@ -75,31 +80,40 @@ fn link_classes(memory: &mut Memory, abi: &[u32], stubs: &[u32], refusals: &mut 
 fn put_class(
     set: &[u32],
     abi: &[u32],
+    numbers: &[u32],
     area: &[u32],
     c: u32,
     refusal: Option<Refusal>,
     out: &mut Out,
 )
+    requires { Matched set.now abi.now numbers.now }
     ensures { Puts out.old out.new (class_text set.now abi.now area.now c (link_row refusal)) }
 {
     match refusal {
-        None => lines::list_class(set, abi, area, c, out),
+        None => lines::list_class(set, abi, numbers, area, c, out),
         Some(refusal) => out.put_class_refused(c, u32::from(refusal)),
     }
 }
 
 // Puts the text of each class from class 1 on, by why its link was refused. Each word that is read is below 2^32, as its type has it.
-fn put_classes(set: &[u32], abi: &[u32], area: &[u32], refusals: &[Option<Refusal>], out: &mut Out)
-    requires { length refusals.now ≤ class_limit }
+fn put_classes(
+    set: &[u32],
+    abi: &[u32],
+    numbers: &[u32],
+    area: &[u32],
+    refusals: &[Option<Refusal>],
+    out: &mut Out,
+)
+    requires { (length refusals.now ≤ class_limit) × Matched set.now abi.now numbers.now }
     ensures lines { Puts out.old out.new (class_texts set.now abi.now area.now 1 (map link_row refusals.now)) }
     ensures small { Small set.now × Small area.now }
 {
     for (i, refusal) in refusals.iter().enumerate() {
-        put_class(set, abi, area, i as u32 + 1, *refusal, out);
+        put_class(set, abi, numbers, area, i as u32 + 1, *refusal, out);
     }
 }
 
-// Links all classes of a set, and then puts their lines.
+// Fills the list of numbers, links all classes of a set, and then puts their lines.
 fn list_set(set: [u32; class_sheet::SHEET_WORDS], abi: &[u32], out: &mut Out)
     requires { set_refusal set abi.now ≡ 0 }
     ensures lines { Puts out.old out.new (set_text set abi.now) }
@@ -110,11 +124,21 @@ fn list_set(set: [u32; class_sheet::SHEET_WORDS], abi: &[u32], out: &mut Out)
         set,
         area: fresh_area(),
         missing: [0; MISSING_WORDS],
+        numbers: [0; NUMBER_WORDS],
     };
+    // rows 3 to 5 accept the sheets, and the list is long enough
+    let _ = signatures::number_signatures(&memory.set, abi, &mut memory.numbers);
     let mut refusals = [None; CLASSES];
     let refusals = &mut refusals[..n];
     link_classes(&mut memory, abi, &stub_words(), refusals);
-    put_classes(&memory.set, abi, &memory.area, refusals, out);
+    put_classes(
+        &memory.set,
+        abi,
+        &memory.numbers,
+        &memory.area,
+        refusals,
+        out,
+    );
 }
 
 // Reads the class sheet, and puts the lines of its classes or of its refusal.

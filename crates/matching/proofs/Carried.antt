@@ -8,11 +8,12 @@ use Prim.Native.Nat.{ℕ, zero, suc, ◌+◌, ◌≤◌, ◌<◌}
 use native.Mathlib.Omega.{arith}
 use lib.ListN.{length, get_or, take, drop, length-append, get_or-append}
 use Rattle.words.proofs.Lists.{skip, part_at, length_part}
-use Rattle.class_sheet.specs.ClassSheet.{method_count, class_first_method, class_method_count}
+use Rattle.class_sheet.specs.ClassSheet.{method_limit, method_count, class_first_method, class_method_count}
 use Rattle.linking.specs.Signature.{place_number}
 use Rattle.linking.specs.Compiler.{Taken, none_taken, members}
 use Rattle.linking.specs.Set.{write_at}
 use Rattle.linking.specs.Link.{is_none}
+use Rattle.linking.specs.Numbers.{number_limit}
 use Rattle.linking.specs.Numbered.{numbers_taken, numbers_after}
 use Rattle.linking.proofs.Writes.{length-write, write-before, write-inside, write-after}
 use Rattle.matching.specs.Matching.{Carries}
@@ -21,6 +22,11 @@ pub none_added : (xs : List Taken) → is_none (members xs) ≡ true → xs ≡ 
 unfolding members
 none_added [] e = refl
 none_added (x ∷ xs) e = absurd (true≢false (sym e))
+
+pub some_added : (xs : List Taken) (j : ℕ) → j < length xs → is_none (members xs) ≡ false
+unfolding members
+some_added [] j h = absurd (omega arith)
+some_added (x ∷ xs) j h = refl
 
 length_taken : (ns : List ℕ) (xs : List Taken) → length (numbers_taken ns xs) ≡ length xs
 unfolding numbers_taken
@@ -34,8 +40,8 @@ taken_at ns (x ∷ xs) zero h = refl
 taken_at ns (x ∷ xs) (suc j) h = taken_at ns xs j (omega arith)
 
 module _ (ws ns : List ℕ) (c : ℕ) (added : List Taken) (adds : is_none (members added) ≡ false)
-    (listed : class_first_method ws c + class_method_count ws c ≤ length ns)
-    (room : method_count ws + (class_method_count ws c + length added) ≤ length ns) where
+    (listed : class_first_method ws c + class_method_count ws c ≤ method_count ws)
+    (below : method_count ws + (class_method_count ws c + length added) ≤ method_limit) (long : number_limit ≤ length ns) where
   abbrev first : ℕ
   first = class_first_method ws c
 
@@ -55,7 +61,7 @@ module _ (ws ns : List ℕ) (c : ℕ) (added : List Taken) (adds : is_none (memb
   written = copied ++ taken
 
   copies : length copied ≡ own
-  copies = length_part ns first own listed
+  copies = length_part ns first own (omega arith)
 
   many : length written ≡ own + length added
   many = omega (arith, length-append copied taken, copies, length_taken ns added)
@@ -80,4 +86,4 @@ module _ (ws ns : List ℕ) (c : ℕ) (added : List Taken) (adds : is_none (memb
   unfolding numbers_after
   carries =
       rw adds
-      (record { copied = copied_at; took = took_at; others = others_at; many = length-write ns count written (omega (arith, many)) })
+      (record { below = omega arith; copied = copied_at; took = took_at; others = others_at; many = length-write ns count written (omega (arith, many)) })

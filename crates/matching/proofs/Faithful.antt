@@ -87,9 +87,7 @@ module _ (same : Same) (ws abi : List ℕ) (c : ℕ) (area stubs missing : List 
     room = origins.room same ws abi c area stubs missing o acc t
 
     carried : Carries ws c p.added ns left
-    carried =
-        carries ws ns c p.added t (let l = origins.listed same ws abi c area stubs missing o acc in omega (arith, f.long, room))
-        (omega (arith, f.long, room))
+    carried = carries ws ns c p.added t (origins.listed same ws abi c area stubs missing o acc) room f.long
 
     copied : (m j : ℕ) → m ≡ count + j → j < own → Traced ws abi ns new left (of_method m) (of_method (class_first_method ws c + j))
     unfolding place_number

@@ -14,7 +14,7 @@ use Rattle.words.proofs.Bools.{by, and_both}
 use Rattle.words.proofs.ListLaws.{find-passes, length-list-from, get_d_list_from}
 use Rattle.class_sheet.specs.ClassSheet.{text_of}
 use Rattle.abi_sheet.specs.AbiSheet.{abi_text_of}
-use Rattle.linking.specs.Signature.{Place, place_number, place_at, by_numbers}
+use Rattle.linking.specs.Signature.{Place, of_method, place_number, place_at, by_numbers}
 use Rattle.linking.specs.Numbers.{number_limit, is_used, is_twin, number_at, numbers_of, Filled}
 use Rattle.matching.specs.Filling.{EqualParts, Used, FirstPlace, Faithful}
 use Rattle.matching.proofs.Parts.{number-back, number-below, place-back, parts-refl, parts-sym, parts-trans, by_sheets, bytes-parts, parts-bytes}
@@ -89,6 +89,23 @@ module _ (ws abi : List ℕ) where
     pub fill-unused : (n : ℕ) → n < number_limit → is_used ws abi (place_at n) ≡ false → get_or ns n 0 ≡ 0
     unfolding number_at
     fill-unused n l f = holds n l ∙ rw f
+
+    -- where all have the signature of method 0, that is the first place of each; where no two are equal, each is its own first
+
+    pub one_signature : Used ws abi (of_method 0) → ((p : Place) → Used ws abi p → EqualParts ws abi (of_method 0) p) → (n : ℕ) → n < number_limit
+        → get_or ns n 0 ≡ 0
+    unfolding place_number
+    one_signature u alike n l =
+        by (is_used ws abi (place_at n))
+        (λ v. let h = rw (number-back n) at (fill-first (place_at n) v).least (of_method 0) u (alike (place_at n) v) in omega arith)
+        (λ f. fill-unused n l f)
+
+    pub all_apart : ((p q : Place) → Used ws abi p → Used ws abi q → EqualParts ws abi p q → p ≡ q) → (p : Place) → Used ws abi p
+        → get_or ns (place_number p) 0 ≡ place_number p
+    all_apart apart p u =
+        let a = fill-first p u in
+        let k : ℕ = get_or ns (place_number p) 0 in
+        sym (number-back k) ∙ ap place_number (apart (place_at k) p a.used u a.same)
 
     -- a place's number is at most another's with equal parts
     at-most : (p q : Place) → Used ws abi p → Used ws abi q → EqualParts ws abi p q → get_or ns (place_number q) 0 ≤ get_or ns (place_number p) 0

@@ -18,7 +18,7 @@ use Rattle.set_rules.proofs.Valid.{valid}
 use Rattle.linking.specs.Signature.{of_method, of_abi_slot}
 use Rattle.linking.specs.Numbers.{number_limit, is_used, number_at, numbers_of, numbers_short, fill_def, Filled}
 use Rattle.matching.specs.Filling.{Used, Filling}
-use Rattle.matching.proofs.Filled.{fill-first, fill-unused, fill-faithful}
+use Rattle.matching.proofs.Filled.{fill-first, fill-unused, fill-faithful, one_signature, all_apart}
 
 methods-used : (ws abi : List ℕ) → set_refusal ws abi ≡ 0 → (m : ℕ) → m < method_count ws → Used ws abi (of_method m)
 unfolding is_used
@@ -61,5 +61,7 @@ filling = record {
   filled = filled;
   fill_first = fill-first;
   fill_unused = fill-unused;
+  one_signature = one_signature;
+  all_apart = all_apart;
   fill_faithful = fill-faithful;
 }

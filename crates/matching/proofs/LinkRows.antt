@@ -1,15 +1,15 @@
--- Small sheets linked and asked by the numbers of a list, by computation: what a link leaves of it, a list that is too short, and what it must be filled from.
--- Assumes nothing.
+-- Small sheets linked and asked by the numbers of a list, by computation: what a link leaves of it, a list that is too short, what it must be filled from, and
+-- that each comparison goes by it. Assumes nothing.
 use mathlib.Core.Path.{◌≡◌, refl}
-use mathlib.Core.List.{List, [], ◌∷◌}
-use Prim.Native.Nat.{ℕ, ◌+◌}
-use lib.ListN.{get_or, set, take, drop, replicate}
+use mathlib.Core.List.{List, [], ◌∷◌, ◌++◌}
+use Prim.Native.Nat.{ℕ, ◌+◌, ◌-◌}
+use lib.ListN.{length, get_or, set, take, drop, replicate}
 use Rattle.class_sheet.specs.ClassSheet.{methods_at}
 use Rattle.linking.specs.Signature.{place_number, place_at, by_numbers}
 use Rattle.linking.specs.Numbers.{is_used, is_twin, number_at, numbers_of, numbers_short}
 use Rattle.linking.specs.Link.{Outcome}
 use Rattle.linking.specs.Numbered.{numbers_taken, numbers_after, NumberedOutcome, but_numbers, link_numbered, ask_numbered}
-use Rattle.linking.proofs.Assemble.{Lent, method, built, interface, compiled, slot, abi, lent, on_set, spare, onto, table_of}
+use Rattle.linking.proofs.Assemble.{Lent, method, built, interface, compiled, of_kind, linked_at, slot, abi, link, lent, on_set, on_area, spare, call, onto, table_of}
 use Rattle.linking.proofs.Opened.{opened}
 
 abbrev filling : Lent → List ℕ
@@ -115,21 +115,58 @@ unfolding opened place_number place_at by_numbers is_used is_twin number_at numb
 premises =
     record { two_filled = refl; two_zeros = refl; other_set = refl; own_sheet = refl; other_sheet = refl; handed_on = refl; as_filled = refl }
 
--- ---- asks match by the numbers too
+-- ---- "Slots are matched by these numbers.": by lists that do not tell signatures apart as their bytes do. If one of the comparisons that stand over a row went
+-- by bytes, the row would give something else
 
+-- so many numbers of methods and of ABI slots, and zeros
+abbrev numbering : List ℕ → List ℕ → List ℕ
+numbering ms ss = ms ++ (replicate (512 - length ms) 0 ++ (ss ++ replicate (512 - length ss) 0))
+
+-- the tables that a link of class 2 makes by these numbers, and by bytes
+abbrev by_both : Lent → List ℕ → List (List ℕ)
+by_both x ns = table x (linked x ns 2) 2 ∷ table_of 2 (onto x (call x (link 2))) ∷ []
+
+-- of each of these the parent's table stands in the area at 1, with a word that is no method's target
+abbrev laid : Lent
+laid =
+    on_area (5 ∷ 1 ∷ 6 ∷ 77 ∷ 0 ∷ replicate 19 0)
+    (lent (linked_at 1 2 (built "P" 0 (method "a" 5 ∷ method "b" 6 ∷ []) []) ∷ built "C" 1 (method "c" 7 ∷ method "a" 8 ∷ []) [] ∷ [])
+    (abi "P" (slot "c" 1 ∷ slot "d" 0 ∷ []) [] ∷ abi "C" (slot "d" 2 ∷ []) [] ∷ []))
+
+abbrev prepared : Lent
+prepared =
+    spare 40
+    (on_area (4 ∷ 1 ∷ 77 ∷ 0 ∷ replicate 20 0)
+    (lent (linked_at 1 1 (built "P" 0 (method "a" 5 ∷ []) []) ∷ compiled "G" 1 (method "a" 7 ∷ method "b" 8 ∷ []) (9 ∷ []) ∷ [])
+    (abi "P" (slot "c" 0 ∷ []) [] ∷ [])))
+
+abbrev overriding : Lent
+overriding =
+    on_area (4 ∷ 1 ∷ 5 ∷ 0 ∷ replicate 20 0)
+    (lent (linked_at 1 1 (of_kind 3 (built "P" 0 (method "a" 5 ∷ []) [])) ∷ of_kind 3 (built "C" 1 (method "b" 6 ∷ []) []) ∷ []) [])
+
+-- an interface whose a has its target, and whose c has none, so that a stub stands there
 abbrev implemented : Lent
-implemented = lent (interface "I" (method "a" 7 ∷ []) ∷ built "C" 0 (method "b" 5 ∷ method "a" 6 ∷ []) [] ∷ []) []
+implemented =
+    lent (interface "I" (method "a" 7 ∷ method "c" 0 ∷ []) ∷ built "C" 0 (method "b" 5 ∷ method "a" 6 ∷ []) [] ∷ []) (abi "I" (slot "d" 1 ∷ []) [] ∷ [])
 
--- the slot of the node that class 2's ask for interface 1 puts in front, both linked by the filled list
-abbrev found_by : List ℕ → ℕ
+-- the slots of the node that class 2's ask for interface 1 puts in front, both linked by the filled list
+abbrev found_by : List ℕ → List ℕ
 found_by ns =
     let x : Lent = next (next implemented (filling implemented) 1) (filling implemented) 2 in
-    let o : Outcome = asked x ns 2 1 in get_or o.area (o.first + 1) 0
+    let o : Outcome = asked x ns 2 1 in part o.area (o.first + 1) 2
 
-pub record Asks : Type 0 where
-  pub filled : found_by (filling implemented) ≡ 6
-  pub by_zeros : found_by zeros ≡ 5
+pub record Matched : Type 0 where
+  -- Reading's ABI rule; where a class lays out anew what it inherits, its signatures, their fixed indices and the ABI classes that these come from; and of its
+  -- own methods the fixed index, the slot of the signature, and row 12
+  pub built : by_both laid (numbering (0 ∷ 0 ∷ 1 ∷ 1 ∷ []) (0 ∷ 1 ∷ 1 ∷ [])) ≡ (901 ∷ 77 ∷ 8 ∷ []) ∷ (901 ∷ 7 ∷ 903 ∷ 6 ∷ 8 ∷ []) ∷ []
+  -- a compiler table: Reading's ABI rule and the fixed index in the native view, "originally declared" in (b), "has no slot" in (d)
+  pub generated : by_both prepared (numbering (0 ∷ 1 ∷ 1 ∷ []) (0 ∷ [])) ≡ (9 ∷ 7 ∷ []) ∷ (9 ∷ 7 ∷ 8 ∷ []) ∷ []
+  -- kind 3: what a method overrides
+  pub packages : by_both overriding zeros ≡ (6 ∷ []) ∷ (5 ∷ 6 ∷ []) ∷ []
+  -- an ask: Reading's ABI rule, and the implementation of an interface's entry
+  pub asked : found_by zeros ∷ found_by (filling implemented) ∷ [] ≡ (5 ∷ 5 ∷ []) ∷ (6 ∷ 902 ∷ []) ∷ []
 
-pub asks : Asks
+pub matched : Matched
 unfolding opened place_number place_at by_numbers is_used is_twin number_at numbers_of numbers_short numbers_taken numbers_after link_numbered ask_numbered
-asks = record { filled = refl; by_zeros = refl }
+matched = record { built = refl; generated = refl; packages = refl; asked = refl }

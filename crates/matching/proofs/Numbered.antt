@@ -3,29 +3,29 @@ use mathlib.Core.Path.{◌≡◌, refl, sym, ap, ◌∙◌}
 use mathlib.Core.Logic.{◌≢◌, ◌⊎◌, inl, inr}
 use mathlib.Core.Bool.{true, false, true≢false}
 use mathlib.Core.List.{List, []}
-use Prim.Native.Nat.{ℕ, ◌≤◌, ◌<◌}
+use Prim.Native.Nat.{ℕ, ◌+◌, ◌≤◌, ◌<◌}
 use native.Mathlib.Omega.{arith}
 use lib.ListN.{length, get_or}
 use lib.Dec.{eqb, ltb}
 use borrow.Author.Tests.{ne_eqb, le-ltb, lt-ltb, ltb-false}
 use Rattle.words.proofs.Bools.{by}
-use Rattle.class_sheet.specs.ClassSheet.{text_of}
+use Rattle.class_sheet.specs.ClassSheet.{method_count, text_of, class_method_count}
 use Rattle.abi_sheet.specs.AbiSheet.{abi_text_of}
 use Rattle.set_rules.specs.SetRules.{set_refusal}
-use Rattle.linking.specs.Signature.{Same, by_sheets, by_numbers}
+use Rattle.linking.specs.Signature.{Same, of_method, place_name, place_descriptor, by_sheets, by_numbers}
 use Rattle.linking.specs.Numbers.{number_limit, numbers_short}
-use Rattle.linking.specs.Compiler.{Taken, members}
+use Rattle.linking.specs.Compiler.{Taken, none_taken, members}
 use Rattle.linking.specs.Link.{Plan, Planned, planned, unplanned, plan, is_none, bad_area, no_room, Outcome, LinkOutcome, refused_call, refused_link, link_by, link_def}
 use Rattle.linking.specs.Vtable.{Entry, Built, built, refused, table_entries}
 use Rattle.linking.specs.Ask.{Walk, hit, missed, broken, walk, head_place, dispatch_entries, on_dispatch, build_node, on_walk, bad_ask, ask_by, ask_def}
 use Rattle.linking.specs.Numbered.{numbers_after, NumberedOutcome, leaving, but_numbers, link_numbered, ask_numbered}
 use Rattle.matching.specs.Filling.{Faithful}
-use Rattle.matching.specs.Matching.{Agree, Carries}
+use Rattle.matching.specs.Matching.{Agree, Carries, Signed}
 use Rattle.matching.proofs.Parts.{faithful-agrees}
 use Rattle.matching.proofs.Rows.{Accepted, link-cases}
 use Rattle.matching.proofs.Stays.{link-stands}
 use Rattle.matching.proofs.Origins as origins
-use Rattle.matching.proofs.Carried.{none_added, carries}
+use Rattle.matching.proofs.Carried.{none_added, some_added, carries}
 use Rattle.matching.proofs.Faithful.{linked_faithful}
 use Rattle.matching.proofs.Agrees.{link_agrees, ask_agrees}
 
@@ -43,7 +43,7 @@ module _ (ws abi ns : List ℕ) where
   module _ (long : number_limit ≤ length ns) where
     pub link_matched : (c : ℕ) (area stubs missing : List ℕ)
         → but_numbers (link_numbered ws abi ns c area stubs missing) ≡ link_by (by_numbers ns) ws abi c area stubs missing
-    unfolding link_numbered
+    unfolding link_numbered link_by
     link_matched c area stubs missing = rw (long-enough ns long)
 
     pub ask_matched : (c i : ℕ) (area stubs : List ℕ) → ask_numbered ws abi ns c i area stubs ≡ ask_by (by_numbers ns) ws abi c i area stubs
@@ -66,7 +66,7 @@ module _ (ws abi ns : List ℕ) (f : Faithful ws abi ns) where
 
   pub link_numbered_agrees : (c : ℕ) (area stubs missing : List ℕ)
       → but_numbers (link_numbered ws abi ns c area stubs missing) ≡ link_def ws abi c area stubs missing
-  unfolding link_numbered link_def
+  unfolding link_numbered link_def link_by
   link_numbered_agrees c area stubs missing =
       rw (long-enough ns f.long) (link_agrees (by_numbers ns) (by_sheets ws abi) ws abi by-bytes c area stubs missing)
 
@@ -82,32 +82,40 @@ plan_of q (planned p) = p
 plan_of q (unplanned n) = q
 
 module _ (ws abi ns : List ℕ) (c : ℕ) (area stubs missing : List ℕ) where
-  abbrev done : NumberedOutcome
+  abbrev pub done : NumberedOutcome
   done = link_numbered ws abi ns c area stubs missing
 
   abbrev judged : LinkOutcome
   judged = link_by (by_numbers ns) ws abi c area stubs missing
 
-  -- it is refused, and leaves the set and the list
-  record Left (o : NumberedOutcome) : Type 0 where
-    number : o.outcome.refusal ≢ 0
-    same_set : o.outcome.set ≡ ws
-    same_numbers : o.numbers ≡ ns
+  -- it is refused, and leaves the set, the area and both lists
+  pub record Left (o : NumberedOutcome) : Type 0 where
+    pub number : o.outcome.refusal ≢ 0
+    pub same_set : o.outcome.set ≡ ws
+    pub same_area : o.outcome.area ≡ area
+    pub same-missing : o.missing ≡ missing
+    pub same_numbers : o.numbers ≡ ns
 
   -- or accepted, with the list that its plan leaves
-  record Linked (o : NumberedOutcome) : Type 0 where
-    long : number_limit ≤ length ns
-    accepted : Accepted (by_numbers ns) ws abi c area stubs missing (but_numbers o)
-    new_numbers : o.numbers ≡ numbers_after ws ns c accepted.coming.added
+  pub record Linked (o : NumberedOutcome) : Type 0 where
+    pub long : number_limit ≤ length ns
+    pub accepted : Accepted (by_numbers ns) ws abi c area stubs missing (but_numbers o)
+    pub new_numbers : o.numbers ≡ numbers_after ws ns c accepted.coming.added
 
-  ends : Left done ⊎ Linked done
-  unfolding link_numbered numbers_short
+  pub ends : Left done ⊎ Linked done
+  unfolding link_numbered link_by numbers_short
   ends =
-      by (ltb (length ns) number_limit) (λ t. rw t (inl (record { number = omega arith; same_set = refl; same_numbers = refl })))
+      by (ltb (length ns) number_limit) (λ t. rw t (inl (record { number = omega arith; same_set = refl; same_area = refl; same-missing = refl; same_numbers = refl })))
       (λ t.
       rw t
       (elim (link-cases (by_numbers ns) ws abi c area stubs missing) [
-        | inl r ↦ inl (record { number = r.number; same_set = r.same_set; same_numbers = rw (ne_eqb judged.outcome.refusal 0 r.number) })
+        | inl r ↦ inl (record {
+          number = r.number;
+          same_set = r.same_set;
+          same_area = r.same_area;
+          same-missing = r.same-missing;
+          same_numbers = rw (ne_eqb judged.outcome.refusal 0 r.number);
+        })
         | inr a ↦ inr (record { long = ltb-false (length ns) number_limit t; accepted = a; new_numbers = rw (a.number, a.comes) })
       ]))
 
@@ -135,7 +143,15 @@ module _ (ws abi ns : List ℕ) (c : ℕ) (area stubs missing : List ℕ) where
       let m = origins.listed (by_numbers ns) ws abi c area stubs missing (but_numbers done) acc in
       let r = origins.room (by_numbers ns) ws abi c area stubs missing (but_numbers done) acc u in
       let n : length acc.coming.added ≡ length xs = ap (λ (ys : List Taken). length ys) e in
-      inr (t, rw g (carries ws ns c xs t (omega (arith, l, m, r)) (omega (arith, l, r, n)))))
+      inr (t, rw g (carries ws ns c xs t m (omega (arith, r, n)) l)))
+
+  -- so the list stays as long as it was
+  pub numbers_long : length done.numbers ≡ length ns
+  numbers_long =
+      elim ends [
+        | inl r ↦ ap length r.same_numbers
+        | inr a ↦ elim (carries_by a.long a.accepted a.accepted.coming.added refl a.new_numbers) [ inl k ↦ ap length k.1 | inr g ↦ g.1.many ]
+      ]
 
   kept_or-grown : (p : Plan) → plan (by_numbers ns) ws (text_of ws) abi (abi_text_of abi) area c ≡ planned p → done.outcome.refusal ≡ 0
       → Kept p.added ⊎ Grown p.added
@@ -159,6 +175,29 @@ module _ (ws abi ns : List ℕ) (c : ℕ) (area stubs missing : List ℕ) where
   pub link_carries : (p : Plan) → plan (by_numbers ns) ws (text_of ws) abi (abi_text_of abi) area c ≡ planned p → done.outcome.refusal ≡ 0
       → p.added ≢ [] → Carries ws c p.added ns done.numbers
   link_carries p e z some = elim (kept_or-grown p e z) [ inl k ↦ absurd (some k.0) | inr g ↦ g.1 ]
+
+  -- the records of added methods have the parts of their places
+  signed_by : (acc : Accepted (by_numbers ns) ws abi c area stubs missing (but_numbers done)) → (xs : List Taken) → acc.coming.added ≡ xs
+      → Signed ws abi c xs done.outcome.set
+  unfolding place_name place_descriptor
+  signed_by acc xs e =
+      let each : (j : ℕ) → j < length xs
+      → origins.Origin ws abi done.outcome.set (of_method (method_count ws + class_method_count ws c + j)) (get_or xs j none_taken).from =
+      λ j h.
+      let l : j < length acc.coming.added = rw e h in
+      let z : method_count ws + class_method_count ws c + j ≡ method_count ws + (class_method_count ws c + j) = omega arith in
+      rw z
+      (rw e at
+      (origins.added (by_numbers ns) ws abi c area stubs missing (but_numbers done) acc (some_added acc.coming.added j l) j l)) in
+      record { used = λ j h. (each j h).used; name = λ j h. (each j h).name; descriptor = λ j h. (each j h).descriptor }
+
+  pub link_signed : (p : Plan) → plan (by_numbers ns) ws (text_of ws) abi (abi_text_of abi) area c ≡ planned p → done.outcome.refusal ≡ 0
+      → Signed ws abi c p.added done.outcome.set
+  link_signed p e z =
+      elim ends [
+        | inl r ↦ absurd (r.number z)
+        | inr a ↦ signed_by a.accepted p.added (ap (λ (x : Plan). x.added) (ap (plan_of p) (sym a.accepted.comes ∙ e)))
+      ]
 
   pub link_refused : done.outcome.refusal ≢ 0 → done.numbers ≡ ns
   link_refused n = elim ends [ inl r ↦ r.same_numbers | inr a ↦ absurd (n a.accepted.number) ]

@@ -40,5 +40,11 @@ pub record Filling : Type 0 where
   -- of a filled list, whatever the sheets are: each used place holds the first place with its parts, each other place 0
   pub fill_first : (ws abi ns : List ℕ) → Filled ws abi ns → (p : Place) → Used ws abi p → FirstPlace ws abi p (get_or ns (place_number p) 0)
   pub fill_unused : (ws abi ns : List ℕ) → Filled ws abi ns → (n : ℕ) → n < number_limit → is_used ws abi (place_at n) ≡ false → get_or ns n 0 ≡ 0
+  -- so of methods alone with one signature, up to 512, the list is all 0; and where no two signatures are equal each place holds itself, of ABI slots alone
+  -- 512 + s
+  pub one_signature : (ws abi ns : List ℕ) → Filled ws abi ns → Used ws abi (of_method 0)
+      → ((p : Place) → Used ws abi p → EqualParts ws abi (of_method 0) p) → (n : ℕ) → n < number_limit → get_or ns n 0 ≡ 0
+  pub all_apart : (ws abi ns : List ℕ) → Filled ws abi ns → ((p q : Place) → Used ws abi p → Used ws abi q → EqualParts ws abi p q → p ≡ q)
+      → (p : Place) → Used ws abi p → get_or ns (place_number p) 0 ≡ place_number p
   -- and the numbers tell signatures apart as their bytes do
   pub fill_faithful : (ws abi ns : List ℕ) → Filled ws abi ns → Faithful ws abi ns

@@ -1,9 +1,9 @@
 -- The theorems on links and asks by the numbers of signatures: `matching` of proofs/Theorem.antt proves them. Assumes nothing.
 use Rattle.std.specs.Prelude.{ℕ, ◌+◌, ◌≤◌, ◌<◌, ◌≡◌, ◌≢◌, ◌⊎◌, List, [], length, get_or}
-use Rattle.class_sheet.specs.ClassSheet.{class_count, method_count, text_of, class_first_method, class_method_count}
+use Rattle.class_sheet.specs.ClassSheet.{method_limit, class_count, method_count, text_of, class_first_method, class_method_count, method_name, method_descriptor}
 use Rattle.abi_sheet.specs.AbiSheet.{abi_text_of}
 use Rattle.set_rules.specs.SetRules.{set_refusal}
-use Rattle.linking.specs.Signature.{Place, Same, place_number, by_numbers}
+use Rattle.linking.specs.Signature.{Place, Same, place_name, place_descriptor, place_number, by_numbers}
 use Rattle.linking.specs.Vtable.{table_entries}
 use Rattle.linking.specs.Compiler.{Taken, none_taken}
 use Rattle.linking.specs.Link.{Plan, planned, plan, refused_call, refused_link, link_by, link_def}
@@ -19,12 +19,24 @@ Agree ws abi same other = (p q : Place) → Used ws abi p → Used ws abi q → 
 
 -- "an added method carries the number of the signature it took, a copied one its own": a list, and what is left of it where class c grows by these methods
 pub record Carries (ws : List ℕ) (c : ℕ) (added : List Taken) (numbers left : List ℕ) : Type 0 where
+  -- row 14: the places that are written lie below those of ABI slots
+  pub below : method_count ws + class_method_count ws c + length added ≤ method_limit
   pub copied : (j : ℕ) → j < class_method_count ws c → get_or left (method_count ws + j) 0 ≡ get_or numbers (class_first_method ws c + j) 0
   pub took : (j : ℕ) → j < length added
       → get_or left (method_count ws + class_method_count ws c + j) 0 ≡ get_or numbers (place_number (get_or added j none_taken).from) 0
   -- no other place is written
   pub others : (n : ℕ) → (n < method_count ws) ⊎ (method_count ws + class_method_count ws c + length added ≤ n) → get_or left n 0 ≡ get_or numbers n 0
   pub many : length left ≡ length numbers
+
+-- the set `left` has the records of these methods, added to class c of the set ws, and each has the name and the descriptor of the place that it takes them from
+pub record Signed (ws abi : List ℕ) (c : ℕ) (added : List Taken) (left : List ℕ) : Type 0 where
+  pub used : (j : ℕ) → j < length added → Used ws abi (get_or added j none_taken).from
+  pub name : (j : ℕ) → j < length added
+      → method_name left (text_of left) (method_count ws + class_method_count ws c + j)
+      ≡ place_name ws (text_of ws) abi (abi_text_of abi) (get_or added j none_taken).from
+  pub descriptor : (j : ℕ) → j < length added
+      → method_descriptor left (text_of left) (method_count ws + class_method_count ws c + j)
+      ≡ place_descriptor ws (text_of ws) abi (abi_text_of abi) (get_or added j none_taken).from
 
 pub record Matching : Type 0 where
   -- ---- "Every table, index and refusal is shown equal to that of the byte comparison, once over all kinds of class." First by any two comparisons that agree
@@ -66,6 +78,11 @@ pub record Matching : Type 0 where
       → plan (by_numbers numbers) ws (text_of ws) abi (abi_text_of abi) area c ≡ planned p
       → (link_numbered ws abi numbers c area stubs missing).outcome.refusal ≡ 0
       → p.added ≢ [] → Carries ws c p.added numbers (link_numbered ws abi numbers c area stubs missing).numbers
+  -- the place whose number an added method carries is the one whose name and descriptor its record has
+  pub link_signed : (ws abi numbers : List ℕ) (c : ℕ) (area stubs missing : List ℕ) (p : Plan)
+      → plan (by_numbers numbers) ws (text_of ws) abi (abi_text_of abi) area c ≡ planned p
+      → (link_numbered ws abi numbers c area stubs missing).outcome.refusal ≡ 0
+      → Signed ws abi c p.added (link_numbered ws abi numbers c area stubs missing).outcome.set
   pub link_refused : (ws abi numbers : List ℕ) (c : ℕ) (area stubs missing : List ℕ)
       → (link_numbered ws abi numbers c area stubs missing).outcome.refusal ≢ 0 → (link_numbered ws abi numbers c area stubs missing).numbers ≡ numbers
   -- ---- no accepted link, by whatever comparison and with whatever list, leaves a set that rows 3 to 5 refuse; an ask leaves the set

@@ -5,7 +5,7 @@
 ghost use Rattle.std.specs.Prelude.{◌≡◌, false, cond, [], ◌++◌, ◌+◌, ◌-◌, ◌≤◌, ◌<◌, min, length, drop, eqb};
 ghost use Rattle.words.specs.Lists.{numbers, find, first_found, some};
 ghost use Rattle.class_sheet.specs.ClassSheet.{class_count, class_compiler_table, class_compiler_slots, compiler_word};
-ghost use Rattle.linking.specs.Signature.{of_method, by_bytes};
+ghost use Rattle.linking.specs.Signature.{of_method, by_numbers};
 ghost use Rattle.linking.specs.Chain.{on_found, own_methods, own_interfaces};
 ghost use Rattle.linking.specs.Abi.{slot_at};
 ghost use Rattle.linking.specs.Vtable.{empty, fixed_of, parent_entries};
@@ -13,7 +13,7 @@ ghost use Rattle.linking.specs.Compiler.{holds, owner_state, is_emptied, view_fr
 ghost use Rattle.reading.specs.Tables.{entry, entries};
 ghost use Rattle.growth.specs.News.{ref_place, taken_of, added_of};
 ghost use Rattle.native_view.specs.Native.{interface_slot, source_ref, ref_flags, member_of, added_at};
-ghost use Rattle.linking.specs.Sheets.{of_sheets, of_bytes};
+ghost use Rattle.linking.specs.Sheets.{of_sheets, of_numbers};
 
 use growth::{Member, Named, News};
 use linking::Sheets;
@@ -49,7 +49,7 @@ fn is_owner_linked(ws: &[u32], m: u32) -> bool
 
 // Whether i is the index that the first of the ABI classes fixes for method m.
 fn fixed_here(sheets: Sheets, abis: &[u32], i: u32, m: u32) -> bool
-    ensures { result ≡ on_found (fixed_of (of_sheets by_bytes sheets.entry) sheets.entry.abi.now abis.now m) (eqb i) false }
+    ensures { result ≡ on_found (fixed_of (by_numbers sheets.entry.numbers.now) sheets.entry.abi.now abis.now m) (eqb i) false }
 {
     abi::fixed_of(sheets, abis, m).is_some_and(|j| i == j)
 }
@@ -57,7 +57,7 @@ fn fixed_here(sheets: Sheets, abis: &[u32], i: u32, m: u32) -> bool
 // Whether the native view empties slot i.
 #[tactic(auto, using(crate::proofs::ViewLaws::emptied_known, crate::proofs::ViewLaws::emptied_unknown))]
 fn is_emptied(sheets: Sheets, abis: &[u32], i: u32, slot: Slot) -> bool
-    ensures { result ≡ is_emptied (of_sheets by_bytes sheets.entry) sheets.entry.set.now sheets.entry.abi.now abis.now i (entry slot) }
+    ensures { result ≡ is_emptied (by_numbers sheets.entry.numbers.now) sheets.entry.set.now sheets.entry.abi.now abis.now i (entry slot) }
 {
     match slot.method() {
         Some(m) => { !is_owner_linked(sheets.set, m) & !fixed_here(sheets, abis, i, m) }
@@ -68,7 +68,7 @@ fn is_emptied(sheets: Sheets, abis: &[u32], i: u32, slot: Slot) -> bool
 // Slot i of the view.
 fn view_slot(sheets: Sheets, abis: &[u32], i: u32, slot: Slot) -> Slot
     ensures { entry result
-        ≡ cond (is_emptied (of_sheets by_bytes sheets.entry) sheets.entry.set.now sheets.entry.abi.now abis.now i (entry slot)) empty (entry slot) }
+        ≡ cond (is_emptied (by_numbers sheets.entry.numbers.now) sheets.entry.set.now sheets.entry.abi.now abis.now i (entry slot)) empty (entry slot) }
 {
     if is_emptied(sheets, abis, i, slot) {
         return Slot::empty();
@@ -79,7 +79,7 @@ fn view_slot(sheets: Sheets, abis: &[u32], i: u32, slot: Slot) -> Slot
 // Fills the view with that of the parent's slots.
 fn view_entries(sheets: Sheets, abis: &[u32], parent: &ReadTable, view: &mut ReadTable)
     ensures is { entries view.new
-        ≡ view_from (of_sheets by_bytes sheets.entry) sheets.entry.set.now sheets.entry.abi.now abis.now 0 (entries parent.now) }
+        ≡ view_from (by_numbers sheets.entry.numbers.now) sheets.entry.set.now sheets.entry.abi.now abis.now 0 (entries parent.now) }
     ensures len { view.new.len ≡ parent.now.len }
 {
     view.fill(parent.len, |i| view_slot(sheets, abis, i, parent.slot(i)));
@@ -160,17 +160,17 @@ fn ref_flags(ws: &[u32], r: Named) -> u32
 
 // Whether class c declares a method of the signature that one takes from r.
 fn is_declared(sheets: Sheets, r: Named, c: u32) -> bool
-    ensures { result ≡ some (λ m. of_sheets by_bytes sheets.entry (of_method m) (ref_place r)) (own_methods sheets.entry.set.now c) }
+    ensures { result ≡ some (λ m. by_numbers sheets.entry.numbers.now (of_method m) (ref_place r)) (own_methods sheets.entry.set.now c) }
 {
-    let signature = growth::taken_signature(sheets, r);
-    chain::own_method(sheets.set, sheets.text, signature, c).is_some()
+    let number = growth::ref_number(sheets.numbers, r);
+    chain::own_numbered(sheets.set, sheets.numbers, number, c).is_some()
 }
 
 // Adds a method for target t that takes its signature from r, unless class c declares it.
 fn add_named(sheets: Sheets, c: u32, r: Named, t: u32, news: &mut News)
     requires { length news.old < 1024 }
     ensures is { of_sheets added_of sheets.entry news.new ≡ of_sheets added_of sheets.entry news.old
-        ++ add_named (of_sheets by_bytes sheets.entry) sheets.entry.set.now c (of_sheets taken_of sheets.entry (member_of sheets.entry.set.now r t)) [] }
+        ++ add_named (by_numbers sheets.entry.numbers.now) sheets.entry.set.now c (of_sheets taken_of sheets.entry (member_of sheets.entry.set.now r t)) [] }
     ensures count { length news.new ≤ length news.old + 1 }
 {
     if is_declared(sheets, r, c) {
@@ -186,7 +186,7 @@ fn add_named(sheets: Sheets, c: u32, r: Named, t: u32, news: &mut News)
 // Adds what target t at index i adds, where the native view has this slot.
 fn add(sheets: Sheets, c: u32, i: u32, t: u32, slot: Slot, news: &mut News)
     requires { length news.old < 1024 }
-    ensures is { of_sheets added_of sheets.entry news.new ≡ of_sheets added_of sheets.entry news.old ++ of_bytes added_at sheets.entry c i t (entry slot) }
+    ensures is { of_sheets added_of sheets.entry news.new ≡ of_sheets added_of sheets.entry news.old ++ of_numbers added_at sheets.entry c i t (entry slot) }
     ensures count { length news.new ≤ length news.old + 1 }
 {
     if (t == 0) | (t == slot.word) {
@@ -199,7 +199,7 @@ fn add(sheets: Sheets, c: u32, i: u32, t: u32, slot: Slot, news: &mut News)
 
 // The methods that class c's compiler targets add, where this is the native view, and no others.
 fn add_methods(sheets: Sheets, c: u32, view: &ReadTable, news: &mut News)
-    ensures is { of_sheets added_of sheets.entry news.new ≡ of_bytes added_from sheets.entry c (entries view.now) 0 (compiler_targets sheets.entry.set.now c) }
+    ensures is { of_sheets added_of sheets.entry news.new ≡ of_numbers added_from sheets.entry c (entries view.now) 0 (compiler_targets sheets.entry.set.now c) }
     ensures count { length news.new ≤ 1024 }
 {
     news.clear();
@@ -220,10 +220,10 @@ pub fn native_view(
     view: &mut ReadTable,
     news: &mut News,
 )
-    ensures parent { entries parent.new ≡ of_bytes parent_entries sheets.entry area.now c }
-    ensures view { entries view.new ≡ of_bytes native_view sheets.entry area.now c }
+    ensures parent { entries parent.new ≡ of_numbers parent_entries sheets.entry area.now c }
+    ensures view { entries view.new ≡ of_numbers native_view sheets.entry area.now c }
     ensures len { view.new.len ≡ parent.new.len }
-    ensures members { of_sheets added_of sheets.entry news.new ≡ of_bytes added_methods sheets.entry area.now c }
+    ensures members { of_sheets added_of sheets.entry news.new ≡ of_numbers added_methods sheets.entry area.now c }
     ensures count { length news.new ≤ 1024 }
     ensures rest { (drop parent.new.len parent.new.words
         ≡ drop parent.new.len parent.old.words) × (drop parent.new.len parent.new.marks ≡ drop parent.new.len parent.old.marks) }

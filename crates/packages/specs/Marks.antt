@@ -2,8 +2,7 @@
 -- that Reading gives. Assumes nothing.
 use Rattle.std.specs.Prelude.{ℕ, ◌<◌, ◌≡◌, Bool, true, false, List, [], ◌∷◌, cond, get_or, set, Option}
 use Rattle.words.specs.Lists.{numbers, keep}
-use Rattle.linking.specs.Signature.{Same, methods_same, by_bytes}
-use Rattle.linking.specs.Sheets.{of_sheets}
+use Rattle.linking.specs.Signature.{Same, methods_same, by_numbers}
 use Rattle.linking.specs.declared.Sheets.{Sheets}
 use Rattle.linking.specs.Chain.{on_found, chain}
 use Rattle.linking.specs.Vtable.{read_slot}
@@ -12,7 +11,7 @@ use Rattle.reading.specs.Arrays.{method_of}
 
 -- what f says of the walk, by the signatures of the sheets' methods
 abbrev pub of_walk {ℓ} : {A : Type ℓ} → ((ℕ → ℕ → Bool) → List ℕ → List ℕ → A) → Sheets → A
-of_walk f sheets = f (methods_same (of_sheets by_bytes sheets)) sheets.set.now sheets.text.now
+of_walk f sheets = f (methods_same (by_numbers sheets.numbers.now)) sheets.set.now sheets.text.now
 
 -- method k is marked
 unfoldable pub mark : List Bool → ℕ → List Bool

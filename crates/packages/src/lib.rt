@@ -12,7 +12,7 @@ ghost use Rattle.linking.specs.Packages.{package_of, package_at, open_to, is_ove
 ghost use Rattle.reading.specs.Arrays.{method_of};
 ghost use Rattle.reading.specs.Tables.{entry, entries};
 ghost use Rattle.packages.specs.Marks.{of_walk, mark, is_some, taken_by, taken_in, top_of, Laid, LaidUp, Tops};
-ghost use Rattle.linking.specs.Sheets.{of_sheets, of_bytes};
+ghost use Rattle.linking.specs.Sheets.{of_sheets, of_numbers};
 
 use class_sheet::Kind;
 use linking::Sheets;
@@ -66,17 +66,12 @@ fn open_to(ws: &[u32], text: &[u8], k: u32, a: u32, c: u32) -> bool
 // ---- what a method overrides
 
 // Whether method k of class a is overridden by method m, which has reached the classes of the list.
-#[tactic(auto, using(chain::proofs::RecordLaws::method_named), unfolding(linking::specs::Packages::is_overridden))]
+#[tactic(auto, unfolding(linking::specs::Packages::is_overridden))]
 fn is_overridden(sheets: Sheets, m: u32, reached: &[u32], a: u32, k: u32) -> bool
     ensures { result ≡ of_walk is_overridden sheets.entry m reached.now a k }
 {
     !class_sheet::is_static(class_sheet::method_flags(sheets.set, k))
-        && chain::method_is(
-            sheets.set,
-            sheets.text,
-            k,
-            class_sheet::method_signature(sheets.set, sheets.text, m),
-        )
+        && chain::same_methods(sheets.numbers, k, m)
         && open_to_some(sheets.set, sheets.text, k, a, reached)
 }
 
@@ -148,7 +143,7 @@ fn lay_class(
     classes: &mut [u32; TABLE_LIMIT],
     tops: &mut [u32; TABLE_LIMIT],
 )
-    ensures { of_bytes Laid sheets.entry area.now d tops.old tops.new }
+    ensures { of_numbers Laid sheets.entry area.now d tops.old tops.new }
 {
     if class_sheet::class_table_place(sheets.set, d) == 0 {
         return;
@@ -167,7 +162,7 @@ fn lay_chain(
     classes: &mut [u32; TABLE_LIMIT],
     tops: &mut [u32; TABLE_LIMIT],
 )
-    ensures { of_bytes LaidUp sheets.entry area.now d tops.old tops.new }
+    ensures { of_numbers LaidUp sheets.entry area.now d tops.old tops.new }
 {
     if d == 0 {
         return;
@@ -180,7 +175,7 @@ fn lay_chain(
 // The marks of the methods that introduced the slots of class p's table: those of the tables of its chain, laid over nothing.
 fn introducing_marks(sheets: Sheets, area: &[u32], p: u32, tops: &mut [u32; TABLE_LIMIT])
     requires { tops.old ≡ replicate 1024 0 }
-    ensures { of_bytes Tops sheets.entry area.now p tops.new }
+    ensures { of_numbers Tops sheets.entry area.now p tops.new }
 {
     let mut read = Table::for_reading();
     let mut classes = [0u32; TABLE_LIMIT];
@@ -279,7 +274,7 @@ fn take_all(sheets: Sheets, tops: &[u32; TABLE_LIMIT], c: u32, table: &mut Built
 // Fills the table with class c's: the parent's entries, and its own methods. None for a number above the limit, which rows 3 and 6 refuse. What
 // the table's arrays hold past its slots is the program's choice and means nothing.
 pub fn build_packages(sheets: Sheets, area: &[u32], c: u32, table: &mut BuiltTable)
-    ensures is { entries table.new ≡ of_bytes build_packages sheets.entry area.now c }
+    ensures is { entries table.new ≡ of_numbers build_packages sheets.entry area.now c }
     ensures count { table.new.len ≤ 1536 }
 {
     if class_sheet::CLASS_LIMIT < c {

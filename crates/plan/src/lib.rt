@@ -6,7 +6,7 @@ ghost use Rattle.class_sheet.specs.ClassSheet.{class_kind, is_built_kind};
 ghost use Rattle.linking.specs.Link.{built_table, generated_table, generated_methods, plan_built, plan_generated, plan_array, plan};
 ghost use Rattle.linking.specs.Vtable.{built};
 ghost use Rattle.growth.specs.News.{added_of};
-ghost use Rattle.linking.specs.Sheets.{of_sheets, of_bytes};
+ghost use Rattle.linking.specs.Sheets.{of_sheets, of_numbers};
 ghost use Rattle.reading.specs.Tables.{entries};
 ghost use Rattle.field.specs.Numbers.{no_fields, with_fields};
 ghost use Rattle.vtable.specs.Tables.{step_of};
@@ -57,7 +57,7 @@ fn few_slots(table: &BuiltTable) -> Result<(), Refusal>
 // Fills the table with a built class's, of any number of slots.
 #[tactic(auto, unfolding(linking::specs::Link::built_table))]
 fn built_table(sheets: Sheets, area: &[u32], c: u32, table: &mut BuiltTable) -> Result<(), Refusal>
-    ensures { step_of result (entries table.new) ≡ of_bytes built_table sheets.entry area.now c }
+    ensures { step_of result (entries table.new) ≡ of_numbers built_table sheets.entry area.now c }
 {
     if class_sheet::has_kind(sheets.set, c, Kind::Packaged) {
         packages::build_packages(sheets, area, c, table);
@@ -79,8 +79,8 @@ fn generated_table(
     table: &mut BuiltTable,
     news: &mut News,
 ) -> Result<(), Refusal>
-    ensures is { step_of result (entries table.new) ≡ of_bytes generated_table sheets.entry area.now c }
-    ensures members { of_sheets added_of sheets.entry news.new ≡ of_bytes generated_methods sheets.entry area.now c }
+    ensures is { step_of result (entries table.new) ≡ of_numbers generated_table sheets.entry area.now c }
+    ensures members { of_sheets added_of sheets.entry news.new ≡ of_numbers generated_methods sheets.entry area.now c }
 {
     if class_sheet::class_compiler_table(sheets.set, c) == 0 {
         news.clear();
@@ -93,7 +93,7 @@ fn generated_table(
 // A built class: row 10, its table, and the ABI fields that it adds.
 fn plan_built(sheets: Sheets, area: &[u32], c: u32, made: &mut Plan) -> Result<(), Refusal>
     requires { is_built_kind (class_kind sheets.set.now c) ≡ true }
-    ensures { of_bytes (Leaves plan_built) sheets.entry area.now c (with_fields result made.new.fields) made.new }
+    ensures { of_numbers (Leaves plan_built) sheets.entry area.now c (with_fields result made.new.fields) made.new }
 {
     field::built_fields(sheets, c, &mut made.fields, &mut made.news)?;
     built_table(sheets, area, c, &mut made.table)?;
@@ -103,7 +103,7 @@ fn plan_built(sheets: Sheets, area: &[u32], c: u32, made: &mut Plan) -> Result<(
 // A generated class: rows 8 and 9, its table, and the methods that it adds.
 fn plan_generated(sheets: Sheets, area: &[u32], c: u32, made: &mut Plan) -> Result<(), Refusal>
     requires { is_built_kind (class_kind sheets.set.now c) ≡ false }
-    ensures { of_bytes (Leaves plan_generated) sheets.entry area.now c (with_fields result made.new.fields) made.new }
+    ensures { of_numbers (Leaves plan_generated) sheets.entry area.now c (with_fields result made.new.fields) made.new }
 {
     field::generated_fields(sheets.set, sheets.text, c, &mut made.fields)?;
     generated_table(sheets, area, c, &mut made.table, &mut made.news)?;
@@ -113,7 +113,7 @@ fn plan_generated(sheets: Sheets, area: &[u32], c: u32, made: &mut Plan) -> Resu
 // An array class: the parent's entries, and no members.
 fn plan_array(sheets: Sheets, area: &[u32], c: u32, made: &mut Plan)
     requires { is_built_kind (class_kind sheets.set.now c) ≡ false }
-    ensures { of_bytes (Leaves plan_array) sheets.entry area.now c (Ok made.new.fields) made.new }
+    ensures { of_numbers (Leaves plan_array) sheets.entry area.now c (Ok made.new.fields) made.new }
 {
     reading::parent_entries(sheets, area, c, &mut made.table);
     made.fields.clear();
@@ -122,7 +122,7 @@ fn plan_array(sheets: Sheets, area: &[u32], c: u32, made: &mut Plan)
 
 // What a link of class c comes to before anything is written. What a refused link leaves of it is the program's choice.
 pub fn plan_link(sheets: Sheets, area: &[u32], c: u32, made: &mut Plan) -> Result<(), Refusal>
-    ensures { of_bytes (Leaves plan) sheets.entry area.now c (with_fields result made.new.fields) made.new }
+    ensures { of_numbers (Leaves plan) sheets.entry area.now c (with_fields result made.new.fields) made.new }
 {
     if class_sheet::is_built(sheets.set, c) {
         return plan_built(sheets, area, c, made);

@@ -57,7 +57,7 @@ stores_same (suc n) f d h = rw (stores_same n f d h, h n) (set-get_or d n 0)
 
 -- ---- one mark
 
-mark-none : (k : ℕ) (f : Option ℕ) → f ≡ None → or_mark k f ≡ k
+pub mark-none : (k : ℕ) (f : Option ℕ) → f ≡ None → or_mark k f ≡ k
 unfolding or_mark mark_of
 mark-none k f e = by (eqb k 0) (λ t. rw (e, t) (sym (eqb-true k 0 t))) (λ t. rw t)
 

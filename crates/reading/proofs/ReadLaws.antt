@@ -1,28 +1,26 @@
 -- Laws of Reading, as the code goes through it. Assumes nothing.
 use mathlib.Core.Path.{◌≡◌, refl, ◌∙◌}
 use mathlib.Core.List.{List, []}
-use Prim.Native.Nat.{ℕ, min}
+use Prim.Native.Nat.{ℕ, ◌+◌, min}
+use lib.ListN.{get_or}
+use lib.Dec.{eqb}
 use borrow.Author.Tests.{eq-eqb, ne_eqb}
 use Rattle.words.specs.Lists.{list_from, find}
 use Rattle.std.specs.Prelude.{Option, Some, None}
-use Rattle.class_sheet.specs.ClassSheet.{class_table_place, class_slot_count}
-use Rattle.abi_sheet.specs.AbiSheet.{abi_slot_name, abi_slot_descriptor}
-use Rattle.linking.specs.Signature.{Same, of_abi_slot, place_name, place_descriptor, by_bytes}
+use Rattle.class_sheet.specs.ClassSheet.{class_table_place, class_slot_count, method_limit}
+use Rattle.linking.specs.Signature.{Same, of_abi_slot, place_number, by_numbers}
 use Rattle.linking.specs.Chain.{own_methods, parent_of, own_method}
 use Rattle.linking.specs.Abi.{class_abi}
 use Rattle.linking.specs.Vtable.{Entry, own_fixed, read_entry, read_slot, table_entries, parent_entries}
 use Rattle.linking.proofs.ChainLaws.{entry-room}
-use Rattle.chain.specs.Records.{method_is}
-use Rattle.chain.proofs.RecordLaws.{own_named}
 use Rattle.reading.specs.Arrays.{mark_of, method_of, slot_read}
 use Rattle.reading.proofs.ArrayLaws.{found_back}
 
 -- a class's own method of the signature of an ABI slot
-pub own_slot : (ws text abi labels : List ℕ) (s c : ℕ) {name descriptor : List ℕ} {r : Option ℕ} → name ≡ abi_slot_name abi labels s
-    → descriptor ≡ abi_slot_descriptor abi labels s → r ≡ find (λ m. method_is ws text m name descriptor) (own_methods ws c)
-    → r ≡ own_method (by_bytes ws text abi labels) ws (of_abi_slot s) c
-unfolding place_name place_descriptor
-own_slot ws text abi labels s c n d e = own_named ws text abi labels (of_abi_slot s) c n d e
+pub own_slot : (ns ws : List ℕ) (s c : ℕ) {n : ℕ} {r : Option ℕ} → n ≡ get_or ns (method_limit + s) 0
+    → r ≡ find (λ m. eqb (get_or ns m 0) n) (own_methods ws c) → r ≡ own_method (by_numbers ns) ws (of_abi_slot s) c
+unfolding own_method by_numbers place_number
+own_slot ns ws s c n e = e ∙ rw n refl
 
 module _ (same : Same) (ws text abi labels : List ℕ) where
   -- ---- a class's own method of the signature that its ABI entry fixes

@@ -14,7 +14,7 @@ ghost use Rattle.linking.specs.Whose.{declared_by_target, declared_by_index, slo
 ghost use Rattle.reading.specs.Arrays.{copy_marks, or_mark, marks_with, entries_of};
 ghost use Rattle.reading.specs.Classes.{claimed, claims, classes_with, Paired};
 ghost use Rattle.reading.specs.Tables.{entries};
-ghost use Rattle.linking.specs.Sheets.{of_sheets, of_bytes};
+ghost use Rattle.linking.specs.Sheets.{of_sheets, of_numbers};
 
 use linking::Sheets;
 pub use table::{
@@ -112,18 +112,18 @@ impl<'a> Listed<'a> {
     // Its own method of the signature that its ABI entry fixes at index i.
     #[tactic(auto, using(crate::proofs::ReadLaws::own_slot), unfolding(linking::specs::Vtable::own_fixed))]
     fn own_fixed(self, i: u32) -> Option<u32>
-        ensures { result ≡ of_bytes own_fixed self.entry.sheets i self.entry.class }
+        ensures { result ≡ of_numbers own_fixed self.entry.sheets i self.entry.class }
     {
         let sheets = self.sheets;
         let s = abi::slot_at(sheets.abi, i, self.abi)?;
-        let signature = abi_sheet::slot_signature(sheets.abi, sheets.labels, s);
-        chain::own_method(sheets.set, sheets.text, signature, self.class)
+        let number = abi::slot_number(sheets.numbers, s);
+        chain::own_numbered(sheets.set, sheets.numbers, number, self.class)
     }
 
     // Slot i's mark k, or where it has none the mark of that method.
     #[tactic(auto, unfolding(crate::specs::Arrays::or_mark))]
     fn mark(self, i: u32, k: u32) -> u32
-        ensures { result ≡ or_mark k (of_bytes own_fixed self.entry.sheets i self.entry.class) }
+        ensures { result ≡ or_mark k (of_numbers own_fixed self.entry.sheets i self.entry.class) }
     {
         if k != 0 {
             return k;
@@ -131,13 +131,17 @@ impl<'a> Listed<'a> {
         mark_of(self.own_fixed(i))
     }
 
-    // Marks so each slot.
-    fn mark_slots(self, marks: &mut [u32])
-        requires { length marks.old ≤ 1024 }
-        ensures { marks.new ≡ marks_with (λ i. of_bytes own_fixed self.entry.sheets i self.entry.class) (length marks.old) marks.old }
+    // Marks so each slot. Only those that the entry's records fix are visited: there is no such method for the others.
+    fn mark_fixed(self, marks: &mut [u32])
+        ensures { marks.new ≡ marks_with (λ i. of_numbers own_fixed self.entry.sheets i self.entry.class) (length marks.old) marks.old }
     {
-        for (i, mark) in marks.iter_mut().enumerate() {
-            *mark = self.mark(i as u32, *mark);
+        let abi = self.sheets.abi;
+        let first = abi_sheet::class_first_slot(abi, self.abi);
+        for s in first..first + abi::slot_count(abi, self.abi) {
+            let i = abi::slot_index(abi, s);
+            if (i as usize) < marks.len() {
+                marks[i as usize] = self.mark(i, marks[i as usize]);
+            }
         }
     }
 }
@@ -145,7 +149,7 @@ impl<'a> Listed<'a> {
 // Marks so each slot by class c's ABI entry, if it has one.
 fn mark_own(sheets: Sheets, c: u32, marks: &mut [u32])
     requires { length marks.old ≤ 1024 }
-    ensures { marks.new ≡ marks_with (λ i. of_bytes own_fixed sheets.entry i c) (length marks.old) marks.old }
+    ensures { marks.new ≡ marks_with (λ i. of_numbers own_fixed sheets.entry i c) (length marks.old) marks.old }
 {
     if let Some(abi) = abi::class_abi(sheets, c) {
         let listed = Listed {
@@ -153,7 +157,7 @@ fn mark_own(sheets: Sheets, c: u32, marks: &mut [u32])
             class: c,
             abi,
         };
-        listed.mark_slots(marks);
+        listed.mark_fixed(marks);
     }
 }
 
@@ -161,8 +165,8 @@ fn mark_own(sheets: Sheets, c: u32, marks: &mut [u32])
 // class's ABI entry fixes there, and that class. Each class's entry is looked up once for all slots.
 fn mark_by_index(sheets: Sheets, c: u32, marks: &mut [u32], classes: &mut [u32])
     requires { (length marks.old ≤ 1024) × (length classes.old ≡ length marks.old) × Paired (length marks.old) marks.old classes.old }
-    ensures marks { marks.new ≡ marks_with (of_bytes find_by_index sheets.entry c) (length marks.old) marks.old }
-    ensures classes { classes.new ≡ classes_with (of_bytes declared_by_index sheets.entry c) (length marks.old) classes.old }
+    ensures marks { marks.new ≡ marks_with (of_numbers find_by_index sheets.entry c) (length marks.old) marks.old }
+    ensures classes { classes.new ≡ classes_with (of_numbers declared_by_index sheets.entry c) (length marks.old) classes.old }
 {
     if c == 0 {
         return;
@@ -202,8 +206,8 @@ fn read_slots(
     classes: &mut [u32],
 )
     requires { (length words.old ≡ min (class_slot_count sheets.set.now c) 1024) × (length marks.old ≡ length words.old) × (length classes.old ≡ length words.old) }
-    ensures is { entries_of words.new marks.new (length words.old) ≡ of_bytes table_entries sheets.entry area.now c }
-    ensures classes { classes.new ≡ list_from (of_bytes slot_class sheets.entry area.now c) 0 (length words.old) }
+    ensures is { entries_of words.new marks.new (length words.old) ≡ of_numbers table_entries sheets.entry area.now c }
+    ensures classes { classes.new ≡ list_from (of_numbers slot_class sheets.entry area.now c) 0 (length words.old) }
 {
     let place = class_sheet::class_table_place(sheets.set, c);
     copy_slots(area, place, words, marks, classes);
@@ -221,10 +225,10 @@ pub fn table_entries<const N: usize>(
     table: &mut Table<N>,
     classes: &mut [u32; TABLE_LIMIT],
 )
-    ensures is { entries table.new ≡ of_bytes table_entries sheets.entry area.now c }
+    ensures is { entries table.new ≡ of_numbers table_entries sheets.entry area.now c }
     ensures count { table.new.len ≤ 1024 }
     ensures rest { (drop table.new.len table.new.words ≡ drop table.new.len table.old.words) × (drop table.new.len table.new.marks ≡ drop table.new.len table.old.marks) }
-    ensures classes { take table.new.len classes.new ≡ list_from (of_bytes slot_class sheets.entry area.now c) 0 table.new.len }
+    ensures classes { take table.new.len classes.new ≡ list_from (of_numbers slot_class sheets.entry area.now c) 0 table.new.len }
     ensures others { drop table.new.len classes.new ≡ drop table.new.len classes.old }
 {
     table.len = slot_count(sheets.set, c);
@@ -242,7 +246,7 @@ pub fn table_entries<const N: usize>(
 // Fills the table with the entries of class c's parent's, read along the parent's own chain: none without a parent. What the arrays hold past
 // the table's slots stays.
 pub fn parent_entries<const N: usize>(sheets: Sheets, area: &[u32], c: u32, table: &mut Table<N>)
-    ensures is { entries table.new ≡ of_bytes parent_entries sheets.entry area.now c }
+    ensures is { entries table.new ≡ of_numbers parent_entries sheets.entry area.now c }
     ensures count { table.new.len ≤ 1024 }
     ensures rest { (drop table.new.len table.new.words ≡ drop table.new.len table.old.words) × (drop table.new.len table.new.marks ≡ drop table.new.len table.old.marks) }
 {

@@ -12,15 +12,14 @@ use lib.Seq.{take_at, drop_at, drop-drop}
 use lib.Dec.{eqb}
 use borrow.Author.Tests.{eq-eqb, ne_eqb}
 use Rattle.words.proofs.ListLaws.{rest_from, rest-start, rest-turn, rest_end}
-use Rattle.linking.specs.Link.{LinkOutcome, link_def}
-use Rattle.link.specs.Stored.{link_outcome}
-use Rattle.linking.specs.Ask.{ask_def}
+use Rattle.linking.specs.Numbered.{NumberedOutcome, link_numbered, ask_numbered}
+use Rattle.link.specs.Stored.{numbered_outcome}
 use Rattle.area.specs.Area as area
 use Rattle.area.specs.declared.Answer.{Answer}
 use Rattle.std.specs.Prelude.{Result, Ok, Err}
 use Rattle.refusal.specs.declared.Refusal.{Refusal}
-use Rattle.calls.specs.Calls.{Call, State, start, outcome, step, run}
-use Rattle.replay.specs.Replay.{stub_list, call_of, call_at, calls_of, Called, answer_words, answer_of, answers_of, over, over_at}
+use Rattle.calls.specs.Calls.{Call, Way, numbered, State, start, outcome, numbers_left, step, run, numbers_run}
+use Rattle.replay.specs.Replay.{stub_list, call_of, call_at, calls_of, Called, answer_words, answer_of, answers_of, over, over_at, Replay, leaving, replay_def}
 
 -- ---- words laid over others
 
@@ -91,25 +90,37 @@ area-is (Err k) ws ar = refl
 
 -- ---- one call
 
-module _ (ws abi ar missing call stubs : List ℕ) {kind c first n : ℕ} {lent : List ℕ} (kind-is : kind ≡ get_or call 0 0) (class-is : c ≡ get_or call 1 0)
+module _ (ws abi ns ar missing call stubs : List ℕ) {kind c first n : ℕ} {lent : List ℕ} (kind-is : kind ≡ get_or call 0 0) (class-is : c ≡ get_or call 1 0)
     (first-is : first ≡ get_or call 3 0) (count_is : n ≡ get_or call 4 0) (lent_is : lent ≡ take n (drop first stubs)) where
   list-is : lent ≡ stub_list call stubs
   list-is = lent_is ∙ rw (first-is, count_is)
 
-  pub link-told : (a : Result Answer Refusal) (ws' ar' missing' : List ℕ) → kind ≡ 0 → link_outcome a ws' ar' missing' ≡ link_def ws abi c ar lent missing
-      → Called abi (start ws ar missing) (call_of call stubs) a ws' ar' missing'
-  unfolding call_of
-  link-told a ws' ar' missing' z e =
-      let t : eqb (get_or call 0 0) 0 ≡ true = eq-eqb (get_or call 0 0) 0 (sym kind-is ∙ z) in
-      let o = rw (class-is, list-is) at e in
-      rw t (ap (λ (x : LinkOutcome). x.outcome) o, ap (λ (x : LinkOutcome). x.missing) o)
+  module _ (a : Result Answer Refusal) (ws' ar' missing' ns' : List ℕ) (z : kind ≡ 0)
+      (e : numbered_outcome a ws' ar' missing' ns' ≡ link_numbered ws abi ns c ar lent missing) where
+    pub link-told : Called (numbered ns) abi (start ws ar missing) (call_of call stubs) a ws' ar' missing'
+    unfolding call_of
+    link-told =
+        let t : eqb (get_or call 0 0) 0 ≡ true = eq-eqb (get_or call 0 0) 0 (sym kind-is ∙ z) in
+        let o = rw (class-is, list-is) at e in
+        rw t (ap (λ (x : NumberedOutcome). x.outcome) o, ap (λ (x : NumberedOutcome). x.missing) o)
 
-  pub ask-told : (a : Result Answer Refusal) (ar' : List ℕ) {i : ℕ} → kind ≢ 0 → i ≡ get_or call 2 0 → area.outcome a ws ar' ≡ ask_def ws abi c i ar lent
-      → Called abi (start ws ar missing) (call_of call stubs) a ws ar' missing
+    pub link-numbers : ns' ≡ numbers_left ns abi (start ws ar missing) (call_of call stubs)
+    unfolding call_of
+    link-numbers =
+        let t : eqb (get_or call 0 0) 0 ≡ true = eq-eqb (get_or call 0 0) 0 (sym kind-is ∙ z) in
+        let o = rw (class-is, list-is) at e in
+        rw t (ap (λ (x : NumberedOutcome). x.numbers) o)
+
+  pub ask-told : (a : Result Answer Refusal) (ar' : List ℕ) {i : ℕ} → kind ≢ 0 → i ≡ get_or call 2 0
+      → area.outcome a ws ar' ≡ ask_numbered ws abi ns c i ar lent → Called (numbered ns) abi (start ws ar missing) (call_of call stubs) a ws ar' missing
   unfolding call_of
   ask-told a ar' z f e =
       let t : eqb (get_or call 0 0) 0 ≡ false = ne_eqb (get_or call 0 0) 0 (λ p. z (kind-is ∙ p)) in
       rw t (rw (class-is, f, list-is) at e, refl)
+
+  pub ask-numbers : kind ≢ 0 → ns ≡ numbers_left ns abi (start ws ar missing) (call_of call stubs)
+  unfolding call_of
+  ask-numbers z = let t : eqb (get_or call 0 0) 0 ≡ false = ne_eqb (get_or call 0 0) 0 (λ p. z (kind-is ∙ p)) in rw t refl
 
 -- ---- the chunks of five words: `rest` is what is left of the calls from call i on
 
@@ -138,12 +149,10 @@ module _ (abi calls stubs : List ℕ) where
   unfoldable pub left : ℕ → List Call
   left i = rest_from (call_at calls stubs) 0 (length calls / 5) i
 
-  -- what they leave, and what they answer, laid over the answers so far
-  unfoldable pub left_run : State → ℕ → State
-  left_run s i = run abi (left i) s
-
-  unfoldable pub left_answers : State → ℕ → List ℕ → List ℕ
-  left_answers s i old = over_at (3 * i) (answers_of abi (left i) s) old
+  -- what they leave, their answers laid over those so far
+  unfoldable pub left_replay : List ℕ → State → List ℕ → ℕ → Replay
+  left_replay ns s old i =
+      leaving (run (numbered ns) abi (left i) s) (numbers_run ns abi (left i) s) (over_at (3 * i) (answers_of (numbered ns) abi (left i) s) old)
 
   left-start : left 0 ≡ calls_of calls stubs
   unfolding left calls_of
@@ -159,45 +168,52 @@ module _ (abi calls stubs : List ℕ) where
   unfolding left
   left_end i h = rest_end (call_at calls stubs) 0 (length calls / 5) i h
 
-  pub run-start : (s : State) → left_run s 0 ≡ run abi (calls_of calls stubs) s
-  unfolding left_run
-  run-start s = rw left-start
+  pub replay-start : (ns : List ℕ) (s : State) (old : List ℕ) → left_replay ns s old 0 ≡ replay_def ns abi s (calls_of calls stubs) old
+  unfolding left_replay replay_def over_at
+  replay-start ns s old = rw left-start
 
-  pub answers-start : (s : State) (old : List ℕ) → left_answers s 0 old ≡ over (answers_of abi (calls_of calls stubs) s) old
-  unfolding left_answers over_at
-  answers-start s old = rw left-start
+  pub replay_end : (i : ℕ) (ns : List ℕ) (s : State) (old : List ℕ) → length calls / 5 ≤ i → leaving s ns old ≡ left_replay ns s old i
+  unfolding left_replay run numbers_run answers_of
+  replay_end i ns s old h = rw (left_end i h) (ap (leaving s ns) (sym (over-end (3 * i) old)))
 
-  pub run_end : (i : ℕ) (s : State) → length calls / 5 ≤ i → s ≡ left_run s i
-  unfolding left_run run
-  run_end i s h = rw (left_end i h)
-
-  pub answers-end : (i : ℕ) (s : State) (old : List ℕ) → length calls / 5 ≤ i → old ≡ left_answers s i old
-  unfolding left_answers answers_of
-  answers-end i s old h = rw (left_end i h) (sym (over-end (3 * i) old))
-
-  module _ (i : ℕ) (h : i < length calls / 5) {call : List ℕ} (call-is : call ≡ take 5 (drop (5 * i) calls)) (a : Result Answer Refusal) (s : State)
-      (ws' ar' missing' : List ℕ) (e : Called abi s (call_of call stubs) a ws' ar' missing') where
-    made : Called abi s (call_at calls stubs i) a ws' ar' missing'
+  module _ (i : ℕ) (h : i < length calls / 5) {call : List ℕ} (call-is : call ≡ take 5 (drop (5 * i) calls)) (a : Result Answer Refusal) (ns : List ℕ)
+      (s : State) (ws' ar' missing' ns' : List ℕ) (e : Called (numbered ns) abi s (call_of call stubs) a ws' ar' missing')
+      (kept : ns' ≡ numbers_left ns abi s (call_of call stubs)) where
+    made : Called (numbered ns) abi s (call_at calls stubs i) a ws' ar' missing'
     unfolding call_at
     made = rw call-is at e
 
-    step_is : start ws' ar' missing' ≡ step abi s (call_at calls stubs i)
+    numbers_are : ns' ≡ numbers_left ns abi s (call_at calls stubs i)
+    unfolding call_at
+    numbers_are = rw call-is at kept
+
+    step_is : start ws' ar' missing' ≡ step (numbered ns) abi s (call_at calls stubs i)
     unfolding step
     step_is = rw (← made.0, set_is a ws' ar', area-is a ws' ar', ← made.1)
 
-    pub run-turn : left_run (start ws' ar' missing') (i + 1) ≡ left_run s i
-    unfolding left_run run
-    run-turn = rw (left-turn i h, step_is)
+    run-turn : run (numbered ns') abi (left (i + 1)) (start ws' ar' missing') ≡ run (numbered ns) abi (left i) s
+    unfolding run
+    run-turn = rw (left-turn i h, step_is, numbers_are)
 
-    pub answers-turn : (old : List ℕ) {new : List ℕ} → new ≡ over_at (3 * i) (answer_words a) old
-        → left_answers (start ws' ar' missing') (i + 1) new ≡ left_answers s i old
-    unfolding left_answers answers_of
-    answers-turn old {new} f =
-        let xs = answers_of abi (left (i + 1)) (step abi s (call_at calls stubs i)) in
-        let g : 3 * (i + 1) ≡ 3 * i + 3 = omega arith in
-        let first : over_at (3 * (i + 1)) (answers_of abi (left (i + 1)) (start ws' ar' missing')) new
-        ≡ over_at (3 * i + 3) xs (over_at (3 * i) (answer_words a) old) =
-        rw (f, g, step_is) in
-        let second : answer_words a ≡ answer_of (outcome abi s (call_at calls stubs i)) = sym (answer-is a ws' ar') ∙ ap answer_of made.0 in
-        first ∙ sym (answer-over a (3 * i) xs old) ∙ ap (λ (t : List ℕ). over_at (3 * i) (t ++ xs) old) second
-        ∙ ap (λ (t : List Call). over_at (3 * i) (answers_of abi t s) old) (sym (left-turn i h))
+    numbers-turn : numbers_run ns' abi (left (i + 1)) (start ws' ar' missing') ≡ numbers_run ns abi (left i) s
+    unfolding numbers_run
+    numbers-turn = rw (left-turn i h, step_is, numbers_are)
+
+    module _ (old : List ℕ) {new : List ℕ} (f : new ≡ over_at (3 * i) (answer_words a) old) where
+      answers-turn : over_at (3 * (i + 1)) (answers_of (numbered ns') abi (left (i + 1)) (start ws' ar' missing')) new
+          ≡ over_at (3 * i) (answers_of (numbered ns) abi (left i) s) old
+      unfolding answers_of
+      answers-turn =
+          let after : Way = numbered (numbers_left ns abi s (call_at calls stubs i)) in
+          let xs = answers_of after abi (left (i + 1)) (step (numbered ns) abi s (call_at calls stubs i)) in
+          let g : 3 * (i + 1) ≡ 3 * i + 3 = omega arith in
+          let first : over_at (3 * (i + 1)) (answers_of (numbered ns') abi (left (i + 1)) (start ws' ar' missing')) new
+          ≡ over_at (3 * i + 3) xs (over_at (3 * i) (answer_words a) old) =
+          rw (f, g, step_is, numbers_are) in
+          let second : answer_words a ≡ answer_of (outcome (numbered ns) abi s (call_at calls stubs i)) = sym (answer-is a ws' ar') ∙ ap answer_of made.0 in
+          first ∙ sym (answer-over a (3 * i) xs old) ∙ ap (λ (t : List ℕ). over_at (3 * i) (t ++ xs) old) second
+          ∙ ap (λ (t : List Call). over_at (3 * i) (answers_of (numbered ns) abi t s) old) (sym (left-turn i h))
+
+      pub replay-turn : left_replay ns' (start ws' ar' missing') new (i + 1) ≡ left_replay ns s old i
+      unfolding left_replay
+      replay-turn = rw (run-turn, numbers-turn, answers-turn)

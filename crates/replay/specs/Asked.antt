@@ -2,10 +2,10 @@
 -- kept interface tables (crate calls) and the contract of `replay`. Assumes nothing.
 use Rattle.std.specs.Prelude.{ℕ, ◌+◌, ◌*◌, ◌/◌, ◌≤◌, ◌<◌, ◌≡◌, ◌≢◌, List, length, get_or}
 use Rattle.class_sheet.specs.ClassSheet.{class_count}
-use Rattle.calls.specs.Calls.{State, start, Unlinked}
+use Rattle.linking.specs.Numbers.{Filled}
+use Rattle.calls.specs.Calls.{start, Unlinked}
 use Rattle.calls.specs.Kept.{SameStubs, AnswerKept}
-use Rattle.replay.specs.Replay.{calls_of}
-use Rattle.replay.specs.Replayed.{Made}
+use Rattle.replay.specs.Replay.{calls_of, Replay, replay_def}
 
 -- an ask was accepted, in the words of a call and of its answers
 pub record ToldAsk (calls answers : List ℕ) (c i place nodes : ℕ) : Type 0 where
@@ -19,17 +19,20 @@ pub record ToldAsk (calls answers : List ℕ) (c i place nodes : ℕ) : Type 0 w
   pub place_is : get_or answers (3 * call + 1) 0 ≡ place
   pub nodes_is : get_or answers (3 * call + 2) 0 ≡ nodes
 
--- "the nodes read never exceed the number of classes"
+-- of calls on a set that is unlinked at the start
+
+-- "the nodes read never exceed the number of classes", whatever the list of numbers holds
 abbrev pub ReplayedNodes : Type 0
 ReplayedNodes =
-    (ws abi area missing answers calls stubs : List ℕ) (left : State) (answers' : List ℕ) → Unlinked ws
-    → Made abi (start ws area missing) answers calls stubs left answers'
-    → (c i place nodes : ℕ) → ToldAsk calls answers' c i place nodes → nodes ≤ class_count ws
+    (ws abi area missing numbers answers calls stubs : List ℕ) → Unlinked ws
+    → (left : Replay) → left ≡ replay_def numbers abi (start ws area missing) (calls_of calls stubs) answers
+    → (c i place nodes : ℕ) → ToldAsk calls left.answers c i place nodes → nodes ≤ class_count ws
 
--- a table that an ask answered is still at its place and right in what `replay` leaves, where every call lent the stub list `lent`
+-- a table that an ask answered is still at its place and right in what `replay` leaves, where the list of numbers is filled from the sheets and every call
+-- lent the stub list `lent`
 abbrev pub ReplayedTables : Type 0
 ReplayedTables =
-    (ws abi area missing answers calls stubs : List ℕ) (left : State) (answers' lent : List ℕ) → Unlinked ws
-    → Made abi (start ws area missing) answers calls stubs left answers'
-    → SameStubs lent (calls_of calls stubs) → (c i place nodes : ℕ) → ToldAsk calls answers' c i place nodes
-    → AnswerKept abi lent left c i place
+    (ws abi area missing numbers answers calls stubs : List ℕ) → Filled ws abi numbers → Unlinked ws
+    → (left : Replay) → left ≡ replay_def numbers abi (start ws area missing) (calls_of calls stubs) answers
+    → (lent : List ℕ) → SameStubs lent (calls_of calls stubs) → (c i place nodes : ℕ) → ToldAsk calls left.answers c i place nodes
+    → AnswerKept abi lent left.state c i place

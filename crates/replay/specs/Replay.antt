@@ -7,7 +7,7 @@ use Rattle.area.specs.declared.Answer.{Answer}
 use Rattle.refusal.specs.declared.Refusal.{Refusal}
 use Rattle.refusal.specs.Rows.{row}
 use Rattle.area.specs.Area as area
-use Rattle.calls.specs.Calls.{Call, link, ask, State, outcome, missing_after, step}
+use Rattle.calls.specs.Calls.{Call, link, ask, Way, numbered, State, outcome, missing_after, way_after, step, run, numbers_run}
 
 -- ---- calls as words
 
@@ -29,8 +29,8 @@ calls_of calls stubs = list_from (call_at calls stubs) 0 (length calls / 5)
 -- ---- what they answer
 
 -- what an answer stands for, with the memory that its call leaves
-abbrev pub Called : List ℕ → State → Call → Result Answer Refusal → List ℕ → List ℕ → List ℕ → Type 0
-Called abi s k a ws ar missing = (area.outcome a ws ar ≡ outcome abi s k) × (missing ≡ missing_after abi s k)
+abbrev pub Called : Way → List ℕ → State → Call → Result Answer Refusal → List ℕ → List ℕ → List ℕ → Type 0
+Called way abi s k a ws ar missing = (area.outcome a ws ar ≡ outcome way abi s k) × (missing ≡ missing_after way abi s k)
 
 -- "An accepted call gives 0 and its result; a refused one gives its number, zero in every other answer word": three words a call
 abbrev pub answer_words : Result Answer Refusal → List ℕ
@@ -41,9 +41,9 @@ abbrev pub answer_of : Outcome → List ℕ
 answer_of o = o.refusal ∷ o.first ∷ o.second ∷ []
 
 -- the answers of a list of calls, each made in the state that the last one left
-unfoldable pub answers_of : List ℕ → List Call → State → List ℕ
-answers_of abi [] s = []
-answers_of abi (k ∷ ks) s = answer_of (outcome abi s k) ++ answers_of abi ks (step abi s k)
+unfoldable pub answers_of : Way → List ℕ → List Call → State → List ℕ
+answers_of way abi [] s = []
+answers_of way abi (k ∷ ks) s = answer_of (outcome way abi s k) ++ answers_of (way_after way abi s k) abi ks (step way abi s k)
 
 -- words laid over the front of others, as far as there is room
 unfoldable pub over : List ℕ → List ℕ → List ℕ
@@ -56,3 +56,18 @@ unfoldable pub over_at : ℕ → List ℕ → List ℕ → List ℕ
 over_at zero new old = over new old
 over_at (suc at) new [] = []
 over_at (suc at) new (y ∷ ys) = y ∷ over_at at new ys
+
+-- ---- what `replay` leaves of all that it is lent: the set, the area and the counts, the list of numbers, and the answers
+
+pub record Replay : Type 0 where
+  pub state : State
+  pub numbers : List ℕ
+  pub answers : List ℕ
+
+abbrev pub leaving : State → List ℕ → List ℕ → Replay
+leaving s numbers answers = record { state = s; numbers = numbers; answers = answers }
+
+-- the calls are made in turn, by the numbers of the list, each on what the last one left; their answers are laid over the lent ones
+unfoldable pub replay_def : List ℕ → List ℕ → State → List Call → List ℕ → Replay
+replay_def numbers abi s calls answers =
+    leaving (run (numbered numbers) abi calls s) (numbers_run numbers abi calls s) (over (answers_of (numbered numbers) abi calls s) answers)

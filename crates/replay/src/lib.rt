@@ -2,9 +2,8 @@
 #![tactic(auto)]
 
 ghost use Rattle.std.specs.Prelude.{◌≡◌, ◌+◌, ◌<◌, ◌^◌, [], ◌∷◌};
-ghost use Rattle.calls.specs.Calls.{start};
-ghost use Rattle.replay.specs.Replay.{call_of, Called, answer_words, over_at};
-ghost use Rattle.replay.specs.Replayed.{Made};
+ghost use Rattle.calls.specs.Calls.{numbered, start, numbers_left};
+ghost use Rattle.replay.specs.Replay.{call_of, calls_of, Called, answer_words, over_at, leaving, replay_def};
 
 use area::Answer;
 use refusal::Refusal;
@@ -13,12 +12,15 @@ use refusal::Refusal;
 fn one_call(
     set: &mut [u32],
     abi: &[u32],
+    numbers: &mut [u32],
     area: &mut [u32],
     missing: &mut [u32],
     call: &[u32],
     stubs: &[u32],
 ) -> Result<Answer, Refusal>
-    ensures { Called abi.now (start set.old area.old missing.old) (call_of call.now stubs.now) result set.new area.new missing.new }
+    ensures called { Called (numbered numbers.old) abi.now (start set.old area.old missing.old) (call_of call.now stubs.now) result
+        set.new area.new missing.new }
+    ensures numbers_are { numbers.new ≡ numbers_left numbers.old abi.now (start set.old area.old missing.old) (call_of call.now stubs.now) }
 {
     let class = words::get_or(call, 1, 0);
     let interface = words::get_or(call, 2, 0);
@@ -26,9 +28,9 @@ fn one_call(
     let count = words::get_or(call, 4, 0) as usize;
     let lent = words::part(stubs, first, count);
     if words::get_or(call, 0, 0) == 0 {
-        return link::link(set, abi, class, area, lent, missing);
+        return link::link(set, abi, numbers, class, area, lent, missing);
     }
-    ask::interface_dispatch_table(set, abi, class, interface, area, lent)
+    ask::interface_dispatch_table(set, abi, numbers, class, interface, area, lent)
 }
 
 // A call's three answer words: refusal, first, second.
@@ -53,23 +55,24 @@ fn put_answer(answers: &mut [u32], at: usize, answer: Result<Answer, Refusal>)
     words::put(answers, at + 2, second);
 }
 
-// Makes the calls in turn, each on the set, the area and the counts as the last one left them, accepted or refused. Five words are a call: kind (0 a
-// link, another an ask), class, interface, first stub and number of stubs, of those lent; words after the last whole five are no call. The
-// answers are three words a call (refusal, first, second), as far as there is room.
+// Makes the calls in turn, each on the set, the list of numbers, the area and the counts as the last one left them, accepted or refused. Five words
+// are a call: kind (0 a link, another an ask), class, interface, first stub and number of stubs, of those lent; words after the last whole five are
+// no call. The answers are three words a call (refusal, first, second), as far as there is room.
 pub fn replay(
     set: &mut [u32],
     abi: &[u32],
+    numbers: &mut [u32],
     area: &mut [u32],
     missing: &mut [u32],
     calls: &[u32],
     stubs: &[u32],
     answers: &mut [u32],
 )
-    ensures { Made abi.now (start set.old area.old missing.old) answers.old calls.now stubs.now
-        (start set.new area.new missing.new) answers.new }
+    ensures { leaving (start set.new area.new missing.new) numbers.new answers.new
+        ≡ replay_def numbers.old abi.now (start set.old area.old missing.old) (calls_of calls.now stubs.now) answers.old }
 {
     for (i, call) in calls.chunks_exact(5).enumerate() {
-        let answer = one_call(set, abi, area, missing, call, stubs);
+        let answer = one_call(set, abi, numbers, area, missing, call, stubs);
         put_answer(answers, 3 * i, answer);
     }
 }

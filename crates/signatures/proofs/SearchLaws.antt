@@ -12,8 +12,9 @@ use Rattle.words.proofs.Bools.{by}
 use Rattle.text.proofs.Laws.{same_refl}
 use Rattle.linking.specs.Signature.{place_at, place_name, place_descriptor, by_bytes}
 use Rattle.linking.specs.Numbers.{number_limit, is_twin, number_at}
-use Rattle.signatures.specs.declared.Signatures.{Signatures}
-use Rattle.signatures.specs.Keys.{of_signatures, used_in, bucket_of, Keyed, Least}
+use Rattle.linking.specs.Sheets.{of_sheets}
+use Rattle.linking.specs.declared.Sheets.{Sheets}
+use Rattle.signatures.specs.Keys.{used_in, bucket_of, Keyed, Least}
 use Rattle.signatures.proofs.KeyLaws.{keys_same}
 
 -- ---- searches
@@ -52,27 +53,27 @@ find-between p f x n h g none here =
     ∙ find-stop p f (x - f) (n - (x + 1)) (rw y here)
     ∙ ap (λ (k : ℕ). Some (unwrap_or (find p (numbers f (x - f))) k)) y
 
-module _ (s : Signatures) where
+module _ (s : Sheets) where
   -- a used place is its own twin
-  own-twin : (p : ℕ) → used_in s p ≡ true → of_signatures is_twin s p p ≡ true
+  own-twin : (p : ℕ) → used_in s p ≡ true → of_sheets is_twin s p p ≡ true
   unfolding is_twin by_bytes
-  own-twin p u = rw (u, same_refl (of_signatures place_name s (place_at p)), same_refl (of_signatures place_descriptor s (place_at p)))
+  own-twin p u = rw (u, same_refl (of_sheets place_name s (place_at p)), same_refl (of_sheets place_descriptor s (place_at p)))
 
-  pub number_none : (p : ℕ) {b : Bool} → b ≡ used_in s p → b ≡ false → 0 ≡ of_signatures number_at s p
+  pub number_none : (p : ℕ) {b : Bool} → b ≡ used_in s p → b ≡ false → 0 ≡ of_sheets number_at s p
   unfolding number_at
   number_none p e f = let u : used_in s p ≡ false = sym e ∙ f in rw u
 
   module _ (keys firsts : List ℕ) (keyed : Keyed s keys) (least : Least keys firsts) (p : ℕ) (used : used_in s p ≡ true) (inside : p < number_limit) where
-    first-before : (q : ℕ) → q < number_limit → of_signatures is_twin s p q ≡ true → get_or firsts (bucket_of (get_or keys p 0)) 0 ≤ q
+    first-before : (q : ℕ) → q < number_limit → of_sheets is_twin s p q ≡ true → get_or firsts (bucket_of (get_or keys p 0)) 0 ≤ q
     first-before q l t = rw (keys_same s keys keyed p used inside q l t) at (least.each q l)
 
     pub number-found : {f : ℕ} {o : Option ℕ} {r : ℕ} → f ≡ get_or firsts (bucket_of (get_or keys p 0)) 0
-        → o ≡ find (of_signatures is_twin s p) (numbers f (p - f)) → r ≡ unwrap_or o p → r ≡ of_signatures number_at s p
+        → o ≡ find (of_sheets is_twin s p) (numbers f (p - f)) → r ≡ unwrap_or o p → r ≡ of_sheets number_at s p
     unfolding number_at
     number-found {f} {o} {r} e g h =
         let l = least.each p inside in
         let found =
-        find-between (of_signatures is_twin s p) f p number_limit (omega arith) inside
-        (λ k b. by (of_signatures is_twin s p k) (λ t. absurd (let a = first-before k (omega arith) t in omega arith)) (λ t. t))
+        find-between (of_sheets is_twin s p) f p number_limit (omega arith) inside
+        (λ k b. by (of_sheets is_twin s p k) (λ t. absurd (let a = first-before k (omega arith) t in omega arith)) (λ t. t))
         (own-twin p used) in
         rw (used, found) (h ∙ ap (λ (x : Option ℕ). unwrap_or x p) g)

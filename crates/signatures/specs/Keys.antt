@@ -5,14 +5,11 @@ use Rattle.refusal.specs.Rows.{row_of}
 use Rattle.words.specs.Words.{le_word}
 use Rattle.linking.specs.Signature.{place_name, place_descriptor, place_at}
 use Rattle.linking.specs.Numbers.{number_limit, is_used, FillOutcome}
-use Rattle.signatures.specs.declared.Signatures.{Signatures}
+use Rattle.linking.specs.Sheets.{of_sheets}
+use Rattle.linking.specs.declared.Sheets.{Sheets}
 
--- ---- the two sheets, where their four lists are asked for
-
-abbrev pub of_signatures {ℓ} : {A : Type ℓ} → (List ℕ → List ℕ → List ℕ → List ℕ → A) → Signatures → A
-of_signatures f s = f s.set.now s.text.now s.abi.now s.labels.now
-
-abbrev pub used_in : Signatures → ℕ → Bool
+-- place p of the sheets has a record
+abbrev pub used_in : Sheets → ℕ → Bool
 used_in s p = is_used s.set.now s.abi.now (place_at p)
 
 -- ---- keys
@@ -43,8 +40,8 @@ key_at ws text abi labels p =
 -- ---- what the search goes by
 
 -- the keys of all places
-pub record Keyed (s : Signatures) (keys : List ℕ) : Type 0 where
-  pub each : (p : ℕ) → p < number_limit → get_or keys p 0 ≡ of_signatures key_at s p
+pub record Keyed (s : Sheets) (keys : List ℕ) : Type 0 where
+  pub each : (p : ℕ) → p < number_limit → get_or keys p 0 ≡ of_sheets key_at s p
 
 -- no key that falls into a bucket has a place before that which is kept for it
 pub record Least (keys firsts : List ℕ) : Type 0 where

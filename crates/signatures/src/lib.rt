@@ -10,8 +10,10 @@ ghost use Rattle.abi_sheet.specs.AbiSheet.{abi_text_limit, abi_text_length, abi_
 ghost use Rattle.set_rules.specs.SetRules.{set_refusal};
 ghost use Rattle.linking.specs.Signature.{place_at, place_name, place_descriptor};
 ghost use Rattle.linking.specs.Numbers.{number_limit, is_used, number_at, numbers_short, fill_def};
-ghost use Rattle.signatures.specs.Keys.{of_signatures, used_in, mix, mix_part, key_of, bucket_of, key_at, Keyed, Least, outcome};
+ghost use Rattle.linking.specs.Sheets.{of_sheets};
+ghost use Rattle.signatures.specs.Keys.{used_in, mix, mix_part, key_of, bucket_of, key_at, Keyed, Least, outcome};
 
+use linking::Sheets;
 use refusal::Refusal;
 use text::Signature;
 
@@ -66,101 +68,60 @@ fn bucket_of(key: u32) -> usize
 
 // ---- places
 
-// The two sheets, of whose signatures the list is: the class words and their text, the ABI words and theirs.
-#[derive(Clone, Copy)]
-struct Signatures<'a> {
-    set: &'a [u32],
-    text: &'a [u8],
-    abi: &'a [u32],
-    labels: &'a [u8],
+// Whether place p has a record.
+#[tactic(auto, unfolding(linking::specs::Numbers::is_used, linking::specs::Signature::place_at))]
+fn is_used(sheets: Sheets, p: u32) -> bool
+    ensures { result ≡ used_in sheets.entry p }
+{
+    if p < METHODS {
+        return p < class_sheet::method_count(sheets.set);
+    }
+    let s = p - METHODS;
+    (s < abi_sheet::slot_count(sheets.abi)) & (s < abi_sheet::SLOT_LIMIT)
 }
 
-impl<'a> Signatures<'a> {
-    // Whether place p has a record.
-    #[tactic(auto, unfolding(linking::specs::Numbers::is_used, linking::specs::Signature::place_at))]
-    fn is_used(self, p: u32) -> bool
-        ensures { result ≡ used_in self.entry p }
-    {
-        if p < METHODS {
-            return p < class_sheet::method_count(self.set);
-        }
-        let s = p - METHODS;
-        (s < abi_sheet::slot_count(self.abi)) & (s < abi_sheet::SLOT_LIMIT)
+// The signature at place p.
+#[tactic(auto, unfolding(linking::specs::Signature::place_name, linking::specs::Signature::place_descriptor, linking::specs::Signature::place_at))]
+fn signature_at(sheets: Sheets<'_>, p: u32) -> Signature<'_>
+    ensures name { result.name.now ≡ of_sheets place_name sheets.entry (place_at p) }
+    ensures descriptor { result.descriptor.now ≡ of_sheets place_descriptor sheets.entry (place_at p) }
+{
+    if p < METHODS {
+        return class_sheet::method_signature(sheets.set, sheets.text, p);
     }
+    abi_sheet::slot_signature(sheets.abi, sheets.labels, p - METHODS)
+}
 
-    // The signature at place p.
-    #[tactic(auto, unfolding(linking::specs::Signature::place_name, linking::specs::Signature::place_descriptor, linking::specs::Signature::place_at))]
-    fn signature_at(self, p: u32) -> Signature<'a>
-        ensures name { result.name.now ≡ of_signatures place_name self.entry (place_at p) }
-        ensures descriptor { result.descriptor.now ≡ of_signatures place_descriptor self.entry (place_at p) }
-    {
-        if p < METHODS {
-            return class_sheet::method_signature(self.set, self.text, p);
-        }
-        abi_sheet::slot_signature(self.abi, self.labels, p - METHODS)
+// The key of its signature; of a place without a record, 0.
+#[tactic(auto, unfolding(crate::specs::Keys::key_at))]
+fn key_at(sheets: Sheets, p: u32) -> u32
+    ensures { result ≡ of_sheets key_at sheets.entry p }
+{
+    if !is_used(sheets, p) {
+        return 0;
     }
+    key_of(signature_at(sheets, p))
+}
 
-    // The key of its signature; of a place without a record, 0.
-    #[tactic(auto, unfolding(crate::specs::Keys::key_at))]
-    fn key_at(self, p: u32) -> u32
-        ensures { result ≡ of_signatures key_at self.entry p }
-    {
-        if !self.is_used(p) {
-            return 0;
-        }
-        key_of(self.signature_at(p))
+// Whether place p has a record, of this signature.
+fn has_signature(sheets: Sheets, p: u32, signature: Signature) -> bool
+    ensures { result
+        ≡ (used_in sheets.entry p && (same_bytes (of_sheets place_name sheets.entry (place_at p)) signature.entry.name.now
+        && same_bytes (of_sheets place_descriptor sheets.entry (place_at p)) signature.entry.descriptor.now)) }
+{
+    if !is_used(sheets, p) {
+        return false;
     }
+    let own = signature_at(sheets, p);
+    text::same(own.name, signature.name) && text::same(own.descriptor, signature.descriptor)
+}
 
-    // Whether place p has a record, of this signature.
-    fn has_signature(self, p: u32, signature: Signature) -> bool
-        ensures { result
-            ≡ (used_in self.entry p && (same_bytes (of_signatures place_name self.entry (place_at p)) signature.entry.name.now
-            && same_bytes (of_signatures place_descriptor self.entry (place_at p)) signature.entry.descriptor.now)) }
-    {
-        if !self.is_used(p) {
-            return false;
-        }
-        let own = self.signature_at(p);
-        text::same(own.name, signature.name) && text::same(own.descriptor, signature.descriptor)
-    }
-
-    // Stores the keys of all places.
-    fn put_keys(self, keys: &mut [u32; PLACES])
-        ensures { Keyed self.entry keys.new }
-    {
-        for p in 0..PLACES {
-            keys[p] = self.key_at(p as u32);
-        }
-    }
-
-    // The number of place p: the search goes from the place kept for its key's bucket on, as no place before that has its signature.
-    fn number_at(self, keys: &[u32; PLACES], firsts: &[u16; BUCKETS], p: u32) -> u32
-        requires { Keyed self keys.now × Least keys.now firsts.now × (p < number_limit) }
-        ensures { result ≡ of_signatures number_at self.entry p }
-    {
-        if !self.is_used(p) {
-            return 0;
-        }
-        let key = keys[p as usize];
-        let first = u32::from(firsts[bucket_of(key)]);
-        let signature = self.signature_at(p);
-        words::find_in(first, p, |q| {
-            words::get_or(keys, q as usize, 0) == key && self.has_signature(q, signature)
-        })
-        .unwrap_or(p)
-    }
-
-    // Stores the numbers of all places.
-    fn put_numbers(self, numbers: &mut [u32])
-        ensures { numbers.new ≡ stores number_limit (of_signatures number_at self.entry) numbers.old }
-    {
-        let mut keys = [0u32; PLACES];
-        self.put_keys(&mut keys);
-        let mut firsts = [0u16; BUCKETS];
-        put_firsts(&keys, &mut firsts);
-        for p in 0..PLACES {
-            words::put(numbers, p, self.number_at(&keys, &firsts, p as u32));
-        }
+// Stores the keys of all places.
+fn put_keys(sheets: Sheets, keys: &mut [u32; PLACES])
+    ensures { Keyed sheets.entry keys.new }
+{
+    for p in 0..PLACES {
+        keys[p] = key_at(sheets, p as u32);
     }
 }
 
@@ -173,6 +134,36 @@ fn put_firsts(keys: &[u32; PLACES], firsts: &mut [u16; BUCKETS])
     }
 }
 
+// The number of place p: the search goes from the place kept for its key's bucket on, as no place before that has its signature.
+fn number_at(sheets: Sheets, keys: &[u32; PLACES], firsts: &[u16; BUCKETS], p: u32) -> u32
+    requires { Keyed sheets keys.now × Least keys.now firsts.now × (p < number_limit) }
+    ensures { result ≡ of_sheets number_at sheets.entry p }
+{
+    if !is_used(sheets, p) {
+        return 0;
+    }
+    let key = keys[p as usize];
+    let first = u32::from(firsts[bucket_of(key)]);
+    let signature = signature_at(sheets, p);
+    words::find_in(first, p, |q| {
+        words::get_or(keys, q as usize, 0) == key && has_signature(sheets, q, signature)
+    })
+    .unwrap_or(p)
+}
+
+// Stores the numbers of all places.
+fn put_numbers(sheets: Sheets, numbers: &mut [u32])
+    ensures { numbers.new ≡ stores number_limit (of_sheets number_at sheets.entry) numbers.old }
+{
+    let mut keys = [0u32; PLACES];
+    put_keys(sheets, &mut keys);
+    let mut firsts = [0u16; BUCKETS];
+    put_firsts(&keys, &mut firsts);
+    for p in 0..PLACES {
+        words::put(numbers, p, number_at(sheets, &keys, &firsts, p as u32));
+    }
+}
+
 // Stores the numbers of two sheets that rows 3 to 5 accept.
 fn fill(set: &[u32], abi: &[u32], numbers: &mut [u32])
     requires { (text_length set.now ≤ text_limit) × (abi_text_length abi.now ≤ abi_text_limit) }
@@ -180,13 +171,10 @@ fn fill(set: &[u32], abi: &[u32], numbers: &mut [u32])
 {
     let mut room = [0u8; class_sheet::TEXT_LIMIT as usize];
     let mut label_room = [0u8; abi_sheet::TEXT_LIMIT as usize];
-    let signatures = Signatures {
-        set,
-        text: class_sheet::text_bytes(set, &mut room),
-        abi,
-        labels: abi_sheet::text_bytes(abi, &mut label_room),
-    };
-    signatures.put_numbers(numbers);
+    put_numbers(
+        Sheets::unpack(set, abi, &[], &mut room, &mut label_room),
+        numbers,
+    );
 }
 
 // Whether the list is shorter than 1,024 words.

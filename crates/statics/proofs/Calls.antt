@@ -11,12 +11,14 @@ use Rattle.class_sheet.specs.ClassSheet.{class_width, kind_word, first_field_wor
 use Rattle.set_rules.specs.Valid.{IsClass, Valid}
 use Rattle.linking.specs.Chain.{list_count, own_fields}
 use Rattle.linking.specs.Fields.{add_static, static_words}
-use Rattle.linking.specs.Link.{link_def, LinkOutcome}
+use Rattle.linking.specs.Signature.{Same}
+use Rattle.linking.specs.Link.{LinkOutcome}
 use Rattle.calls.specs.Calls as begin
-use Rattle.calls.specs.Calls.{Call, link, ask, State, step, run}
+use Rattle.calls.specs.Calls.{Call, link, ask, Way, way_after, State, step, run}
+use Rattle.matching.proofs.Rows.{Accepted}
 use Rattle.calls.proofs.Like.{Like, like-same, like-next, alike}
 use Rattle.calls.proofs.View.{name-same}
-use Rattle.calls.proofs.Rows.{Accepted, link-cases, ask-cases}
+use Rattle.calls.proofs.Ways.{same_of, left_by, link-ends, ask-leaves}
 use Rattle.statics.specs.Statics.{Start, After}
 use Rattle.statics.proofs.Linked.{leaves, left, more-fields, field-kept}
 
@@ -82,7 +84,8 @@ module _ (ws abi : List ℕ) (start : Start ws) where
 
   -- ---- an accepted link
 
-  module _ (s : State) (inv : Inv s.set) (c : ℕ) (stubs : List ℕ) (o : LinkOutcome) (acc : Accepted s.set abi c s.area stubs s.missing o) where
+  module _ (same : Same) (s : State) (inv : Inv s.set) (c : ℕ) (stubs : List ℕ) (o : LinkOutcome)
+      (acc : Accepted same s.set abi c s.area stubs s.missing o) where
     abbrev new : List ℕ
     new = o.outcome.set
 
@@ -93,18 +96,18 @@ module _ (ws abi : List ℕ) (start : Start ws) where
     own-class = (acc.class.some, omega (arith, acc.class.among, inv.like.classes))
 
     other : (d k : ℕ) → IsClass ws d → d ≢ c → k < class_width → class_word new d k ≡ class_word s.set d k
-    other d k i n h = (leaves s.set abi c s.area stubs s.missing o acc).others d k i.0 (here d i).1 h n
+    other d k i n h = (leaves same s.set abi c s.area stubs s.missing o acc).others d k i.0 (here d i).1 h n
 
     -- its class is linked now
     placed : class_table_place new c ≢ 0
-    placed = rw (leaves s.set abi c s.area stubs s.missing o acc).place acc.lent.some
+    placed = rw (leaves same s.set abi c s.area stubs s.missing o acc).place acc.lent.some
 
     kind-is : (d : ℕ) → IsClass ws d → class_kind s.set d ≡ class_kind ws d
     kind-is d i = inv.like.word d kind_word i.0 i.1 (omega arith)
 
     own-after : After ws new c
     own-after =
-        let l = left s.set abi c s.area stubs s.missing o acc in
+        let l = left same s.set abi c s.area stubs s.missing o acc in
         record {
           unlinked = λ k z. absurd (placed z);
           built = λ k n. l.built (rw (kind-is c own-class) k) ∙ sum_same s.set inv c own-class acc.class.new;
@@ -126,9 +129,9 @@ module _ (ws abi : List ℕ) (start : Start ws) where
 
     link-inv : Inv new
     link-inv = record {
-      like = like-next ws s.set new inv.like (leaves s.set abi c s.area stubs s.missing o acc).like;
-      fields = omega (arith, inv.fields, more-fields s.set abi c s.area stubs s.missing o acc);
-      field = λ f k h l. field-kept s.set abi c s.area stubs s.missing o acc f k (omega (arith, h, inv.fields)) l ∙ inv.field f k h l;
+      like = like-next ws s.set new inv.like (leaves same s.set abi c s.area stubs s.missing o acc).like;
+      fields = omega (arith, inv.fields, more-fields same s.set abi c s.area stubs s.missing o acc);
+      field = λ f k h l. field-kept same s.set abi c s.area stubs s.missing o acc f k (omega (arith, h, inv.fields)) l ∙ inv.field f k h l;
       still = λ d k i z h.
           by (eqb d c)
           (λ t. let e : d ≡ c = eqb-true d c t in absurd (placed (rw e at z)))
@@ -144,23 +147,19 @@ module _ (ws abi : List ℕ) (start : Start ws) where
   same-inv : (now then : List ℕ) → then ≡ now → Inv now → Inv then
   same-inv now then e i = rw e i
 
-  step-inv : (s : State) (k : Call) → Inv s.set → Inv (step abi s k).set
+  step-inv : (way : Way) (s : State) (k : Call) → Inv s.set → Inv (step way abi s k).set
   unfolding step
-  step-inv s (link c stubs) i =
-      elim (link-cases s.set abi c s.area stubs s.missing) [
+  step-inv way s (link c stubs) i =
+      elim (link-ends way abi s c stubs) [
         | inl r ↦ same-inv s.set _ r.same_set i
-        | inr a ↦ link-inv s i c stubs (link_def s.set abi c s.area stubs s.missing) a
+        | inr a ↦ link-inv (same_of way s.set abi) s i c stubs (left_by way abi s c stubs) a
       ]
-  step-inv s (ask c j stubs) i =
-      elim (ask-cases s.set abi c j s.area stubs) [
-        | inl r ↦ same-inv s.set _ r.same_set i
-        | inr a ↦ same-inv s.set _ a.same_set i
-      ]
+  step-inv way s (ask c j stubs) i = same-inv s.set _ (ask-leaves way abi s c j stubs) i
 
-  run-inv : (ks : List Call) (s : State) → Inv s.set → Inv (run abi ks s).set
+  run-inv : (way : Way) (ks : List Call) (s : State) → Inv s.set → Inv (run way abi ks s).set
   unfolding run
-  run-inv [] s i = i
-  run-inv (k ∷ ks) s i = run-inv ks (step abi s k) (step-inv s k i)
+  run-inv way [] s i = i
+  run-inv way (k ∷ ks) s i = run-inv (way_after way abi s k) ks (step way abi s k) (step-inv way s k i)
 
-  pub after_calls : (area missing : List ℕ) (calls : List Call) (c : ℕ) → IsClass ws c → After ws (run abi calls (begin.start ws area missing)).set c
-  after_calls area missing calls c k = (run-inv calls (begin.start ws area missing) start-inv).after c k
+  pub after_calls : (way : Way) (area missing : List ℕ) (calls : List Call) (c : ℕ) → IsClass ws c → After ws (begin.left way ws abi area missing calls).set c
+  after_calls way area missing calls c k = (run-inv way calls (begin.start ws area missing) start-inv).after c k

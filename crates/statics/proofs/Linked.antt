@@ -11,11 +11,12 @@ use Rattle.class_sheet.proofs.Sections.{number_of_fields, class-word, field-word
 use Rattle.abi_sheet.specs.AbiSheet.{abi_text_length, abi_text_words, abi_text_of}
 use Rattle.set_rules.specs.Valid.{Valid}
 use Rattle.set_rules.proofs.Valid.{valid}
-use Rattle.linking.specs.Signature.{by_sheets}
+use Rattle.linking.specs.Signature.{Same, by_numbers}
 use Rattle.linking.specs.Compiler.{members}
 use Rattle.linking.specs.Fields.{static_words}
 use Rattle.linking.specs.Set.{new_text}
-use Rattle.linking.specs.Link.{Plan, is_none, next_free, new_words, new_statics, LinkOutcome, link_def}
+use Rattle.linking.specs.Link.{Plan, is_none, next_free, new_words, new_statics, LinkOutcome}
+use Rattle.linking.specs.Numbered.{NumberedOutcome, link_numbered}
 use Rattle.linking.specs.Grown.{methods_growing, fields_growing, record_rows, linked_sections}
 use Rattle.linking.proofs.Grown.{length-row-indices, index-other}
 use Rattle.linking.proofs.Appended.{word_kept}
@@ -25,7 +26,9 @@ use Rattle.linking.proofs.LinkedBack.{linked-left}
 use Rattle.linking.proofs.Packed.{text-bytes}
 use Rattle.linking.proofs.LinkedBack as back
 use Rattle.calls.proofs.Linked.{Leaves, link_leaves}
-use Rattle.calls.proofs.Rows.{Accepted, link-cases}
+use Rattle.matching.proofs.Rows.{Accepted}
+use Rattle.linking.specs.Numbered.{but_numbers}
+use Rattle.matching.proofs.Numbered as by_number
 use Rattle.statics.specs.Statics.{IsBuilt, Left}
 
 more_rows : (a b : List (List ℕ)) → length a ≤ length (a ++ b)
@@ -79,7 +82,7 @@ module _ (s : Sections) (f : Formed class_width s) (c place words statics : ℕ)
 
 -- ---- on the words of an accepted link
 
-module _ (ws abi : List ℕ) (c : ℕ) (area stubs missing : List ℕ) (o : LinkOutcome) (acc : Accepted ws abi c area stubs missing o) where
+module _ (same : Same) (ws abi : List ℕ) (c : ℕ) (area stubs missing : List ℕ) (o : LinkOutcome) (acc : Accepted same ws abi c area stubs missing o) where
   abbrev p : Plan
   p = acc.coming
 
@@ -104,8 +107,8 @@ module _ (ws abi : List ℕ) (c : ℕ) (area stubs missing : List ℕ) (o : Link
   pub ok : Valid ws
   ok = (valid ws abi acc.valid).0
 
-  planning : Plans (by_sheets ws abi) ws (text_of ws) abi (abi_text_of abi) area c p
-  planning = plans (by_sheets ws abi) ws (text_of ws) abi (abi_text_of abi) area c p acc.comes
+  planning : Plans same ws (text_of ws) abi (abi_text_of abi) area c p
+  planning = plans same ws (text_of ws) abi (abi_text_of abi) area c p acc.comes
 
   method-bytes : AreBytes (new_text (members p.added))
   method-bytes = planning.method-bytes (text-bytes (text_words ws) (text_length ws)) (text-bytes (abi_text_words abi) (abi_text_length abi))
@@ -194,13 +197,16 @@ module _ (ws abi : List ℕ) (c : ℕ) (area stubs missing : List ℕ) (o : Link
 
 -- ---- a link, by its answer
 
-module _ (ws abi : List ℕ) (c : ℕ) (area stubs missing : List ℕ) where
-  pub linked : (link_def ws abi c area stubs missing).outcome.refusal ≡ 0 → Left ws (link_def ws abi c area stubs missing).outcome.set c
+module _ (ws abi numbers : List ℕ) (c : ℕ) (area stubs missing : List ℕ) where
+  abbrev done : NumberedOutcome
+  done = link_numbered ws abi numbers c area stubs missing
+
+  pub linked : done.outcome.refusal ≡ 0 → Left ws done.outcome.set c
   linked e =
-      elim (link-cases ws abi c area stubs missing) [
+      elim (by_number.ends ws abi numbers c area stubs missing) [
         | inl r ↦ absurd (r.number e)
-        | inr a ↦ left ws abi c area stubs missing (link_def ws abi c area stubs missing) a
+        | inr a ↦ left (by_numbers numbers) ws abi c area stubs missing (but_numbers done) a.accepted
       ]
 
-  pub refused : (link_def ws abi c area stubs missing).outcome.refusal ≢ 0 → (link_def ws abi c area stubs missing).outcome.set ≡ ws
-  refused n = elim (link-cases ws abi c area stubs missing) [ inl r ↦ r.same_set | inr a ↦ absurd (n a.number) ]
+  pub refused : done.outcome.refusal ≢ 0 → done.outcome.set ≡ ws
+  refused n = elim (by_number.ends ws abi numbers c area stubs missing) [ inl r ↦ r.same_set | inr a ↦ absurd (n a.accepted.number) ]

@@ -10,13 +10,14 @@ use Rattle.class_sheet.proofs.Sections.{class-word, field-word, field_of}
 use Rattle.descriptor.specs.Words.{width}
 use Rattle.abi_sheet.specs.AbiSheet.{abi_text_of}
 use Rattle.set_rules.specs.Valid.{Valid}
-use Rattle.linking.specs.Signature.{Same, by_sheets}
+use Rattle.linking.specs.Signature.{Same, by_numbers}
 use Rattle.linking.specs.Chain.{is_static, own_fields}
 use Rattle.linking.specs.Abi.{class_abi}
 use Rattle.linking.specs.Vtable.{Entry, Built, built, refused}
 use Rattle.linking.specs.Fields.{field_width, number_fields, added_fields, too_many_words}
 use Rattle.linking.specs.Compiler.{no_new, members}
-use Rattle.linking.specs.Link.{Plan, planned, is_none, on_table, within_slots, new_fields_of, built_table, plan_built, plan, next_free, LinkOutcome, link_def}
+use Rattle.linking.specs.Link.{Plan, planned, is_none, on_table, within_slots, new_fields_of, built_table, plan_built, plan, next_free, LinkOutcome}
+use Rattle.linking.specs.Numbered.{NumberedOutcome, link_numbered}
 use Rattle.linking.specs.Grown.{row_indices, fields_growing, record_rows, linked_sections}
 use Rattle.linking.proofs.ChainLaws.{own-fields-length, own-field-at}
 use Rattle.linking.proofs.Grown.{rows-indices, length-row-indices, index-other, index_at}
@@ -25,7 +26,9 @@ use Rattle.linking.proofs.LinkedSections.{lies-of, length_record, record_word_le
 use Rattle.linking.proofs.Plans.{planned-same, not-planned}
 use Rattle.calls.proofs.Like.{alike}
 use Rattle.calls.proofs.View.{name-same}
-use Rattle.calls.proofs.Rows.{Accepted, link-cases}
+use Rattle.matching.proofs.Rows.{Accepted}
+use Rattle.linking.specs.Numbered.{but_numbers}
+use Rattle.matching.proofs.Numbered as by_number
 use Rattle.statics.specs.Statics.{IsBuilt, Standing}
 use Rattle.statics.proofs.Numbering.{ends, indices-length}
 use Rattle.statics.proofs.Linked as one
@@ -173,7 +176,8 @@ module _ (s : Sections) (f : Formed class_width s) (c place words statics : ℕ)
 
 -- ---- an accepted link of a built class
 
-module _ (ws abi : List ℕ) (c : ℕ) (area stubs missing : List ℕ) (o : LinkOutcome) (acc : Accepted ws abi c area stubs missing o) (kind : IsBuilt ws c) where
+module _ (same : Same) (ws abi : List ℕ) (c : ℕ) (area stubs missing : List ℕ) (o : LinkOutcome) (acc : Accepted same ws abi c area stubs missing o)
+    (kind : IsBuilt ws c) where
   abbrev text : List ℕ
   text = text_of ws
 
@@ -181,10 +185,10 @@ module _ (ws abi : List ℕ) (c : ℕ) (area stubs missing : List ℕ) (o : Link
   labels = abi_text_of abi
 
   ok : Valid ws
-  ok = one.ok ws abi c area stubs missing o acc
+  ok = one.ok same ws abi c area stubs missing o acc
 
   comes : BuiltPlan ws text abi labels area c acc.coming
-  comes = built-plan ws text abi labels area c acc.coming (by_sheets ws abi) kind acc.comes
+  comes = built-plan ws text abi labels area c acc.coming same kind acc.comes
 
   fields_in : class_first_field ws c + class_field_count ws c ≤ field_count ws
   fields_in = (ok.class c (acc.class.some, acc.class.among)).fields
@@ -193,10 +197,10 @@ module _ (ws abi : List ℕ) (c : ℕ) (area stubs missing : List ℕ) (o : Link
   many = omega (arith, own-fields-length ws c, fields_in, ok.number_of_fields)
 
   first-is : class_first_field ws c ≡ row_word (sections_of ws).classes (c - 1) first_field_word
-  first-is = one.own ws abi c area stubs missing o acc first_field_word (omega arith)
+  first-is = one.own same ws abi c area stubs missing o acc first_field_word (omega arith)
 
   count_is : class_field_count ws c ≡ row_word (sections_of ws).classes (c - 1) field_count_word
-  count_is = one.own ws abi c area stubs missing o acc field_count_word (omega arith)
+  count_is = one.own same ws abi c area stubs missing o acc field_count_word (omega arith)
 
   inside : row_word (sections_of ws).classes (c - 1) first_field_word + row_word (sections_of ws).classes (c - 1) field_count_word
       ≤ length (sections_of ws).fields
@@ -207,14 +211,14 @@ module _ (ws abi : List ℕ) (c : ℕ) (area stubs missing : List ℕ) (o : Link
 
   abbrev Stands : List ℕ → Type 0
   Stands x =
-      Stand (sections_of ws) (one.formed ws abi c area stubs missing o acc) c (next_free area) (one.words ws abi c area stubs missing o acc)
-      (one.statics ws abi c area stubs missing o acc) acc.coming acc.class.some (one.within ws abi c area stubs missing o acc) inside numbered x
+      Stand (sections_of ws) (one.formed same ws abi c area stubs missing o acc) c (next_free area) (one.words same ws abi c area stubs missing o acc)
+      (one.statics same ws abi c area stubs missing o acc) acc.coming acc.class.some (one.within same ws abi c area stubs missing o acc) inside numbered x
 
   stands : Stands o.outcome.set
   stands =
-      subst Stands (sym (one.new-set ws abi c area stubs missing o acc))
-      (stand (sections_of ws) (one.formed ws abi c area stubs missing o acc) c (next_free area) (one.words ws abi c area stubs missing o acc)
-      (one.statics ws abi c area stubs missing o acc) acc.coming acc.class.some (one.within ws abi c area stubs missing o acc) inside numbered comes.no_methods)
+      subst Stands (sym (one.new-set same ws abi c area stubs missing o acc))
+      (stand (sections_of ws) (one.formed same ws abi c area stubs missing o acc) c (next_free area) (one.words same ws abi c area stubs missing o acc)
+      (one.statics same ws abi c area stubs missing o acc) acc.coming acc.class.some (one.within same ws abi c area stubs missing o acc) inside numbered comes.no_methods)
 
   -- where field i of the class's list now is, and where it was
   abbrev now : ℕ → ℕ
@@ -233,7 +237,7 @@ module _ (ws abi : List ℕ) (c : ℕ) (area stubs missing : List ℕ) (o : Link
   width_same i h =
       let q = (ok.field (was i) (omega (arith, h, fields_in))).descriptor.inside in
       rw (word_same i descriptor_start_word h (omega arith), word_same i descriptor_length_word h (omega arith))
-      (ap width (name-same ws o.outcome.set ok (alike (one.leaves ws abi c area stubs missing o acc).like) _ _ q))
+      (ap width (name-same ws o.outcome.set ok (alike (one.leaves same ws abi c area stubs missing o acc).like) _ _ q))
 
   own-stands : (i : ℕ) → i < class_field_count ws c → is_static (field_flags o.outcome.set (now i)) ≡ true
       → field_index o.outcome.set (now i) + field_width o.outcome.set (text_of o.outcome.set) (now i) ≤ class_static_words o.outcome.set c
@@ -246,7 +250,7 @@ module _ (ws abi : List ℕ) (c : ℕ) (area stubs missing : List ℕ) (o : Link
         e,
         width_same i h,
         stands.index i (omega (arith, h, count_is)) ∙ ap (λ (l : List ℕ). get_or l i 0) comes.indices,
-        (one.left ws abi c area stubs missing o acc).built kind,
+        (one.left same ws abi c area stubs missing o acc).built kind,
       )
 
   -- flags 0x0002
@@ -264,10 +268,13 @@ module _ (ws abi : List ℕ) (c : ℕ) (area stubs missing : List ℕ) (o : Link
       by (ltb i (class_field_count ws c)) (λ t. own-stands i (ltb-true i (class_field_count ws c) t) s)
       (λ q. absurd (true≢false (sym s ∙ added-not i (ltb-false i (class_field_count ws c) q) h)))
 
-module _ (ws abi : List ℕ) (c : ℕ) (area stubs missing : List ℕ) where
-  pub link-stand : (link_def ws abi c area stubs missing).outcome.refusal ≡ 0 → IsBuilt ws c → Standing (link_def ws abi c area stubs missing).outcome.set c
+module _ (ws abi numbers : List ℕ) (c : ℕ) (area stubs missing : List ℕ) where
+  abbrev done : NumberedOutcome
+  done = link_numbered ws abi numbers c area stubs missing
+
+  pub link-stand : done.outcome.refusal ≡ 0 → IsBuilt ws c → Standing done.outcome.set c
   link-stand e k =
-      elim (link-cases ws abi c area stubs missing) [
+      elim (by_number.ends ws abi numbers c area stubs missing) [
         | inl r ↦ absurd (r.number e)
-        | inr a ↦ standing ws abi c area stubs missing (link_def ws abi c area stubs missing) a k
+        | inr a ↦ standing (by_numbers numbers) ws abi c area stubs missing (but_numbers done) a.accepted k
       ]

@@ -25,5 +25,5 @@ statics = record {
   ends = ends;
   stand = link-stand;
   read = read;
-  after_calls = λ ws abi area missing calls start. after_calls ws abi start area missing calls;
+  after_calls = λ way ws abi area missing calls start c k. after_calls ws abi start way area missing calls c k;
 }

@@ -1,4 +1,4 @@
--- The theorems on static words, for all class words: what a link leaves, that numbering and sum agree, that the static indices end there, and what
+-- The theorems on static words, for all class words and whatever a list of numbers holds: what a link leaves, that numbering and sum agree, that the static indices end there, and what
 -- holds after any list of calls. `statics` of proofs/Theorem.antt proves them. Assumes nothing.
 use Rattle.std.specs.Prelude.{ℕ, ◌+◌, ◌≤◌, ◌<◌, ◌≡◌, ◌≢◌, true, List, length, get_or, take, Option}
 use Rattle.words.specs.Lists.{fold}
@@ -7,8 +7,8 @@ use Rattle.set_rules.specs.Valid.{IsClass, Valid}
 use Rattle.sheet.specs.Sheet.{read_class_sheet}
 use Rattle.linking.specs.Chain.{own_fields, is_static}
 use Rattle.linking.specs.Fields.{field_width, number_fields, add_static, static_words}
-use Rattle.linking.specs.Link.{link_def}
-use Rattle.calls.specs.Calls.{Call, start, run, Unlinked}
+use Rattle.linking.specs.Numbered.{link_numbered}
+use Rattle.calls.specs.Calls.{Call, Way, AnyWay, left, Unlinked}
 
 -- class c is built: of kind 0, or of kind 3
 abbrev pub IsBuilt : List ℕ → ℕ → Type 0
@@ -41,12 +41,16 @@ pub record After (ws new : List ℕ) (c : ℕ) : Type 0 where
   pub array : class_kind ws c ≡ 2 → class_static_words new c ≡ 0
   pub generated : class_kind ws c ≡ 1 → class_static_words new c ≡ class_static_words ws c
 
+-- so is every class of the words that a list of calls starts from, whatever it lends
+abbrev pub AllAfter : Way → List ℕ → List ℕ → List ℕ → List ℕ → Type 0
+AllAfter way ws abi area missing = (calls : List Call) → Start ws → (c : ℕ) → IsClass ws c → After ws (left way ws abi area missing calls).set c
+
 pub record Statics : Type 0 where
   -- 1. What a link leaves, accepted and refused.
-  pub linked : (ws abi : List ℕ) (c : ℕ) (area stubs missing : List ℕ) → (link_def ws abi c area stubs missing).outcome.refusal ≡ 0
-      → Left ws (link_def ws abi c area stubs missing).outcome.set c
-  pub refused : (ws abi : List ℕ) (c : ℕ) (area stubs missing : List ℕ) → (link_def ws abi c area stubs missing).outcome.refusal ≢ 0
-      → (link_def ws abi c area stubs missing).outcome.set ≡ ws
+  pub linked : (ws abi numbers : List ℕ) (c : ℕ) (area stubs missing : List ℕ) → (link_numbered ws abi numbers c area stubs missing).outcome.refusal ≡ 0
+      → Left ws (link_numbered ws abi numbers c area stubs missing).outcome.set c
+  pub refused : (ws abi numbers : List ℕ) (c : ℕ) (area stubs missing : List ℕ) → (link_numbered ws abi numbers c area stubs missing).outcome.refusal ≢ 0
+      → (link_numbered ws abi numbers c area stubs missing).outcome.set ≡ ws
   -- 2. The numbering counts to the sum, and that is at most 1,024.
   pub counted : (ws text abi labels : List ℕ) (own : Option ℕ) (c : ℕ) → (number_fields ws text abi labels own c).statics ≡ static_words ws text c
   pub most : (ws text : List ℕ) (c : ℕ) → static_words ws text c ≤ 1024
@@ -58,9 +62,8 @@ pub record Statics : Type 0 where
   pub ends : (ws text abi labels : List ℕ) (own : Option ℕ) (c i : ℕ) → i < length (own_fields ws c)
       → is_static (field_flags ws (get_or (own_fields ws c) i 0)) ≡ true
       → get_or (number_fields ws text abi labels own c).indices i 0 + field_width ws text (get_or (own_fields ws c) i 0) ≤ static_words ws text c
-  pub stand : (ws abi : List ℕ) (c : ℕ) (area stubs missing : List ℕ) → (link_def ws abi c area stubs missing).outcome.refusal ≡ 0 → IsBuilt ws c
-      → Standing (link_def ws abi c area stubs missing).outcome.set c
+  pub stand : (ws abi numbers : List ℕ) (c : ℕ) (area stubs missing : List ℕ) → (link_numbered ws abi numbers c area stubs missing).outcome.refusal ≡ 0
+      → IsBuilt ws c → Standing (link_numbered ws abi numbers c area stubs missing).outcome.set c
   -- 4. After any list of calls, from words that a reading left, whatever follows the sheet in them.
   pub read : (bs out : List ℕ) → (read_class_sheet bs out).refusal ≡ 0 → Start (read_class_sheet bs out).memory
-  pub after_calls : (ws abi area missing : List ℕ) (calls : List Call) → Start ws → (c : ℕ) → IsClass ws c
-      → After ws (run abi calls (start ws area missing)).set c
+  pub after_calls : AnyWay AllAfter

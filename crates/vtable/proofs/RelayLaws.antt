@@ -14,15 +14,13 @@ use Rattle.words.specs.Lists.{list_from, numbers, fold, some}
 use Rattle.words.proofs.Bools.{by}
 use Rattle.words.proofs.Lists.{zeros}
 use Rattle.words.proofs.ListLaws.{by-found}
-use Rattle.class_sheet.specs.ClassSheet.{method_name, method_descriptor}
-use Rattle.linking.specs.Signature.{Same, of_method, methods_same, place_name, place_descriptor, by_bytes}
+use Rattle.linking.specs.Signature.{Same, of_method, methods_same, place_number, by_numbers}
 use Rattle.linking.specs.Chain.{on_found}
 use Rattle.linking.specs.Abi.{minimum_size}
 use Rattle.linking.specs.Vtable.{Entry, empty, entry_is, is_of, occurs, stays, fixed_of, relayed}
 use Rattle.linking.specs.Relays.{hold, hold_entry, holder, relay_one, relays}
 use Rattle.linking.proofs.Comparing.{Compares}
 use Rattle.linking.proofs.RelayLoop.{fixed-below, relayed_loop}
-use Rattle.chain.specs.Records.{method_is}
 use Rattle.abi.proofs.Laws.{minimum_size-room}
 use Rattle.reading.specs.Arrays.{mark_of, method_of}
 use Rattle.reading.proofs.ArrayLaws.{method-back, no_method, none-back}
@@ -37,10 +35,8 @@ module _ (same : Same) (abi abis : List ℕ) where
   fixed_small m i e = let b = fixed-below same abi abis m i e in let r = minimum_size-room abi abis in omega arith
 
   -- they come back from their marks
-  index_back : (f : Option ℕ)
-      → method_of (mark_of (option_and_then (fixed_of same abi abis) f)) ≡ option_and_then (fixed_of same abi abis) f
-  index_back None = none-back
-  index_back (Some m) =
+  pub index_back : (m : ℕ) → method_of (mark_of (fixed_of same abi abis m)) ≡ fixed_of same abi abis m
+  index_back m =
       by-found (fixed_of same abi abis m)
       (λ i q. let l = fixed_small m i q in rw q (method-back i (omega arith)))
       (λ q. rw q none-back)
@@ -53,12 +49,12 @@ module _ (same : Same) (abi abis : List ℕ) where
     pub indexed_start : Indexed E at 0
     indexed_start = record { each = λ k h. absurd (omega arith) }
 
-    pub indexed_turn : (i a : ℕ) {e : Entry} → i < length at → e ≡ get_or E i empty → a ≡ mark_of (option_and_then (fixed_of same abi abis) e.method)
+    pub indexed_turn : (i a : ℕ) {e : Entry} → i < length at → e ≡ get_or E i empty → method_of a ≡ option_and_then (fixed_of same abi abis) e.method
         → Indexed E at i → Indexed E (set at i a) (i + 1)
     indexed_turn i a {e = e} l q s b = record {
       each = λ k h.
           by (eqb k i)
-          (λ t. let v = eqb-true k i t in rw (v, get_or-set_same at i a 0 l, s, ← q) (index_back e.method))
+          (λ t. let v = eqb-true k i t in rw (v, get_or-set_same at i a 0 l, s, ← q) refl)
           (λ t. let v = eqb-false k i t in rw (get_or-set_other at i k a 0 v) (b.each k (omega arith)));
     }
 
@@ -135,22 +131,17 @@ module _ (fixed : ℕ → Option ℕ) (distance : ℕ → ℕ) (E : List Entry) 
 
 -- ---- the signatures of two methods
 
-pub same_self : (same : Same) (k m : ℕ) → Compares same → k ≡ m → true ≡ methods_same same k m
-unfolding methods_same
-same_self same k m compares e = rw e (sym (compares.self (of_method m)))
+-- by the numbers of a slot's method and of method m
+module _ (ns : List ℕ) (m : ℕ) {n : ℕ} (number : n ≡ get_or ns m 0) where
+  pub slot_number : (e : Entry) {s : Entry} {r : Bool} → s ≡ e → r ≡ on_found s.method (λ k. eqb (get_or ns k 0) n) false
+      → r ≡ entry_is (by_numbers ns) (of_method m) e
+  unfolding entry_is by_numbers place_number
+  slot_number e q h = h ∙ rw (q, number) refl
 
--- by the bytes of a method's name and descriptor
-module _ (ws text abi labels : List ℕ) (m : ℕ) {name descriptor : List ℕ} (n : name ≡ method_name ws text m)
-    (d : descriptor ≡ method_descriptor ws text m) where
-  pub slot_named : (e : Entry) {s : Entry} {r : Bool} → s ≡ e → r ≡ on_found s.method (λ k. method_is ws text k name descriptor) false
-      → r ≡ entry_is (by_bytes ws text abi labels) (of_method m) e
-  unfolding entry_is by_bytes place_name place_descriptor method_is
-  slot_named e q h = h ∙ rw (q, n, d) refl
-
-  pub entry_named : (e : Entry) {s : Entry} {r : Bool} → s ≡ e → r ≡ on_found s.method (λ k. method_is ws text k name descriptor) false
-      → r ≡ is_of (methods_same (by_bytes ws text abi labels)) m e
-  unfolding is_of methods_same by_bytes place_name place_descriptor method_is
-  entry_named e q h = h ∙ rw (q, n, d) refl
+  pub entry_number : (e : Entry) {s : Entry} {r : Bool} → s ≡ e → r ≡ on_found s.method (λ k. eqb (get_or ns k 0) n) false
+      → r ≡ is_of (methods_same (by_numbers ns)) m e
+  unfolding is_of methods_same by_numbers place_number
+  entry_number e q h = h ∙ rw (q, number) refl
 
 -- an element of a list from the k-th on
 some_rest : {A : Type 0} (p : A → Bool) (d : A) (xs : List A) (k n : ℕ) → n ≡ length xs - k

@@ -1,2 +1,3 @@
+pub mod Fixed
 pub mod Relay
 pub mod Tables

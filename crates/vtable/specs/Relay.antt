@@ -1,8 +1,7 @@
 -- Relaying as the code does it, over two arrays of marks: the fixed indices of the inherited entries, and the methods that hold the indices. Assumes nothing.
 use Rattle.std.specs.Prelude.{ℕ, ◌<◌, ◌≡◌, Bool, cond, List, [], ◌∷◌, ◌++◌, length, get_or, set, Option}
 use Rattle.std.specs.Option.{option_and_then}
-use Rattle.linking.specs.Signature.{Same, methods_same, by_bytes}
-use Rattle.linking.specs.Sheets.{of_sheets}
+use Rattle.linking.specs.Signature.{Same, methods_same, by_numbers}
 use Rattle.linking.specs.declared.Sheets.{Sheets}
 use Rattle.linking.specs.Chain.{on_found}
 use Rattle.linking.specs.Vtable.{Entry, empty, occurs, stays, fixed_of, distance_of}
@@ -13,10 +12,10 @@ use Rattle.vtable.specs.declared.Place.TheVariants.{At, Last, Away}
 
 -- the fixed index of a method among these ABI classes, and how far up the one stands that it comes from
 abbrev pub fixed_in : Sheets → List ℕ → ℕ → Option ℕ
-fixed_in sheets abis = fixed_of (of_sheets by_bytes sheets) sheets.abi.now abis
+fixed_in sheets abis = fixed_of (by_numbers sheets.numbers.now) sheets.abi.now abis
 
 abbrev pub distance_in : Sheets → List ℕ → ℕ → ℕ
-distance_in sheets abis = distance_of (of_sheets by_bytes sheets) sheets.abi.now abis
+distance_in sheets abis = distance_of (by_numbers sheets.numbers.now) sheets.abi.now abis
 
 -- what the i-th mark of an array stands for
 abbrev pub found_at : List ℕ → ℕ → Option ℕ

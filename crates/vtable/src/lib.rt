@@ -1,26 +1,25 @@
 // Virtual tables that are built (vtable.rs): `build_methods`, `build_interface_methods`.
 #![tactic(auto)]
 
-ghost use Rattle.std.specs.Prelude.{◌≡◌, ◌≤◌, ◌<◌, ◌+◌, ◌-◌, max, ltb, true, false, replicate, [], ◌∷◌, ◌++◌, get_or, drop, None, Some};
+ghost use Rattle.std.specs.Prelude.{◌≡◌, ◌≤◌, ◌<◌, ◌+◌, ◌-◌, max, eqb, ltb, true, false, replicate, [], ◌∷◌, ◌++◌, get_or, drop, None, Some};
 ghost use Rattle.std.specs.Option.{option_and_then};
 ghost use Rattle.class_sheet.specs.ClassSheet.{method_limit};
 ghost use Rattle.words.specs.Lists.{keep};
-ghost use Rattle.linking.specs.Signature.{Same, of_method, methods_same, by_bytes};
+ghost use Rattle.linking.specs.Signature.{Same, of_method, methods_same, by_numbers};
 ghost use Rattle.linking.specs.Chain.{on_found, own_methods, eligible};
-ghost use Rattle.chain.specs.Records.{method_is};
 ghost use Rattle.linking.specs.Abi.{chain_abi};
 ghost use Rattle.linking.specs.Vtable.{built, entry_is_other, slot_of, parent_entries, occurs, relayed, extended, inherited_table, put_method, add_method, add_methods, build_methods, method_entries, build_interface_methods, empty};
-ghost use Rattle.reading.specs.Arrays.{mark_of, method_of};
+ghost use Rattle.reading.specs.Arrays.{method_of};
 ghost use Rattle.reading.specs.Tables.{entry, entries};
 ghost use Rattle.vtable.specs.Relay.{fixed_in, distance_in, found_at, Indices, Holders, Held, place_of, put_place, relays_of};
 ghost use Rattle.vtable.specs.Tables.{step_of};
-ghost use Rattle.linking.specs.Sheets.{of_sheets, of_bytes};
-ghost use Rattle.text.specs.Signatures.{of_signature};
+ghost use Rattle.linking.specs.Sheets.{of_sheets, of_numbers};
 
 use linking::Sheets;
 use reading::{BuiltTable, ReadTable, Slot, TABLE_LIMIT, Table};
 use refusal::Refusal;
-use text::Signature;
+
+mod fixed;
 
 // Where an inherited slot goes in a class with its own ABI entry: to an index, after the last slot, or away.
 #[derive(Clone, Copy)]
@@ -30,24 +29,22 @@ enum Place {
     Away,
 }
 
-// Whether a slot's method has this name and descriptor.
-fn slot_is(ws: &[u32], text: &[u8], signature: Signature, slot: Slot) -> bool
-    ensures { result ≡ on_found (entry slot).method (λ k. of_signature (method_is ws.now text.now k) signature.entry) false }
+// Whether the signature of a slot's method has this number.
+fn slot_is(numbers: &[u32], number: u32, slot: Slot) -> bool
+    ensures { result ≡ on_found (entry slot).method (λ k. eqb (get_or numbers.now k 0) number) false }
 {
     match slot.method() {
-        Some(m) => chain::method_is(ws, text, m, signature),
+        Some(k) => words::get_or(numbers, k as usize, 0) == number,
         None => false,
     }
 }
 
 // The table's first slot that has method m's signature.
-fn find_slot(sheets: Sheets, m: u32, table: &BuiltTable) -> Option<u32>
-    ensures { result ≡ slot_of (of_sheets by_bytes sheets.entry) (of_method m) (entries table.now) }
+fn find_slot(numbers: &[u32], m: u32, table: &BuiltTable) -> Option<u32>
+    ensures { result ≡ slot_of (by_numbers numbers.now) (of_method m) (entries table.now) }
 {
-    let signature = class_sheet::method_signature(sheets.set, sheets.text, m);
-    words::find_in(0, table.len, |i| {
-        slot_is(sheets.set, sheets.text, signature, table.slot(i))
-    })
+    let number = words::get_or(numbers, m as usize, 0);
+    words::find_in(0, table.len, |i| slot_is(numbers, number, table.slot(i)))
 }
 
 // Extends the table with empty slots to `size`.
@@ -58,26 +55,6 @@ fn extend(table: &mut BuiltTable, size: u32)
 {
     for _ in table.len..size {
         table.push(Slot::empty());
-    }
-}
-
-// The fixed index of a slot's method, as a mark.
-#[tactic(auto, unfolding(reading::specs::Arrays::mark_of))]
-fn fixed_mark(sheets: Sheets, abis: &[u32], slot: Slot) -> u32
-    ensures { result ≡ mark_of (option_and_then (fixed_in sheets.entry abis.now) (entry slot).method) }
-{
-    match slot.method() {
-        Some(m) => reading::mark_of(abi::fixed_of(sheets, abis, m)),
-        None => 0,
-    }
-}
-
-// Fills an array with the fixed indices of the parent's slots.
-fn fixed_marks(sheets: Sheets, abis: &[u32], parent: &ReadTable, at: &mut [u32; TABLE_LIMIT])
-    ensures { Indices (fixed_in sheets.entry abis.now) (entries parent.now) at.new }
-{
-    for i in 0..parent.len {
-        at[i as usize] = fixed_mark(sheets, abis, parent.slot(i));
     }
 }
 
@@ -125,42 +102,27 @@ fn hold_entries(
     }
 }
 
-// Whether methods k and m have one signature.
-#[tactic(auto, using(crate::proofs::RelayLaws::same_self, linking::proofs::Comparing::bytes_compare, chain::proofs::RecordLaws::method_named))]
-fn same_methods(sheets: Sheets, k: u32, m: u32) -> bool
-    ensures { result ≡ methods_same (of_sheets by_bytes sheets.entry) k m }
-{
-    if k == m {
-        return true;
-    }
-    let signature = class_sheet::method_signature(sheets.set, sheets.text, m);
-    chain::method_is(sheets.set, sheets.text, k, signature)
-}
-
 // Whether method m's signature is that of the method that holds its index.
-fn is_held(sheets: Sheets, m: u32, held: Option<u32>) -> bool
-    ensures { result ≡ on_found held (λ k. methods_same (of_sheets by_bytes sheets.entry) k m) false }
+fn is_held(numbers: &[u32], m: u32, held: Option<u32>) -> bool
+    ensures { result ≡ on_found held (λ k. methods_same (by_numbers numbers.now) k m) false }
 {
-    match held {
-        Some(k) => same_methods(sheets, k, m),
-        None => false,
-    }
+    held.is_some_and(|k| chain::same_methods(numbers, k, m))
 }
 
 // Whether method m's signature is that of one of the parent's slots from the first on.
-fn occurs(sheets: Sheets, m: u32, parent: &ReadTable, first: u32) -> bool
-    ensures { result ≡ occurs (methods_same (of_sheets by_bytes sheets.entry)) m (drop first (entries parent.now)) }
+fn occurs(numbers: &[u32], m: u32, parent: &ReadTable, first: u32) -> bool
+    ensures { result ≡ occurs (methods_same (by_numbers numbers.now)) m (drop first (entries parent.now)) }
 {
-    let signature = class_sheet::method_signature(sheets.set, sheets.text, m);
+    let number = words::get_or(numbers, m as usize, 0);
     words::some_in(first, parent.len, |i| {
-        slot_is(sheets.set, sheets.text, signature, parent.slot(i))
+        slot_is(numbers, number, parent.slot(i))
     })
 }
 
 // Where the parent's slot k goes: to its fixed index, if its signature stays there, or after the last slot; an unknown one goes away, and one of a
 // signature that gives way and comes again.
 fn place_of(
-    sheets: Sheets,
+    numbers: &[u32],
     parent: &ReadTable,
     at: &[u32; TABLE_LIMIT],
     holders: &[u32; TABLE_LIMIT],
@@ -168,7 +130,7 @@ fn place_of(
 ) -> Place
     requires { k < parent.now.len }
     ensures { result
-        ≡ place_of (methods_same (of_sheets by_bytes sheets.entry)) (found_at holders.now) (found_at at.now k) (get_or (entries parent.now) k empty).method (drop (k + 1) (entries parent.now)) }
+        ≡ place_of (methods_same (by_numbers numbers.now)) (found_at holders.now) (found_at at.now k) (get_or (entries parent.now) k empty).method (drop (k + 1) (entries parent.now)) }
 {
     let Some(m) = parent.slot(k).method() else {
         return Place::Away;
@@ -177,10 +139,10 @@ fn place_of(
         return Place::Last;
     };
     let held = reading::method_of(words::get_or(holders, i as usize, 0));
-    if is_held(sheets, m, held) {
+    if is_held(numbers, m, held) {
         return Place::At(i);
     }
-    if occurs(sheets, m, parent, k + 1) {
+    if occurs(numbers, m, parent, k + 1) {
         return Place::Away;
     }
     Place::Last
@@ -203,15 +165,15 @@ fn relay_entry(place: Place, slot: Slot, table: &mut BuiltTable)
 // Puts each of the parent's slots to its place, in their order: who holds each index, and then slot by slot.
 fn relay(sheets: Sheets, abis: &[u32], parent: &ReadTable, table: &mut BuiltTable)
     requires { table.old.len ≤ 1024 }
-    ensures is { entries table.new ≡ relays_of (of_sheets by_bytes sheets.entry) sheets.entry.abi.now abis.now (entries parent.now) (entries table.old) }
+    ensures is { entries table.new ≡ relays_of (by_numbers sheets.entry.numbers.now) sheets.entry.abi.now abis.now (entries parent.now) (entries table.old) }
     ensures count { table.new.len ≤ 2048 }
 {
     let mut at = [0u32; TABLE_LIMIT];
-    fixed_marks(sheets, abis, parent, &mut at);
+    fixed::fixed_marks(sheets, abis, parent, &mut at);
     let mut holders = [0u32; TABLE_LIMIT];
     hold_entries(sheets, abis, parent, &at, &mut holders);
     for i in 0..parent.len {
-        let place = place_of(sheets, parent, &at, &holders, i);
+        let place = place_of(sheets.numbers, parent, &at, &holders, i);
         relay_entry(place, parent.slot(i), table);
     }
 }
@@ -219,7 +181,7 @@ fn relay(sheets: Sheets, abis: &[u32], parent: &ReadTable, table: &mut BuiltTabl
 // Fills the table with the slots of class c's parent, relayed by the ABI classes of the chain. They are read beside the table, where no other
 // case needs room for them.
 fn relay_parent(sheets: Sheets, area: &[u32], abis: &[u32], c: u32, table: &mut BuiltTable)
-    ensures is { entries table.new ≡ relayed (of_sheets by_bytes sheets.entry) sheets.entry.abi.now abis.now (of_bytes parent_entries sheets.entry area.now c) }
+    ensures is { entries table.new ≡ relayed (by_numbers sheets.entry.numbers.now) sheets.entry.abi.now abis.now (of_numbers parent_entries sheets.entry area.now c) }
     ensures count { table.new.len ≤ 2048 }
 {
     let mut parent = Table::for_reading();
@@ -231,7 +193,7 @@ fn relay_parent(sheets: Sheets, area: &[u32], abis: &[u32], c: u32, table: &mut 
 
 // Fills the table with the slots of class c's parent, extended to the minimum size.
 fn extend_parent(sheets: Sheets, area: &[u32], abis: &[u32], c: u32, table: &mut BuiltTable)
-    ensures is { entries table.new ≡ extended sheets.entry.abi.now abis.now (of_bytes parent_entries sheets.entry area.now c) }
+    ensures is { entries table.new ≡ extended sheets.entry.abi.now abis.now (of_numbers parent_entries sheets.entry area.now c) }
     ensures count { table.new.len ≤ 1024 }
 {
     reading::parent_entries(sheets, area, c, table);
@@ -241,7 +203,7 @@ fn extend_parent(sheets: Sheets, area: &[u32], abis: &[u32], c: u32, table: &mut
 // Fills the table with class c's before its own methods.
 fn inherited_table(sheets: Sheets, area: &[u32], abis: &[u32], c: u32, table: &mut BuiltTable)
     requires { abis.now ≡ of_sheets chain_abi sheets c }
-    ensures is { entries table.new ≡ of_bytes inherited_table sheets.entry area.now c }
+    ensures is { entries table.new ≡ of_numbers inherited_table sheets.entry area.now c }
     ensures count { table.new.len ≤ 2048 }
 {
     match abi::class_abi(sheets, c) {
@@ -252,34 +214,33 @@ fn inherited_table(sheets: Sheets, area: &[u32], abis: &[u32], c: u32, table: &m
 
 // Whether a slot holds a method of another signature than method m's.
 #[tactic(auto, unfolding(linking::specs::Vtable::entry_is_other, linking::specs::Signature::methods_same))]
-fn holds_other(sheets: Sheets, m: u32, slot: Slot) -> bool
-    ensures { result ≡ entry_is_other (of_sheets by_bytes sheets.entry) (of_method m) (entry slot) }
+fn holds_other(numbers: &[u32], m: u32, slot: Slot) -> bool
+    ensures { result ≡ entry_is_other (by_numbers numbers.now) (of_method m) (entry slot) }
 {
-    match slot.method() {
-        Some(k) => !same_methods(sheets, k, m),
-        None => false,
-    }
+    slot.method()
+        .is_some_and(|k| !chain::same_methods(numbers, k, m))
 }
 
 // Puts method m, whose fixed index is i and whose signature has this slot, at its fixed index.
 fn put_fixed(
-    sheets: Sheets,
+    ws: &[u32],
+    numbers: &[u32],
     m: u32,
     i: u32,
     slot: Option<u32>,
     table: &mut BuiltTable,
 ) -> Result<(), Refusal>
     requires { m < method_limit }
-    ensures is { step_of result (entries table.new) ≡ put_method (of_sheets by_bytes sheets.entry) sheets.entry.set.now (Some i) slot m (entries table.old) }
+    ensures is { step_of result (entries table.new) ≡ put_method (by_numbers numbers.now) ws.now (Some i) slot m (entries table.old) }
     ensures count { table.new.len ≡ table.old.len }
 {
     if slot.is_some_and(|j| j != i) {
         return Err(Refusal::MovedSlot);
     }
-    if holds_other(sheets, m, table.slot(i)) {
+    if holds_other(numbers, m, table.slot(i)) {
         return Err(Refusal::TakenSlot);
     }
-    table.put(i, Slot::of_method(sheets.set, m));
+    table.put(i, Slot::of_method(ws, m));
     Ok(())
 }
 
@@ -300,15 +261,15 @@ fn put_found(ws: &[u32], m: u32, slot: Option<u32>, table: &mut BuiltTable)
 // Gives method m its slot, if it is eligible.
 fn add_method(sheets: Sheets, abis: &[u32], m: u32, table: &mut BuiltTable) -> Result<(), Refusal>
     requires { (m < method_limit) × (table.old.len < 3584) }
-    ensures is { step_of result (entries table.new) ≡ add_method (of_sheets by_bytes sheets.entry) sheets.entry.set.now sheets.entry.text.now sheets.entry.abi.now abis.now m (entries table.old) }
+    ensures is { step_of result (entries table.new) ≡ add_method (by_numbers sheets.entry.numbers.now) sheets.entry.set.now sheets.entry.text.now sheets.entry.abi.now abis.now m (entries table.old) }
     ensures count { table.new.len ≤ table.old.len + 1 }
 {
     if !chain::eligible(sheets.set, sheets.text, m) {
         return Ok(());
     }
-    let slot = find_slot(sheets, m, table);
+    let slot = find_slot(sheets.numbers, m, table);
     match abi::fixed_of(sheets, abis, m) {
-        Some(i) => put_fixed(sheets, m, i, slot, table),
+        Some(i) => put_fixed(sheets.set, sheets.numbers, m, i, slot, table),
         None => {
             put_found(sheets.set, m, slot, table);
             Ok(())
@@ -320,7 +281,7 @@ fn add_method(sheets: Sheets, abis: &[u32], m: u32, table: &mut BuiltTable) -> R
 fn add_methods(sheets: Sheets, abis: &[u32], c: u32, table: &mut BuiltTable) -> Result<(), Refusal>
     requires { table.old.len ≤ 2048 }
     ensures is { step_of result (entries table.new)
-        ≡ add_methods (of_sheets by_bytes sheets.entry) sheets.entry.set.now sheets.entry.text.now sheets.entry.abi.now abis.now (own_methods sheets.entry.set.now c) (entries table.old) }
+        ≡ add_methods (by_numbers sheets.entry.numbers.now) sheets.entry.set.now sheets.entry.text.now sheets.entry.abi.now abis.now (own_methods sheets.entry.set.now c) (entries table.old) }
     ensures count { table.new.len ≤ 2560 }
 {
     let first = class_sheet::class_first_method(sheets.set, c);
@@ -340,7 +301,7 @@ pub fn build_methods(
     c: u32,
     table: &mut BuiltTable,
 ) -> Result<(), Refusal>
-    ensures is { step_of result (entries table.new) ≡ of_bytes build_methods sheets.entry area.now c }
+    ensures is { step_of result (entries table.new) ≡ of_numbers build_methods sheets.entry area.now c }
     ensures count { table.new.len ≤ 2560 }
 {
     let classes = abi::chain_abi(sheets, c);

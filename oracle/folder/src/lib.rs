@@ -5,13 +5,15 @@ use std::fmt::Write;
 
 use model::class_file::{FileRefused, class_file};
 use model::parts::{AbiSheet, ClassSheet, Entry, is_counted, reading, table_of, text_of_abi_words, text_of_class_words};
+use model::side::{Sheets, SheetsMut};
 use model::why::{Refused, Why, shown};
-use model::{ask, link, read_abi_sheet, read_class_sheet};
+use model::{ask, link, number_signatures, read_abi_sheet, read_class_sheet};
 
 // "links all in number order with 11,684 class words lent, in a fresh area of 4,096 words with 1,024 stub words, each
 // 4026531840 + index"
 const CLASS_WORDS: usize = 11_684;
 const ABI_WORDS: usize = 6_477;
+const NUMBERS: usize = 1_024;
 const AREA_WORDS: usize = 4_096;
 const STUBS: u32 = 1_024;
 const FIRST_STUB: u32 = 4_026_531_840;
@@ -29,10 +31,11 @@ pub struct Told {
     pub refused: bool,
 }
 
-/// The words of both sheets, read, and the area.
+/// The words of both sheets, read, the list of their signatures' numbers, and the area.
 struct Desk {
     set: Vec<u32>,
     abi: Vec<u32>,
+    numbers: Vec<u32>,
     area: Vec<u32>,
     stubs: Vec<u32>,
     missing: Vec<u32>,
@@ -46,7 +49,9 @@ impl Desk {
         read_class_sheet(class_sheet, &mut set).map_err(|refused| format!("classes refused {}", refused.row))?;
         area[0] = 1;
         let stubs = (0..STUBS).map(|index| FIRST_STUB + index).collect();
-        Ok(Self { set, abi, area, stubs, missing: vec![0; MISSING_WORDS] })
+        let mut numbers = vec![0; NUMBERS];
+        number_signatures(&set, &abi, &mut numbers).expect("sheets that were read are numbered");
+        Ok(Self { set, abi, numbers, area, stubs, missing: vec![0; MISSING_WORDS] })
     }
 
     fn class_count(&self) -> u32 {
@@ -54,14 +59,20 @@ impl Desk {
     }
 
     fn link(&mut self, class: u32) -> Result<(u32, u32), Refused> {
-        link(&mut self.set, &self.abi, class, &mut self.area, &self.stubs, &mut self.missing)
+        let sheets = SheetsMut { set: &mut self.set, abi: &self.abi, numbers: &mut self.numbers };
+        link(sheets, class, &mut self.area, &self.stubs, &mut self.missing)
+    }
+
+    fn ask(&mut self, class: u32, interface: u32) -> Result<(u32, u32), Refused> {
+        let sheets = Sheets { set: &self.set, abi: &self.abi, numbers: &self.numbers };
+        ask(sheets, class, interface, &mut self.area, &self.stubs)
     }
 
     /// What `look` finds in both sheets and the area.
     fn view<T>(&self, look: impl FnOnce(&ClassSheet, &AbiSheet, &[u32]) -> T) -> T {
         let (text, abi_text) = (text_of_class_words(&self.set), text_of_abi_words(&self.abi));
-        let set = ClassSheet { words: &self.set, text: &text };
-        let abi = AbiSheet { words: &self.abi, text: &abi_text };
+        let set = ClassSheet { words: &self.set, text: &text, numbers: &self.numbers };
+        let abi = AbiSheet { words: &self.abi, text: &abi_text, numbers: &self.numbers };
         look(&set, &abi, &self.area)
     }
 }
@@ -197,7 +208,7 @@ fn ask_reasons(desk: &mut Desk, rows: &[u32], text: &mut String) -> (usize, usiz
     for class in 1..=desk.class_count() {
         for interface in desk.view(|set, _, _| asked_interfaces(set, class)) {
             asked += 1;
-            if let Err(refused) = ask(&desk.set, &desk.abi, class, interface, &mut desk.area, &desk.stubs) {
+            if let Err(refused) = desk.ask(class, interface) {
                 refusals += 1;
                 let mut sentence = refused.sentence(&desk.set, class);
                 if rows[interface as usize] != 0 {

@@ -10,7 +10,7 @@ use crate::compare::{State, perform};
 use crate::generate;
 use crate::model::{self, Model};
 use crate::sheet::{Set, class_word};
-use crate::side::{Answer, Linker};
+use crate::side::{Answer, Linker, SheetsMut};
 
 /// What is counted, each of which must be reached.
 const REACHED: [&str; 14] = [
@@ -58,7 +58,8 @@ impl Before {
     fn perform(case: &Case, call: Call, state: &mut State) -> Answer {
         match call {
             Call::Link { class, stubs } => {
-                let linked = model::link_before(&mut state.set, &case.abi, class, &mut state.area, &case.stubs[stubs], &mut state.missing);
+                let State { set, numbers, area, missing } = state;
+                let linked = model::link_before(SheetsMut { set, abi: &case.abi, numbers }, class, area, &case.stubs[stubs], missing);
                 linked.map_or_else(|refused| Answer::refused(refused.row), |(place, slots)| Answer::accepted(place, slots))
             }
             _ => perform(&mut Model, case, call, state),
@@ -89,6 +90,10 @@ pub fn run(seed: u64, count: u64, other: &mut dyn Linker) -> bool {
 
 fn judge(case: &Case, other: &mut dyn Linker, counts: &mut Counts) -> Result<(), String> {
     let (mut old_state, mut new_state) = (State::of(case), State::of(case));
+    let filled = (Before::perform(case, Call::Fill, &mut old_state), perform(other, case, Call::Fill, &mut new_state));
+    if filled.0 != filled.1 || old_state != new_state {
+        return Err(format!("the list of numbers is filled otherwise: {filled:?}"));
+    }
     let mut steps = Vec::new();
     for &call in &case.calls {
         let (old_before, new_before) = (old_state.clone(), new_state.clone());
@@ -121,10 +126,11 @@ impl Told {
         let mut clashing: BTreeMap<u32, Signatures> = BTreeMap::new();
         for step in steps {
             let Call::Link { class, .. } = step.call else { continue };
-            let is_clash = |state: &State| model::link_clashes(&state.set, &case.abi, class, &state.area);
+            let is_clash = |state: &State| model::link_clashes(state.sheets(&case.abi), class, &state.area);
             if is_clash(&step.new_before) || is_clash(&step.old_before) {
                 counts.hit("links that clash");
-                clashing.entry(class).or_default().extend(model::moved(&step.new_before.set, &case.abi, class, &step.new_before.area));
+                let before = &step.new_before;
+                clashing.entry(class).or_default().extend(model::moved(before.sheets(&case.abi), class, &before.area));
             }
         }
         Self { set: Set::decode(&case.set).expect("the class words have their sections"), clashing, short: BTreeSet::new() }
@@ -140,6 +146,7 @@ impl Told {
     fn step(&mut self, step: &Step, counts: &mut Counts) -> Result<(), String> {
         let named = match step.call {
             Call::Link { class, .. } | Call::Missing { class } => vec![class],
+            Call::Fill => Vec::new(),
             Call::Ask { class, interface, .. } => vec![class, interface],
         };
         let names = named.iter().any(|class| self.clashing.contains_key(class));
@@ -168,7 +175,7 @@ impl Told {
             let mut moves = self.chain(class).filter_map(|above| self.clashing.get(&above)).flatten();
             moves.any(|(moved_name, moved_descriptor)| moved_name == name && moved_descriptor == descriptor)
         };
-        if !model::declares(&step.new_before.set, class, &moved) {
+        if !model::declares(&step.new_before.set, &step.new_before.numbers, class, &moved) {
             return Err("row 11 of a class that redeclares no moved signature".to_owned());
         }
         match step.old.refusal {
@@ -212,7 +219,7 @@ fn differs(step: &Step) -> bool {
     let slots = |answer: Answer, state: &State| match step.call {
         Call::Link { .. } => answer.second,
         Call::Ask { interface, .. } => Set::decode(&state.set).expect("the set is valid").class(interface).get(class_word::SLOTS),
-        Call::Missing { .. } => 0,
+        Call::Missing { .. } | Call::Fill => 0,
     };
     let words = |answer: Answer, state: &State| {
         let from = answer.first as usize + 1;

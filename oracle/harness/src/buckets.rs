@@ -7,6 +7,7 @@ mod fields;
 mod links;
 mod missing;
 mod names;
+mod numbers;
 mod written;
 
 use std::collections::BTreeMap;
@@ -24,8 +25,8 @@ pub const ROWS: usize = 27;
 /// Counts over a run.
 pub struct Counts {
     pub calls: u64,
-    /// By call (link, ask, missing slots) and answer.
-    pub rows: [[u64; ROWS]; 3],
+    /// By call (link, ask, missing slots, filling) and answer.
+    pub rows: [[u64; ROWS]; 4],
     buckets: Vec<u64>,
     spoils: BTreeMap<&'static str, u64>,
 }
@@ -33,14 +34,15 @@ pub struct Counts {
 impl Default for Counts {
     fn default() -> Self {
         let spoils = spoil_names().map(|name| (name, 0)).collect();
-        Self { calls: 0, rows: [[0; ROWS]; 3], buckets: vec![0; BUCKETS.len()], spoils }
+        Self { calls: 0, rows: [[0; ROWS]; 4], buckets: vec![0; BUCKETS.len()], spoils }
     }
 }
 
-/// The rows that a link, an ask and a question for a count can meet.
+/// The rows that a link, an ask, a question for a count and a filling can meet.
 const LINK_ROWS: [u32; 14] = [0, 3, 4, 5, 6, 7, 8, 9, 10, 11, 12, 13, 14, 15];
 const ASK_ROWS: [u32; 8] = [0, 3, 4, 5, 6, 7, 15, 16];
 const MISSING_ROWS: [u32; 6] = [0, 3, 4, 5, 6, 15];
+const FILL_ROWS: [u32; 4] = [0, 3, 4, 5];
 
 impl Counts {
     /// Counts a step.
@@ -55,18 +57,20 @@ impl Counts {
             };
             *self.spoils.get_mut(spoiled).expect("every spoil is listed") += u64::from(led);
         }
+        numbers::short(step, &mut hits);
         if refusal == 0 || refusal > 5 {
             let (text, abi_text) = (text_of_class_words(&step.before.set), text_of_abi_words(&step.case.abi));
             let view = View {
                 step,
-                sheet: ClassSheet { words: &step.before.set, text: &text },
-                abi: AbiSheet { words: &step.case.abi, text: &abi_text },
+                sheet: ClassSheet { words: &step.before.set, text: &text, numbers: &step.before.numbers },
+                abi: AbiSheet { words: &step.case.abi, text: &abi_text, numbers: &step.before.numbers },
                 stubs: &step.case.stubs[step.call.stubs()],
             };
             match step.call {
                 Call::Link { class, .. } => links::link(&view, class, &mut hits),
                 Call::Ask { class, interface, .. } => asks::ask(&view, class, interface, &mut hits),
                 Call::Missing { class } => missing::asked(&view, class, &mut hits),
+                Call::Fill => numbers::filled(&view, &mut hits),
             }
         }
         self.calls += 1;
@@ -74,6 +78,7 @@ impl Counts {
             Call::Link { .. } => 0,
             Call::Ask { .. } => 1,
             Call::Missing { .. } => 2,
+            Call::Fill => 3,
         };
         self.rows[call][refusal as usize] += 1;
         for hit in hits {
@@ -84,7 +89,7 @@ impl Counts {
     /// Every row, bucket and spoil with its count, in one order.
     fn lines(&self) -> Vec<(u64, String)> {
         let mut lines = Vec::new();
-        let calls = [("link", &LINK_ROWS[..]), ("ask", &ASK_ROWS), ("missing slots", &MISSING_ROWS)];
+        let calls = [("link", &LINK_ROWS[..]), ("ask", &ASK_ROWS), ("missing slots", &MISSING_ROWS), ("filling", &FILL_ROWS)];
         for ((call, rows), counts) in calls.into_iter().zip(&self.rows) {
             for &row in rows {
                 let what = if row == 0 { "accepted".to_owned() } else { format!("refused by row {row}") };

@@ -8,6 +8,8 @@ use crate::sheet::{Abi, Set, class_word, range};
 pub struct Case {
     pub set: Vec<u32>,
     pub abi: Vec<u32>,
+    /// The list of the signatures' numbers.
+    pub numbers: Vec<u32>,
     pub area: Vec<u32>,
     /// The list of missing slots.
     pub missing: Vec<u32>,
@@ -20,20 +22,22 @@ pub struct Case {
     pub spoiled: Option<&'static str>,
 }
 
-/// A link or an ask, with the number of the stub list that it lends, or a question for a count of missing slots.
+/// A link or an ask, with the number of the stub list that it lends, a question for a count of missing slots, or a filling of the list of
+/// numbers.
 #[derive(Clone, Copy, Debug, PartialEq, Eq)]
 pub enum Call {
     Link { class: u32, stubs: usize },
     Ask { class: u32, interface: u32, stubs: usize },
     Missing { class: u32 },
+    Fill,
 }
 
 impl Call {
-    /// The number of the stub list; a question for a count lends none, and this is 0.
+    /// The number of the stub list; a call that lends none has 0.
     pub fn stubs(&self) -> usize {
         match *self {
             Self::Link { stubs, .. } | Self::Ask { stubs, .. } => stubs,
-            Self::Missing { .. } => 0,
+            Self::Missing { .. } | Self::Fill => 0,
         }
     }
 
@@ -51,6 +55,7 @@ impl Display for Call {
             Self::Link { class, stubs } => write!(f, "link {class}, stub list {stubs}"),
             Self::Ask { class, interface, stubs } => write!(f, "ask class {class}, interface {interface}, stub list {stubs}"),
             Self::Missing { class } => write!(f, "missing slots of class {class}"),
+            Self::Fill => write!(f, "fill the list of numbers"),
         }
     }
 }
@@ -65,6 +70,7 @@ impl Display for Case {
             Some(abi) => show_abi(f, &abi, self.abi.len())?,
             None => writeln!(f, "ABI words {}", run_lengths(&self.abi))?,
         }
+        writeln!(f, "list of numbers of {}: {}", self.numbers.len(), run_lengths(&self.numbers))?;
         writeln!(f, "area of {}: {}", self.area.len(), run_lengths(&self.area))?;
         writeln!(f, "list of missing slots of {}: {}", self.missing.len(), run_lengths(&self.missing))?;
         for (number, stubs) in self.stubs.iter().enumerate() {

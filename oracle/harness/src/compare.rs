@@ -2,13 +2,14 @@
 //! of lent memory must agree.
 
 use crate::case::{Call, Case};
-use crate::oracle::Oracle;
-use crate::side::{Answer, Linker};
+use crate::oracle::{Oracle, numbers};
+use crate::side::{Answer, Linker, Sheets, SheetsMut};
 
 /// The memory of a case as its calls hand it on.
 #[derive(Clone, Debug, PartialEq, Eq)]
 pub struct State {
     pub set: Vec<u32>,
+    pub numbers: Vec<u32>,
     pub area: Vec<u32>,
     pub missing: Vec<u32>,
 }
@@ -16,7 +17,12 @@ pub struct State {
 impl State {
     /// What a case lends to its first call.
     pub fn of(case: &Case) -> Self {
-        Self { set: case.set.clone(), area: case.area.clone(), missing: case.missing.clone() }
+        Self { set: case.set.clone(), numbers: case.numbers.clone(), area: case.area.clone(), missing: case.missing.clone() }
+    }
+
+    /// What of both sheets a call reads, with the ABI words that it is lent.
+    pub fn sheets<'a>(&'a self, abi: &'a [u32]) -> Sheets<'a> {
+        Sheets { set: &self.set, abi, numbers: &self.numbers }
     }
 }
 
@@ -56,6 +62,7 @@ pub fn compare(
         let oracle_answer = perform(oracle, case, call, &mut expected);
         let other_answer = perform(other, case, call, &mut found);
         let difference = difference(&before, oracle_answer, &expected, other_answer, &found)
+            .or_else(|| numbers::fault(&case.abi, call, oracle_answer, &before, &expected))
             .or_else(|| (descriptors_held && oracle_answer.refusal == 5).then(|| "row 5 refuses what a link left".to_owned()));
         if let Some(difference) = difference {
             return Err(Box::new(Disagreement { call: number, oracle: oracle_answer, other: other_answer, difference }));
@@ -64,6 +71,7 @@ pub fn compare(
         observe(&Step { case, call, before: &before, answer: oracle_answer, after: &expected });
         if oracle_answer.refusal == 0 {
             before.set.clone_from(&expected.set);
+            before.numbers.clone_from(&expected.numbers);
             before.area.clone_from(&expected.area);
             before.missing.clone_from(&expected.missing);
         }
@@ -73,11 +81,13 @@ pub fn compare(
 
 /// Makes one call on a side.
 pub fn perform(side: &mut dyn Linker, case: &Case, call: Call, state: &mut State) -> Answer {
-    let State { set, area, missing } = state;
+    let State { set, numbers, area, missing } = state;
+    let abi = &case.abi;
     match call {
-        Call::Link { class, stubs } => side.link(set, &case.abi, class, area, &case.stubs[stubs], missing),
-        Call::Ask { class, interface, stubs } => side.ask(set, &case.abi, class, interface, area, &case.stubs[stubs]),
-        Call::Missing { class } => side.missing_slots(set, &case.abi, missing, class),
+        Call::Link { class, stubs } => side.link(SheetsMut { set, abi, numbers }, class, area, &case.stubs[stubs], missing),
+        Call::Ask { class, interface, stubs } => side.ask(Sheets { set, abi, numbers }, class, interface, area, &case.stubs[stubs]),
+        Call::Missing { class } => side.missing_slots(set, abi, missing, class),
+        Call::Fill => side.number_signatures(set, abi, numbers),
     }
 }
 
@@ -89,6 +99,7 @@ fn difference(before: &State, oracle: Answer, expected: &State, other: Answer, f
         return Some(format!("answers: oracle {oracle:?}, other {other:?}"));
     }
     first_difference("class words", &expected.set, &found.set)
+        .or_else(|| first_difference("list of numbers", &expected.numbers, &found.numbers))
         .or_else(|| first_difference("area", &expected.area, &found.area))
         .or_else(|| first_difference("list of missing slots", &expected.missing, &found.missing))
 }

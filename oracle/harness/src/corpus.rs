@@ -22,11 +22,11 @@ use format::{Reader, Writer};
 
 /// "LGTC", lowest byte first.
 const MAGIC: u32 = u32::from_le_bytes(*b"LGTC");
-const VERSION: u32 = 3;
+const VERSION: u32 = 4;
 /// How many of a seed's cases are looked at.
 const LOOKED_AT: u64 = 60_000;
 /// How many readings and descriptors are stored.
-const READINGS: u64 = 120;
+const READINGS: u64 = 60;
 const DESCRIPTORS: u64 = 400;
 /// The bytes of a stored reading, at most: a block more than any sheet has.
 const READING_BYTES: usize = 93 * 512;
@@ -110,18 +110,20 @@ pub fn telling() -> Result<(Vec<u32>, Summary), String> {
 /// A few small cases of `seed`, and one thing each, in all but the first, that the Rust did not answer.
 pub fn spoiled(seed: u64) -> (Vec<u32>, Summary) {
     let mut oracle = Oracle::default();
-    let small: Vec<_> = (0..LOOKED_AT).filter(|&number| is_small(&mut oracle, &generate::case(seed, number))).take(5).collect();
+    let small: Vec<_> = (0..LOOKED_AT).filter(|&number| is_small(&mut oracle, &generate::case(seed, number))).take(6).collect();
     let small = small.into_iter().map(|number| generate::case(seed, number));
-    let spoils = [None, Some(Spoil::Answer), Some(Spoil::Set), Some(Spoil::Area), Some(Spoil::Missing)];
+    let spoils = [None, Some(Spoil::Answer), Some(Spoil::Set), Some(Spoil::Numbers), Some(Spoil::Area), Some(Spoil::Missing)];
     let chosen: Vec<_> = small.zip(spoils).collect();
     build(&mut oracle, seed, &chosen, [2, 2], true, &format!("oracle/corpus spoiled {seed}"))
 }
 
-/// What is stored otherwise than it was answered, at the last link of a case that is accepted and changes all memory.
+/// What is stored otherwise than it was answered: of the list of numbers at the last call that changes it, of all else at the last link of a
+/// case that is accepted and changes the list of missing slots; it changes class words and area, too.
 #[derive(Clone, Copy)]
 enum Spoil {
     Answer,
     Set,
+    Numbers,
     Area,
     Missing,
 }
@@ -130,17 +132,18 @@ enum Spoil {
 fn is_small(oracle: &mut Oracle, case: &Case) -> bool {
     let mut writer = Writer::default();
     write_case(&mut writer, oracle, case, &mut Counts::default(), None);
-    writer.len() < SMALL && last_accepted(oracle, case).is_some_and(|call| call > 0)
+    let spoils = [Spoil::Missing, Spoil::Numbers].map(|spoil| spoiled_call(oracle, case, spoil));
+    writer.len() < SMALL && spoils[0].is_some_and(|call| call > 1) && spoils[1].is_some()
 }
 
-/// The number of the last link that is accepted and changes the list of missing slots; it changes class words and area, too.
-fn last_accepted(oracle: &mut Oracle, case: &Case) -> Option<usize> {
+/// The number of the call at which a case is spoiled.
+fn spoiled_call(oracle: &mut Oracle, case: &Case, spoil: Spoil) -> Option<usize> {
     oracle.new_case(case.rebuilds);
     let mut state = State::of(case);
     let mut changes = |call: Call| {
-        let before = state.missing.clone();
+        let before = state.clone();
         perform(oracle, case, call, &mut state);
-        state.missing != before
+        if matches!(spoil, Spoil::Numbers) { state.numbers != before.numbers } else { state.missing != before.missing }
     };
     let changed: Vec<bool> = case.calls.iter().map(|&call| changes(call)).collect();
     changed.iter().rposition(|changes| *changes)
@@ -184,9 +187,9 @@ fn build(
 
 /// The longest of each kind, so that a replaying program knows what to set aside: class
 /// words, ABI words, area, stub list, stub lists of a case, bytes of a reading, words lent to
-/// a reading, list of missing slots.
+/// a reading, list of missing slots, list of numbers.
 #[derive(Default)]
-struct Longest([u32; 8]);
+struct Longest([u32; 9]);
 
 impl Longest {
     fn raise(&mut self, position: usize, length: usize) {
@@ -200,6 +203,7 @@ impl Longest {
         case.stubs.iter().for_each(|stubs| self.raise(3, stubs.len()));
         self.raise(4, case.stubs.len());
         self.raise(7, case.missing.len());
+        self.raise(8, case.numbers.len());
     }
 
     fn reading(&mut self, reading: &readings::Reading) {
@@ -238,8 +242,8 @@ fn choose(oracle: &mut Oracle, seed: u64, count: usize) -> Vec<u64> {
 }
 
 fn write_case(writer: &mut Writer, oracle: &mut Oracle, case: &Case, counts: &mut Counts, spoil: Option<Spoil>) {
-    let spoiled = spoil.and_then(|spoil| Some((last_accepted(oracle, case)?, spoil)));
-    for words in [&case.set, &case.abi, &case.area, &case.missing] {
+    let spoiled = spoil.and_then(|spoil| Some((spoiled_call(oracle, case, spoil)?, spoil)));
+    for words in [&case.set, &case.abi, &case.numbers, &case.area, &case.missing] {
         writer.list(words);
     }
     writer.words(&[case.stubs.len() as u32]);
@@ -254,6 +258,7 @@ fn write_case(writer: &mut Writer, oracle: &mut Oracle, case: &Case, counts: &mu
         match spoiled {
             Some((spoiled, Spoil::Answer)) if spoiled == number => told.second += 1,
             Some((spoiled, Spoil::Set)) if spoiled == number => spoil_last(&before.set, &mut after.set),
+            Some((spoiled, Spoil::Numbers)) if spoiled == number => spoil_last(&before.numbers, &mut after.numbers),
             Some((spoiled, Spoil::Area)) if spoiled == number => spoil_last(&before.area, &mut after.area),
             Some((spoiled, Spoil::Missing)) if spoiled == number => spoil_last(&before.missing, &mut after.missing),
             _ => (),
@@ -263,9 +268,11 @@ fn write_case(writer: &mut Writer, oracle: &mut Oracle, case: &Case, counts: &mu
             Call::Link { class, stubs } => [0, class, 0, stubs as u32],
             Call::Ask { class, interface, stubs } => [1, class, interface, stubs as u32],
             Call::Missing { class } => [2, class, 0, 0],
+            Call::Fill => [3, 0, 0, 0],
         });
         writer.words(&[told.refusal, told.first, told.second]);
         writer.changes(&before.set, &after.set);
+        writer.changes(&before.numbers, &after.numbers);
         writer.changes(&before.area, &after.area);
         writer.changes(&before.missing, &after.missing);
     }
@@ -301,7 +308,7 @@ pub fn replay(corpus: &[u32], side: &mut dyn Linker) -> Result<usize, String> {
     }
     let mut reader = Reader::new(corpus)?;
     let [magic, version, _, _, cases, readings, descriptors] = reader.words()?;
-    let _longest: [u32; 8] = reader.words()?;
+    let _longest: [u32; 9] = reader.words()?;
     if (magic, version) != (MAGIC, VERSION) {
         return Err("no corpus of this version".to_owned());
     }
@@ -321,23 +328,24 @@ pub fn replay(corpus: &[u32], side: &mut dyn Linker) -> Result<usize, String> {
 }
 
 fn replay_case(reader: &mut Reader, side: &mut dyn Linker) -> Result<usize, String> {
-    let (set, abi, area, missing) = (reader.list()?, reader.list()?, reader.list()?, reader.list()?);
+    let [set, abi, numbers, area, missing] = [reader.list()?, reader.list()?, reader.list()?, reader.list()?, reader.list()?];
     let [stub_lists] = reader.words()?;
     let stubs = (0..stub_lists).map(|_| reader.list()).collect::<Result<Vec<_>, _>>()?;
     let [calls] = reader.words()?;
-    let case = Case { set, abi, area, missing, stubs, ..Case::default() };
+    let case = Case { set, abi, numbers, area, missing, stubs, ..Case::default() };
     let mut expected = State::of(&case);
     let mut found = expected.clone();
     for number in 0..calls {
         let [kind, class, interface, stubs, refusal, first, second] = reader.words()?;
-        reader.change(&mut expected.set)?;
-        reader.change(&mut expected.area)?;
-        reader.change(&mut expected.missing)?;
+        for words in [&mut expected.set, &mut expected.numbers, &mut expected.area, &mut expected.missing] {
+            reader.change(words)?;
+        }
         let stubs = stubs as usize;
         let call = match kind {
             0 => Call::Link { class, stubs },
             1 => Call::Ask { class, interface, stubs },
-            _ => Call::Missing { class },
+            2 => Call::Missing { class },
+            _ => Call::Fill,
         };
         let answer = perform(side, &case, call, &mut found);
         let stored = Answer { refusal, first, second };

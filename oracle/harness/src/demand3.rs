@@ -6,7 +6,8 @@
 use std::collections::HashSet;
 
 use crate::case::{Call, Case};
-use crate::model::parts::{AbiRecord, AbiSheet, ClassSheet, Entry, eligible, reading, text_of_abi_words, text_of_class_words};
+use crate::model::parts::{AbiRecord, AbiSheet, ClassSheet, Entry, eligible, entry_of, reading, text_of_abi_words, text_of_class_words};
+use crate::oracle::numbers;
 use crate::sheet::{class_word, class_word_at};
 use crate::side::Answer;
 
@@ -96,8 +97,9 @@ pub fn judge(case: &Case, answers: &[Answer], area: &[u32], dropped: Option<Prem
         words[at..at + 2].copy_from_slice(&[answer.first, answer.second]);
     }
     let (text, abi_text) = (text_of_class_words(&words), text_of_abi_words(&case.abi));
-    let sheet = ClassSheet { words: &words, text: &text };
-    let abi = AbiSheet { words: &case.abi, text: &abi_text };
+    let numbers = numbers::filling_of(&words, &case.abi);
+    let sheet = ClassSheet { words: &words, text: &text, numbers: &numbers };
+    let abi = AbiSheet { words: &case.abi, text: &abi_text, numbers: &numbers };
     let stubs: HashSet<u32> = case.calls.iter().flat_map(|call| &case.stubs[call.stubs()]).copied().collect();
     for (class, _) in &linked {
         if premises(&sheet, &abi, &stubs, *class, dropped) {
@@ -179,9 +181,10 @@ fn conclusions(
         let Some(entry) = table.get(index).filter(|entry| signature(entry) == signature(inherited)) else {
             return Err(format!("the parent's slot {index} is lost"));
         };
-        let declared = sheet.methods_of(class).filter(eligible).any(|method| {
-            method.target == entry.target && inherited.method.is_some_and(|known| known.has_signature(method.name, method.descriptor))
-        });
+        let declared = sheet
+            .methods_of(class)
+            .filter(eligible)
+            .any(|method| method.target == entry.target && signature(inherited) == signature(&entry_of(method)));
         counts.overriding += u64::from(entry.target != inherited.target);
         if entry.target != inherited.target && !declared {
             return Err(format!("slot {index} has a foreign target"));

@@ -7,6 +7,7 @@ use crate::case::Case;
 use crate::compare::compare;
 use crate::demand3::{self, Demand3Counts};
 use crate::generate;
+use crate::numbered::{self, NumberedCounts};
 use crate::oracle::Oracle;
 use crate::packages::{self, PackageCounts};
 use crate::random::Random;
@@ -52,13 +53,15 @@ pub fn run(seed: u64, count: u64, other: &mut dyn Linker) -> bool {
         number += 1;
     }
     let Some(package_counts) = run_packages(seed, count, &mut oracle, other, &mut demand3_counts) else { return false };
+    let Some(numbered_counts) = run_numbered(seed, count / 4, &mut oracle, other) else { return false };
     let (package_summary, packages_reached) = package_counts.summary();
+    let (numbered_summary, numbered_reached) = numbered_counts.summary();
     let (reading_summary, readings_reached) = reading_counts.summary();
     let (demand3_summary, demand3_reached) = demand3_counts.summary();
     let (summary, reached) = counts.summary();
-    println!("{reading_summary}\n{demand3_summary}\n{package_summary}\n{summary}");
+    println!("{reading_summary}\n{demand3_summary}\n{package_summary}\n{numbered_summary}\n{summary}");
     println!("seed {seed}: {number} cases in {:.1} s, no disagreement", start.elapsed().as_secs_f64());
-    let all_reached = reached && readings_reached && demand3_reached && packages_reached;
+    let all_reached = reached && readings_reached && demand3_reached && packages_reached && numbered_reached;
     if !all_reached {
         println!("a bucket was never reached");
     }
@@ -91,6 +94,26 @@ fn run_packages(
             .and_then(|()| packages::as_kind_0(oracle, &case, &answers, &after.area, &mut counts));
         if let Err(message) = judged {
             println!("seed {seed}, case {number} of kind 3: {message}\n{case}");
+            return None;
+        }
+        number += 1;
+    }
+    Some(counts)
+}
+
+/// At least `count` calls by lists of any content; none if the sides disagree.
+fn run_numbered(seed: u64, count: u64, oracle: &mut Oracle, other: &mut dyn Linker) -> Option<NumberedCounts> {
+    let mut counts = NumberedCounts::default();
+    let mut number = 0;
+    while counts.calls < count {
+        let (case, kind) = generate::numbered(seed, number);
+        if numbered::judge(oracle, other, &case, kind, &mut counts).is_err() {
+            println!("seed {seed}, case {number} of a list of {kind} fails; the smallest case found:");
+            let judge = |case: &Case, oracle: &mut Oracle, other: &mut dyn Linker| {
+                numbered::judge(oracle, other, case, kind, &mut NumberedCounts::default())
+            };
+            let small = shrink(case, &mut |case| judge(case, oracle, other).is_err());
+            println!("{small}\n{}", judge(&small, oracle, other).err().unwrap_or_default());
             return None;
         }
         number += 1;

@@ -70,6 +70,7 @@ type Told = BTreeMap<(u32, u32), u32>;
 
 fn judge(case: &Case, side: &mut dyn Linker, counts: &mut Counts) -> Result<(), String> {
     let mut state = State::of(case);
+    perform(side, case, Call::Fill, &mut state);
     let mut told = Told::new();
     for (number, &call) in case.calls.iter().enumerate() {
         let before = state.clone();

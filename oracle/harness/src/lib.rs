@@ -14,6 +14,7 @@ pub mod generate;
 pub mod kept;
 pub mod listings;
 pub mod names;
+pub mod numbered;
 pub mod oracle;
 pub mod orders;
 pub mod packages;

@@ -5,10 +5,10 @@ use std::collections::BTreeMap;
 use std::fmt::Write;
 
 use crate::generate;
-use crate::oracle::{Declared, Oracle, Slot};
+use crate::oracle::{Declared, Oracle, Slot, numbers};
 use crate::readings::unlinked;
 use crate::sheet::{Abi, Set, blocks, class_word, range};
-use crate::side::Linker;
+use crate::side::{Linker, SheetsMut};
 
 /// What the listing lends: words for both sheets, an area, stub words, a list of missing slots.
 const CLASS_WORDS: usize = 11_684;
@@ -45,17 +45,19 @@ fn listing(oracle: &mut Oracle, abi_sheet: &[u8], class_sheet: &[u8], counts: &m
     let (mut set, mut abi, mut area) = (vec![0; CLASS_WORDS], vec![0; ABI_WORDS], vec![0; AREA_WORDS]);
     area[0] = 1;
     let stubs: Vec<u32> = (0..STUBS).map(|index| FIRST_STUB + index).collect();
-    let mut missing = vec![0; MISSING_WORDS];
+    let (mut numbers, mut missing) = (vec![0; numbers::WORDS], vec![0; MISSING_WORDS]);
     let read = [("abi", oracle.read_abi_sheet(abi_sheet, &mut abi)), ("classes", oracle.read_class_sheet(class_sheet, &mut set))];
     if let Some((sheet, answer)) = read.iter().find(|(_, answer)| answer.refusal != 0) {
         counts.hit("a sheet refused");
         return Some(format!("{sheet} refused {}\n", answer.refusal));
     }
+    oracle.number_signatures(&set, &abi, &mut numbers);
     oracle.new_case(false);
     let (before, abi_sections) = (decoded(&set), Abi::decode(&abi).expect("the sheet is read"));
     let mut lines = String::new();
     for class in 1..=before.classes.len() as u32 {
-        let answer = oracle.link(&mut set, &abi, class, &mut area, &stubs, &mut missing);
+        let sheets = SheetsMut { set: &mut set, abi: &abi, numbers: &mut numbers };
+        let answer = oracle.link(sheets, class, &mut area, &stubs, &mut missing);
         if oracle.has_clashed() {
             return None;
         }

@@ -1,20 +1,22 @@
 //! The oracle: the Rust judges tables, indices, lists and rows 8, 9, 11, 12 and 16; the
 //! harness itself decides the added rows, the places and how grown sections are laid out, which slots count as
-//! missing (`missing`), and all of class kind 3, which is never given to the Rust (`packages`). From a link on that inherits two signatures of one
-//! fixed index, of which the Rust keeps one, a case is judged by the model.
+//! missing (`missing`), the list of the signatures' numbers (`numbers`), and all of class kind 3, which is never given to the Rust
+//! (`packages`). From a link on that inherits two signatures of one fixed index, of which the Rust keeps one, a case is judged by the
+//! model; so is a call by a list of numbers that does not tell the signatures apart as their bytes do.
 
 pub mod class_files;
 mod descriptors;
 mod layout;
 mod machine;
 mod missing;
+pub mod numbers;
 pub mod packages;
 mod references;
 mod rows;
 
 use crate::model::{self, Model};
 use crate::sheet::{Abi, MemberRecord, Set, class_word};
-use crate::side::{Answer, FileAnswer, Linker};
+use crate::side::{Answer, FileAnswer, Linker, Sheets, SheetsMut};
 
 use machine::{Linked, Machine, Member};
 use references::Bitmaps;
@@ -83,16 +85,24 @@ impl Oracle {
         }
     }
 
+    /// Whether the model alone judges a call: after a clash, or by a list that does not tell the signatures apart as their bytes do; from
+    /// such a call on the classes are laid out anew.
+    fn is_by_model(&mut self, (set, abi): &(Set, Abi), numbers: &[u32]) -> bool {
+        let by_bytes = numbers::is_faithful(set, abi, numbers);
+        self.rebuilds |= !by_bytes;
+        self.clashed || !by_bytes
+    }
+
     fn try_link(
         &mut self,
-        words: &mut [u32],
-        abi_words: &[u32],
+        (set, abi): (Set, Abi),
+        sheets: SheetsMut,
         class: u32,
         area: &mut [u32],
         stubs: &[u32],
         list: &mut [u32],
     ) -> Result<Answer, u32> {
-        let (set, abi) = rows::sheets(words, abi_words)?;
+        let SheetsMut { set: words, abi: abi_words, numbers } = sheets;
         rows::link_class(&set, class)?;
         rows::area(&set, area)?;
         packages::row_26(&set, &abi, class)?;
@@ -112,7 +122,7 @@ impl Oracle {
         if slots > 1024 {
             return Err(13);
         }
-        let written = written_set(words, set, class, &linked, area[0])?;
+        let written = written_set(words, set.clone(), class, &linked, area[0])?;
         let free = area.len() - area[0] as usize;
         let is_short = list.len() < missing::WORDS * classes;
         if stubs.len() < slots || free < slots + 2 || written.len() > words.len() || is_short {
@@ -120,6 +130,7 @@ impl Oracle {
         }
 
         words[..written.len()].copy_from_slice(&written);
+        numbers::write(numbers, &set, &abi, &Set::decode(words).expect("a link leaves sections"));
         let place = area[0] as usize;
         area[place] = class;
         area[place + 1..][..slots].copy_from_slice(&linked.table);
@@ -135,14 +146,13 @@ impl Oracle {
 
     fn try_ask(
         &mut self,
-        words: &[u32],
+        (set, abi): (Set, Abi),
         abi_words: &[u32],
         class: u32,
         interface: u32,
         area: &mut [u32],
         stubs: &[u32],
     ) -> Result<Answer, u32> {
-        let (set, abi) = rows::sheets(words, abi_words)?;
         rows::ask_classes(&set, class, interface)?;
         rows::area(&set, area)?;
         let nodes = rows::nodes(&set, class, interface, area)?;
@@ -209,12 +219,21 @@ impl Linker for Oracle {
         rows::renumber_classes(set, order).map_or_else(Answer::refused, |count| Answer::accepted(count, 0))
     }
 
-    fn link(&mut self, set: &mut [u32], abi: &[u32], class: u32, area: &mut [u32], stubs: &[u32], missing: &mut [u32]) -> Answer {
-        self.clashed = self.clashed || model::link_clashes(set, abi, class, area);
-        if self.clashed {
-            return Model.link(set, abi, class, area, stubs, missing);
+    fn number_signatures(&mut self, set: &[u32], abi: &[u32], numbers: &mut [u32]) -> Answer {
+        let filling = rows::numbered_sheets(set, abi, numbers).map(|(set, abi)| numbers::filling(&set, &abi));
+        filling.map_or_else(Answer::refused, |filling| {
+            numbers[..filling.len()].copy_from_slice(&filling);
+            Answer::accepted(0, 0)
+        })
+    }
+
+    fn link(&mut self, sheets: SheetsMut, class: u32, area: &mut [u32], stubs: &[u32], missing: &mut [u32]) -> Answer {
+        self.clashed = self.clashed || model::link_clashes(sheets.read(), class, area);
+        match rows::numbered_sheets(sheets.set, sheets.abi, sheets.numbers) {
+            Err(row) => Answer::refused(row),
+            Ok(read) if self.is_by_model(&read, sheets.numbers) => Model.link(sheets, class, area, stubs, missing),
+            Ok(read) => self.try_link(read, sheets, class, area, stubs, missing).unwrap_or_else(Answer::refused),
         }
-        self.try_link(set, abi, class, area, stubs, missing).unwrap_or_else(Answer::refused)
     }
 
     fn missing_slots(&mut self, set: &[u32], abi: &[u32], missing: &[u32], class: u32) -> Answer {
@@ -222,11 +241,12 @@ impl Linker for Oracle {
         count.map_or_else(Answer::refused, |count| Answer::accepted(count, 0))
     }
 
-    fn ask(&mut self, set: &mut [u32], abi: &[u32], class: u32, interface: u32, area: &mut [u32], stubs: &[u32]) -> Answer {
-        if self.clashed {
-            return Model.ask(set, abi, class, interface, area, stubs);
+    fn ask(&mut self, sheets: Sheets, class: u32, interface: u32, area: &mut [u32], stubs: &[u32]) -> Answer {
+        match rows::numbered_sheets(sheets.set, sheets.abi, sheets.numbers) {
+            Err(row) => Answer::refused(row),
+            Ok(read) if self.is_by_model(&read, sheets.numbers) => Model.ask(sheets, class, interface, area, stubs),
+            Ok(read) => self.try_ask(read, sheets.abi, class, interface, area, stubs).unwrap_or_else(Answer::refused),
         }
-        self.try_ask(set, abi, class, interface, area, stubs).unwrap_or_else(Answer::refused)
     }
 
     fn argument_words(&mut self, descriptor: &[u8], flags: u32) -> Answer {

@@ -4,11 +4,11 @@
 use std::collections::BTreeMap;
 
 use crate::case::Case;
-use crate::oracle::Oracle;
+use crate::oracle::{Oracle, numbers};
 use crate::random::Random;
 use crate::readings::{ReadingCounts, unlinked};
 use crate::sheet::{ClassRecord, Set, class_word};
-use crate::side::{Answer, Linker};
+use crate::side::{Answer, Linker, SheetsMut};
 
 /// Class words to renumber, and the number of list words lent.
 pub struct Order {
@@ -163,9 +163,11 @@ fn tables(side: &mut dyn Linker, set: &Set, abi: &[u32]) -> BTreeMap<String, Res
     let mut area = vec![0; 1 + 1_026 * set.classes.len()];
     area[0] = 1;
     let stubs: Vec<u32> = (0..1_024).map(|slot| 0xF000_0000 + slot).collect();
-    let mut missing = vec![0; 33 * set.classes.len()];
+    let (mut numbers, mut missing) = (vec![0; numbers::WORDS], vec![0; 33 * set.classes.len()]);
+    side.number_signatures(&words, abi, &mut numbers);
     let linked = (1..=set.classes.len() as u32).map(|class| {
-        let answer = side.link(&mut words, abi, class, &mut area, &stubs, &mut missing);
+        let sheets = SheetsMut { set: &mut words, abi, numbers: &mut numbers };
+        let answer = side.link(sheets, class, &mut area, &stubs, &mut missing);
         let table = match answer.refusal {
             0 => Ok(area[answer.first as usize + 1..][..answer.second as usize].to_vec()),
             row => Err(row),

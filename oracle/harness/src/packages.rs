@@ -115,8 +115,8 @@ impl PackageCounts {
         let (text, abi_text) = (text_of_class_words(&step.before.set), text_of_abi_words(&step.case.abi));
         let view = View {
             step,
-            sheet: ClassSheet { words: &step.before.set, text: &text },
-            abi: AbiSheet { words: &step.case.abi, text: &abi_text },
+            sheet: ClassSheet { words: &step.before.set, text: &text, numbers: &step.before.numbers },
+            abi: AbiSheet { words: &step.case.abi, text: &abi_text, numbers: &step.before.numbers },
         };
         self.calls += u64::from(view.is_of_packages());
         let count = view.sheet.class_count();
@@ -147,6 +147,7 @@ impl View<'_> {
         };
         match self.step.call {
             Call::Link { class, .. } | Call::Missing { class } => has_packages(class),
+            Call::Fill => false,
             Call::Ask { class, interface, .. } => has_packages(class) || has_packages(interface),
         }
     }
@@ -214,7 +215,7 @@ impl View<'_> {
         let mut new: Vec<Method> = Vec::new();
         for method in sheet.methods_of(class).filter(eligible) {
             let overridden = overridden(sheet, &method);
-            let known = |slot: usize| introducing[slot].filter(|introducing| introducing.has_signature(method.name, method.descriptor));
+            let known = |slot: usize| introducing[slot].filter(|introducing| introducing.number == method.number);
             let is_taken = |slot: &usize| introducing[*slot].is_some_and(|introducing| overridden.contains(&introducing));
             let taken: Vec<usize> = (0..introducing.len()).filter(is_taken).collect();
             counts.hit("kind 3: a new last slot", taken.is_empty());
@@ -222,7 +223,7 @@ impl View<'_> {
             counts.hit("kind 3: several inherited slots taken by one method", taken.len() > 1);
             counts.hit(
                 "kind 3: one signature declared twice, two new slots",
-                taken.is_empty() && new.iter().any(|one| one.has_signature(method.name, method.descriptor)),
+                taken.is_empty() && new.iter().any(|one| one.number == method.number),
             );
             counts.hit(
                 "kind 3: a second slot of one signature",
@@ -260,8 +261,7 @@ impl View<'_> {
         let is_at_once = above.flags & STATIC == 0 && is_open(own, above);
         // A method between that would lead there, were it neither static nor private.
         let between = sheet.chain(own.owner).into_iter().filter(|&class| class != own.owner && class > above.owner);
-        let between: Vec<Method> =
-            between.flat_map(|class| sheet.methods_of(class)).filter(|m3| m3.has_signature(own.name, own.descriptor)).collect();
+        let between: Vec<Method> = between.flat_map(|class| sheet.methods_of(class)).filter(|m3| m3.number == own.number).collect();
         let leads = |m3: &Method| m3.flags & OPEN != 0 && above.flags & (STATIC | PRIVATE) == 0 && is_near(m3, above);
         counts.hit("kind 3: a slot taken through m3", is_taken && !is_at_once);
         counts.hit("kind 3: not through a static m3", !is_taken && between.iter().any(|m3| m3.flags & STATIC != 0 && leads(m3)));
@@ -324,7 +324,7 @@ pub fn as_kind_0(oracle: &mut Oracle, case: &Case, answers: &[Answer], area: &[u
     let mut state = State::of(&zero);
     let beside: Vec<Answer> = zero.calls.iter().map(|&call| perform(oracle, &zero, call, &mut state)).collect();
     let text = text_of_class_words(&case.set);
-    let sheet = ClassSheet { words: &case.set, text: &text };
+    let sheet = ClassSheet { words: &case.set, text: &text, numbers: &case.numbers };
     for (place, call) in case.calls.iter().enumerate() {
         let Call::Link { class, .. } = *call else { continue };
         let zero = zero
@@ -357,7 +357,8 @@ fn is_open(sheet: &ClassSheet, class: u32) -> bool {
     let is_single = |place: usize| methods[..place].iter().all(|one| one.target != methods[place].target);
     let is_once = |place: usize| {
         let method = &methods[place];
-        let twin = |one: &&Method| one.owner == method.owner && eligible(one) && one.has_signature(method.name, method.descriptor);
+        let twin =
+            |one: &&Method| one.owner == method.owner && eligible(one) && (one.name, one.descriptor) == (method.name, method.descriptor);
         !eligible(method) || (method.flags & OPEN != 0 && !methods[..place].iter().any(|one| twin(&one)))
     };
     let is_right = |place: usize| methods[place].target != 0 && is_single(place) && is_once(place);

@@ -1,13 +1,14 @@
 //! Makes a failing case small: whatever can go without the failure going, goes.
 
 use crate::case::{Call, Case};
+use crate::oracle::numbers;
 use crate::sheet::{Abi, MemberRecord, Set, class_word};
 
 /// The smallest case found for which `fails` still holds.
 pub fn shrink(mut case: Case, fails: &mut dyn FnMut(&Case) -> bool) -> Case {
     loop {
         let size = weight(&case);
-        for step in [calls, classes, members, abi_records, class_words, stubs, area, missing, slack] {
+        for step in [calls, classes, members, abi_records, class_words, stubs, area, numbers, missing, slack] {
             step(&mut case, fails);
         }
         if weight(&case) >= size {
@@ -19,8 +20,9 @@ pub fn shrink(mut case: Case, fails: &mut dyn FnMut(&Case) -> bool) -> Case {
 fn weight(case: &Case) -> usize {
     let stubs: usize = case.stubs.iter().map(Vec::len).sum();
     let nonzero = |words: &[u32]| words.iter().filter(|&&word| word != 0).count();
-    let lengths = case.set.len() + case.abi.len() + case.area.len() + case.missing.len() + stubs + 4 * case.calls.len();
-    lengths + nonzero(&case.set) + nonzero(&case.area) + nonzero(&case.missing)
+    let lists = [&case.set, &case.numbers, &case.area, &case.missing];
+    let lengths: usize = lists.iter().map(|list| list.len()).sum();
+    lengths + case.abi.len() + stubs + 4 * case.calls.len() + lists.iter().map(|list| nonzero(list)).sum::<usize>()
 }
 
 type Fails<'a> = &'a mut dyn FnMut(&Case) -> bool;
@@ -84,6 +86,7 @@ fn renumber_call(call: Call, removed: u32) -> Option<Call> {
             Call::Ask { class: renumber(class, removed)?, interface: renumber(interface, removed)?, stubs }
         }
         Call::Missing { class } => Call::Missing { class: renumber(class, removed)? },
+        Call::Fill => Call::Fill,
     })
 }
 
@@ -111,8 +114,18 @@ fn member_section(case: &mut Case, fails: Fails, word: usize, section: fn(&mut S
             section(set).remove(at);
             set.classes.iter_mut().for_each(|class| close_gap(&mut class.0, word, at as u32));
         });
-        keep(case, smaller, fails);
+        let is_method = word == class_word::METHODS;
+        keep(case, smaller.map(|smaller| if is_method { without_number(smaller, at, 512) } else { smaller }), fails);
     }
+}
+
+/// The case without the number at a place; those after it, up to an end, move down.
+fn without_number(mut case: Case, place: usize, end: usize) -> Case {
+    if case.numbers.len() >= end {
+        case.numbers[place..end].rotate_left(1);
+        case.numbers[end - 1] = 0;
+    }
+    case
 }
 
 /// A list's first and count after record `at` of its section went.
@@ -138,7 +151,7 @@ fn abi_records(case: &mut Case, fails: Fails) {
             abi.slots.remove(at);
             abi.classes.iter_mut().for_each(|class| shift(&mut class.slots, at as u32));
         });
-        keep(case, smaller, fails);
+        keep(case, smaller.map(|smaller| without_number(smaller, 512 + at, numbers::WORDS)), fails);
     }
     for at in (0..counts.2).rev() {
         let smaller = with_abi(case, |abi| {
@@ -229,6 +242,20 @@ fn area(case: &mut Case, fails: Fails) {
     let mut zeroed = case.clone();
     zeroed.area.iter_mut().skip(1).for_each(|word| *word = 0);
     keep(case, zeroed, fails);
+}
+
+fn numbers(case: &mut Case, fails: Fails) {
+    let mut smaller = case.clone();
+    smaller.numbers.truncate(numbers::WORDS);
+    keep(case, smaller, fails);
+    let mut zeroed = case.clone();
+    zeroed.numbers.fill(0);
+    keep(case, zeroed, fails);
+    for at in (0..case.numbers.len()).filter(|&at| case.numbers[at] != 0).collect::<Vec<_>>() {
+        let mut zeroed = case.clone();
+        zeroed.numbers[at] = 0;
+        keep(case, zeroed, fails);
+    }
 }
 
 fn missing(case: &mut Case, fails: Fails) {

@@ -1,6 +1,7 @@
 //! Inputs that tell readings of the specification apart, by hand: calls on small sets, with the
 //! answers and what a reader sees afterwards. Each row is executed on the original Rust (those of kind 3 on the harness's own judge, those of
-//! `one_slot` on the model from the link on that inherits two signatures of one fixed index), on the
+//! `one_slot` on the model from the link on that inherits two signatures of one fixed index, those of `numbers` where the list tells other
+//! signatures apart than the bytes do), on the
 //! model (tests/telling.rs) and, as a stored corpus, on the proved linker (crates/corpus).
 
 mod areas;
@@ -15,6 +16,7 @@ mod links;
 mod lists;
 mod lookups;
 mod missing_slots;
+mod numbers;
 mod one_slot;
 mod packages;
 mod sheets;
@@ -24,6 +26,7 @@ mod tables;
 use crate::case::{Call, Case};
 use crate::compare::{State, perform};
 use crate::generate::{AbiClassDraft, ClassDraft};
+use crate::oracle::numbers::{WORDS, filling_of};
 use crate::sheet::{Set, class_word};
 use crate::side::{Answer, Linker};
 
@@ -45,14 +48,15 @@ pub fn rows() -> Vec<Row> {
         packages::rows(),
         missing_slots::rows(),
         one_slot::rows(),
+        numbers::rows(),
         arguments::rows(),
     ]
     .concat()
 }
 
-/// Those of class kind 3 and of missing slots, which the harness judges for itself.
+/// Those of class kind 3, of missing slots and of numbers, which the harness judges for itself.
 pub fn own_rows() -> Vec<Row> {
-    [packages::rows(), missing_slots::rows()].concat()
+    [packages::rows(), missing_slots::rows(), numbers::rows()].concat()
 }
 
 /// What is lent.
@@ -60,6 +64,8 @@ pub fn own_rows() -> Vec<Row> {
 pub struct Lent {
     pub set: Vec<u32>,
     pub abi: Vec<u32>,
+    /// The list of numbers; else one filled from both sheets.
+    pub numbers: Option<Vec<u32>>,
     pub area: Vec<u32>,
     pub stubs: Vec<u32>,
     /// The list of missing slots; else one of 7s, as long as it must be.
@@ -68,8 +74,8 @@ pub struct Lent {
 
 /// A fresh area of 24 words, the stubs 901 to 908, and no word after the content.
 pub fn lent(classes: &[ClassDraft], entries: &[AbiClassDraft]) -> Lent {
-    let area = [vec![1], vec![0; 23]].concat();
-    Lent { set: assemble::class_words(classes), abi: assemble::abi_words(entries), area, stubs: (901..909).collect(), missing: None }
+    let (set, abi) = (assemble::class_words(classes), assemble::abi_words(entries));
+    Lent { set, abi, numbers: None, area: [vec![1], vec![0; 23]].concat(), stubs: (901..909).collect(), missing: None }
 }
 
 impl Lent {
@@ -84,6 +90,16 @@ impl Lent {
 
     pub fn on_stubs(self, stubs: &[u32]) -> Self {
         Self { stubs: stubs.to_vec(), ..self }
+    }
+
+    pub fn on_numbers(self, numbers: &[u32]) -> Self {
+        Self { numbers: Some(numbers.to_vec()), ..self }
+    }
+
+    /// A list that begins with these words, with zeros after them as far as it must be long, and more 7s after it.
+    pub fn on_first_numbers(self, numbers: &[u32], more: usize) -> Self {
+        let zeros = vec![0; WORDS - numbers.len()];
+        self.on_numbers(&[numbers, &zeros, &vec![7; more]].concat())
     }
 
     pub fn on_missing(self, missing: &[u32]) -> Self {
@@ -128,6 +144,10 @@ pub fn missing(class: u32) -> Call {
     Call::Missing { class }
 }
 
+pub fn fill() -> Call {
+    Call::Fill
+}
+
 /// The word that lies n below zero.
 pub fn minus(n: u32) -> u32 {
     0u32.wrapping_sub(n)
@@ -149,6 +169,8 @@ enum Left {
     /// The list's words of a class, with zeros after these; the whole list.
     Counted(u32, Vec<u32>),
     Missing(Vec<u32>),
+    /// Some of the list of numbers from a place on.
+    Numbers(usize, Vec<u32>),
 }
 
 /// Calls on what is lent, with what they answer and leave.
@@ -162,9 +184,10 @@ pub struct Row {
 
 /// Calls, one after the other. What is expected of them is added to the row.
 pub fn row(name: &'static str, lent: Lent, calls: &[Call]) -> Row {
-    let Lent { set, abi, area, stubs, missing } = lent;
+    let Lent { set, abi, numbers, area, stubs, missing } = lent;
+    let numbers = numbers.unwrap_or_else(|| filling_of(&set, &abi));
     let missing = missing.unwrap_or_else(|| vec![7; 33 * set.first().map_or(0, |&classes| classes.min(64) as usize)]);
-    let case = Case { set, abi, area, missing, stubs: vec![stubs], calls: calls.to_vec(), rebuilds: true, spoiled: None };
+    let case = Case { set, abi, numbers, area, missing, stubs: vec![stubs], calls: calls.to_vec(), rebuilds: true, spoiled: None };
     Row { name, case, answers: Vec::new(), left: Vec::new() }
 }
 
@@ -241,6 +264,11 @@ impl Row {
         self.left(Left::Missing(words.to_vec()))
     }
 
+    /// The list of numbers from a place on.
+    pub fn numbers(self, place: usize, numbers: &[u32]) -> Self {
+        self.left(Left::Numbers(place, numbers.to_vec()))
+    }
+
     /// Makes the calls on a side; what differs from the row, if anything.
     pub fn check(&self, side: &mut dyn Linker) -> Result<(), String> {
         let mut state = State::of(&self.case);
@@ -283,6 +311,7 @@ fn seen(left: &Left, state: &State) -> Result<(), String> {
             same(&[words.clone(), vec![0; 33 - words.len()]].concat(), own)
         }
         Left::Missing(words) => same(words, &state.missing),
+        Left::Numbers(place, words) => same(words, &state.numbers[*place..][..words.len()]),
     }
 }
 

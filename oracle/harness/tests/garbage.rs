@@ -26,6 +26,13 @@ fn garbage(random: &mut Random, counts: usize, most: u32) -> Vec<u32> {
     words
 }
 
+/// A list of numbers, most of them small.
+fn numbers(random: &mut Random) -> Vec<u32> {
+    let length = random.pick(&[0, 1023, 1024, 1024, 1024, 1024, 1026]);
+    let below = random.pick(&[1, 4, 600, u32::MAX]);
+    (0..length).map(|_| random.below(below)).collect()
+}
+
 #[test]
 fn garbage_is_judged_alike() {
     let (mut oracle, mut model) = (Oracle::default(), Model);
@@ -34,19 +41,21 @@ fn garbage_is_judged_alike() {
     for number in 0..150_000 {
         let call = |random: &mut Random| {
             let (class, interface) = (random.below(4), random.below(4));
-            match random.below(5) {
+            match random.below(6) {
                 0..2 => Call::Link { class, stubs: 0 },
                 2..4 => Call::Ask { class, interface, stubs: 0 },
-                _ => Call::Missing { class },
+                4 => Call::Missing { class },
+                _ => Call::Fill,
             }
         };
         let case = Case {
             set: garbage(&mut random, 6, 90),
             abi: if random.chance(60) { vec![0; 4] } else { garbage(&mut random, 4, 50) },
+            numbers: numbers(&mut random),
             area: garbage(&mut random, 0, 30),
             missing: garbage(&mut random, 0, 120),
             stubs: vec![garbage(&mut random, 0, 12)],
-            calls: vec![call(&mut random), call(&mut random)],
+            calls: vec![call(&mut random), call(&mut random), call(&mut random)],
             rebuilds: true,
             spoiled: None,
         };

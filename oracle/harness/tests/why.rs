@@ -8,7 +8,7 @@ use harness::generate;
 use harness::model::parts::{ClassSheet, text_of_class_words};
 use harness::model::why::Refused;
 use harness::model::{self, Model};
-use harness::side::{Answer, FileAnswer, Linker};
+use harness::side::{Answer, FileAnswer, Linker, Sheets, SheetsMut};
 
 /// The model, with the sentence of every refusal by a row above 5 looked at.
 #[derive(Default)]
@@ -19,7 +19,7 @@ impl Explained {
         let sentence = refused.sentence(set, class);
         if refused.row > 5 {
             let text = text_of_class_words(set);
-            let sheet = ClassSheet { words: set, text: &text };
+            let sheet = ClassSheet::unnumbered(set, &text);
             let name = match class == 0 || class > sheet.class_count() {
                 true => format!("class {class}: "),
                 false => format!("class {class} {}: ", String::from_utf8_lossy(sheet.name(class))),
@@ -60,10 +60,18 @@ impl Linker for Explained {
         Model.renumber_classes(set, order)
     }
 
-    fn link(&mut self, set: &mut [u32], abi: &[u32], class: u32, area: &mut [u32], stubs: &[u32], missing: &mut [u32]) -> Answer {
-        match model::link(set, abi, class, area, stubs, missing) {
+    fn number_signatures(&mut self, set: &[u32], abi: &[u32], numbers: &mut [u32]) -> Answer {
+        match model::number_signatures(set, abi, numbers) {
+            Ok(()) => Answer::accepted(0, 0),
+            Err(refused) => self.look(refused, set, 0),
+        }
+    }
+
+    fn link(&mut self, sheets: SheetsMut, class: u32, area: &mut [u32], stubs: &[u32], missing: &mut [u32]) -> Answer {
+        let before = sheets.set.to_vec();
+        match model::link(sheets, class, area, stubs, missing) {
             Ok((place, slots)) => Answer::accepted(place, slots),
-            Err(refused) => self.look(refused, set, class),
+            Err(refused) => self.look(refused, &before, class),
         }
     }
 
@@ -74,10 +82,10 @@ impl Linker for Explained {
         }
     }
 
-    fn ask(&mut self, set: &mut [u32], abi: &[u32], class: u32, interface: u32, area: &mut [u32], stubs: &[u32]) -> Answer {
-        match model::ask(set, abi, class, interface, area, stubs) {
+    fn ask(&mut self, sheets: Sheets, class: u32, interface: u32, area: &mut [u32], stubs: &[u32]) -> Answer {
+        match model::ask(sheets, class, interface, area, stubs) {
             Ok((place, nodes)) => Answer::accepted(place, nodes),
-            Err(refused) => self.look(refused, set, class),
+            Err(refused) => self.look(refused, sheets.set, class),
         }
     }
 
@@ -131,6 +139,7 @@ fn of_generated_cases() {
         }
     }
     for (row, words) in [
+        (3, &["the list of numbers takes 1024 words"][..]),
         (
             6,
             &[

@@ -7,7 +7,7 @@ use std::ffi::{c_int, c_void};
 use std::fmt::Debug;
 use std::slice;
 
-use harness::side::{Answer, FileAnswer, Linker};
+use harness::side::{Answer, FileAnswer, Linker, Sheets, SheetsMut};
 
 use crate::Library;
 
@@ -102,32 +102,21 @@ impl Lent {
     }
 }
 
-/// The library behind guards.
+/// The library behind guards, with pages for what may be written and for what may not.
 pub struct Guarded {
     library: Library,
-    first: Lent,
-    second: Lent,
-    third: Lent,
-    fixed: Lent,
-    also_fixed: Lent,
-    third_fixed: Lent,
+    written: [Lent; 4],
+    fixed: [Lent; 4],
 }
 
 impl Default for Guarded {
     fn default() -> Self {
-        Self {
-            library: Library::default(),
-            first: Lent::new(),
-            second: Lent::new(),
-            third: Lent::new(),
-            fixed: Lent::new(),
-            also_fixed: Lent::new(),
-            third_fixed: Lent::new(),
-        }
+        let lent = || std::array::from_fn(|_| Lent::new());
+        Self { library: Library::default(), written: lent(), fixed: lent() }
     }
 }
 
-type Sides<'a> = &'a mut dyn FnMut(&mut Library, &mut [u32], &[u32], &mut [u32], &[u32]) -> Answer;
+type Words<'a, const W: usize, const R: usize> = &'a mut dyn FnMut(&mut Library, [&mut [u32]; W], [&[u32]; R]) -> Answer;
 
 type Reads<'a, R, W, A> = &'a mut dyn FnMut(&mut Library, &[R], &mut [W]) -> A;
 
@@ -141,20 +130,28 @@ fn twice<A: Debug + PartialEq, W: PartialEq>(mut once: impl FnMut(Guard) -> (A, 
 }
 
 impl Guarded {
-    /// A call on two slices that may be written, `set` and `area`, and two that may not.
-    fn call(&mut self, set: &mut [u32], abi: &[u32], area: &mut [u32], stubs: &[u32], make: Sides) -> Answer {
-        let (answer, written) = twice(|guard| {
+    /// A call on words that may be written and on words that may not.
+    fn words<const W: usize, const R: usize>(&mut self, written: [&mut [u32]; W], read: [&[u32]; R], make: Words<W, R>) -> Answer {
+        let (answer, after) = twice(|guard| {
             self.library.null_where_empty = guard == Guard::Before;
-            let (lent_set, lent_area) = (self.first.put(set, guard), self.second.put(area, guard));
-            let (lent_abi, lent_stubs) = (self.fixed.put_fixed(abi, guard), self.also_fixed.put_fixed(stubs, guard));
-            let answer = make(&mut self.library, lent_set, lent_abi, lent_area, lent_stubs);
-            self.fixed.release();
-            self.also_fixed.release();
-            (answer, [lent_set.to_vec(), lent_area.to_vec()])
+            let mut lent: [&mut [u32]; W] = std::array::from_fn(|at| self.written[at].put(&*written[at], guard));
+            let fixed = self.put_fixed(read, guard);
+            let answer = make(&mut self.library, lent.each_mut().map(|slice| &mut **slice), fixed);
+            self.release();
+            (answer, lent.map(|slice| slice.to_vec()))
         });
-        set.copy_from_slice(&written[0]);
-        area.copy_from_slice(&written[1]);
+        for (slice, found) in written.into_iter().zip(&after) {
+            slice.copy_from_slice(found);
+        }
         answer
+    }
+
+    fn put_fixed<T: Copy + 'static, const R: usize>(&mut self, read: [&[T]; R], guard: Guard) -> [&'static [T]; R] {
+        std::array::from_fn(|at| self.fixed[at].put_fixed(read[at], guard))
+    }
+
+    fn release(&self) {
+        self.fixed.iter().for_each(Lent::release);
     }
 
     /// A call on a slice that may not be written and one that may.
@@ -166,9 +163,9 @@ impl Guarded {
     {
         let (answer, after) = twice(|guard| {
             self.library.null_where_empty = guard == Guard::Before;
-            let (lent_read, lent_written) = (self.fixed.put_fixed(read, guard), self.first.put(written, guard));
+            let ([lent_read], lent_written) = (self.put_fixed([read], guard), self.written[0].put(written, guard));
             let answer = make(&mut self.library, lent_read, lent_written);
-            self.fixed.release();
+            self.release();
             (answer, lent_written.to_vec())
         });
         written.copy_from_slice(&after);
@@ -179,9 +176,9 @@ impl Guarded {
     fn read_both<R: Copy + 'static>(&mut self, a: &[R], b: &[R], make: ReadsBoth<R>) -> Answer {
         let once = |guard| {
             self.library.null_where_empty = guard == Guard::Before;
-            let answer = make(&mut self.library, self.fixed.put_fixed(a, guard), self.also_fixed.put_fixed(b, guard));
-            self.fixed.release();
-            self.also_fixed.release();
+            let [a, b] = self.put_fixed([a, b], guard);
+            let answer = make(&mut self.library, a, b);
+            self.release();
             (answer, ())
         };
         twice(once).0
@@ -214,40 +211,29 @@ impl Linker for Guarded {
     }
 
     fn renumber_classes(&mut self, set: &mut [u32], order: &mut [u32]) -> Answer {
-        self.call(set, &[], order, &[], &mut |library, set, _, order, _| library.renumber_classes(set, order))
+        self.words([set, order], [], &mut |library, [set, order], []| library.renumber_classes(set, order))
     }
 
-    fn link(&mut self, set: &mut [u32], abi: &[u32], class: u32, area: &mut [u32], stubs: &[u32], missing: &mut [u32]) -> Answer {
-        let (answer, written) = twice(|guard| {
-            self.library.null_where_empty = guard == Guard::Before;
-            let lent = (self.first.put(set, guard), self.second.put(area, guard), self.third.put(missing, guard));
-            let (lent_abi, lent_stubs) = (self.fixed.put_fixed(abi, guard), self.also_fixed.put_fixed(stubs, guard));
-            let answer = self.library.link(lent.0, lent_abi, class, lent.1, lent_stubs, lent.2);
-            self.fixed.release();
-            self.also_fixed.release();
-            (answer, [lent.0.to_vec(), lent.1.to_vec(), lent.2.to_vec()])
-        });
-        for (list, found) in [set, area, missing].into_iter().zip(&written) {
-            list.copy_from_slice(found);
-        }
-        answer
+    fn number_signatures(&mut self, set: &[u32], abi: &[u32], numbers: &mut [u32]) -> Answer {
+        self.words([numbers], [set, abi], &mut |library, [numbers], [set, abi]| library.number_signatures(set, abi, numbers))
+    }
+
+    fn link(&mut self, sheets: SheetsMut, class: u32, area: &mut [u32], stubs: &[u32], missing: &mut [u32]) -> Answer {
+        let SheetsMut { set, abi, numbers } = sheets;
+        self.words([set, numbers, area, missing], [abi, stubs], &mut |library, [set, numbers, area, missing], [abi, stubs]| {
+            library.link(SheetsMut { set, abi, numbers }, class, area, stubs, missing)
+        })
     }
 
     fn missing_slots(&mut self, set: &[u32], abi: &[u32], missing: &[u32], class: u32) -> Answer {
-        let (answer, ()) = twice(|guard| {
-            self.library.null_where_empty = guard == Guard::Before;
-            let (lent_set, lent_abi) = (self.fixed.put_fixed(set, guard), self.also_fixed.put_fixed(abi, guard));
-            let answer = self.library.missing_slots(lent_set, lent_abi, self.third_fixed.put_fixed(missing, guard), class);
-            for lent in [&self.fixed, &self.also_fixed, &self.third_fixed] {
-                lent.release();
-            }
-            (answer, ())
-        });
-        answer
+        self.words([], [set, abi, missing], &mut |library, [], [set, abi, missing]| library.missing_slots(set, abi, missing, class))
     }
 
-    fn ask(&mut self, set: &mut [u32], abi: &[u32], class: u32, interface: u32, area: &mut [u32], stubs: &[u32]) -> Answer {
-        self.call(set, abi, area, stubs, &mut |library, set, abi, area, stubs| library.ask(set, abi, class, interface, area, stubs))
+    fn ask(&mut self, sheets: Sheets, class: u32, interface: u32, area: &mut [u32], stubs: &[u32]) -> Answer {
+        let Sheets { set, abi, numbers } = sheets;
+        self.words([area], [set, abi, numbers, stubs], &mut |library, [area], [set, abi, numbers, stubs]| {
+            library.ask(Sheets { set, abi, numbers }, class, interface, area, stubs)
+        })
     }
 
     fn argument_words(&mut self, descriptor: &[u8], flags: u32) -> Answer {
@@ -269,11 +255,11 @@ impl Linker for Guarded {
     fn read_class_file(&mut self, bytes: &[u8], targets: &[u32], fields: &mut [u32], methods: &mut [u32], text: &mut [u32]) -> FileAnswer {
         let (answer, written) = twice(|guard| {
             self.library.null_where_empty = guard == Guard::Before;
-            let lent = (self.first.put(fields, guard), self.second.put(methods, guard), self.third.put(text, guard));
-            let (file, lent_targets) = (self.fixed.put_fixed(bytes, guard), self.also_fixed.put_fixed(targets, guard));
+            let [first, second, third, _] = &mut self.written;
+            let lent = (first.put(fields, guard), second.put(methods, guard), third.put(text, guard));
+            let (file, lent_targets) = (self.fixed[0].put_fixed(bytes, guard), self.fixed[1].put_fixed(targets, guard));
             let answer = self.library.read_class_file(file, lent_targets, lent.0, lent.1, lent.2);
-            self.fixed.release();
-            self.also_fixed.release();
+            self.release();
             (answer, [lent.0.to_vec(), lent.1.to_vec(), lent.2.to_vec()])
         });
         for (list, found) in [fields, methods, text].into_iter().zip(&written) {

@@ -5,7 +5,7 @@ pub mod malformed;
 
 use std::ptr;
 
-use harness::side::{Answer, FileAnswer, Linker};
+use harness::side::{Answer, FileAnswer, Linker, Sheets, SheetsMut};
 
 // As include/lgt_linker.h declares them.
 unsafe extern "C" {
@@ -37,6 +37,8 @@ unsafe extern "C" {
         set_len: usize,
         abi: *const u32,
         abi_len: usize,
+        numbers: *mut u32,
+        numbers_len: usize,
         class_number: u32,
         area: *mut u32,
         area_len: usize,
@@ -63,6 +65,8 @@ unsafe extern "C" {
         set_len: usize,
         abi: *const u32,
         abi_len: usize,
+        numbers: *const u32,
+        numbers_len: usize,
         class_number: u32,
         interface_number: u32,
         area: *mut u32,
@@ -117,15 +121,6 @@ impl Library {
     }
 }
 
-impl Library {
-    /// Fills the list of numbers; the answer has no words.
-    pub fn number_signatures(&mut self, set: &[u32], abi: &[u32], numbers: &mut [u32]) -> Answer {
-        let (set_words, abi_words, numbers_len) = (self.read_only(set), self.read_only(abi), numbers.len());
-        let refusal = unsafe { lgt_number_signatures(set_words, set.len(), abi_words, abi.len(), self.lent(numbers), numbers_len) };
-        Answer::refused(refusal)
-    }
-}
-
 /// Makes a call with an answer array of `words` words, and sees that no word after them is written.
 fn made<const ROOM: usize>(words: usize, call: impl FnOnce(*mut u32) -> u32) -> (u32, [u32; ROOM]) {
     let mut answer = [UNWRITTEN; ROOM];
@@ -175,12 +170,35 @@ impl Linker for Library {
         answered(1, |answer| unsafe { lgt_renumber_classes(self.lent(set), set_len, self.lent(order), order_len, answer) })
     }
 
-    fn link(&mut self, set: &mut [u32], abi: &[u32], class: u32, area: &mut [u32], stubs: &[u32], missing: &mut [u32]) -> Answer {
-        let (set_len, area_len, missing_len) = (set.len(), area.len(), missing.len());
-        let (set, abi_words, area, stub_words) = (self.lent(set), self.read_only(abi), self.lent(area), self.read_only(stubs));
-        let missing = self.lent(missing);
+    fn number_signatures(&mut self, set: &[u32], abi: &[u32], numbers: &mut [u32]) -> Answer {
+        let (set_words, abi_words, numbers_len) = (self.read_only(set), self.read_only(abi), numbers.len());
+        let numbers = self.lent(numbers);
+        let refusal = unsafe { lgt_number_signatures(set_words, set.len(), abi_words, abi.len(), numbers, numbers_len) };
+        Answer { refusal, first: 0, second: 0 }
+    }
+
+    fn link(&mut self, sheets: SheetsMut, class: u32, area: &mut [u32], stubs: &[u32], missing: &mut [u32]) -> Answer {
+        let SheetsMut { set, abi, numbers } = sheets;
+        let [set_len, numbers_len, area_len, missing_len] = [set.len(), numbers.len(), area.len(), missing.len()];
+        let [set, numbers, area, missing] = [set, numbers, area, missing].map(|slice| self.lent(slice));
+        let (abi_words, stub_words) = (self.read_only(abi), self.read_only(stubs));
         answered(2, |answer| unsafe {
-            lgt_link(set, set_len, abi_words, abi.len(), class, area, area_len, stub_words, stubs.len(), missing, missing_len, answer)
+            lgt_link(
+                set,
+                set_len,
+                abi_words,
+                abi.len(),
+                numbers,
+                numbers_len,
+                class,
+                area,
+                area_len,
+                stub_words,
+                stubs.len(),
+                missing,
+                missing_len,
+                answer,
+            )
         })
     }
 
@@ -189,15 +207,19 @@ impl Linker for Library {
         answered(1, |answer| unsafe { lgt_missing_slots(set_words, set.len(), abi_words, abi.len(), list, missing.len(), class, answer) })
     }
 
-    fn ask(&mut self, set: &mut [u32], abi: &[u32], class: u32, interface: u32, area: &mut [u32], stubs: &[u32]) -> Answer {
-        let (set_len, area_len) = (set.len(), area.len());
-        let (set, abi_words, area, stub_words) = (self.read_only(set), self.read_only(abi), self.lent(area), self.read_only(stubs));
+    fn ask(&mut self, sheets: Sheets, class: u32, interface: u32, area: &mut [u32], stubs: &[u32]) -> Answer {
+        let Sheets { set, abi, numbers } = sheets;
+        let [set_words, abi_words, number_words, stub_words] = [set, abi, numbers, stubs].map(|slice| self.read_only(slice));
+        let area_len = area.len();
+        let area = self.lent(area);
         answered(2, |answer| unsafe {
             lgt_interface_dispatch_table(
-                set,
-                set_len,
+                set_words,
+                set.len(),
                 abi_words,
                 abi.len(),
+                number_words,
+                numbers.len(),
                 class,
                 interface,
                 area,

@@ -54,11 +54,18 @@ fn call(random: &mut Random, lists: usize) -> Call {
     let class = if random.chance(90) { random.below(6) } else { odd_word(random, 64) };
     let interface = if random.chance(90) { random.below(6) } else { odd_word(random, 64) };
     let stubs = random.below(lists as u32) as usize;
-    match random.below(10) {
+    match random.below(12) {
         0..4 => Call::Link { class, stubs },
         4..8 => Call::Ask { class, interface, stubs },
-        _ => Call::Missing { class },
+        8..10 => Call::Missing { class },
+        _ => Call::Fill,
     }
+}
+
+/// A list of numbers of any length with any words, mostly as long as it must be.
+fn numbers(random: &mut Random) -> Vec<u32> {
+    let length = random.pick(&[0, 1, 1023, 1024, 1024, 1024, 1024, 1025, 1100]);
+    (0..length).map(|_| odd_word(random, length)).collect()
 }
 
 /// A list of calls on malformed memory.
@@ -70,13 +77,17 @@ pub fn case(seed: u64, number: u64) -> Case {
         let abi = if random.chance(60) { vec![0; 4] } else { garbage(random, 4, 50) };
         let (area, stubs) = (garbage(random, 0, 30), vec![garbage(random, 0, 12)]);
         let calls = (0..4).map(|_| call(random, 1)).collect();
-        let missing = garbage(random, 0, 120);
-        return Case { set, abi, area, missing, stubs, calls, rebuilds: true, spoiled: None };
+        let (numbers, missing) = (numbers(random), garbage(random, 0, 120));
+        return Case { set, abi, numbers, area, missing, stubs, calls, rebuilds: true, spoiled: None };
     }
-    let mut case = if number % 8 == 5 { generate::packages(seed, number) } else { generate::case(seed, number) };
+    let mut case = match number % 8 {
+        5 => generate::packages(seed, number),
+        6 => generate::numbered(seed, number).0,
+        _ => generate::case(seed, number),
+    };
     case.rebuilds = true;
     let changes = random.pick(&[1, 2, 8]);
-    for words in [&mut case.set, &mut case.abi, &mut case.area, &mut case.missing] {
+    for words in [&mut case.set, &mut case.abi, &mut case.numbers, &mut case.area, &mut case.missing] {
         if random.chance(60) {
             damage(random, words, changes);
         }

@@ -1,7 +1,7 @@
 //! The list of numbers, filled by the library as by the model.
 
 use harness::generate;
-use harness::side::Answer;
+use harness::side::{Answer, Linker};
 use library::Library;
 
 /// A set and an ABI sheet of generated cases, with lists of several lengths and any content.

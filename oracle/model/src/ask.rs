@@ -1,27 +1,35 @@
 //! Asking for an interface table: "Interface tables (`interface_dispatch_table`)".
 
 use super::link::{row_7, row_15_of_area, write_slots};
-use super::rules::{row_3, rows_4_and_5};
-use super::sheets::{AbiSheet, ClassSheet, Method, PRIVATE, STATIC, text_of_abi_words, text_of_class_words};
+use super::rules::after_row_5;
+use super::sheets::{AbiSheet, ClassSheet, Method, PRIVATE, STATIC};
+use super::side::Sheets;
 use super::tables::reading;
 use super::why::{Refused, Why};
 use super::{Because, refuse};
 
 /// Asks class `class` for its table of interface `interface`: "the answer is the place after
 /// the link word, with the number of nodes read".
-pub fn ask(set: &[u32], abi: &[u32], class: u32, interface: u32, area: &mut [u32], stubs: &[u32]) -> Result<(u32, u32), Refused> {
-    row_3(set, abi)?;
-    let (text, abi_text) = (text_of_class_words(set), text_of_abi_words(abi));
-    let abi = AbiSheet { words: abi, text: &abi_text };
-    let sheet = ClassSheet { words: set, text: &text };
-    rows_4_and_5(&sheet, &abi)?;
+pub fn ask(sheets: Sheets, class: u32, interface: u32, area: &mut [u32], stubs: &[u32]) -> Result<(u32, u32), Refused> {
+    after_row_5(sheets, |sheet, abi| ask_valid(sheet, abi, class, interface, area, stubs))
+}
+
+/// The same of sheets that rows 3 to 5 accept.
+fn ask_valid(
+    sheet: &ClassSheet,
+    abi: &AbiSheet,
+    class: u32,
+    interface: u32,
+    area: &mut [u32],
+    stubs: &[u32],
+) -> Result<(u32, u32), Refused> {
     // "number 0 or above the count; ... interface ask: either class unlinked"
     for number in [class, interface] {
         let no_class = || Why::NoClass { number, count: sheet.class_count() };
         refuse(6, number == 0 || number > sheet.class_count()).because(no_class)?;
         refuse(6, !sheet.is_linked(number)).because(|| Why::Unlinked { class: number })?;
     }
-    row_7(&sheet, area)?;
+    row_7(sheet, area)?;
 
     let record = sheet.class(class);
     let head = record.place as usize + 1 + record.slots as usize;
@@ -29,7 +37,7 @@ pub fn ask(set: &[u32], abi: &[u32], class: u32, interface: u32, area: &mut [u32
     if let Some(node) = walk.found {
         return Ok((node + 1, walk.nodes));
     }
-    let targets = implementations(&sheet, &abi, area, class, interface)?;
+    let targets = implementations(sheet, abi, area, class, interface)?;
     row_15_of_area(targets.len(), area, stubs)?;
 
     // "a node (old head, interface number, slots) goes in front"
@@ -73,7 +81,7 @@ fn implementations(sheet: &ClassSheet, abi: &AbiSheet, area: &[u32], class: u32,
         None => Ok(entry.target),
         Some(known) => methods
             .iter()
-            .find(|method| method.flags & (STATIC | PRIVATE) == 0 && method.has_signature(known.name, known.descriptor))
+            .find(|method| method.flags & (STATIC | PRIVATE) == 0 && method.number == known.number)
             .map(|method| method.target)
             .ok_or_else(|| Refused { row: 16, why: Why::Unimplemented { interface, method: Box::new((&known).into()) } }),
     });

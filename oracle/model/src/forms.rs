@@ -19,7 +19,7 @@ pub fn widen_class_sheet(bytes: &[u8], out: &mut [u8]) -> Result<u32, Refused> {
     row_3(&read, end, |content| content - read[5].div_ceil(4) as usize, read[5])?;
     let mut words = with_static_words(&read[..end.expect("row 3 holds")]);
     let text = text_of_class_words(&words);
-    let sheet = ClassSheet { words: &words, text: &text };
+    let sheet = ClassSheet::unnumbered(&words, &text);
     unlinked(&sheet)?;
     rows_4_and_5(&sheet)?;
     // "Going forward, a generated class gets the sum of its static field widths."
@@ -35,7 +35,7 @@ pub fn narrow_class_sheet(bytes: &[u8], out: &mut [u8]) -> Result<u32, Refused> 
     let read = blocks(bytes, 92, usize::MAX)?;
     row_3(&read, class_content(&read), |content| content - read[5].div_ceil(4) as usize, read[5])?;
     let text = text_of_class_words(&read);
-    let sheet = ClassSheet { words: &read, text: &text };
+    let sheet = ClassSheet::unnumbered(&read, &text);
     unlinked(&sheet)?;
     rows_4_and_5(&sheet)?;
     // "23, after them, if going back drops a generated class's word that is not that sum"

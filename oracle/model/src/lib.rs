@@ -23,7 +23,7 @@ pub mod why;
 mod writing;
 
 use crate::class_file::FileRefused;
-use crate::side::{Answer, FileAnswer, Linker};
+use crate::side::{Answer, FileAnswer, Linker, Sheets, SheetsMut};
 use crate::why::{Refused, Why};
 
 pub use ask::ask;
@@ -45,7 +45,7 @@ pub mod parts {
     pub use super::link::table_of;
     pub use super::missing::is_counted;
     pub use super::packages::{introducing, overridden, package};
-    pub use super::sheets::{AbiClass, AbiRecord, AbiSheet, ClassSheet, Method, text_of_abi_words, text_of_class_words};
+    pub use super::sheets::{AbiClass, AbiRecord, AbiSheet, ClassSheet, Member, Method, text_of_abi_words, text_of_class_words};
     pub use super::tables::{EMPTY, Entry, eligible, entry_of, fixed_index, minimum_size, native_view, reading, relaid};
 }
 
@@ -82,16 +82,20 @@ impl Linker for Model {
         answer(renumber_classes(set, order).map(|classes| (classes, 0)))
     }
 
-    fn link(&mut self, set: &mut [u32], abi: &[u32], class: u32, area: &mut [u32], stubs: &[u32], missing: &mut [u32]) -> Answer {
-        answer(link(set, abi, class, area, stubs, missing))
+    fn number_signatures(&mut self, set: &[u32], abi: &[u32], numbers: &mut [u32]) -> Answer {
+        answer(number_signatures(set, abi, numbers).map(|()| (0, 0)))
+    }
+
+    fn link(&mut self, sheets: SheetsMut, class: u32, area: &mut [u32], stubs: &[u32], missing: &mut [u32]) -> Answer {
+        answer(link(sheets, class, area, stubs, missing))
     }
 
     fn missing_slots(&mut self, set: &[u32], abi: &[u32], missing: &[u32], class: u32) -> Answer {
         answer(missing_slots(set, abi, missing, class).map(|count| (count, 0)))
     }
 
-    fn ask(&mut self, set: &mut [u32], abi: &[u32], class: u32, interface: u32, area: &mut [u32], stubs: &[u32]) -> Answer {
-        answer(ask(set, abi, class, interface, area, stubs))
+    fn ask(&mut self, sheets: Sheets, class: u32, interface: u32, area: &mut [u32], stubs: &[u32]) -> Answer {
+        answer(ask(sheets, class, interface, area, stubs))
     }
 
     fn argument_words(&mut self, descriptor: &[u8], flags: u32) -> Answer {

@@ -2,12 +2,14 @@
 
 use super::fields::{BuiltFields, built_fields, generated_fields};
 use super::missing::{counted, row_15_of_list, write_counted};
+use super::numbers::write_numbers;
 use super::packages::{build_packages, row_26};
-use super::rules::{row_3, rows_4_and_5};
+use super::rules::after_row_5;
 use super::sheets::{
     ARRAY, AbiSheet, BUILT, CLASS_WORDS, ClassSheet, GENERATED, INTERFACE, MEMBER_WORDS, PACKAGED, class_content, pack, record,
-    text_of_abi_words, text_of_class_words,
+    text_of_class_words,
 };
+use super::side::{Sheets, SheetsMut};
 use super::tables::{Entry, Rule, build_interface_methods, build_methods, clash, compiler_table, eligible, parent_entries};
 use super::why::{Refused, Why};
 use super::{Because, refuse};
@@ -24,6 +26,8 @@ struct Linked {
     indices: Option<Vec<u32>>,
     added_fields: Vec<NewRecord>,
     added_methods: Vec<NewRecord>,
+    /// The numbers of the signatures that the added methods took.
+    taken: Vec<u32>,
 }
 
 /// A method or field to add.
@@ -35,59 +39,46 @@ struct NewRecord {
 }
 
 /// Links class `class`: answers its table's place and slots.
-pub fn link(set: &mut [u32], abi: &[u32], class: u32, area: &mut [u32], stubs: &[u32], missing: &mut [u32]) -> Result<(u32, u32), Refused> {
-    link_by(Rule::Today, set, abi, class, area, stubs, missing)
+pub fn link(sheets: SheetsMut, class: u32, area: &mut [u32], stubs: &[u32], missing: &mut [u32]) -> Result<(u32, u32), Refused> {
+    link_by(Rule::Today, sheets, class, area, stubs, missing)
 }
 
 /// The same by the rule before.
-pub fn link_before(
-    set: &mut [u32],
-    abi: &[u32],
-    class: u32,
-    area: &mut [u32],
-    stubs: &[u32],
-    missing: &mut [u32],
-) -> Result<(u32, u32), Refused> {
-    link_by(Rule::Before, set, abi, class, area, stubs, missing)
+pub fn link_before(sheets: SheetsMut, class: u32, area: &mut [u32], stubs: &[u32], missing: &mut [u32]) -> Result<(u32, u32), Refused> {
+    link_by(Rule::Before, sheets, class, area, stubs, missing)
 }
 
 /// Whether a link of the class comes to its table and relays there what it inherits, and two known inherited signatures have one fixed
 /// index. On other links the two rules are one.
-pub fn link_clashes(set: &[u32], abi: &[u32], class: u32, area: &[u32]) -> bool {
-    let clashes = || {
-        row_3(set, abi)?;
-        let (text, abi_text) = (text_of_class_words(set), text_of_abi_words(abi));
-        let abi = AbiSheet { words: abi, text: &abi_text };
-        let sheet = ClassSheet { words: set, text: &text };
-        rows_4_and_5(&sheet, &abi)?;
-        row_6(&sheet, class)?;
-        row_7(&sheet, area)?;
-        row_26(&sheet, &abi, class)?;
-        let record = sheet.class(class);
-        let relays = abi.class_named(sheet.name(class)).is_some()
-            && match record.kind {
-                BUILT => record.flags & INTERFACE == 0,
-                GENERATED => sheet.compiler_table_of(class).is_none(),
-                _ => false,
-            };
-        Ok(relays && fields_pass(&sheet, &abi, class) && clash(&sheet, &abi, area, class))
-    };
-    clashes().unwrap_or_else(|_: Refused| false)
+pub fn link_clashes(sheets: Sheets, class: u32, area: &[u32]) -> bool {
+    after_row_26(sheets, class, area, |sheet, abi| Ok(clashes(sheet, abi, area, class))).unwrap_or(false)
+}
+
+/// The same of a link that rows 3 to 7 and 26 accept.
+fn clashes(sheet: &ClassSheet, abi: &AbiSheet, area: &[u32], class: u32) -> bool {
+    let record = sheet.class(class);
+    let relays = abi.class_named(sheet.name(class)).is_some()
+        && match record.kind {
+            BUILT => record.flags & INTERFACE == 0,
+            GENERATED => sheet.compiler_table_of(class).is_none(),
+            _ => false,
+        };
+    relays && fields_pass(sheet, abi, class) && clash(sheet, abi, area, class)
 }
 
 /// The signatures, names and descriptors, that give way in a link of the class that clashes.
-pub fn moved(set: &[u32], abi: &[u32], class: u32, area: &[u32]) -> Vec<(Vec<u8>, Vec<u8>)> {
-    if !link_clashes(set, abi, class, area) {
-        return Vec::new();
-    }
-    let (text, abi_text) = (text_of_class_words(set), text_of_abi_words(abi));
-    super::tables::moved(&ClassSheet { words: set, text: &text }, &AbiSheet { words: abi, text: &abi_text }, area, class)
+pub fn moved(sheets: Sheets, class: u32, area: &[u32]) -> Vec<(Vec<u8>, Vec<u8>)> {
+    let moved = after_row_26(sheets, class, area, |sheet, abi| match clashes(sheet, abi, area, class) {
+        true => Ok(super::tables::moved(sheet, abi, area, class)),
+        false => Ok(Vec::new()),
+    });
+    moved.unwrap_or_default()
 }
 
 /// Whether an eligible method of the class, of a valid set, has a signature of this kind.
-pub fn declares(set: &[u32], class: u32, is_one: &dyn Fn(&[u8], &[u8]) -> bool) -> bool {
+pub fn declares(set: &[u32], numbers: &[u32], class: u32, is_one: &dyn Fn(&[u8], &[u8]) -> bool) -> bool {
     let text = text_of_class_words(set);
-    let sheet = ClassSheet { words: set, text: &text };
+    let sheet = ClassSheet { words: set, text: &text, numbers };
     sheet.methods_of(class).any(|method| eligible(&method) && is_one(method.name, method.descriptor))
 }
 
@@ -99,34 +90,39 @@ fn fields_pass(sheet: &ClassSheet, abi: &AbiSheet, class: u32) -> bool {
     }
 }
 
-fn link_by(
-    rule: Rule,
-    set: &mut [u32],
-    abi: &[u32],
-    class: u32,
-    area: &mut [u32],
-    stubs: &[u32],
-    missing: &mut [u32],
-) -> Result<(u32, u32), Refused> {
-    row_3(set, abi)?;
-    let (text, abi_text) = (text_of_class_words(set), text_of_abi_words(abi));
-    let abi = AbiSheet { words: abi, text: &abi_text };
-    let sheet = ClassSheet { words: set, text: &text };
-    rows_4_and_5(&sheet, &abi)?;
-    row_6(&sheet, class)?;
-    row_7(&sheet, area)?;
-    row_26(&sheet, &abi, class)?;
-    let linked = prepare(&sheet, &abi, class, area, missing, rule)?;
-    let grown = row_14(&sheet, class, &linked)?;
-    row_15(&linked, set.len(), area, stubs, &grown)?;
-    row_15_of_list(sheet.class_count(), missing)?;
+fn link_by(rule: Rule, sheets: SheetsMut, class: u32, area: &mut [u32], stubs: &[u32], missing: &mut [u32]) -> Result<(u32, u32), Refused> {
+    let (linked, grown, methods, own) = after_row_26(sheets.read(), class, area, |sheet, abi| {
+        let linked = prepare(sheet, abi, class, area, missing, rule)?;
+        let grown = row_14(sheet, class, &linked)?;
+        row_15(&linked, sheet.words.len(), area, stubs, &grown)?;
+        row_15_of_list(sheet.class_count(), missing)?;
+        let record = sheet.class(class);
+        Ok((linked, grown, sheet.method_count(), (record.first_method, record.method_count)))
+    })?;
 
-    let place = area[0];
-    let slots = linked.targets.len() as u32;
-    write_set(set, class, place, &linked, grown);
+    let (place, slots) = (area[0], linked.targets.len() as u32);
+    if !linked.taken.is_empty() {
+        write_numbers(sheets.numbers, methods, own, &linked.taken);
+    }
+    write_set(sheets.set, class, place, &linked, grown);
     write_table(area, class, &linked.targets, stubs);
     write_counted(missing, class, &linked.counted);
     Ok((place, slots))
+}
+
+/// Rows 3 to 7 and 26 of a link; then what follows.
+fn after_row_26<T>(
+    sheets: Sheets,
+    class: u32,
+    area: &[u32],
+    then: impl FnOnce(&ClassSheet, &AbiSheet) -> Result<T, Refused>,
+) -> Result<T, Refused> {
+    after_row_5(sheets, |sheet, abi| {
+        row_6(sheet, class)?;
+        row_7(sheet, area)?;
+        row_26(sheet, abi, class)?;
+        then(sheet, abi)
+    })
 }
 
 /// Row 6: "number 0 or above the count; link: already linked, parent unlinked, or an array
@@ -205,6 +201,7 @@ fn prepare_built(sheet: &ClassSheet, abi: &AbiSheet, class: u32, area: &[u32], m
         added_fields: added.collect(),
         indices: Some(fields.indices),
         added_methods: Vec::new(),
+        taken: Vec::new(),
     })
 }
 
@@ -245,7 +242,7 @@ fn prepare_generated(sheet: &ClassSheet, abi: &AbiSheet, class: u32, area: &[u32
         None => (build_methods(sheet, abi, area, missing, class, rule)?, Vec::new()),
         Some(compiled) => compiler_table(sheet, abi, area, missing, class, compiled),
     };
-    let added = added.iter().map(|method| NewRecord {
+    let records = added.iter().map(|method| NewRecord {
         name: method.name.to_vec(),
         descriptor: method.descriptor.to_vec(),
         flags: method.flags,
@@ -258,7 +255,8 @@ fn prepare_generated(sheet: &ClassSheet, abi: &AbiSheet, class: u32, area: &[u32
         static_words: None,
         indices,
         added_fields: Vec::new(),
-        added_methods: added.collect(),
+        added_methods: records.collect(),
+        taken: added.iter().map(|method| method.number).collect(),
     })
 }
 
@@ -274,6 +272,7 @@ fn prepare_array(sheet: &ClassSheet, abi: &AbiSheet, class: u32, area: &[u32], m
         indices: None,
         added_fields: Vec::new(),
         added_methods: Vec::new(),
+        taken: Vec::new(),
     }
 }
 

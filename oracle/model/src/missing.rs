@@ -44,8 +44,8 @@ pub fn write_counted(missing: &mut [u32], class: u32, counted: &[bool]) {
 pub fn missing_slots(set: &[u32], abi: &[u32], missing: &[u32], class: u32) -> Result<u32, Refused> {
     row_3(set, abi)?;
     let (text, abi_text) = (text_of_class_words(set), text_of_abi_words(abi));
-    let sheet = ClassSheet { words: set, text: &text };
-    rows_4_and_5(&sheet, &AbiSheet { words: abi, text: &abi_text })?;
+    let sheet = ClassSheet::unnumbered(set, &text);
+    rows_4_and_5(&sheet, &AbiSheet::unnumbered(abi, &abi_text))?;
     let no_class = || Why::NoClass { number: class, count: sheet.class_count() };
     refuse(6, class == 0 || class > sheet.class_count()).because(no_class)?;
     refuse(6, !sheet.is_linked(class)).because(|| Why::Uncounted)?;

@@ -10,7 +10,7 @@ use super::why::Refused;
 pub fn read_unordered_sheet(bytes: &[u8], words: &mut [u32]) -> Result<u32, Refused> {
     let read = blocks(bytes, 92, words.len())?;
     row_3(&read, class_content(&read), |content| content - read[5].div_ceil(4) as usize, read[5])?;
-    unlinked(&ClassSheet { words: &read, text: &[] })?;
+    unlinked(&ClassSheet::unnumbered(&read, &[]))?;
     Ok(fill(&read, words))
 }
 
@@ -18,7 +18,7 @@ pub fn read_unordered_sheet(bytes: &[u8], words: &mut [u32]) -> Result<u32, Refu
 pub fn renumber_classes(set: &mut [u32], list: &mut [u32]) -> Result<u32, Refused> {
     // "Turned away: 3, first, as for a link or if a table place or slot count is not 0"; static words as in reading
     refuse(3, !fits(class_content(set), set))?;
-    let sheet = ClassSheet { words: set, text: &[] };
+    let sheet = ClassSheet::unnumbered(set, &[]);
     unlinked(&sheet)?;
     // "4, if a parent number exceeds the count or an interface word names no class"
     let count = sheet.class_count();
@@ -65,7 +65,7 @@ fn order(parents: &[u32]) -> Vec<u32> {
 /// "Parent and interface numbers follow": the records go whole to their new places, the interface words stay where they are.
 fn move_classes(set: &mut [u32], order: &[u32]) {
     let new_number = |old: u32| order.iter().position(|&class| class == old).map_or(0, |place| place as u32 + 1);
-    let sheet = ClassSheet { words: set, text: &[] };
+    let sheet = ClassSheet::unnumbered(set, &[]);
     let (interfaces_at, interfaces) = (sheet.field_at(set[2]), set[3] as usize);
     let old = set.to_vec();
     for (class, &from) in (1..).zip(order) {

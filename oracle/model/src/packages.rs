@@ -16,13 +16,13 @@ fn overrides_at_once(sheet: &ClassSheet, m1: &Method, m2: &Method) -> bool {
     let is_subclass = m1.owner != m2.owner && sheet.chain(m1.owner).contains(&m2.owner);
     let one_package = || package(sheet.name(m1.owner)) == package(sheet.name(m2.owner));
     let is_open = m2.flags & (PUBLIC | PROTECTED) != 0 || (m2.flags & PRIVATE == 0 && one_package());
-    is_subclass && m1.has_signature(m2.name, m2.descriptor) && m1.flags & (STATIC | PRIVATE) == 0 && m2.flags & STATIC == 0 && is_open
+    is_subclass && m1.number == m2.number && m1.flags & (STATIC | PRIVATE) == 0 && m2.flags & STATIC == 0 && is_open
 }
 
 /// The methods m2 that method `m1` overrides: at once, or because m1 overrides a method m3 that overrides m2.
 pub fn overridden<'a>(sheet: &ClassSheet<'a>, m1: &Method) -> Vec<Method<'a>> {
     let chain = sheet.chain(m1.owner);
-    let alike = chain.iter().flat_map(|&class| sheet.methods_of(class)).filter(|m2| m1.has_signature(m2.name, m2.descriptor));
+    let alike = chain.iter().flat_map(|&class| sheet.methods_of(class)).filter(|m2| m1.number == m2.number);
     let alike: Vec<Method> = alike.collect();
     let mut overrides: Vec<Vec<bool>> = alike.iter().map(|m1| alike.iter().map(|m2| overrides_at_once(sheet, m1, m2)).collect()).collect();
     for m3 in 0..alike.len() {

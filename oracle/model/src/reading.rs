@@ -17,7 +17,7 @@ pub fn read_class_sheet(bytes: &[u8], words: &mut [u32]) -> Result<u32, Refused>
     let read = blocks(bytes, 92, words.len())?;
     row_3(&read, class_content(&read), |content| content - read[5].div_ceil(4) as usize, read[5])?;
     let text = text_of_class_words(&read);
-    let sheet = ClassSheet { words: &read, text: &text };
+    let sheet = ClassSheet::unnumbered(&read, &text);
     unlinked(&sheet)?;
     refuse(4, !class_records_keep_the_rules(&sheet))?;
     refuse(5, !class_descriptors_hold(&sheet))?;
@@ -41,7 +41,7 @@ pub fn read_abi_sheet(bytes: &[u8], words: &mut [u32]) -> Result<u32, Refused> {
     let read = blocks(bytes, 51, words.len())?;
     row_3(&read, abi_content(&read), |content| content - read[3].div_ceil(4) as usize, read[3])?;
     let text = text_of_abi_words(&read);
-    let sheet = AbiSheet { words: &read, text: &text };
+    let sheet = AbiSheet::unnumbered(&read, &text);
     refuse(4, !abi_records_keep_the_rules(&sheet))?;
     refuse(5, !abi_descriptors_hold(&sheet))?;
     Ok(fill(&read, words))

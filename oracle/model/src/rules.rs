@@ -1,8 +1,10 @@
 //! Rows 3 to 5 as a link or an ask applies them, and the rules that reading shares.
 
 use super::descriptors::{is_field_descriptor, is_method_descriptor};
+use super::numbers::row_3_of_list;
 use super::refuse;
-use super::sheets::{AbiSheet, ClassSheet, PACKAGED, abi_content, class_content};
+use super::sheets::{AbiSheet, ClassSheet, PACKAGED, abi_content, class_content, text_of_abi_words, text_of_class_words};
+use super::side::Sheets;
 use super::why::Refused;
 
 /// "Link and ask take words already read: of rows 1 to 3 only the count limits and the
@@ -20,6 +22,17 @@ pub fn row_3(set: &[u32], abi: &[u32]) -> Result<(), Refused> {
 pub fn rows_4_and_5(set: &ClassSheet, abi: &AbiSheet) -> Result<(), Refused> {
     refuse(4, !class_records_keep_the_rules(set) || !abi_records_keep_the_rules(abi))?;
     refuse(5, !class_descriptors_hold(set) || !abi_descriptors_hold(abi))
+}
+
+/// Rows 3 to 5 of a link or an ask, row 3's clause on the list of numbers among them; then what follows, of the sheets with their texts.
+pub fn after_row_5<T>(sheets: Sheets, then: impl FnOnce(&ClassSheet, &AbiSheet) -> Result<T, Refused>) -> Result<T, Refused> {
+    row_3(sheets.set, sheets.abi)?;
+    row_3_of_list(sheets.numbers)?;
+    let (text, abi_text) = (text_of_class_words(sheets.set), text_of_abi_words(sheets.abi));
+    let abi = AbiSheet { words: sheets.abi, text: &abi_text, numbers: sheets.numbers };
+    let sheet = ClassSheet { words: sheets.set, text: &text, numbers: sheets.numbers };
+    rows_4_and_5(&sheet, &abi)?;
+    then(&sheet, &abi)
 }
 
 /// Row 4 of a class sheet: "every list and text part lies inside its section; ...".

@@ -1,5 +1,7 @@
 //! The words of both sheets, read by name.
 
+use super::numbers::FIRST_SLOT;
+
 /// Class sheet: "six counts (classes ≤ 64, methods ≤ 512, fields ≤ 512, interface words ≤
 /// 256, compiler words ≤ 2,048, text bytes ≤ 8,192), then those sections".
 pub const CLASS_LIMITS: [u32; 6] = [64, 512, 512, 256, 2048, 8192];
@@ -79,8 +81,8 @@ pub struct Member {
     pub last: u32,
 }
 
-/// A method as the tables see it: its signature as parts of a text, its flags, its target,
-/// and the class whose list holds it.
+/// A method as the tables see it: its signature as parts of a text, its flags, its target, the class whose list holds it, and its
+/// signature's number. "Slots are matched by these numbers."
 #[derive(Clone, Copy, PartialEq, Eq)]
 pub struct Method<'a> {
     pub name: &'a [u8],
@@ -88,13 +90,7 @@ pub struct Method<'a> {
     pub flags: u32,
     pub target: u32,
     pub owner: u32,
-}
-
-impl Method<'_> {
-    /// "signature (name and descriptor)"
-    pub fn has_signature(&self, name: &[u8], descriptor: &[u8]) -> bool {
-        self.name == name && self.descriptor == descriptor
-    }
+    pub number: u32,
 }
 
 /// A field as the numbering sees it.
@@ -112,14 +108,20 @@ impl Field<'_> {
     }
 }
 
-/// The class words of a call, whose counts and content fit (row 3).
+/// The class words of a call, whose counts and content fit (row 3), and the list of the signatures' numbers; a call that compares no
+/// signatures has none.
 #[derive(Clone, Copy)]
 pub struct ClassSheet<'a> {
     pub words: &'a [u32],
     pub text: &'a [u8],
+    pub numbers: &'a [u32],
 }
 
 impl<'a> ClassSheet<'a> {
+    pub fn unnumbered(words: &'a [u32], text: &'a [u8]) -> Self {
+        Self { words, text, numbers: &[] }
+    }
+
     pub fn class_count(&self) -> u32 {
         self.words[0]
     }
@@ -237,6 +239,7 @@ impl<'a> ClassSheet<'a> {
                 flags: member.flags,
                 target: member.last,
                 owner: class,
+                number: sheet.numbers[method as usize],
             }
         })
     }
@@ -306,22 +309,28 @@ impl AbiClass {
     }
 }
 
-/// An ABI slot or field: "name, descriptor, index".
+/// An ABI slot or field: "name, descriptor, index"; of a slot its signature's number, of a field 0.
 #[derive(Clone, Copy)]
 pub struct AbiRecord<'a> {
     pub name: &'a [u8],
     pub descriptor: &'a [u8],
     pub index: u32,
+    pub number: u32,
 }
 
-/// The ABI words of a call, whose counts and content fit (row 3).
+/// The ABI words of a call, whose counts and content fit (row 3), and the list of the signatures' numbers likewise.
 #[derive(Clone, Copy)]
 pub struct AbiSheet<'a> {
     pub words: &'a [u32],
     pub text: &'a [u8],
+    pub numbers: &'a [u32],
 }
 
 impl<'a> AbiSheet<'a> {
+    pub fn unnumbered(words: &'a [u32], text: &'a [u8]) -> Self {
+        Self { words, text, numbers: &[] }
+    }
+
     pub fn class_count(&self) -> u32 {
         self.words[0]
     }
@@ -356,7 +365,8 @@ impl<'a> AbiSheet<'a> {
 
     pub fn slots_of(&self, class: AbiClass) -> impl Iterator<Item = AbiRecord<'a>> + use<'a> {
         let sheet = *self;
-        (class.first_slot..class.first_slot + class.slot_count).map(move |slot| sheet.record(sheet.slot_at(slot)))
+        let slot = move |slot| AbiRecord { number: sheet.numbers[FIRST_SLOT + slot as usize], ..sheet.record(sheet.slot_at(slot)) };
+        (class.first_slot..class.first_slot + class.slot_count).map(slot)
     }
 
     pub fn slots(&self) -> impl Iterator<Item = AbiRecord<'a>> + use<'a> {
@@ -372,7 +382,7 @@ impl<'a> AbiSheet<'a> {
     fn record(&self, at: usize) -> AbiRecord<'a> {
         let [name_start, name_length, descriptor_start, descriptor_length, index] =
             self.words[at..at + ABI_RECORD_WORDS].try_into().unwrap();
-        AbiRecord { name: self.part(name_start, name_length), descriptor: self.part(descriptor_start, descriptor_length), index }
+        AbiRecord { name: self.part(name_start, name_length), descriptor: self.part(descriptor_start, descriptor_length), index, number: 0 }
     }
 }
 

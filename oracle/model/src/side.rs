@@ -40,6 +40,27 @@ impl FileAnswer {
     }
 }
 
+/// The words of both sheets, and the list of the signatures' numbers, lent to be read.
+#[derive(Clone, Copy)]
+pub struct Sheets<'a> {
+    pub set: &'a [u32],
+    pub abi: &'a [u32],
+    pub numbers: &'a [u32],
+}
+
+/// The same as a link is lent them, which may write class words and numbers.
+pub struct SheetsMut<'a> {
+    pub set: &'a mut [u32],
+    pub abi: &'a [u32],
+    pub numbers: &'a mut [u32],
+}
+
+impl SheetsMut<'_> {
+    pub fn read(&self) -> Sheets<'_> {
+        Sheets { set: self.set, abi: self.abi, numbers: self.numbers }
+    }
+}
+
 /// One side of the comparison. All memory is lent; a refused call leaves it as it was.
 pub trait Linker {
     fn read_class_sheet(&mut self, bytes: &[u8], words: &mut [u32]) -> Answer;
@@ -56,12 +77,14 @@ pub trait Linker {
 
     fn renumber_classes(&mut self, set: &mut [u32], order: &mut [u32]) -> Answer;
 
+    fn number_signatures(&mut self, set: &[u32], abi: &[u32], numbers: &mut [u32]) -> Answer;
+
     /// `missing` is the list of missing slots, 33 words a class.
-    fn link(&mut self, set: &mut [u32], abi: &[u32], class: u32, area: &mut [u32], stubs: &[u32], missing: &mut [u32]) -> Answer;
+    fn link(&mut self, sheets: SheetsMut, class: u32, area: &mut [u32], stubs: &[u32], missing: &mut [u32]) -> Answer;
 
     fn missing_slots(&mut self, set: &[u32], abi: &[u32], missing: &[u32], class: u32) -> Answer;
 
-    fn ask(&mut self, set: &mut [u32], abi: &[u32], class: u32, interface: u32, area: &mut [u32], stubs: &[u32]) -> Answer;
+    fn ask(&mut self, sheets: Sheets, class: u32, interface: u32, area: &mut [u32], stubs: &[u32]) -> Answer;
 
     fn argument_words(&mut self, descriptor: &[u8], flags: u32) -> Answer;
 

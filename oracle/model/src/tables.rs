@@ -26,7 +26,7 @@ pub fn entry_of(method: Method) -> Entry {
 }
 
 fn slot_of(table: &[Entry], method: &Method) -> Option<usize> {
-    table.iter().position(|entry| entry.method.is_some_and(|known| known.has_signature(method.name, method.descriptor)))
+    table.iter().position(|entry| entry.method.is_some_and(|known| known.number == method.number))
 }
 
 /// "Reading: a slot's method is the first with that target, class first, then ancestors.
@@ -41,7 +41,7 @@ pub fn reading<'a>(sheet: &ClassSheet<'a>, abi: &AbiSheet, area: &[u32], class: 
     let by_abi = |index: u32| {
         entries.iter().find_map(|&(class, entry)| {
             let fixed = abi.slots_of(entry).find(|slot| slot.index == index)?;
-            sheet.methods_of(class).find(|method| method.has_signature(fixed.name, fixed.descriptor))
+            sheet.methods_of(class).find(|method| method.number == fixed.number)
         })
     };
     let slots = &area[record.place as usize + 1..][..record.slots as usize];
@@ -60,15 +60,15 @@ fn abi_classes(sheet: &ClassSheet, abi: &AbiSheet, chain: &[u32]) -> Vec<AbiClas
     chain.iter().filter_map(|&class| abi.class_named(sheet.name(class))).collect()
 }
 
-/// A signature's fixed index: the first match, over the chain's ABI classes.
-pub fn fixed_index(abi: &AbiSheet, classes: &[AbiClass], name: &[u8], descriptor: &[u8]) -> Option<u32> {
-    fixed_slot(abi, classes, name, descriptor).map(|(index, _)| index)
+/// A signature's fixed index, by its number: the first match, over the chain's ABI classes.
+pub fn fixed_index(abi: &AbiSheet, classes: &[AbiClass], number: u32) -> Option<u32> {
+    fixed_slot(abi, classes, number).map(|(index, _)| index)
 }
 
 /// A signature's fixed index and the ABI class that fixes it.
-fn fixed_slot(abi: &AbiSheet, classes: &[AbiClass], name: &[u8], descriptor: &[u8]) -> Option<(u32, AbiClass)> {
+fn fixed_slot(abi: &AbiSheet, classes: &[AbiClass], number: u32) -> Option<(u32, AbiClass)> {
     classes.iter().find_map(|&class| {
-        let slot = abi.slots_of(class).find(|slot| slot.name == name && slot.descriptor == descriptor)?;
+        let slot = abi.slots_of(class).find(|slot| slot.number == number)?;
         Some((slot.index, class))
     })
 }
@@ -123,7 +123,7 @@ pub fn build_methods<'a>(
     // new last one."
     for method in sheet.methods_of(class).filter(eligible) {
         let inherited = slot_of(&table, &method);
-        let index = match (fixed_slot(abi, &classes, method.name, method.descriptor), inherited) {
+        let index = match (fixed_slot(abi, &classes, method.number), inherited) {
             (Some((index, abi_class)), inherited) => {
                 let fixed = index as usize;
                 let against =
@@ -134,7 +134,7 @@ pub fn build_methods<'a>(
                 // "the fixed slot holds another signature"
                 let held = table[fixed].method;
                 let taken = || Why::Taken(against(fixed));
-                refuse(12, held.is_some_and(|held| !held.has_signature(method.name, method.descriptor))).because(taken)?;
+                refuse(12, held.is_some_and(|held| held.number != method.number)).because(taken)?;
                 fixed
             }
             (None, Some(inherited)) => inherited,
@@ -157,7 +157,7 @@ struct Known<'a> {
 
 impl Known<'_> {
     fn is_of(&self, method: &Method) -> bool {
-        self.method.has_signature(method.name, method.descriptor)
+        self.method.number == method.number
     }
 
     fn has_index(&self, index: u32) -> bool {
@@ -166,9 +166,7 @@ impl Known<'_> {
 }
 
 fn known<'a>(abi: &AbiSheet, classes: &[AbiClass], inherited: &[Entry<'a>]) -> Vec<Known<'a>> {
-    let index = |class: AbiClass, method: &Method| {
-        abi.slots_of(class).find(|slot| slot.name == method.name && slot.descriptor == method.descriptor).map(|slot| slot.index)
-    };
+    let index = |class: AbiClass, method: &Method| abi.slots_of(class).find(|slot| slot.number == method.number).map(|slot| slot.index);
     let fixed = |method: &Method| classes.iter().enumerate().find_map(|(nearer, &class)| Some((index(class, method)?, nearer)));
     inherited.iter().filter_map(|&entry| entry.method.map(|method| Known { entry, method, fixed: fixed(&method) })).collect()
 }
@@ -224,7 +222,7 @@ fn relaid_before<'a>(abi: &AbiSheet, classes: &[AbiClass], inherited: Vec<Entry<
     let mut table = vec![EMPTY; minimum];
     for entry in inherited {
         let Some(method) = entry.method else { continue };
-        match fixed_index(abi, classes, method.name, method.descriptor) {
+        match fixed_index(abi, classes, method.number) {
             Some(fixed) => table[fixed as usize] = entry,
             None => table.push(entry),
         }
@@ -248,7 +246,7 @@ pub fn parent_entries<'a>(sheet: &ClassSheet<'a>, abi: &AbiSheet, area: &[u32], 
 pub fn native_view<'a>(sheet: &ClassSheet<'a>, abi: &AbiSheet, class: u32, parent: &[Entry<'a>]) -> Vec<Entry<'a>> {
     let classes = abi_classes(sheet, abi, &sheet.chain(sheet.class(class).parent));
     let emptied = |index: usize, method: Method| {
-        sheet.class(method.owner).link_state != 3 && fixed_index(abi, &classes, method.name, method.descriptor) != Some(index as u32)
+        sheet.class(method.owner).link_state != 3 && fixed_index(abi, &classes, method.number) != Some(index as u32)
     };
     let view = parent.iter().enumerate().map(|(index, entry)| match entry.method {
         Some(method) if emptied(index, method) => EMPTY,
@@ -321,8 +319,8 @@ fn added_methods<'a>(
         let of_view = of_view.map(|method| Method { flags: method.flags & !ABSTRACT, target, owner: class, ..method });
         of_view.or_else(|| {
             let fixed = sources.iter().find_map(|&source| abi.slots_of(source).find(|slot| slot.index == index))?;
-            Some(Method { name: fixed.name, descriptor: fixed.descriptor, flags: 1, target, owner: class })
+            Some(Method { name: fixed.name, descriptor: fixed.descriptor, flags: 1, target, owner: class, number: fixed.number })
         })
     });
-    named.filter(|method| !declared.iter().any(|known| known.has_signature(method.name, method.descriptor))).collect()
+    named.filter(|method| !declared.iter().any(|known| known.number == method.number)).collect()
 }

@@ -163,6 +163,7 @@ pub enum Why {
         words: usize,
         lent: usize,
     },
+    /// Row 3 of the list of numbers.
     FewNumbers {
         words: usize,
         lent: usize,
@@ -215,9 +216,12 @@ impl Refused {
         if self.why == Why::Sheets {
             return format!("the words break row {} of the sheets' own rules: `tools/sheet check` names the record", self.row);
         }
+        if let Why::FewNumbers { words, lent } = self.why {
+            return format!("the list of numbers takes {words} words, and {} lent", were(lent, "word"));
+        }
         // Row 3 holds, as every later row is judged after it.
         let text = text_of_class_words(set);
-        let names = Names(ClassSheet { words: set, text: &text });
+        let names = Names(ClassSheet::unnumbered(set, &text));
         let mut sentence = names.class(class);
         write!(sentence, ": {}", self.about(&names)).expect("a string takes all");
         sentence
@@ -225,7 +229,7 @@ impl Refused {
 
     fn about(&self, names: &Names) -> String {
         match &self.why {
-            Why::Sheets => String::new(),
+            Why::Sheets | Why::FewNumbers { .. } => String::new(),
             Why::NoClass { number, count } => format!("the set has no class {number}, its classes are 1 to {count}"),
             Why::LinkedAlready => "it is linked already".to_owned(),
             Why::ParentUnlinked { parent } => format!("its parent {} is not linked", names.class(*parent)),
@@ -295,7 +299,6 @@ impl Refused {
             Why::FewMissingWords { words, lent } => {
                 format!("the list of missing slots takes {words} words, 33 for each class, and {} lent", were(*lent, "word"))
             }
-            Why::FewNumbers { words, lent } => format!("the list of numbers takes {words} words, and {} lent", were(*lent, "word")),
         }
     }
 }

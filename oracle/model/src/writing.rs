@@ -11,7 +11,7 @@ pub fn write_class_sheet(set: &[u32], bytes: &mut [u8]) -> Result<u32, Refused> 
     // "Turned away: 3 to 5 as for a link"
     refuse(3, !fits(class_content(set), set))?;
     let text = text_of_class_words(set);
-    let sheet = ClassSheet { words: set, text: &text };
+    let sheet = ClassSheet::unnumbered(set, &text);
     refuse(4, !class_records_keep_the_rules(&sheet))?;
     refuse(5, !class_descriptors_hold(&sheet))?;
     let content = &set[..class_content(set).expect("row 3 holds")];

@@ -4,6 +4,7 @@ use lib.Seq.{length-take-le}
 use Rattle.class_sheet.specs.ClassSheet.{class_count}
 use Rattle.listing.specs.Listing.{fresh_area, stub_words, fresh_counts, link_row, links, link_all}
 use Rattle.listing.proofs.Longest.{set-lines, set-few, set-fits, part-fits}
+use Rattle.listing.proofs.NumberLaws.{filled}
 use Rattle.listing.proofs.list_set.Goals as goal
 
 pub slice_bounds-refusals-end : goal.slice_bounds-refusals-end
@@ -14,18 +15,21 @@ slice_bounds-refusals-end-2 c =
     let h : c.class_count-n.result ≤ 64 = omega (arith, set-fits _ _ c.requires) in sym (length-take-le _ _ h)
 
 pub link_classes-requires : goal.link_classes-requires
-link_classes-requires c = let h : c.class_count-n.result ≤ 64 = omega (arith, set-fits _ _ c.requires) in part-fits _ _ refl h
+link_classes-requires c =
+    let h : c.class_count-n.result ≤ 64 = omega (arith, set-fits _ _ c.requires) in
+    (part-fits _ _ refl h, filled _ _ c.requires c.number_signatures.result c.number_signatures.ensures)
 
 pub put_classes-requires : goal.put_classes-requires
 put_classes-requires c =
-    let h : c.class_count-n.result ≤ 64 = omega (arith, set-fits _ _ c.requires) in part-fits _ _ c.link_classes.auto.refusals h
+    let h : c.class_count-n.result ≤ 64 = omega (arith, set-fits _ _ c.requires) in
+    (part-fits _ _ c.link_classes.auto.refusals h, c.link_classes.ensures.matched)
 
 pub returns : goal.returns
 unfolding fresh_counts
 returns c =
     let p = c.link_classes.new in
     let h : c.class_count-n.result ≤ 64 = omega (arith, set-fits _ _ c.requires) in
-    let linked = c.link_classes.ensures
+    let linked = c.link_classes.ensures.linked
     ∙ ap (λ (m : ℕ). link_all c.args.abi.now c.stub_words.result m 1 c.args.set c.fresh_area.result fresh_counts) (length-take-le _ _ h) in
     let k : links (map link_row p.refusals) p.memory.set p.memory.area p.memory.missing
     ≡ link_all c.args.abi.now stub_words (class_count c.args.set) 1 c.args.set fresh_area fresh_counts =

@@ -4,7 +4,7 @@ use mathlib.Core.List.{◌++◌}
 use Prim.Native.Nat.{◌≤◌, min}
 use lib.ListN.{length}
 use Rattle.class_sheet.specs.ClassSheet.{class_compiler_slots}
-use Rattle.linking.specs.Sheets.{of_sheets, of_bytes}
+use Rattle.linking.specs.Sheets.{of_sheets, of_numbers}
 use Rattle.linking.specs.Compiler.{added_from, compiler_targets}
 use Rattle.reading.specs.Tables.{entries}
 use Rattle.growth.specs.News.{added_of}
@@ -15,6 +15,6 @@ abbrev pub invariant-loop-i : goal.invariant-loop-i
 invariant-loop-i l = record {
   few : length l.news ≤ l.i;
   count : l.count ≡ min (class_compiler_slots l.sheets.set.now l.c) 1024;
-  rest : of_sheets added_of l.sheets l.news ++ of_bytes add_rest l.sheets l.c (entries l.view) l.count l.i
-      ≡ of_bytes added_from l.sheets l.c (entries l.view) 0 (compiler_targets l.sheets.set.now l.c);
+  rest : of_sheets added_of l.sheets l.news ++ of_numbers add_rest l.sheets l.c (entries l.view) l.count l.i
+      ≡ of_numbers added_from l.sheets l.c (entries l.view) 0 (compiler_targets l.sheets.set.now l.c);
 }

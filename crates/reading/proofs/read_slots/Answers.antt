@@ -2,8 +2,7 @@
 -- declares its method. Assumes nothing.
 use Rattle.std.proofs.Common.{◌≡◌, length, arith, ◌∙◌, sym}
 use Rattle.std.proofs.lemmas.List.{take_all}
-use Rattle.linking.specs.Signature.{by_bytes}
-use Rattle.linking.specs.Sheets.{of_sheets}
+use Rattle.linking.specs.Signature.{by_numbers}
 use Rattle.reading.proofs.ReadLaws.{table_is}
 use Rattle.reading.proofs.MarkLaws.{all_read}
 use Rattle.reading.proofs.ClassLaws.{paired_start, read_paired, read_classes}
@@ -39,7 +38,7 @@ returns-clause-is c =
     let place = c.class_table_place-place in
     let m = marks (goal.at.returns-clause-is c).After-mark_by_target in
     let k : length c.mark_by_index.new.marks ≡ length c.args.words.now = omega arith in
-    let r = all_read (of_sheets by_bytes s) s.set.now s.text.now s.abi.now s.labels.now c.args.area.now place.result c.args.c (length c.args.words.now) _ _
+    let r = all_read (by_numbers s.numbers.now) s.set.now s.text.now s.abi.now s.labels.now c.args.area.now place.result c.args.c (length c.args.words.now) _ _
     c.copy_slots.ensures.words c.copy_slots.ensures.marks (rw m.0 at c.mark_by_target.ensures.marks) (rw m.1 at c.mark_by_index.ensures.marks)
     (rw k at c.give_sources.ensures) (omega arith) (omega arith) in
     table_is _ _ _ _ _ _ _ place.ensures c.requires.0 r.0
@@ -53,6 +52,6 @@ returns-clause-classes c =
     let m = marks (goal.at.returns-clause-classes c).After-mark_by_target in
     let all = take_all (length c.args.words.now) c.mark_by_index.new.classes (omega arith) in
     let d = read_classes s.set.now c.args.area.now place.result c.args.c (length c.args.words.now) _ _ _ copied.words copied.marks copied.classes
-    (rw m.0 at target.marks) (rw m.0 at target.classes) (omega arith) (omega arith) (omega arith) (of_sheets by_bytes s) s.text.now s.abi.now s.labels.now
+    (rw m.0 at target.marks) (rw m.0 at target.classes) (omega arith) (omega arith) (omega arith) (by_numbers s.numbers.now) s.text.now s.abi.now s.labels.now
     (rw m.1 at c.mark_by_index.ensures.classes) place.ensures in
     sym all ∙ d.0

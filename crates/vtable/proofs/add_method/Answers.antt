@@ -1,8 +1,7 @@
 -- A method that is not eligible is left out; any other one goes to its fixed slot, or to the slot of its signature, or behind the last
 -- one. Assumes nothing.
 use mathlib.Core.Path.{◌∙◌}
-use Rattle.linking.specs.Signature.{by_bytes}
-use Rattle.linking.specs.Sheets.{of_sheets}
+use Rattle.linking.specs.Signature.{by_numbers}
 use Rattle.vtable.proofs.AddLaws.{add_none, add-put}
 use Rattle.vtable.proofs.add_method.Goals as goal
 
@@ -17,4 +16,4 @@ returns-in-Some-clause-is c =
 pub returns-in-None-clause-is : goal.returns-in-None-clause-is
 returns-in-None-clause-is c =
     add-put _ _ _ _ _ _ _ c.eligible.ensures _ c.if-not-eligible.false c.fixed_of.ensures c.find_slot-slot.ensures
-    (c.put_found.ensures.is (of_sheets by_bytes c.args.sheets) ∙ rw c.in-None.is)
+    (c.put_found.ensures.is (by_numbers c.args.sheets.numbers.now) ∙ rw c.in-None.is)

@@ -1,8 +1,10 @@
 //! `steps SEED FILE`: for each bucket the smallest calls that reach it, each with all that it is
 //! lent and the Rust's answer. The file is little-endian u32 words. A call: kind (0 link, 1 ask,
-//! 14 missing slots), class, interface; refusal and the two answer words; the lengths of class words, ABI words, area,
-//! stubs and the list of missing slots; these five; then class words, area and list after the call. Then the calls of the telling rows
-//! of class kind 3 and of missing slots, and small calls of the other functions, in the same form: what they read stands for the ABI words, what they write for the
+//! 14 missing slots, 15 filling), class, interface; refusal and the two answer words; the lengths of class words, ABI words, area,
+//! stubs, the list of missing slots and the list of numbers; the first five of these; of the list of numbers how many words are not 0, and
+//! place and word of each; then class words, area and list of missing slots after the call; of the list of numbers how many words it changed, and place and word of
+//! each. Then small calls by lists of numbers of any content, the calls of the telling rows
+//! of class kind 3, of missing slots and of numbers, and small calls of the other functions, in the same form: what they read stands for the ABI words, what they write for the
 //! area, bytes one to a word, and a number that they take for the class (kinds 2 reference words,
 //! 3 reference count, 4 writing, 5 reading loosely, 6 renumbering, 7 and 8 reading a class and an
 //! ABI sheet, 9 argument words, 10 names, the second for the area, 11 and 12 making a class sheet
@@ -33,6 +35,8 @@ const FEW_WORDS: usize = 800;
 /// How many cases of kind 3 are looked at, and the calls kept for a bucket of theirs.
 const PACKAGES: u64 = 3_000;
 const KEPT_PACKAGES: usize = 16;
+/// How many small calls by lists of numbers of any content are kept.
+const KEPT_NUMBERED: usize = 300;
 /// How many calls of each other function are kept, and their most words.
 const OTHERS: usize = 200;
 const OTHERS_WORDS: usize = 3_000;
@@ -73,11 +77,16 @@ fn main() -> ExitCode {
             }
         }
     }
+    let seed_number = seed.parse().unwrap_or(1);
+    let numbered = (0..).flat_map(|number| calls_of(&mut oracle, &generate::numbered(seed_number, number).0, |_| Vec::<usize>::new()));
+    let numbered = numbered.map(|(_, words)| words).filter(|words| words.len() <= FEW_WORDS).take(KEPT_NUMBERED);
+    let numbered: Vec<Vec<u32>> = numbered.collect();
     let rows = telling::own_rows();
     let rows = rows.iter().flat_map(|row| calls_of(&mut oracle, &row.case, |_| Vec::<usize>::new())).map(|(_, words)| words);
     let rows: Vec<Vec<u32>> = rows.collect();
     let others = others(&mut oracle, seed.parse().unwrap_or(1));
-    let mut chosen: Vec<&Vec<u32>> = kept.values().chain(packaged.values()).flatten().chain(&rows).chain(&others).collect();
+    let mut chosen: Vec<&Vec<u32>> =
+        kept.values().chain(packaged.values()).flatten().chain(&numbered).chain(&rows).chain(&others).collect();
     chosen.sort();
     chosen.dedup();
     let bytes: Vec<u8> = chosen.iter().flat_map(|words| words.iter()).flat_map(|word| word.to_le_bytes()).collect();
@@ -126,10 +135,8 @@ fn class_file_call(oracle: &mut Oracle, file: &class_files::FileCall) -> Vec<u32
     let (mut fields, mut methods, mut text) = (vec![7; file.fields], vec![7; file.methods], vec![7; file.text]);
     let answer = oracle.read_class_file(&file.bytes, &file.targets, &mut fields, &mut methods, &mut text);
     let head = [13, file.fields as u32, file.methods as u32, answer.refusal, 0, 0];
-    let lengths = [0, file.bytes.len(), before.len(), file.targets.len(), 0].map(|length| length as u32);
-    let lent = [&wide(&file.bytes)[..], &before, &file.targets];
-    let after = [&fields[..], &methods, &text, &answer.words];
-    [&head[..], &lengths, &lent.concat(), &after.concat()].concat()
+    let after = [&fields[..], &methods, &text, &answer.words].concat();
+    laid(head, [&[], &wide(&file.bytes), &before, &file.targets, &[]], [&[], &after, &[]], [&[], &[]])
 }
 
 #[expect(clippy::ptr_arg, reason = "a filter")]
@@ -140,8 +147,25 @@ fn is_small(words: &Vec<u32>) -> bool {
 /// A call in the file's form: class words, what is read, what is written before and after.
 fn call(kind: u32, number: u32, answer: Answer, set: &[u32], read: &[u32], before: &[u32], after: &[u32]) -> Vec<u32> {
     let head = [kind, number, 0, answer.refusal, answer.first, answer.second];
-    let lengths = [set.len(), read.len(), before.len(), 0, 0].map(|length| length as u32);
-    [&head[..], &lengths, set, read, before, set, after].concat()
+    laid(head, [set, read, before, &[], &[]], [set, after, &[]], [&[], &[]])
+}
+
+/// A call's words: its first six, what it is lent, class words, area and list of missing slots after it, and the list of numbers before and
+/// after it.
+fn laid(head: [u32; 6], lent: [&[u32]; 5], after: [&[u32]; 3], numbers: [&[u32]; 2]) -> Vec<u32> {
+    let lengths = lent.iter().chain(&numbers[..1]).map(|slice| slice.len() as u32);
+    let mut words: Vec<u32> = head.into_iter().chain(lengths).collect();
+    words.extend(lent.concat());
+    words.extend(changes(&vec![0; numbers[0].len()], numbers[0]));
+    words.extend(after.concat());
+    words.extend(changes(numbers[0], numbers[1]));
+    words
+}
+
+/// How many words differ, and place and new word of each.
+fn changes(before: &[u32], after: &[u32]) -> Vec<u32> {
+    let changed: Vec<u32> = (0..after.len()).filter(|&at| before[at] != after[at]).flat_map(|at| [at as u32, after[at]]).collect();
+    [vec![changed.len() as u32 / 2], changed].concat()
 }
 
 /// A reading; of a class sheet by rows 1 to 3 alone, too.
@@ -160,9 +184,8 @@ fn order_call(oracle: &mut Oracle, order: &orders::Order) -> Vec<u32> {
     let before = vec![7; order.lent];
     let (mut set, mut after) = (order.set.clone(), before.clone());
     let answer = oracle.renumber_classes(&mut set, &mut after);
-    let mut words = call(6, 0, answer, &order.set, &[], &before, &[]);
-    words.truncate(words.len() - order.set.len());
-    [words, set, after].concat()
+    let head = [6, 0, 0, answer.refusal, answer.first, answer.second];
+    laid(head, [&order.set, &[], &before, &[], &[]], [&set, &after, &[]], [&[], &[]])
 }
 
 fn wide(bytes: &[u8]) -> Vec<u32> {
@@ -216,16 +239,13 @@ fn calls_of<B>(oracle: &mut Oracle, case: &Case, reached: impl Fn(&Step) -> Vec<
             Call::Link { class, .. } => (0, class, 0),
             Call::Ask { class, interface, .. } => (1, class, interface),
             Call::Missing { class } => (14, class, 0),
+            Call::Fill => (15, 0, 0),
         };
-        let lent = [&before.set, &case.abi, &before.area, stubs, &before.missing];
+        let lent: [&[u32]; 5] = [&before.set, &case.abi, &before.area, stubs, &before.missing];
         if lent.iter().all(|slice| slice.len() <= MOST_WORDS) {
-            let mut words = vec![kind, class, interface, answer.refusal, answer.first, answer.second];
-            words.extend(lent.iter().map(|slice| slice.len() as u32));
-            lent.iter().for_each(|slice| words.extend_from_slice(slice));
-            words.extend_from_slice(&after.set);
-            words.extend_from_slice(&after.area);
-            words.extend_from_slice(&after.missing);
-            found.push((buckets, words));
+            let head = [kind, class, interface, answer.refusal, answer.first, answer.second];
+            let left: [&[u32]; 3] = [&after.set, &after.area, &after.missing];
+            found.push((buckets, laid(head, lent, left, [&before.numbers, &after.numbers])));
         }
         before = after;
     }

@@ -2,7 +2,7 @@
 
 use crate::model::parts::{Method, reading};
 
-use super::{Bucket, Hits, View, area_clauses, hit};
+use super::{Bucket, Hits, View, area_clauses, hit, numbers};
 
 pub fn ask(view: &View, class: u32, interface: u32, hits: &mut Hits) {
     let sheet = &view.sheet;
@@ -67,7 +67,7 @@ fn implementations(view: &View, class: u32, interface: u32, hits: &mut Hits) {
             hits.push(if entry.target == 0 { Bucket::AskUnknownZero } else { Bucket::AskUnknown });
             continue;
         };
-        let mut alike = methods.iter().filter(|method| method.has_signature(known.name, known.descriptor)).peekable();
+        let mut alike = methods.iter().filter(|method| method.number == known.number).peekable();
         let first = alike.peek().copied();
         match alike.find(|method| method.flags & 0x000A == 0) {
             None => {
@@ -79,6 +79,7 @@ fn implementations(view: &View, class: u32, interface: u32, hits: &mut Hits) {
                 hits.push(if method.owner == class { Bucket::AskOwn } else { Bucket::AskInherited });
                 hit(hits, Bucket::AskAbstract, method.flags & 0x0400 != 0);
                 hit(hits, Bucket::AskZeroTarget, method.target == 0);
+                numbers::implemented(view, method.owner, method.number, hits);
                 hit(hits, Bucket::AskAngle, method.name.starts_with(b"<"));
                 hit(hits, Bucket::AskSkips, first.is_some_and(|first| first.flags & 0x000A != 0));
             }

@@ -1,12 +1,12 @@
 //! The buckets that a compiler table reaches.
 
 use crate::model::argument_words;
-use crate::model::parts::{AbiClass, Entry, Method, eligible, fixed_index, native_view, reading};
+use crate::model::parts::{AbiClass, AbiRecord, Entry, Method, eligible, fixed_index, native_view, reading};
 
 use super::links::abi_classes;
 use super::{Bucket, Hits, View, hit};
 
-pub fn compiler_table(view: &View, class: u32, compiled: &[u32], hits: &mut Hits) {
+pub fn compiler_table<'a>(view: &View<'a>, class: u32, compiled: &[u32], hits: &mut Hits) {
     let (sheet, abi) = (&view.sheet, &view.abi);
     let parent = sheet.class(class).parent;
     let entries = if parent == 0 { Vec::new() } else { reading(sheet, abi, &view.step.before.area, parent) };
@@ -19,7 +19,7 @@ pub fn compiler_table(view: &View, class: u32, compiled: &[u32], hits: &mut Hits
             continue;
         };
         hit(hits, Bucket::ViewEmptied, kept.method.is_none());
-        let fixed = fixed_index(abi, &parent_abi, method.name, method.descriptor) == Some(index);
+        let fixed = fixed_index(abi, &parent_abi, method.number) == Some(index);
         hit(hits, Bucket::ViewFixed, kept.method.is_some() && fixed);
         hit(hits, Bucket::ViewState3, kept.method.is_some() && !fixed);
     }
@@ -44,33 +44,37 @@ pub fn compiler_table(view: &View, class: u32, compiled: &[u32], hits: &mut Hits
         let fixed_at = |entry: AbiClass| abi.slots_of(entry).find(|slot| slot.index as usize == index);
         let interfaces = sheet.interfaces_of(class).iter().filter_map(|&interface| abi.class_named(sheet.name(interface)));
         let of_view = there.and_then(|entry| entry.method);
+        let of_slot = |slot: AbiRecord<'a>| {
+            let AbiRecord { name, descriptor, number, .. } = slot;
+            Method { name, descriptor, flags: 1, target, owner: class, number }
+        };
         let named = if let Some(method) = of_view {
             hits.push(Bucket::NamedByView);
             hit(hits, Bucket::NamedAbstract, method.flags & 0x0400 != 0);
-            (method.name, method.descriptor)
+            Method { flags: 1, target, owner: class, ..method }
         } else if let Some(slot) = own_abi.and_then(fixed_at) {
             hits.push(Bucket::NamedByOwnAbi);
-            (slot.name, slot.descriptor)
+            of_slot(slot)
         } else if let Some(slot) = interfaces.into_iter().find_map(fixed_at) {
             hits.push(Bucket::NamedByInterface);
-            (slot.name, slot.descriptor)
+            of_slot(slot)
         } else {
             hits.push(Bucket::Nameless);
             continue;
         };
-        match declared.iter().find(|method| method.has_signature(named.0, named.1)) {
+        match declared.iter().find(|method| method.number == named.number) {
             Some(method) => hits.push(if method.flags & 0x0008 != 0 { Bucket::NotAddedStatic } else { Bucket::NotAddedDeclared }),
             None => {
                 hits.push(Bucket::Added);
-                hit(hits, Bucket::AddedTwice, added.iter().any(|method| method.has_signature(named.0, named.1)));
+                hit(hits, Bucket::AddedTwice, added.iter().any(|method| method.number == named.number));
                 hit(hits, Bucket::AddedToEmpty, declared.is_empty());
                 let (bucket, flags) = match of_view {
                     None => (Bucket::AddedSlot255, 1),
                     Some(method) if method.flags & 0x0008 != 0 => (Bucket::AddedStatic255, method.flags),
                     Some(method) => (Bucket::AddedWords255, method.flags),
                 };
-                hit(hits, bucket, argument_words(named.1, flags) == Ok(255));
-                added.push(Method { name: named.0, descriptor: named.1, flags: 1, target, owner: class });
+                hit(hits, bucket, argument_words(named.descriptor, flags) == Ok(255));
+                added.push(named);
             }
         }
     }
@@ -111,7 +115,7 @@ fn matches_and_appends(view: &View, class: u32, table: &Compiled, hits: &mut Hit
     let inherited = entries.iter().filter_map(|entry| Some((entry.target, entry.method?)));
     let own = declared.iter().chain(added).map(|method| (method.target, *method));
     for (word, method) in own.chain(inherited).filter(|(_, method)| eligible(method)) {
-        if known.iter().any(|known| known.has_signature(method.name, method.descriptor)) {
+        if known.iter().any(|known| known.number == method.number) {
             hit(hits, Bucket::AppendedNot, method.owner == class);
             continue;
         }

@@ -4,7 +4,7 @@ use crate::model::parts::{
     AbiClass, AbiRecord, AbiSheet, EMPTY, Entry, Method, eligible, entry_of, fixed_index, minimum_size, reading, relaid,
 };
 
-use super::{Bucket, Hits, View, area_clauses, compiled, fields, hit, missing, written};
+use super::{Bucket, Hits, View, area_clauses, compiled, fields, hit, missing, numbers, written};
 
 pub fn link(view: &View, class: u32, hits: &mut Hits) {
     match view.step.answer.refusal {
@@ -17,6 +17,7 @@ pub fn link(view: &View, class: u32, hits: &mut Hits) {
         return;
     }
     surroundings(view, class, hits);
+    numbers::below(view, class, hits);
     match record.kind {
         0 => fields::of_built(view, class, hits),
         1 => fields::of_generated(view, class, hits),
@@ -39,6 +40,7 @@ pub fn link(view: &View, class: u32, hits: &mut Hits) {
         0 => {
             written::accepted(view, class, hits);
             missing::counted(view, class, hits);
+            numbers::linked(view, class, hits);
         }
         14 => written::row_14(view, class, hits),
         15 => written::row_15(view, class, hits),
@@ -127,9 +129,7 @@ fn build_methods(view: &View, class: u32, hits: &mut Hits) {
     hit(hits, Bucket::TableEmptyAbi, own.is_some_and(|own| own.slot_count == 0 && own.table_size().is_none()) && !inherited.is_empty());
     for &class in &classes {
         let slots: Vec<AbiRecord> = abi.slots_of(class).collect();
-        let repeats = |position: usize| {
-            slots[..position].iter().any(|slot| slot.name == slots[position].name && slot.descriptor == slots[position].descriptor)
-        };
+        let repeats = |position: usize| slots[..position].iter().any(|slot| slot.number == slots[position].number);
         hit(hits, Bucket::ShadowedRow, (1..slots.len()).any(repeats));
     }
 
@@ -156,28 +156,26 @@ fn no_generated(view: &View, class: u32) -> bool {
 /// Each signature has one index and each index one signature.
 fn is_orderly(view: &View, classes: &[AbiClass]) -> bool {
     let slots: Vec<AbiRecord> = classes.iter().flat_map(|&class| view.abi.slots_of(class)).collect();
-    let agree =
-        |one: &AbiRecord, other: &AbiRecord| (one.index == other.index) == (one.name == other.name && one.descriptor == other.descriptor);
+    let agree = |one: &AbiRecord, other: &AbiRecord| (one.index == other.index) == (one.number == other.number);
     slots.iter().all(|one| slots.iter().all(|other| agree(one, other)))
 }
 
 /// What relaying reaches.
 fn relaid_hits(abi: &AbiSheet, classes: &[AbiClass], inherited: &[Entry], table: &[Entry], hits: &mut Hits) {
-    let distance =
-        |method: &Method| (1..=classes.len()).find(|&n| fixed_index(abi, &classes[..n], method.name, method.descriptor).is_some());
-    let same = |entry: &Entry, method: &Method| entry.method.is_some_and(|known| known.has_signature(method.name, method.descriptor));
+    let distance = |method: &Method| (1..=classes.len()).find(|&n| fixed_index(abi, &classes[..n], method.number).is_some());
+    let same = |entry: &Entry, method: &Method| entry.method.is_some_and(|known| known.number == method.number);
     for (position, entry) in inherited.iter().enumerate() {
         let Some(method) = entry.method else {
             hits.push(Bucket::RelaidUnknownGoes);
             continue;
         };
-        let Some(fixed) = fixed_index(abi, classes, method.name, method.descriptor) else {
+        let Some(fixed) = fixed_index(abi, classes, method.number) else {
             hits.push(Bucket::RelaidFollows);
             continue;
         };
         let is_again = inherited[position + 1..].iter().any(|later| same(later, &method));
         let stays = table[fixed as usize].method.expect("a known entry has this index");
-        if stays.has_signature(method.name, method.descriptor) {
+        if stays.number == method.number {
             hits.push(if fixed as usize == position { Bucket::RelaidFixed } else { Bucket::RelaidMoved });
             hit(hits, Bucket::RelaidOverwritten, is_again);
         } else {
@@ -209,9 +207,9 @@ pub fn place_methods<'a>(view: &View<'a>, class: u32, hits: &mut Hits) -> (Optio
         if !eligible(&method) {
             continue;
         }
-        let same = |entry: &Entry| entry.method.is_some_and(|known| known.has_signature(method.name, method.descriptor));
+        let same = |entry: &Entry| entry.method.is_some_and(|known| known.number == method.number);
         let own_slot = table.iter().position(same);
-        let fixed = fixed_index(abi, &classes, method.name, method.descriptor).map(|fixed| fixed as usize);
+        let fixed = fixed_index(abi, &classes, method.number).map(|fixed| fixed as usize);
         let slot = match (fixed, own_slot) {
             (Some(fixed), Some(slot)) if fixed != slot => return (Some(11), table),
             (Some(fixed), None) if table[fixed].method.is_some() => return (Some(12), table),

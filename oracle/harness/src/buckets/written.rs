@@ -3,6 +3,7 @@
 use crate::model::argument_words;
 use crate::model::parts::{built_fields, eligible};
 use crate::sheet::{class_word, class_word_at};
+use crate::side::SheetsMut;
 
 use super::{Bucket, Hits, View, hit};
 
@@ -112,8 +113,9 @@ pub fn row_15(view: &View, class: u32, hits: &mut Hits) {
     set.resize(set.len().max(11_684), 0);
     area.resize(area.len() + 2048, 0);
     let stubs = vec![1; 1024];
-    let mut missing = vec![0; 33 * 64];
-    let Ok((_, slots)) = crate::model::link(&mut set, view.abi.words, class, &mut area, &stubs, &mut missing) else { return };
+    let (mut missing, mut numbers) = (vec![0; 33 * 64], view.step.before.numbers.clone());
+    let sheets = SheetsMut { set: &mut set, abi: view.abi.words, numbers: &mut numbers };
+    let Ok((_, slots)) = crate::model::link(sheets, class, &mut area, &stubs, &mut missing) else { return };
     let slots = slots as usize;
     hit(hits, Bucket::Row15Stubs, view.stubs.len() < slots);
     let place = area[0] as usize - slots - 2;

@@ -5,6 +5,7 @@
 use crate::case::{Call, Case};
 use crate::compare::{State, perform};
 use crate::model;
+use crate::oracle::numbers;
 use crate::random::Random;
 use crate::side::{Answer, Linker};
 
@@ -47,10 +48,11 @@ fn replay_case(reader: &mut Reader, random: &mut Random, side: &mut dyn Linker, 
     let [stub_lists] = reader.words()?;
     let stubs = (0..stub_lists).map(|_| reader.list()).collect::<Result<Vec<_>, _>>()?;
     let mut statics: Vec<u32> = (0..records(&old)).map(|_| inserted(random)).collect();
-    let missing = vec![0; 33 * 64];
-    let mut found = State { set: widened(&old, &statics), area: area.clone(), missing: missing.clone() };
-    let mut expected = State { set: old, area, missing };
+    let (numbers, missing) = (vec![0; numbers::WORDS], vec![0; 33 * 64]);
+    let mut found = State { set: widened(&old, &statics), numbers: numbers.clone(), area: area.clone(), missing: missing.clone() };
+    let mut expected = State { set: old, numbers, area, missing };
     let case = Case { abi, stubs, ..Case::default() };
+    perform(side, &case, Call::Fill, &mut found);
     let [calls] = reader.words()?;
     let mut clashed = false;
     for number in 0..calls {
@@ -61,7 +63,7 @@ fn replay_case(reader: &mut Reader, random: &mut Random, side: &mut dyn Linker, 
         let stubs = stubs as usize;
         let call = if kind == 0 { Call::Link { class, stubs } } else { Call::Ask { class, interface, stubs } };
         // from a link on that inherits two signatures of one fixed index what is stored is the Rust's, which loses an entry
-        clashed = clashed || (kind == 0 && model::link_clashes(&found.set, &case.abi, class, &found.area));
+        clashed = clashed || (kind == 0 && model::link_clashes(found.sheets(&case.abi), class, &found.area));
         if clashed {
             continue;
         }

@@ -27,8 +27,8 @@ pub fn case(random: &mut Random) -> Case {
     let stubs: Vec<Vec<u32>> =
         (0..2).map(|list| (0..random.pick(&[40, 40, 40, 2])).map(|stub| FIRST_STUB + 100 * list + stub).collect()).collect();
     let calls = calls(random, count, roots);
-    let missing = vec![0; 33 * count as usize];
-    Case { set: draft.set_words(), abi: draft.abi_words(), area, missing, stubs, calls, rebuilds: true, spoiled: None }
+    let (numbers, missing) = (vec![0; 1024], vec![0; 33 * count as usize]);
+    Case { set: draft.set_words(), abi: draft.abi_words(), numbers, area, missing, stubs, calls, rebuilds: true, spoiled: None }
 }
 
 /// One of the first, roots, or a class below another.

@@ -31,6 +31,7 @@ pub fn case(random: &mut Random) -> Case {
     Case {
         set: draft.set_words(),
         abi: draft.abi_words(),
+        numbers: vec![0; 1024],
         area: area(random, words),
         missing: vec![0; 33 * count as usize],
         stubs: vec![stubs],

@@ -5,7 +5,7 @@ use std::collections::{BinaryHeap, HashSet};
 
 use crate::sheet::{Abi, AbiMember, ClassRecord, MemberRecord, Set, blocks, class_word};
 
-use super::descriptors;
+use super::{descriptors, numbers};
 
 /// Rows 3 to 5 of a link or an ask, each over both sheets before the next.
 pub fn sheets(set: &[u32], abi: &[u32]) -> Result<(Set, Abi), u32> {
@@ -19,6 +19,11 @@ pub fn sheets(set: &[u32], abi: &[u32]) -> Result<(Set, Abi), u32> {
         return Err(5);
     }
     Ok((set, abi))
+}
+
+/// The same of a call that is lent the list of the signatures' numbers: row 3 also takes a shorter list.
+pub fn numbered_sheets(set: &[u32], abi: &[u32], list: &[u32]) -> Result<(Set, Abi), u32> {
+    if list.len() < numbers::WORDS { Err(3) } else { sheets(set, abi) }
 }
 
 /// Reads a class sheet's blocks, rows 1 to 5.

@@ -7,7 +7,7 @@ use harness::generate::{AbiClassDraft, AbiMemberDraft, ClassDraft, Draft, Member
 use harness::model::Model;
 use harness::oracle::Oracle;
 use harness::sheet::{Set, class_word};
-use harness::side::{Answer, Linker};
+use harness::side::{Answer, Linker, Sheets, SheetsMut};
 
 pub const FIRST_STUB: u32 = 0xF000_0000;
 
@@ -60,6 +60,7 @@ pub struct Desk {
     oracle: Oracle,
     pub set: Vec<u32>,
     pub abi: Vec<u32>,
+    pub numbers: Vec<u32>,
     pub area: Vec<u32>,
     pub stubs: Vec<u32>,
     pub missing: Vec<u32>,
@@ -79,22 +80,28 @@ impl Desk {
         let mut area = vec![0; 2000];
         area[0] = 1;
         let stubs = (0..1024).map(|index| FIRST_STUB + index).collect();
-        Self { oracle, set: draft.set_words(), abi: draft.abi_words(), area, stubs, missing: vec![7; 33 * 64] }
+        let (set, abi, mut numbers) = (draft.set_words(), draft.abi_words(), vec![7; 1024]);
+        oracle.number_signatures(&set, &abi, &mut numbers);
+        Self { oracle, set, abi, numbers, area, stubs, missing: vec![7; 33 * 64] }
     }
 
     pub fn link(&mut self, class: u32) -> Answer {
         let (mut set, mut area) = (self.set.clone(), self.area.clone());
-        let mut missing = self.missing.clone();
-        let by_model = Model.link(&mut set, &self.abi, class, &mut area, &self.stubs, &mut missing);
-        let answer = self.oracle.link(&mut self.set, &self.abi, class, &mut self.area, &self.stubs, &mut self.missing);
+        let (mut numbers, mut missing) = (self.numbers.clone(), self.missing.clone());
+        let sheets = SheetsMut { set: &mut set, abi: &self.abi, numbers: &mut numbers };
+        let by_model = Model.link(sheets, class, &mut area, &self.stubs, &mut missing);
+        let sheets = SheetsMut { set: &mut self.set, abi: &self.abi, numbers: &mut self.numbers };
+        let answer = self.oracle.link(sheets, class, &mut self.area, &self.stubs, &mut self.missing);
         assert_eq!(self.missing, missing, "oracle and model leave the same list of missing slots");
+        assert_eq!(self.numbers, numbers, "oracle and model leave the same list of numbers");
         self.agree(answer, by_model, &set, &area)
     }
 
     pub fn ask(&mut self, class: u32, interface: u32) -> Answer {
-        let (mut set, mut area) = (self.set.clone(), self.area.clone());
-        let by_model = Model.ask(&mut set, &self.abi, class, interface, &mut area, &self.stubs);
-        let answer = self.oracle.ask(&mut self.set, &self.abi, class, interface, &mut self.area, &self.stubs);
+        let (set, mut area) = (self.set.clone(), self.area.clone());
+        let sheets = Sheets { set: &set, abi: &self.abi, numbers: &self.numbers };
+        let by_model = Model.ask(sheets, class, interface, &mut area, &self.stubs);
+        let answer = self.oracle.ask(sheets, class, interface, &mut self.area, &self.stubs);
         self.agree(answer, by_model, &set, &area)
     }
 

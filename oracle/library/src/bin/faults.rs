@@ -106,6 +106,7 @@ fn one(seed: u64, number: u64, oracle: &mut Oracle, guarded: &mut Guarded, count
             Call::Link { .. } => "link",
             Call::Ask { .. } => "ask",
             Call::Missing { .. } => "missing slots",
+            Call::Fill => "filling",
         };
         counts.count(what, step.answer);
     });

@@ -1,9 +1,0 @@
--- The numbers of the places before p are stored. Assumes nothing.
-use Rattle.std.proofs.Common.{◌≡◌}
-use Rattle.words.specs.Folds.{stores}
-use Rattle.linking.specs.Numbers.{number_at}
-use Rattle.signatures.specs.Keys.{of_signatures}
-use Rattle.signatures.proofs.Signatures.put_numbers.Given as goal
-
-abbrev pub invariant-loop-p : goal.invariant-loop-p
-invariant-loop-p l = l.numbers ≡ stores l.p (of_signatures number_at l.self) l.initial.numbers
