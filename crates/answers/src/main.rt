@@ -117,24 +117,35 @@ impl<'a, T: Element, const N: usize> Slice<'a, T, N> {
         }
     }
 
-    // The memory before the call.
-    fn before(self) -> [T; N] {
-        let mut memory = [T::from(7); N];
-        T::load(self.before, &mut memory);
-        memory
+    // Makes memory of 7s what it is before the call.
+    fn load_before(self, memory: &mut [T; N]) {
+        T::load(self.before, memory);
     }
 
-    // The memory as it is to be after it.
-    fn after(self) -> [T; N] {
-        let mut memory = self.before();
-        T::load(self.after, &mut memory);
-        memory
+    // Makes memory of 7s what it is to be after it.
+    fn load_after(self, memory: &mut [T; N]) {
+        T::load(self.before, memory);
+        T::load(self.after, memory);
     }
 }
 
 type Bytes<'a> = Slice<'a, u8, MOST_BYTES>;
 
 type Words<'a> = Slice<'a, u32, MOST_WORDS>;
+
+// Whether lent bytes are as they are to be after the call.
+fn are_bytes(slice: Bytes, lent: &[u8]) -> bool {
+    let mut told = [7; MOST_BYTES];
+    slice.load_after(&mut told);
+    told.starts_with(lent)
+}
+
+// Whether lent words are.
+fn are_words(slice: Words, lent: &[u32]) -> bool {
+    let mut told = [7; MOST_WORDS];
+    slice.load_after(&mut told);
+    told.starts_with(lent)
+}
 
 // ---- calls: a kind, a number and seven answer words; bytes and words to read, each after their number; then a slice of bytes to write, and three
 // of words to write.
@@ -267,8 +278,8 @@ impl<'a> Call<'a> {
     fn read(reader: &mut Reader<'a>) -> Call<'a> {
         let kind = Kind::try_from(reader.word());
         let number = reader.word();
-        let mut told = [0; 7];
-        files::load_words(reader.words(7), &mut told);
+        let mut told = [reader.word(), 0, 0, 0, 0, 0, 0];
+        files::load_words(reader.words(6), &mut told[1..]);
         let byte_count = reader.word();
         let bytes = reader.bytes(byte_count);
         let count = reader.word();
@@ -312,10 +323,14 @@ impl<'a> Call<'a> {
 
     // Makes the call on as much memory as it lends, and answers what differs.
     fn replay(&self) -> Option<Difference> {
-        let mut bytes = self.out.before();
-        let mut first = self.first.before();
-        let mut second = self.second.before();
-        let mut third = self.third.before();
+        let mut bytes = [7; MOST_BYTES];
+        let mut first = [7; MOST_WORDS];
+        let mut second = [7; MOST_WORDS];
+        let mut third = [7; MOST_WORDS];
+        self.out.load_before(&mut bytes);
+        self.first.load_before(&mut first);
+        self.second.load_before(&mut second);
+        self.third.load_before(&mut third);
         let mut lent = Lent {
             bytes: front(&mut bytes, self.out.lent),
             first: front(&mut first, self.first.lent),
@@ -329,10 +344,10 @@ impl<'a> Call<'a> {
         if answer != self.told {
             return Some(Difference::Answer);
         }
-        let same = self.out.after().starts_with(lent.bytes)
-            && self.first.after().starts_with(lent.first)
-            && self.second.after().starts_with(lent.second)
-            && self.third.after().starts_with(lent.third);
+        let same = are_bytes(self.out, lent.bytes)
+            && are_words(self.first, lent.first)
+            && are_words(self.second, lent.second)
+            && are_words(self.third, lent.third);
         if same { None } else { Some(Difference::Memory) }
     }
 }

@@ -6,7 +6,7 @@ use Rattle.class_sheet.specs.ClassSheet.{class_slot_count, put_class_kind}
 use Rattle.linking.specs.Counts.{missing_at}
 use Rattle.linking.specs.Missing.{missing_def}
 use Rattle.linking.proofs.Assemble as assemble
-use Rattle.linking.proofs.Assemble.{flagged, method, built, compiled, slot, abi, sized, lent, fresh, stubs_of, on_missing, answers}
+use Rattle.linking.proofs.Assemble.{flagged, method, built, compiled, array, slot, abi, sized, lent, fresh, stubs_of, on_missing, answers}
 use Rattle.linking.proofs.Packaged.{packaged, foo}
 use Rattle.linking.proofs.Opened.{opened}
 use Rattle.calls.specs.Calls.{State, link, bytewise, start, step, run}
@@ -43,9 +43,12 @@ pub record Rows : Type 0 where
   pub moved : counts
       (lent (built "P" 0 (flagged 9 "k" 5 ∷ []) [] ∷ built "Q" 1 [] [] ∷ []) (abi "P" (slot "k" 0 ∷ []) [] ∷ abi "Q" (slot "k" 2 ∷ []) [] ∷ [])) 2
       ≡ (1, 1, 1) ∷ (3, 3, 7) ∷ []
+  pub arrays : counts (lent (built "java/lang/Object" 0 (method "foo" 0 ∷ method "k" 5 ∷ []) [] ∷ array "[I" 1 ∷ []) []) 2 ≡ (2, 1, 1) ∷ (2, 1, 1) ∷ []
   -- "a nonzero compiler slot is no copy", even with the word of the parent's counted slot
   pub nonzero : counts (lent (built "P" 0 (method "foo" 0 ∷ method "k" 0 ∷ []) [] ∷ compiled "G" 1 [] (901 ∷ 0 ∷ []) ∷ []) []) 2
       ≡ (2, 2, 3) ∷ (2, 1, 2) ∷ []
+  -- an emptied slot takes a stub
+  pub emptied : counts (lent (built "P" 0 (method "a" 5 ∷ []) [] ∷ compiled "G" 1 [] (0 ∷ []) ∷ []) []) 2 ≡ (1, 0, 0) ∷ (2, 1, 1) ∷ []
   -- "an appended parent method is"
   pub appended : counts
       (lent (built "P" 0 (method "k" 5 ∷ []) [] ∷ compiled "G" 1 [] [] ∷ []) (abi "P" (slot "k" 1 ∷ slot "k" 0 ∷ []) [] ∷ [])) 2
@@ -69,7 +72,9 @@ rows = record {
   holes = refl;
   copies = refl;
   moved = refl;
+  arrays = refl;
   nonzero = refl;
+  emptied = refl;
   appended = refl;
   several = refl;
   forty = refl;

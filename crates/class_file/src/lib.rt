@@ -333,6 +333,18 @@ fn write_lists(
 
 // ---- the entries
 
+// A file whose form was accepted: where its parts stand, and the marks of its pool.
+#[tactic(auto, using(class_form::proofs::PartLaws::form_near, crate::proofs::ReadLaws::form_parted))]
+fn marked<'a>(bytes: &'a [u8], marks: &'a [Mark; MARKS], places: Places) -> File<'a>
+    requires { InForm bytes.now places bytes.now marks.now }
+    ensures { InForm bytes.now result.places result.pool.bytes.now result.pool.marks.now }
+{
+    File {
+        pool: Pool { bytes, marks },
+        places,
+    }
+}
+
 // A file whose form is accepted, with the marks of its pool in the array lent for them.
 #[tactic(auto, using(crate::proofs::ReadLaws::read_steps))]
 pub fn in_form<'a>(bytes: &'a [u8], marks: &'a mut [Mark; MARKS]) -> Result<File<'a>, Refusal>
@@ -348,18 +360,20 @@ pub fn in_form<'a>(bytes: &'a [u8], marks: &'a mut [Mark; MARKS]) -> Result<File
 }
 
 // The six words alone, for a caller that has yet to lend lists (the program's choice): every row but 14 by the lists and targets.
-#[tactic(auto, using(class_form::proofs::PartLaws::form_near, crate::proofs::ReadLaws::form_parted, crate::proofs::ReadLaws::head_by_form, crate::proofs::JudgeLaws::head_outcome))]
+#[tactic(auto, using(class_form::proofs::PartLaws::form_near, crate::proofs::ReadLaws::form_parted, crate::proofs::ReadLaws::head_by_form, crate::proofs::JudgeLaws::head_outcome), unfolding(class_form::specs::Marks::pool_marks))]
 pub fn class_file_head(bytes: &[u8]) -> Result<FileHead, Refusal>
     ensures { file_outcome result [] [] [] ≡ class_file_head bytes.now }
 {
+    let places = class_form::form(bytes)?;
     let mut marks = class_form::NO_MARKS;
-    file_head(in_form(bytes, &mut marks)?)
+    class_form::fill_marks(bytes, &mut marks);
+    file_head(marked(bytes, &marks, places))
 }
 
 // Reads a class file's members into three lent lists in the sheet's form, each method with its target. The six words that are answered, zeros
 // after the text in its last word, and that words after what is written stay are this program's choice: the papers name no answer words, and
 // say of the lists only what fills them. A refused call changes none.
-#[tactic(auto, using(crate::proofs::ReadLaws::read_steps))]
+#[tactic(auto, using(crate::proofs::ReadLaws::read_steps), unfolding(class_form::specs::Marks::pool_marks))]
 pub fn read_class_file(
     bytes: &[u8],
     targets: &[u32],
@@ -369,8 +383,10 @@ pub fn read_class_file(
 ) -> Result<FileHead, Refusal>
     ensures { file_outcome result fields.new methods.new text.new ≡ read_class_file bytes.now targets.now fields.old methods.old text.old }
 {
+    let places = class_form::form(bytes)?;
     let mut marks = class_form::NO_MARKS;
-    let file = in_form(bytes, &mut marks)?;
+    class_form::fill_marks(bytes, &mut marks);
+    let file = marked(bytes, &marks, places);
     let head = file_head(file)?;
     if !lists_hold(head, targets.len(), fields.len(), methods.len(), text.len()) {
         return Err(Refusal::FullLists);

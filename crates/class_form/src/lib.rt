@@ -211,6 +211,13 @@ fn after_constants(bytes: &[u8], marks: &mut [Mark; MARKS]) -> Result<usize, Ref
     Ok(p)
 }
 
+// Marks a file's pool in lent marks.
+pub fn fill_marks(bytes: &[u8], marks: &mut [Mark; MARKS])
+    ensures { marks.new ≡ marks_from bytes.now (pool_count bytes.now) (pool_count bytes.now) 1 10 marks.old }
+{
+    let _ = after_constants(bytes, marks);
+}
+
 // The marks of a file's pool.
 #[tactic(auto, unfolding(crate::specs::Marks::pool_marks))]
 pub fn pool_marks(bytes: &[u8]) -> [Mark; MARKS]

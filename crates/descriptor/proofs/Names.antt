@@ -1,16 +1,14 @@
 -- Laws of runs of name bytes. Assumes nothing.
 use mathlib.Core.Path.{◌≡◌, refl, sym, ap, ◌∙◌}
-use mathlib.Core.Bool.{true, false, not, false≢true}
+use mathlib.Core.Bool.{Bool, true, false, false≢true}
 use mathlib.Core.List.{List, [], ◌∷◌}
-use Prim.Native.Nat.{ℕ, ◌≤◌}
+use Prim.Native.Nat.{ℕ, ◌+◌, ◌≤◌, ◌<◌}
 use native.Mathlib.Numerals.{add-one}
 use native.Mathlib.Omega.{arith}
-use lib.Dec.{eqb, ltb}
-use lib.ListN.{length, drop}
-use borrow.Author.Tests.{eqb-true, ltb-false}
-use Rattle.std.specs.Prelude.{position}
-use Rattle.std.specs.Option.{unwrap_or}
-use Rattle.std.specs.List.{position_or_len}
+use lib.Dec.{eqb}
+use lib.ListN.{length, get_or, drop}
+use lib.Seq.{drop-cons}
+use borrow.Author.Tests.{eqb-true}
 use Rattle.words.specs.Lists.{fold, some}
 use Rattle.words.proofs.Bools.{by}
 use Rattle.descriptor.specs.Bytes.{is_name_byte}
@@ -28,15 +26,16 @@ unfolding name_run
 run_within [] = omega arith
 run_within (b ∷ s) = by (is_name_byte b) (λ t. rw t (omega (arith, run_within s))) (λ t. rw t (omega arith))
 
-run_is : (s : List ℕ) → position_or_len (λ b. not (is_name_byte b)) s ≡ name_run s
-unfolding name_run
-run_is [] = refl
-run_is (b ∷ s) = by (is_name_byte b) (λ t. rw (t, run_is s) (omega arith)) (λ t. rw t refl)
+-- from j on, a byte at a time
+module _ (s : List ℕ) (j : ℕ) {b : Bool} where
+  pub run_turn : j < length s → b ≡ is_name_byte (get_or s j 0) → b ≡ true → j + name_run (drop j s) ≡ name_run s
+      → j + 1 + name_run (drop (j + 1) s) ≡ name_run s
+  unfolding name_run
+  run_turn h e t g = omega (arith, simp (drop-cons s j 0 h, ← e, t, ← add-one) at g)
 
--- where no other byte is found, the run is all of them
-pub run_found : (s : List ℕ) → unwrap_or (position (λ b. not (is_name_byte b)) s) (length s) ≡ name_run s
-run_found s =
-    rw (run_is s) (by (ltb (name_run s) (length s)) (λ t. rw t refl) (λ t. rw t (omega (arith, run_within s, ltb-false _ _ t))))
+  pub run_stop : j < length s → b ≡ is_name_byte (get_or s j 0) → b ≡ false → j + name_run (drop j s) ≡ name_run s → j ≡ name_run s
+  unfolding name_run
+  run_stop h e t g = omega (arith, simp (drop-cons s j 0 h, ← e, t) at g)
 
 -- ---- a machine that name bytes leave where it is may pass a run over
 
@@ -46,7 +45,7 @@ module _ {S : Type 0} (f : S → ℕ → S) (q : S) (stays : (b : ℕ) → is_na
   fold-run [] = refl
   fold-run (b ∷ s) = by (is_name_byte b) (λ t. rw (t, stays b t, add-one) (fold-run s)) (λ t. rw t refl)
 
--- ---- the machine does
+-- ---- both machines do
 
 semicolon : is_name_byte 59 ≡ false
 unfolding is_name_byte some
@@ -78,17 +77,27 @@ method-stays (Parameters Bad) e b h = absurd (false≢true e)
 method-stays Return e b h = absurd (false≢true e)
 method-stays (Returned q) e b h = ap Returned (field-stays q e b h)
 
--- a turn of the loop: a byte is read, and inside an identifier the run behind it is passed over
-module _ (s : List ℕ) (q p : MethodState) {b : ℕ} {r : List ℕ} {x : MethodState} where
-  pub read-turn : s ≡ b ∷ r → p ≡ method_next q b → fold method_next q s ≡ x → fold method_next p r ≡ x
+-- ---- a turn of a reader's loop: a byte is read, and inside an identifier the run behind it is passed over
+
+module _ {S : Type 0} (f : S → ℕ → S) where
+  pub read-turn : (s : List ℕ) (q p : S) {b : ℕ} {r : List ℕ} {x : S} → s ≡ b ∷ r → p ≡ f q b → fold f q s ≡ x → fold f p r ≡ x
   unfolding fold
-  read-turn e f g = rw f (rw e at g)
+  read-turn s q p e h g = rw h (rw e at g)
 
-  pub read-over : {n : ℕ} → method_inside p ≡ true → n ≡ name_run r → s ≡ b ∷ r → p ≡ method_next q b → fold method_next q s ≡ x
+  read-over : (s : List ℕ) (q p : S) {b : ℕ} {r : List ℕ} {x : S} {n : ℕ} → ((c : ℕ) → is_name_byte c ≡ true → f p c ≡ p) → n ≡ name_run r
+      → s ≡ b ∷ r → p ≡ f q b → fold f q s ≡ x → fold f p (drop n r) ≡ x
+  read-over s q p {b} {r} stays m e h g = rw m (sym (fold-run f p stays r) ∙ read-turn s q p e h g)
+
+  pub read-end : (s : List ℕ) (q : S) {x : S} → length s ≡ 0 → fold f q s ≡ x → q ≡ x
+  unfolding fold
+  read-end [] q h g = g
+  read-end (b ∷ s) q h g = absurd (omega arith)
+
+module _ (s : List ℕ) {b n : ℕ} {r : List ℕ} (m : n ≡ name_run r) (e : s ≡ b ∷ r) where
+  pub field-over : (q p : FieldState) {x : FieldState} → field_inside p ≡ true → p ≡ field_next q b → fold field_next q s ≡ x
+      → fold field_next p (drop n r) ≡ x
+  field-over q p t = read-over field_next s q p (field-stays p t) m e
+
+  pub method-over : (q p : MethodState) {x : MethodState} → method_inside p ≡ true → p ≡ method_next q b → fold method_next q s ≡ x
       → fold method_next p (drop n r) ≡ x
-  read-over t m e f g = rw m (sym (fold-run method_next p (method-stays p t) r) ∙ read-turn e f g)
-
-pub read-end : (s : List ℕ) (q : MethodState) {x : MethodState} → length s ≡ 0 → fold method_next q s ≡ x → q ≡ x
-unfolding fold
-read-end [] q h g = g
-read-end (b ∷ s) q h g = absurd (omega arith)
+  method-over q p t = read-over method_next s q p (method-stays p t) m e

@@ -7,6 +7,7 @@ ghost use Rattle.words.specs.Lists.{fold};
 ghost use Rattle.descriptor.specs.Bytes.{is_base_byte, is_name_byte};
 ghost use Rattle.descriptor.specs.Machine.{
   field_next,
+  field_done,
   is_field_descriptor,
   method_next,
   method_done,
@@ -57,7 +58,7 @@ const ARGUMENT_LIMIT: u64 = 255;
 fn is_base_byte(b: u8) -> bool
     ensures { result ≡ is_base_byte b }
 {
-    matches!(b, b'B' | b'C' | b'D' | b'F' | b'I' | b'J' | b'S' | b'Z')
+    b"BCDFIJSZ".contains(&b)
 }
 
 // Whether an unqualified name may have b.
@@ -65,12 +66,13 @@ fn is_base_byte(b: u8) -> bool
 fn is_name_byte(b: u8) -> bool
     ensures { result ≡ is_name_byte b }
 {
-    !matches!(b, b'.' | b';' | b'[' | b'/')
+    !b".;[/".contains(&b)
 }
 
 impl FieldState {
     // Reads b of a field descriptor.
     #[tactic(auto, unfolding(crate::specs::Machine::field_next))]
+    #[inline(always)]
     fn next(self, b: u8) -> FieldState
         ensures { result ≡ field_next self b }
     {
@@ -84,11 +86,26 @@ impl FieldState {
             _ => FieldState::Bad,
         }
     }
+
+    // Whether a descriptor may end here.
+    fn is_done(self) -> bool
+        ensures { result ≡ field_done self }
+    {
+        matches!(self, FieldState::Done)
+    }
+
+    // Whether the reader stands inside an identifier.
+    fn is_inside(self) -> bool
+        ensures { result ≡ field_inside self }
+    {
+        matches!(self, FieldState::Inside)
+    }
 }
 
 impl MethodState {
     // Reads b of a method descriptor.
     #[tactic(auto, using(crate::proofs::Turns::inside_parameter), unfolding(crate::specs::Machine::method_next))]
+    #[inline(always)]
     fn next(self, b: u8) -> MethodState
         ensures { result ≡ method_next self b }
     {
@@ -132,12 +149,17 @@ impl MethodState {
 }
 
 // How many bytes that a name may have are in front.
-#[tactic(auto, using(crate::proofs::Names::run_within))]
+#[tactic(auto, using(crate::proofs::Names::run_within, crate::proofs::Names::run_turn, crate::proofs::Names::run_stop))]
 fn name_run(s: &[u8]) -> usize
     ensures is { result ≡ name_run s.now }
     ensures within { result ≤ length s.now }
 {
-    s.iter().position(|b| !is_name_byte(*b)).unwrap_or(s.len())
+    for (j, b) in s.iter().enumerate() {
+        if !is_name_byte(*b) {
+            return j;
+        }
+    }
+    s.len()
 }
 
 // Whether a reader that stands at `from` may end after the bytes. Inside an identifier it passes over the bytes that leave it where it stands.
@@ -157,13 +179,22 @@ fn accepts(from: MethodState, s: &[u8]) -> bool
     q.is_done()
 }
 
-// Whether the bytes are a field descriptor, which a return descriptor may be. Any bytes are taken, and only the grammar counts: there is no limit on
-// dimensions.
-#[tactic(auto, using(crate::proofs::Machines::returned), unfolding(crate::specs::Machine::is_field_descriptor))]
+// Whether the bytes are a field descriptor. Any bytes are taken, and only the grammar counts: there is no limit on dimensions.
+#[tactic(auto, unfolding(crate::specs::Machine::is_field_descriptor))]
 pub fn is_field_descriptor(s: &[u8]) -> bool
     ensures { result ≡ is_field_descriptor s.now }
 {
-    accepts(MethodState::Returned(FieldState::Open), s)
+    let mut q = FieldState::Open;
+    let mut rest = s;
+    while let Some((b, after)) = rest.split_first() {
+        q = q.next(*b);
+        rest = if q.is_inside() {
+            &after[name_run(after)..]
+        } else {
+            after
+        };
+    }
+    q.is_done()
 }
 
 // Whether the grammar has the bytes as a method descriptor. Any bytes are taken; the limit on argument words is `is_method`'s.

@@ -2,7 +2,7 @@
 // words and static words, and the ABI fields that are added to it.
 #![tactic(auto)]
 
-ghost use Rattle.std.specs.Prelude.{◌≡◌, ◌+◌, ◌-◌, ◌%◌, ◌^◌, ◌<◌, ◌≤◌, ◌||◌, [], ◌∷◌, ◌++◌, length, take, ◌==◌};
+ghost use Rattle.std.specs.Prelude.{◌≡◌, ◌+◌, ◌-◌, ◌%◌, ◌^◌, ◌<◌, ◌≤◌, ◌||◌, [], ◌∷◌, ◌++◌, length, take, ◌==◌, IfErr};
 ghost use Rattle.abi_sheet.specs.AbiSheet.{abi_field_descriptor};
 ghost use Rattle.descriptor.specs.Words.{width};
 ghost use Rattle.words.specs.Lists.{fold};
@@ -290,7 +290,7 @@ fn built_words(abi: &[u32], own: Option<u32>, word: u32) -> u32
 }
 
 // Puts what the fields of built class c come to, or refuses by row 10. The new members are then the ABI fields that no instance field of the
-// class matches, also where the row refuses.
+// class matches, also where the row refuses; the fields are then none.
 pub fn built_fields(
     sheets: Sheets,
     c: u32,
@@ -298,6 +298,7 @@ pub fn built_fields(
     news: &mut News,
 ) -> Result<(), Refusal>
     ensures is { by_row (with_fields result fields.new) ≡ of_sheets built_fields sheets.entry c }
+    ensures refused { IfErr result (λ _. fields.new ≡ no_fields) }
     ensures news { news.new ≡ members_of sheets.entry.abi.now (of_sheets added_to sheets.entry c) }
 {
     let own = abi::class_abi(sheets, c);
@@ -305,6 +306,7 @@ pub fn built_fields(
     let word = add_fields(sheets, own, c, k.running, news);
     fields.words = built_words(sheets.abi, own, word);
     if (65535 < fields.words) | (65535 < k.runtime) {
+        fields.clear();
         return Err(Refusal::ManyWords);
     }
     Ok(())
@@ -391,18 +393,20 @@ fn put_moved(ws: &[u32], c: u32, base: u32, fields: &mut Numbered)
 }
 
 // Puts what the fields of generated class c come to: where all are absolute, nothing is written; where all are relative, the base is added; else
-// rows 8 and 9 refuse.
+// rows 8 and 9 refuse, and the fields are none.
 pub fn generated_fields(
     ws: &[u32],
     text: &[u8],
     c: u32,
     fields: &mut Numbered,
 ) -> Result<(), Refusal>
-    ensures { by_row (with_fields result fields.new) ≡ generated_fields ws.now text.now c }
+    ensures is { by_row (with_fields result fields.new) ≡ generated_fields ws.now text.now c }
+    ensures refused { IfErr result (λ _. fields.new ≡ no_fields) }
 {
     let total = instance_words(ws, c);
     let own = own_words(ws, text, false, c);
     if total < own {
+        fields.clear();
         return Err(Refusal::FewWords);
     }
     if stand_from(ws, text, c, total - own) {
@@ -413,5 +417,6 @@ pub fn generated_fields(
         put_moved(ws, c, total - own, fields);
         return Ok(());
     }
+    fields.clear();
     Err(Refusal::MixedIndices)
 }

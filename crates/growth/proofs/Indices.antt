@@ -1,5 +1,5 @@
 -- Laws of `put_indices`: its length, stores past the end, and a turn of the loop. Assumes nothing.
-use mathlib.Core.Path.{◌≡◌, refl, ◌∙◌}
+use mathlib.Core.Path.{◌≡◌, refl, sym, ◌∙◌}
 use mathlib.Core.List.{List, [], ◌∷◌}
 use Prim.Native.Nat.{ℕ, ◌+◌, ◌*◌, ◌^◌, ◌≤◌, ◌<◌}
 use Rattle.std.proofs.Common.{⊎_elim, min}
@@ -16,6 +16,11 @@ unfolding put_indices
 length-indices at first [] ws = refl
 length-indices at first (i ∷ is) ws =
     length-indices at (first + 1) is (set ws (at + member_width * first + index_word) i) ∙ length-set ws (at + member_width * first + index_word) i
+
+pub indices-past : (at first : ℕ) (is ws : List ℕ) → length ws ≤ at + member_width * first + index_word → put_indices at first is ws ≡ ws
+unfolding put_indices
+indices-past at first [] ws h = refl
+indices-past at first (i ∷ is) ws h = rw (set_out ws (at + member_width * first + index_word) i h) (indices-past at (first + 1) is ws (omega arith))
 
 -- a place past all that a slice can have, however far, is not stored to
 set-far : (d : List ℕ) (i j w : ℕ) → i ≡ min j 18446744073709551615 → length d < 2 ^ 64 → set d i w ≡ set d j w
@@ -43,6 +48,11 @@ module _ (at first : ℕ) (is : List ℕ) where
       let q = set-far d p (at + (member_width * (first + j) + index_word)) (get_or is j 0) f room in
       let m : drop j is ≡ get_or is j 0 ∷ drop (j + 1) is = rw add-one (drop-cons is j 0 h) in
       rw (s, r, q, a, n) (rw m at k)
+
+  pub from_past : (j : ℕ) (d : List ℕ) {p : ℕ} {l : List ℕ} → p ≡ min (at + (member_width * (first + j) + index_word)) 18446744073709551615
+      → length d ≤ p → indices_from at first is j d ≡ l → d ≡ l
+  unfolding indices_from
+  from_past j d f h k = sym (indices-past at (first + j) (drop j is) d (omega (arith, f, h))) ∙ k
 
   pub from_end : (j : ℕ) {d l : List ℕ} → length is ≤ j → indices_from at first is j d ≡ l → d ≡ l
   unfolding indices_from put_indices

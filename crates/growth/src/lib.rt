@@ -163,13 +163,17 @@ fn can_grow(sheets: Sheets, list: Section, news: &News) -> bool
         & (end <= sheets.set.len())
 }
 
-// Stores the indices of the field records from `first` on, in words whose field section begins at `at`.
+// Stores the indices of the field records from `first` on, in words whose field section begins at `at`, and stops where they end.
 pub fn put_indices(set: &mut [u32], at: usize, first: u32, indices: &[u32])
     ensures { set.new ≡ put_indices at first indices.now set.old }
 {
     for (j, index) in indices.iter().enumerate() {
-        let place = MEMBER_WIDTH * ((first as usize) + j) + class_sheet::FIELD_INDEX;
-        words::put(set, at.saturating_add(place), *index);
+        let word = MEMBER_WIDTH * ((first as usize) + j) + class_sheet::FIELD_INDEX;
+        let place = at.saturating_add(word);
+        if set.len() <= place {
+            return;
+        }
+        words::put(set, place, *index);
     }
 }
 

@@ -6,7 +6,7 @@ use Rattle.linking.specs.Vtable.{Entry, Built, built, refused}
 use Rattle.linking.specs.Compiler.{New, Taken, members}
 use Rattle.linking.specs.Link as L
 use Rattle.refusal.specs.declared.Refusal.{Refusal}
-use Rattle.field.specs.Numbers.{numbering_of, by_row}
+use Rattle.field.specs.Numbers.{numbering_of, by_row, no_fields}
 use Rattle.growth.specs.News.{added_of}
 use Rattle.reading.specs.Tables.{entries}
 use Rattle.plan.specs.declared.Plan.{Plan}
@@ -52,3 +52,9 @@ Plans of same ws text abi labels area c r T new =
 -- and of a plan that the code made
 abbrev pub Leaves : ByKind → Same → List ℕ → List ℕ → List ℕ → List ℕ → List ℕ → ℕ → Result Numbered Refusal → Plan → Type 0
 Leaves of same ws text abi labels area c r p = Plans of same ws text abi labels area c r (entries p.table) (added_of ws text abi labels p.news)
+
+-- a plan of nothing: no slots, no indices, no members
+pub record Nothing (p : Plan) : Type 0 where
+  pub table : entries p.table ≡ []
+  pub fields : p.fields ≡ no_fields
+  pub news : p.news ≡ []

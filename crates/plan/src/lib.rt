@@ -1,7 +1,7 @@
 // What a link comes to before anything is written: rows 8 to 13, by the class's kind.
 #![tactic(auto)]
 
-ghost use Rattle.std.specs.Prelude.{◌≡◌, true, false, []};
+ghost use Rattle.std.specs.Prelude.{◌≡◌, true, false, [], IfErr};
 ghost use Rattle.class_sheet.specs.ClassSheet.{class_kind, is_built_kind};
 ghost use Rattle.linking.specs.Link.{built_table, generated_table, generated_methods, plan_built, plan_generated, plan_array, plan};
 ghost use Rattle.linking.specs.Vtable.{built};
@@ -10,7 +10,7 @@ ghost use Rattle.linking.specs.Sheets.{of_sheets, of_numbers};
 ghost use Rattle.reading.specs.Tables.{entries};
 ghost use Rattle.field.specs.Numbers.{no_fields, with_fields};
 ghost use Rattle.vtable.specs.Tables.{step_of};
-ghost use Rattle.plan.specs.Plans.{few_slots, Leaves};
+ghost use Rattle.plan.specs.Plans.{few_slots, Leaves, Nothing};
 
 use class_sheet::Kind;
 use field::Numbered;
@@ -40,6 +40,15 @@ impl Plan {
             fields: Numbered::new(),
             news: News::new(),
         }
+    }
+
+    // So again, whatever it was.
+    fn clear(&mut self)
+        ensures { Nothing self.new }
+    {
+        self.table.clear();
+        self.fields.clear();
+        self.news.clear();
     }
 }
 
@@ -120,8 +129,8 @@ fn plan_array(sheets: Sheets, area: &[u32], c: u32, made: &mut Plan)
     made.news.clear();
 }
 
-// What a link of class c comes to before anything is written. What a refused link leaves of it is the program's choice.
-pub fn plan_link(sheets: Sheets, area: &[u32], c: u32, made: &mut Plan) -> Result<(), Refusal>
+// By the class's kind.
+fn plan_kind(sheets: Sheets, area: &[u32], c: u32, made: &mut Plan) -> Result<(), Refusal>
     ensures { of_numbers (Leaves plan) sheets.entry area.now c (with_fields result made.new.fields) made.new }
 {
     if class_sheet::is_built(sheets.set, c) {
@@ -132,4 +141,16 @@ pub fn plan_link(sheets: Sheets, area: &[u32], c: u32, made: &mut Plan) -> Resul
     }
     plan_array(sheets, area, c, made);
     Ok(())
+}
+
+// What a link of class c comes to before anything is written. That it is a plan of nothing where the link is refused is the program's choice.
+pub fn plan_link(sheets: Sheets, area: &[u32], c: u32, made: &mut Plan) -> Result<(), Refusal>
+    ensures is { of_numbers (Leaves plan) sheets.entry area.now c (with_fields result made.new.fields) made.new }
+    ensures refused { IfErr result (λ _. Nothing made.new) }
+{
+    let planned = plan_kind(sheets, area, c, made);
+    if planned.is_err() {
+        made.clear();
+    }
+    planned
 }

@@ -2,11 +2,12 @@
 -- Assumes nothing.
 use mathlib.Core.Path.{◌≡◌, refl, sym, ap, ◌∙◌}
 use mathlib.Core.Bool.{Bool, true, false, cond, not}
-use mathlib.Core.List.{List, [], ◌∷◌, ◌++◌, append-nil}
+use mathlib.Core.List.{List, [], ◌∷◌, ◌++◌, append_assoc, append-nil}
 use Prim.Native.Nat.{ℕ, zero, suc, ◌+◌, ◌*◌, ◌-◌, ◌/◌, ◌%◌, ◌^◌, ◌≤◌, ◌<◌, min}
+use native.Mathlib.Numerals.{add-one}
 use native.Mathlib.Omega.{arith}
-use lib.ListN.{length, get_or, set, length-append}
-use lib.Seq.{paste, paste-suc, take-length}
+use lib.ListN.{length, get_or, set, drop, length-append}
+use lib.Seq.{drop-cons, set_at}
 use lib.Dec.{eqb}
 use lib.Bits.{bit_and, and_high}
 use lib.Count.{ones, ones_step, ones_cat}
@@ -17,9 +18,7 @@ use Rattle.words.specs.Lists.{list_from, numbers, keep}
 use Rattle.words.proofs.Bools.{by}
 use Rattle.words.proofs.FoldLaws.{sum_more}
 use Rattle.words.specs.Words.{AreBytes}
-use Rattle.words.proofs.ListLaws.{numbers-split, range_is}
-use Rattle.std.specs.List.{filter, range_with_len, enumerate_from}
-use Rattle.std.proofs.lemmas.List.FromFn.{length-enumerate_from, get_or-enumerate_from}
+use Rattle.words.proofs.ListLaws.{numbers-split}
 use Rattle.references.specs.References.{is_marked, marked_words, written_over, bytes_for, kept_bits, masked, masked_byte, masked_ones, too_few, Outcome, outcome, counted, read_references, count_references}
 use Rattle.std.specs.Prelude.{Result, Ok, Err}
 use Rattle.refusal.specs.Rows.{row}
@@ -205,6 +204,13 @@ module _ (bitmap : List ℕ) where
   pub before-take : (i : ℕ) → is_marked bitmap i ≡ true → marked_before bitmap (i + 1) ≡ marked_before bitmap i ++ (i ∷ [])
   before-take i h = rw (before_more, h)
 
+  -- no more of them than of all
+  pub before-few : (i n : ℕ) → i ≤ n → length (marked_before bitmap i) ≤ length (marked_words bitmap n)
+  unfolding marked_before marked_words
+  before-few i n h =
+      let e : n ≡ i + (n - i) = omega arith in
+      rw (e, numbers-split 0 i (n - i), keep_append (is_marked bitmap) (numbers 0 i), length-append) (omega arith)
+
   pub before-bound : (i : ℕ) → length (marked_before bitmap i) ≤ i
   before-bound zero = rw before-none (omega arith)
   before-bound (suc i) =
@@ -219,33 +225,40 @@ module _ (bitmap : List ℕ) where
 
 -- ---- the list as it is filled
 
--- the library's `filter` of a range gives the marked words
-kept_lem : (p : ℕ → Bool) (xs : List ℕ) → filter p xs ≡ keep p xs
-unfolding keep
-kept_lem p [] = refl
-kept_lem p (x ∷ xs) = by (p x) (λ e. rw (e, kept_lem p xs)) (λ e. rw (e, kept_lem p xs))
+-- k words stand over the front of the list: the marked ones of the words before word i
+unfoldable pub Filled : List ℕ → List ℕ → ℕ → ℕ → List ℕ → Type 0
+Filled bitmap list i k l = (k ≡ length (marked_before bitmap i)) × (l ≡ written_over (marked_before bitmap i) list)
 
-pub filter_is : (bitmap : List ℕ) (n : ℕ) → filter (is_marked bitmap) (range_with_len 0 n) ≡ marked_words bitmap n
-unfolding marked_words
-filter_is bitmap n = kept_lem (is_marked bitmap) (range_with_len 0 n) ∙ ap (keep (is_marked bitmap)) (range_is 0 n)
+module _ (bitmap list : List ℕ) where
+  pub fill_start : Filled bitmap list 0 0 list
+  unfolding Filled written_over
+  fill_start = (rw before-none refl, rw before-none refl)
 
-module _ (marks list : List ℕ) where
-  -- a turn: the k-th marked word, which `enumerate` gives with k, is put over the list at k
-  pub filled_turn : (xs : List (ℕ × ℕ)) (x : ℕ × ℕ) {l : List ℕ} → length marks ≤ length list
-      → (length xs < length (enumerate_from 0 marks)) × (x ≡ get_or (enumerate_from 0 marks) (length xs) x)
-      → l ≡ paste list 0 marks (length xs) → set l x.0 x.1 ≡ paste list 0 marks (length (xs ++ (x ∷ [])))
-  filled_turn xs x {l} room turn f =
-      let h : length xs < length marks = omega (arith, turn.0, length-enumerate_from 0 marks) in
-      let e : x ≡ (0 + length xs, get_or marks (length xs) x.1) = turn.1 ∙ get_or-enumerate_from 0 marks (length xs) x h in
-      let more : length (xs ++ (x ∷ [])) ≡ suc (length xs) = omega (arith, length-append xs (x ∷ [])) in
-      rw (more, f, ap (λ (p : ℕ × ℕ). p.0) e, ap (λ (p : ℕ × ℕ). p.1) e) (paste-suc list 0 marks (length xs) x.1 (omega arith) h)
+  module _ (i k : ℕ) (l : List ℕ) {b : Bool} (e : b ≡ is_marked bitmap i) where
+    -- a word that is not marked is passed over
+    pub fill_skip : b ≡ false → Filled bitmap list i k l → Filled bitmap list (i + 1) k l
+    unfolding Filled
+    fill_skip t f = rw (before-skip bitmap i (sym e ∙ t)) f
 
-  pub filled_all : (xs : List (ℕ × ℕ)) {l : List ℕ} → length xs ≡ length (enumerate_from 0 marks) → l ≡ paste list 0 marks (length xs)
-      → l ≡ written_over marks list
-  unfolding written_over
-  filled_all xs q f =
-      let e : length xs ≡ length marks = q ∙ length-enumerate_from 0 marks in
-      let z : 0 + length marks ≡ length marks = omega arith in f ∙ rw (e, take-length marks, z)
+    -- one that is marked is put behind those before it
+    pub fill_take : (n : ℕ) → b ≡ true → i < n → length (marked_words bitmap n) ≤ length list → Filled bitmap list i k l
+        → Filled bitmap list (i + 1) (k + 1) (set l k i)
+    unfolding Filled written_over
+    fill_take n t h room f =
+        let marks : List ℕ = marked_before bitmap i in
+        let more : marked_before bitmap (i + 1) ≡ marks ++ (i ∷ []) = before-take bitmap i (sym e ∙ t) in
+        let size : length (marked_before bitmap (i + 1)) ≡ length marks + 1 = ap length more ∙ length-append marks (i ∷ []) in
+        let fits : length marks < length list = omega (arith, before-few bitmap (i + 1) n (omega arith)) in (
+          rw (size, f.0),
+          rw (f.0, f.1, size, more, drop-cons list (length marks) 0 fits, add-one)
+              (set_at marks (get_or list (length marks) 0) (drop (suc (length marks)) list) i (length marks) refl
+              ∙ sym (append_assoc marks (i ∷ []) (drop (suc (length marks)) list))),
+        )
+
+  -- with all words passed, the marked ones of all are there
+  pub fill_end : (n k : ℕ) (l : List ℕ) → Filled bitmap list n k l → l ≡ written_over (marked_words bitmap n) list
+  unfolding Filled marked_before marked_words
+  fill_end n k l f = f.1
 
 -- ---- the calls, case by case
 

@@ -51,7 +51,14 @@ fn kept_bits(n: u32, j: usize) -> u32
     ensures is { result ≡ kept_bits n j }
     ensures few { result ≤ 8 }
 {
-    (n as usize).saturating_sub(j.saturating_mul(8)).min(8) as u32
+    let whole = (n / 8) as usize;
+    if j < whole {
+        8
+    } else if j == whole {
+        n % 8
+    } else {
+        0
+    }
 }
 
 // The ones of byte j that are of the n words.
@@ -76,8 +83,12 @@ fn put_marked(bitmap: &[u8], n: u32, list: &mut [u32])
     requires { length (marked_words bitmap.now n) ≤ length list.old }
     ensures { list.new ≡ written_over (marked_words bitmap.now n) list.old }
 {
-    for (k, i) in (0..n).filter(|i| is_marked(bitmap, *i)).enumerate() {
-        words::put(list, k, i);
+    let mut k: usize = 0;
+    for i in 0..n {
+        if is_marked(bitmap, i) {
+            words::put(list, k, i);
+            k += 1;
+        }
     }
 }
 

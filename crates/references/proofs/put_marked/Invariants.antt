@@ -1,8 +1,7 @@
--- The words that the loop has been given stand over the list's front. Assumes nothing.
-use Rattle.std.proofs.Common.{◌≡◌, length}
-use lib.Seq.{paste}
-use Rattle.references.specs.References.{marked_words}
+-- The marked ones of the words before word i, k of them, stand over the list's front. Assumes nothing.
+use Rattle.std.proofs.Common.{◌≤◌}
+use Rattle.references.proofs.Laws.{Filled}
 use Rattle.references.proofs.put_marked.Given as goal
 
-abbrev pub invariant-loop-k : goal.invariant-loop-k
-invariant-loop-k l = l.list ≡ paste l.initial.list 0 (marked_words l.bitmap l.n) (length l.yielded)
+abbrev pub invariant-loop-i : goal.invariant-loop-i
+invariant-loop-i l = record { filled : Filled l.bitmap l.initial.list l.i l.k l.list; few : l.k ≤ l.i }

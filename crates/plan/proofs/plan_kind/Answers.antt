@@ -1,6 +1,6 @@
 -- By the class's kind, the plan of its own function. Assumes nothing.
 use Rattle.plan.proofs.KindLaws.{kind_built, kind_generated, kind_array}
-use Rattle.plan.proofs.plan_link.Goals as goal
+use Rattle.plan.proofs.plan_kind.Goals as goal
 
 pub returns-then-is_built : goal.returns-then-is_built
 returns-then-is_built c = kind_built _ _ _ _ _ _ _ c.is_built.ensures c.if-is_built.true c.plan_built.ensures
