@@ -156,7 +156,7 @@ fn body_size(bytes: &[u8], t: u32, p: usize) -> usize
 fn tag_ok(count: usize, i: usize, t: u32) -> bool
     ensures { result ≡ tag_ok count i t }
 {
-    is_tag(t) & !(is_wide(t) & (count.saturating_sub(i) == 1))
+    is_tag(t) && !(is_wide(t) && (count.saturating_sub(i) == 1))
 }
 
 // The constant of index i at p: its tag is judged before its body is looked at.
