@@ -2,7 +2,7 @@
  * The LGT class linker, proved in Rattle (crates/lgt_linker). Link with liblgt_linker.a: `tools/library` makes it in
  * target/staticlib, `make install PREFIX=..` installs it with this header and a pkg-config file.
  *
- * What it needs. x86-64 Linux; memcpy and memset, and nothing else: no allocation, no system call. Of the stack at most 126,328
+ * What it needs. x86-64 Linux; memcpy and memset, and nothing else: no allocation, no system call. Of the stack at most 126,360
  * bytes were measured (docs/PERFORMANCE.md): let LGT_STACK_BYTES be free at a call, beside the frames of the thread that calls.
  * A thread of musl's default size has LGT_STACK_BYTES in all, of which its own frames may take what the measured call leaves.
  * Frames are probed page by page, so a stack that is too short ends in its guard page and not in other memory.

@@ -5,6 +5,8 @@ proofs/*.antt.
 
     python3 tools/design/changes.py COMMIT > docs/DESIGN-PASS-CHANGES.md
 
+The other side is the checkout that it lies in; the page was made in one of bcd7926d, the design pass's last commit.
+
 A thing is known by its crate, module and name. One whose name is gone is set beside the one of its crate whose name differs by dashes, underscores and
 case alone, or that RENAMED names, and else listed as gone. Comments and layout do not count.
 """
@@ -114,19 +116,22 @@ def declarations(files, folder):
         for at, line in enumerate(lines):
             m = re.match(r"( *)(?:abbrev |unfoldable )?pub (?:record |data |unfoldable |abbrev )?([^\s:({]+)(?: |$)", line)
             if not m and folder == "proofs":
-                m = re.match(r"( *)(?:record |data |unfoldable |abbrev )*([^\s:({]+) (?:.*)?: ", line)
+                # A statement has its colon behind the name, a record's or a type's behind its binders; a clause with `let e : T` has it behind `=`.
+                m = re.match(r"( *)(?:unfoldable |abbrev )?([^\s:({]+)(?: \{[^}]*\})* : ", line) or re.match(r"( *)(?:record|data) ([^\s:({]+) (?:[^=]*)?: ", line)
                 if m and (m.group(2) in ("use", "module", "unfolding", "let", "pub", "by", "where", "λ") or inside(lines, at, len(m.group(1))) not in ("none", "module")):
                     continue
             if not m or re.match(r" *pub (?:mod|use) ", line) or (len(m.group(1)) > 0 and folder == "specs" and re.match(r" +pub [^\s]+ :", line)):
                 continue
             deep, name_of = len(m.group(1)), m.group(2)
+            # What a definition means is in its clauses, what a law says is in its type.
+            defines = folder == "specs" or re.match(r" *(?:abbrev|unfoldable) ", line)
             if name_of in ("mod", "use"):
                 continue
             body = [line]
             for later in lines[at + 1:]:
-                if later.strip() and len(later) - len(later.lstrip()) <= deep and not (folder == "specs" and re.match(r" *%s(?: |$)" % re.escape(name_of), later)):
+                if later.strip() and len(later) - len(later.lstrip()) <= deep and not (defines and re.match(r" *%s(?: |$)" % re.escape(name_of), later)):
                     break
-                if folder == "proofs" and re.match(r" *(?:unfolding |%s )" % re.escape(name_of), later):
+                if not defines and re.match(r" *(?:unfolding |%s )" % re.escape(name_of), later):
                     break
                 body.append(later)
             found[parts[1], parts[3][:-5], name_of] = flat("\n".join(body))
@@ -173,7 +178,8 @@ def show(title, before, after):
 
 
 old, new = old_files(), new_files()
-print(f"# What the design pass changed, old and new\n\nMade by `python3 tools/design/changes.py {commit}`: `-` is what stood at that commit, `+` what stands now. [DESIGN-PASS.md](DESIGN-PASS.md) has the reasons and the new homes of what is gone.")
+head = git("rev-parse", "--short", "HEAD").strip()
+print(f"# What the design pass changed, old and new\n\nMade by `python3 tools/design/changes.py {commit}` at {head}: `-` is what stood at that commit, `+` what stood at {head}. [DESIGN-PASS.md](DESIGN-PASS.md) has the reasons and the new homes of what is gone, [LOOK-BACK.md](LOOK-BACK.md) what was mended since.")
 show("Public functions: signatures and clauses", functions(old), functions(new))
 show("Public types and constants, facts of types, clauses of trait impls", types(old), types(new))
 show("Definitions", declarations(old, "specs"), declarations(new, "specs"))

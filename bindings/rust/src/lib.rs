@@ -36,7 +36,7 @@
 //! # Needs
 //!
 //! - x86-64 Linux, and the archive `liblgt_linker.a` (see the README); `core` and `alloc`, not `std`.
-//! - Stack: a call takes at most 126,328 bytes as measured (`docs/PERFORMANCE.md`); let 128 KiB be free beside the frames of the thread that calls.
+//! - Stack: a call takes at most 126,360 bytes as measured (`docs/PERFORMANCE.md`); let 128 KiB be free beside the frames of the thread that calls.
 //!   Threads of `std` have 2 MiB; one of musl's default size has 128 KiB in all, of which its own frames may take what the measured call leaves.
 
 #![no_std]

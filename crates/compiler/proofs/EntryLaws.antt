@@ -7,7 +7,7 @@ use native.Mathlib.Omega.{arith}
 use lib.ListN.{length, get_or}
 use lib.Dec.{eqb}
 use borrow.Author.Tests.{eq-eqb, ne_eqb}
-use Rattle.words.specs.Lists.{list_from, numbers, find, first_found, fold}
+use Rattle.words.specs.Lists.{list_from, numbers, find, first_found, fold, some}
 use Rattle.std.specs.Option.{option_map, option_or, option_and_then}
 use Rattle.std.specs.Prelude.{Option, Some, None, find as first_of}
 use Rattle.words.proofs.Bools.{by}
@@ -35,6 +35,19 @@ find-append : (p : ℕ → Bool) (xs ys : List ℕ) → find p (xs ++ ys) ≡ op
 unfolding find
 find-append p [] ys = refl
 find-append p (x ∷ xs) ys = by (p x) (λ q. rw q) (λ q. rw q (find-append p xs ys))
+
+-- a search along a list of values goes along their numbers
+pub some-list {ℓ} : {A : Type ℓ} (p : A → Bool) (q : ℕ → Bool) (e : ℕ → A) (m n : ℕ) → ((i : ℕ) → p (e i) ≡ q i)
+    → some p (list_from e m n) ≡ some q (numbers m n)
+unfolding some list_from
+some-list p q e m zero h = refl
+some-list p q e m (suc n) h = rw (h m, some-list p q e (m + 1) n h)
+
+pub found-list {ℓ} : {A : Type ℓ} (f : A → Option ℕ) (g : ℕ → Option ℕ) (e : ℕ → A) (m n : ℕ) → ((i : ℕ) → f (e i) ≡ g i)
+    → first_found f (list_from e m n) ≡ first_found g (numbers m n)
+unfolding first_found list_from
+found-list f g e m zero h = refl
+found-list f g e m (suc n) h = rw (h m, found-list f g e (m + 1) n h)
 
 -- ---- by target
 

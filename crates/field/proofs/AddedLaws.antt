@@ -1,19 +1,19 @@
 -- Laws of the ABI fields that are added to a class: which are, how far they raise the running word, and their records. Assumes nothing.
 use Rattle.std.proofs.Common.{◌≡◌, ℕ, ◌+◌, ◌<◌, ◌≤◌, max, Bool, true, false, not, List, [], ◌∷◌, ◌++◌, length, take, refl, sym, ◌∙◌, append_assoc, append-nil, length-append, arith}
-use Rattle.words.specs.Lists.{fold, keep}
-use Rattle.std.specs.Prelude.{Option, Some}
+use Rattle.words.specs.Lists.{numbers, fold, keep}
+use Rattle.std.specs.Prelude.{Option, Some, None}
 use Rattle.words.proofs.Bools.{by}
-use Rattle.words.proofs.ListLaws.{push_room, rest_from, rest-start, rest-turn, rest_end}
+use Rattle.words.proofs.ListLaws.{push_room, length-list-from, rest_from, rest-start, rest-turn, rest_end}
 use Rattle.abi_sheet.specs.AbiSheet.{abi_class_first_field, abi_class_field_count, abi_field_limit, abi_field_descriptor}
 use Rattle.descriptor.specs.Words.{width}
 use Rattle.linking.specs.Chain.{list_count}
-use Rattle.linking.specs.Abi.{abi_fields, fixed_field_index, class_abi}
+use Rattle.linking.specs.Abi.{abi_fields, fixed_field_index}
 use Rattle.linking.specs.Fields.{declares_field, added_fields, raised}
 use Rattle.linking.specs.Link.{new_fields_of}
 use Rattle.growth.specs.declared.news.Member.{Member}
 use Rattle.growth.specs.declared.news.Named.TheVariants.{Field}
 use Rattle.growth.specs.News.{ref_name, ref_descriptor, new_of, news_of}
-use Rattle.field.specs.Numbers.{undeclared, field_member, members_of, added_to}
+use Rattle.field.specs.Numbers.{undeclared, field_member, members_of}
 
 -- ---- lists of them, one after the other
 
@@ -109,6 +109,22 @@ module _ (ws text abi labels : List ℕ) (c : ℕ) where
 
   pub word-end : (m n i w : ℕ) → n ≤ i → w ≡ raised abi labels w (to_add m n i)
   word-end m n i w h = rw (to-add-end m n i h) (raised-none abi labels w)
+
+  -- ---- a sheet has no more than 256 of them
+
+  length-keep : (p : ℕ → Bool) (xs : List ℕ) → length (keep p xs) ≤ length xs
+  unfolding keep
+  length-keep p [] = omega arith
+  length-keep p (x ∷ xs) =
+      let h = length-keep p xs in by (p x) (λ t. rw t (omega arith)) (λ t. rw t (omega arith))
+
+  pub added-few : (own : Option ℕ) → length (added_fields ws text abi labels own c) ≤ abi_field_limit
+  unfolding added_fields abi_fields
+  added-few (Some a) =
+      let m = abi_class_first_field abi a in
+      let n = list_count (abi_class_first_field abi a) (abi_class_field_count abi a) abi_field_limit in
+      omega (arith, length-keep (λ g. not (declares_field ws text abi labels c g)) (numbers m n), length-list-from (λ (j : ℕ). j) m n)
+  added-few None = omega arith
 
 -- ---- what their records stand for
 

@@ -61,8 +61,7 @@ pub record Turn (ws text abi labels : List ℕ) (own : Option ℕ) (f : ℕ) (k 
 
 -- ---- what the fields come to
 
-module _ (ws text abi labels : List ℕ) (c : ℕ) {own : Option ℕ} (entry : own ≡ class_abi ws text abi labels c) (k : Counters) (l : List ℕ)
-    (holds : counting l k ≡ number_fields ws text abi labels own c)
+module _ (ws text abi labels : List ℕ) (c : ℕ) (own : Option ℕ) (k : Counters) (l : List ℕ) (holds : counting l k ≡ number_fields ws text abi labels own c)
     {v : ℕ} (word : v ≡ raised abi labels k.running (added_fields ws text abi labels own c))
     {w : ℕ} (words : w ≡ given_or abi own v) where
   words_are : w ≡ built_words ws text abi labels own c
@@ -77,13 +76,22 @@ module _ (ws text abi labels : List ℕ) (c : ℕ) {own : Option ℕ} (entry : o
       let e : k.runtime ≡ (number_fields ws text abi labels own c).runtime = ap (λ (n : Numbering). n.runtime) holds in
       rw (← words_are, ← e)
 
-  pub row_10 : (ltb 65535 w || ltb 65535 k.runtime) ≡ true → ◌≡◌ {A = Result Numbered ℕ} (Err 10) (built_fields ws text abi labels c)
+  pub row_10 : (ltb 65535 w || ltb 65535 k.runtime) ≡ true → ◌≡◌ {A = Result Numbered ℕ} (Err 10) (fields_by ws text abi labels own c)
   unfolding fields_by
-  row_10 t = rw (← entry, many_are, t)
+  row_10 t = rw (many_are, t)
 
-  pub built_is : (ltb 65535 w || ltb 65535 k.runtime) ≡ false
-      → ◌≡◌ {A = Result Numbered ℕ} (Ok (record { indices = l; words = w })) (built_fields ws text abi labels c)
+  pub built-is : (ltb 65535 w || ltb 65535 k.runtime) ≡ false
+      → ◌≡◌ {A = Result Numbered ℕ} (Ok (record { indices = l; words = w })) (fields_by ws text abi labels own c)
   unfolding fields_by
-  built_is t =
+  built-is t =
       let e : l ≡ (number_fields ws text abi labels own c).indices = ap (λ (n : Numbering). n.indices) holds in
-      rw (← entry, many_are, t, ← words_are, ← e)
+      rw (many_are, t, ← words_are, ← e)
+
+  -- by the class's own entry they are those of the class
+  module _ (entry : own ≡ class_abi ws text abi labels c) where
+    pub class_row_10 : (ltb 65535 w || ltb 65535 k.runtime) ≡ true → ◌≡◌ {A = Result Numbered ℕ} (Err 10) (built_fields ws text abi labels c)
+    class_row_10 t = rw (← entry) (row_10 t)
+
+    pub class_built : (ltb 65535 w || ltb 65535 k.runtime) ≡ false
+        → ◌≡◌ {A = Result Numbered ℕ} (Ok (record { indices = l; words = w })) (built_fields ws text abi labels c)
+    class_built t = rw (← entry) (built-is t)

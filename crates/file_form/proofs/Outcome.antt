@@ -47,6 +47,10 @@ pub data Outcome (bs : List ℕ) (p : ℕ) (f : List ℕ → Step) : Type 0 wher
   met : (q : ℕ) → p ≤ q → q ≤ length bs → Held bs f q (Err WrongPool) → Before bs p f q → Outcome bs p f
   early : Before bs p f (length bs + 1) → Outcome bs p f
 
+-- two steps that stop alike stop by one row
+pub stop-same : {q r : Refusal} → ◌≡◌ {A = Step} (Err q) (Err r) → q ≡ r
+stop-same e = cc
+
 module _ (bs : List ℕ) where
   -- only the bytes before p count for which step is taken there
   pub swap : (p : ℕ) (f g : List ℕ → Step) → ((cs : List ℕ) → take p cs ≡ take p bs → g cs ≡ f cs) → Outcome bs p f → Outcome bs p g

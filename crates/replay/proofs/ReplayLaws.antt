@@ -23,7 +23,7 @@ use Rattle.replay.specs.Replay.{stub_list, call_of, call_at, calls_of, Called, a
 
 -- ---- words laid over others
 
-over-end : (at : ℕ) (old : List ℕ) → over_at at [] old ≡ old
+pub over-end : (at : ℕ) (old : List ℕ) → over_at at [] old ≡ old
 unfolding over_at over
 over-end zero old = refl
 over-end (suc at) [] = refl
@@ -40,20 +40,22 @@ over-suc (suc at) a xs (y ∷ ys) = ap (λ (t : List ℕ). y ∷ t) (over-suc at
 over-more : (at a : ℕ) (xs old : List ℕ) → over_at at (a ∷ xs) old ≡ over_at (at + 1) xs (set old at a)
 over-more at a xs old = rw add-one (over-suc at a xs old)
 
--- three words stored in turn
+-- three words stored in turn, the others laid after them
+pub three : (at a b d : ℕ) (xs old : List ℕ)
+    → over_at at (a ∷ b ∷ d ∷ xs) old ≡ over_at (at + 3) xs (set (set (set old at a) (at + 1) b) (at + 2) d)
+three at a b d xs old =
+    let e : at + 1 + 1 ≡ at + 2 = omega arith in
+    let f : at + 2 + 1 ≡ at + 3 = omega arith in
+    over-more at a (b ∷ d ∷ xs) old
+    ∙ over-more (at + 1) b (d ∷ xs) (set old at a)
+    ∙ ap (λ (k : ℕ). over_at k (d ∷ xs) (set (set old at a) (at + 1) b)) e
+    ∙ over-more (at + 2) d xs (set (set old at a) (at + 1) b)
+    ∙ ap (λ (k : ℕ). over_at k xs (set (set (set old at a) (at + 1) b) (at + 2) d)) f
+
 pub stored : (at a b d : ℕ) (old : List ℕ) {x y z : List ℕ} → x ≡ set old at a → y ≡ set x (at + 1) b → z ≡ set y (at + 2) d
     → z ≡ over_at at (a ∷ b ∷ d ∷ []) old
-stored at a b d old {x} {y} {z} e f g =
-    let k : at + 1 + 1 ≡ at + 2 = omega arith in
-    sym
-    (over-more at a (b ∷ d ∷ []) old
-    ∙ ap (over_at (at + 1) (b ∷ d ∷ [])) (sym e)
-    ∙ over-more (at + 1) b (d ∷ []) x
-    ∙ ap (over_at (at + 1 + 1) (d ∷ [])) (sym f)
-    ∙ over-more (at + 1 + 1) d [] y
-    ∙ over-end (at + 1 + 1 + 1) (set y (at + 1 + 1) d)
-    ∙ ap (λ (i : ℕ). set y i d) k
-    ∙ sym g)
+stored at a b d old e f g =
+    rw (g, f, e) (sym (three at a b d [] old ∙ over-end (at + 3) (set (set (set old at a) (at + 1) b) (at + 2) d)))
 
 -- words laid after others
 over-rest : (xs ys old : List ℕ) → over (xs ++ ys) old ≡ over_at (length xs) ys (over xs old)
